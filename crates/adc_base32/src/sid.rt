@@ -1,0 +1,93 @@
+ghost use Rattle.std.specs.Prelude.{◌≡◌, ℕ, ◌<◌, ◌≤◌, IfSome, IfNone};
+ghost use Rattle.adc_base32.specs.Sids.{sid_count, sid_text, sid_at, four_digits};
+
+use crate::digit::{character, value};
+use std::marker::Model;
+
+/// How many session identifiers there are.
+const COUNT: u32 = 1_048_576;
+
+/// A session identifier: the number by which a hub names a connection, from 0 to 1,048,575
+/// (ADC 1.0, "Client identification").
+#[derive(Clone, Copy, Debug, PartialEq, Eq, PartialOrd, Ord, Hash)]
+pub struct Sid {
+    number: u32,
+}
+
+impl Model for Sid {
+    ghost Value = { ℕ };
+
+    ghost view = { λ s. s.number };
+
+    ghost invariant = { λ s. s.number < 1_048_576 };
+
+    ghost inverse = { λ n. record { number = n } };
+}
+
+impl Sid {
+    /// The identifier with this number, or `None` from 1,048,576 on.
+    pub fn from_u32(number: u32) -> Option<Sid>
+        ensures some { IfSome result (λ sid. sid ≡ number) }
+        ensures none { IfNone result (sid_count ≤ number) }
+    {
+        if number < COUNT {
+            Some(Sid { number })
+        } else {
+            None
+        }
+    }
+
+    /// Its number, from 0 to 1,048,575.
+    pub fn number(self) -> u32
+        ensures exact { result ≡ self }
+        ensures below { result < sid_count }
+    {
+        self.number
+    }
+
+    /// The identifier that four base32 digits spell, the most significant first. `None` where the
+    /// text has another length, or a character that is no digit; lower case is none.
+    pub fn parse(text: &[u8]) -> Option<Sid>
+        ensures spelt { IfSome result (λ sid. text.now ≡ sid_text sid) }
+        ensures only { IfNone result ((n : ℕ) → n < sid_count → text.now ≡ sid_text n → ⊥) }
+        ensures exact { result ≡ sid_at text.now }
+    {
+        read(text)
+    }
+
+    /// Its four base32 digits, the most significant first.
+    pub fn text(&self) -> [u8; 4]
+        ensures { result ≡ sid_text self.now }
+    {
+        let n = self.number;
+        [
+            character((n / 32768) as u8),
+            character((n / 1024 % 32) as u8),
+            character((n / 32 % 32) as u8),
+            character((n % 32) as u8),
+        ]
+    }
+}
+
+#[tactic(auto, unfolding(crate::specs::Sids::sid_at))]
+fn read(text: &[u8]) -> Option<Sid>
+    ensures { result ≡ sid_at text.now }
+{
+    let [a, b, c, d] = text else {
+        return None;
+    };
+    four(*a, *b, *c, *d)
+}
+
+#[tactic(auto, unfolding(crate::specs::Sids::four_digits))]
+fn four(a: u8, b: u8, c: u8, d: u8) -> Option<Sid>
+    ensures { result ≡ four_digits a b c d }
+{
+    let a = u32::from(value(a)?);
+    let b = u32::from(value(b)?);
+    let c = u32::from(value(c)?);
+    let d = u32::from(value(d)?);
+    Some(Sid {
+        number: ((a * 32 + b) * 32 + c) * 32 + d,
+    })
+}
