@@ -1,4 +1,4 @@
-ghost use Rattle.std.specs.Prelude.{◌≡◌, ℕ, ◌<◌, ◌≤◌, IfSome, IfNone};
+ghost use Rattle.std.specs.Prelude.{◌≡◌, ℕ, ◌<◌, ◌↔◌, IsSome, IfSome, IfNone};
 ghost use Rattle.adc_base32.specs.Sids.{sid_count, sid_text, sid_at, four_digits};
 
 use crate::digit::{character, value};
@@ -27,8 +27,8 @@ impl Model for Sid {
 impl Sid {
     /// The identifier with this number, or `None` from 1,048,576 on.
     pub fn from_u32(number: u32) -> Option<Sid>
-        ensures some { IfSome result (λ sid. sid ≡ number) }
-        ensures none { IfNone result (sid_count ≤ number) }
+        ensures variant { IsSome result ↔ (number < sid_count) }
+        ensures number { IfSome result (λ sid. sid ≡ number) }
     {
         if number < COUNT {
             Some(Sid { number })

@@ -1,1 +1,5 @@
 pub mod First24
+pub mod Words
+pub mod Tables
+pub mod Tiger
+pub mod Padding
