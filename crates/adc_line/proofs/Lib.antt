@@ -1,0 +1,10 @@
+pub mod BlankLemmas
+pub mod EscapeLaws
+pub mod EscapeLemmas
+pub mod FrameLemmas
+pub mod GrammarLemmas
+pub mod LineLemmas
+pub mod ReadsLemmas
+pub mod SearchLemmas
+pub mod StreamLemmas
+pub mod WordLemmas

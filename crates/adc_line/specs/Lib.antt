@@ -1,0 +1,14 @@
+pub mod Buffer
+pub mod Escapes
+pub mod Frames
+pub mod Gives
+pub mod Grammar
+pub mod Header
+pub mod Lines
+pub mod LineView
+pub mod NextLine
+pub mod Parameters
+pub mod Runs
+pub mod Stream
+pub mod Words
+pub mod WordsLeft

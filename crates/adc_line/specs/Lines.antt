@@ -1,0 +1,72 @@
+-- What bytes say as a message (ADC 1.0, "Message syntax"), and the first fault of those that are none.
+use Rattle.std.specs.Prelude.{ℕ, not, nat_lt, List, drop, length, Option, Some, None, Result, Ok, Err, if◌then◌else◌}
+use Rattle.std.specs.Str.{is_utf8}
+use Rattle.adc_line.specs.declared.fault.LineFault.{LineFault}
+use Rattle.adc_line.specs.declared.fault.LineFault.TheVariants as faults
+use Rattle.adc_line.specs.declared.header.Header.{Header}
+use Rattle.adc_line.specs.declared.kind.Kind.{Kind}
+use Rattle.adc_line.specs.declared.kind.Kind.TheVariants as kinds
+use Rattle.adc_line.specs.Frames.{max_line}
+use Rattle.adc_line.specs.Header.{header_at, header_words}
+use Rattle.adc_line.specs.Parameters.{params_fault}
+use Rattle.adc_line.specs.Words.{words, word_at}
+
+-- a message: its text whole, and what its words say
+pub record Reading : Type 0 where
+  pub text : List ℕ
+  pub kind : Kind
+  pub command : List ℕ
+  pub from : Option ℕ
+  pub target : Option ℕ
+  pub features : Option (List ℕ)
+  pub params : List (List ℕ)
+
+-- a message to those with certain features names them in its third word
+abbrev pub features_of : Kind → List (List ℕ) → Option (List ℕ)
+features_of kinds.Broadcast ws = None
+features_of kinds.Client ws = None
+features_of kinds.Direct ws = None
+features_of kinds.Echo ws = None
+features_of kinds.Feature ws = Some (word_at ws 2)
+features_of kinds.Hub ws = None
+features_of kinds.Info ws = None
+features_of kinds.Udp ws = None
+
+-- the parameters are the words after the header
+abbrev pub params_of : Kind → List (List ℕ) → List (List ℕ)
+params_of kind ws = drop (header_words kind) ws
+
+-- the message of a text with this header
+abbrev pub message : List ℕ → Header → Reading
+message text header = record {
+  text = text;
+  kind = header.head.kind;
+  command = header.head.command;
+  from = header.from;
+  target = header.target;
+  features = features_of header.head.kind (words text);
+  params = params_of header.head.kind (words text);
+}
+
+abbrev pub unless_faulty : Reading → Option LineFault → Result Reading LineFault
+unless_faulty line None = Ok line
+unless_faulty line (Some fault) = Err fault
+
+abbrev pub with_header : List ℕ → Option Header → Result Reading LineFault
+with_header text None = Err faults.Header
+with_header text (Some header) = unless_faulty (message text header) (params_fault (params_of header.head.kind (words text)))
+
+-- the bytes themselves, where there are not too many and they are UTF-8
+unfoldable pub text_checked : List ℕ → Result (List ℕ) LineFault
+text_checked bytes =
+    if nat_lt max_line (length bytes) then Err faults.TooLong
+    else if not (is_utf8 bytes) then Err faults.NotUtf8
+    else Ok bytes
+
+abbrev pub with_text : Result (List ℕ) LineFault → Result Reading LineFault
+with_text (Err fault) = Err fault
+with_text (Ok text) = with_header text (header_at (words text))
+
+-- what bytes say: length and UTF-8, then a header, then the parameters
+unfoldable pub reading : List ℕ → Result Reading LineFault
+reading bytes = with_text (text_checked bytes)

@@ -1,0 +1,186 @@
+ghost use Rattle.std.specs.Prelude.{◌≡◌, ◌&&◌};
+ghost use Rattle.std.specs.List.{list_all};
+ghost use Rattle.adc_line.specs.Header.{is_letter, is_letter_or_digit, is_sign, is_feature, is_base32_digit, head_at, is_cid, are_features, is_feature_word, addressed, header_of, header_at, header_words};
+ghost use Rattle.adc_line.specs.Words.{words};
+
+use crate::kind::Kind;
+use crate::words::Words;
+use adc_base32::Sid;
+
+/// What the first word of a line says.
+#[derive(Clone, Copy, Debug)]
+pub(crate) struct Head {
+    pub(crate) kind: Kind,
+    pub(crate) command: [u8; 3],
+}
+
+impl Head {
+    ghost use Rattle.adc_line.specs.Header.{header};
+
+    fn header(self, from: Option<Sid>, target: Option<Sid>) -> Header
+        ensures { result ≡ header self from target }
+    {
+        Header {
+            head: self,
+            from,
+            target,
+        }
+    }
+}
+
+/// What the words before the parameters say.
+#[derive(Clone, Copy, Debug)]
+pub(crate) struct Header {
+    pub(crate) head: Head,
+    pub(crate) from: Option<Sid>,
+    pub(crate) target: Option<Sid>,
+}
+
+/// How many words the header of a type has.
+pub(crate) fn header_words(kind: Kind) -> usize
+    ensures { result ≡ header_words kind }
+{
+    match kind {
+        Kind::Client | Kind::Hub | Kind::Info => 1,
+        Kind::Broadcast | Kind::Udp => 2,
+        Kind::Direct | Kind::Echo | Kind::Feature => 3,
+    }
+}
+
+/// The header with which a text begins.
+pub(crate) fn header_at(text: &str) -> Option<Header>
+    ensures { result ≡ header_at (words text.now) }
+{
+    let mut words = Words::of(text);
+    let first = words.next_or_empty();
+    let second = words.next_or_empty();
+    let third = words.next_or_empty();
+    header_of(first.as_bytes(), second.as_bytes(), third.as_bytes())
+}
+
+#[tactic(auto, unfolding(crate::specs::Header::header_of))]
+fn header_of(first: &[u8], second: &[u8], third: &[u8]) -> Option<Header>
+    ensures { result ≡ header_of first.now second.now third.now }
+{
+    let head = head_at(first)?;
+    addressed(head, second, third)
+}
+
+#[tactic(auto, unfolding(crate::specs::Header::head_at))]
+fn head_at(word: &[u8]) -> Option<Head>
+    ensures { result ≡ head_at word.now }
+{
+    let [letter, a, b, c] = word else {
+        return None;
+    };
+    if !is_letter(*a) || !is_letter_or_digit(*b) || !is_letter_or_digit(*c) {
+        return None;
+    }
+    let kind = Kind::of(*letter)?;
+    Some(Head {
+        kind,
+        command: [*a, *b, *c],
+    })
+}
+
+#[tactic(auto, unfolding(crate::specs::Header::addressed))]
+fn addressed(head: Head, second: &[u8], third: &[u8]) -> Option<Header>
+    ensures { result ≡ addressed head second.now third.now }
+{
+    match head.kind {
+        Kind::Client | Kind::Hub | Kind::Info => Some(head.header(None, None)),
+        Kind::Broadcast => {
+            let own = Sid::parse(second)?;
+            Some(head.header(Some(own), None))
+        }
+        Kind::Direct | Kind::Echo => {
+            let own = Sid::parse(second)?;
+            let target = Sid::parse(third)?;
+            Some(head.header(Some(own), Some(target)))
+        }
+        Kind::Feature => {
+            let own = Sid::parse(second)?;
+            if !is_feature_word(third) {
+                return None;
+            }
+            Some(head.header(Some(own), None))
+        }
+        Kind::Udp => {
+            if !is_cid(second) {
+                return None;
+            }
+            Some(head.header(None, None))
+        }
+    }
+}
+
+fn is_letter(byte: u8) -> bool
+    ensures { result ≡ is_letter byte }
+{
+    matches!(byte, b'A'..=b'Z')
+}
+
+fn is_letter_or_digit(byte: u8) -> bool
+    ensures { result ≡ is_letter_or_digit byte }
+{
+    matches!(byte, b'A'..=b'Z' | b'0'..=b'9')
+}
+
+fn is_sign(byte: u8) -> bool
+    ensures { result ≡ is_sign byte }
+{
+    matches!(byte, b'+' | b'-')
+}
+
+#[tactic(auto, unfolding(adc_base32::specs::Digits::value_at))]
+fn is_base32_digit(byte: u8) -> bool
+    ensures { result ≡ is_base32_digit byte }
+{
+    matches!(byte, b'A'..=b'Z' | b'2'..=b'7')
+}
+
+fn are_base32_digits(word: &[u8]) -> bool
+    ensures { result ≡ list_all is_base32_digit word.now }
+{
+    word.iter().all(|c| is_base32_digit(*c))
+}
+
+/// One or more base32 digits.
+#[tactic(auto, unfolding(crate::specs::Header::is_cid))]
+fn is_cid(word: &[u8]) -> bool
+    ensures { result ≡ is_cid word.now }
+{
+    !word.is_empty() && are_base32_digits(word)
+}
+
+#[tactic(auto, unfolding(crate::specs::Header::is_feature_word))]
+fn is_feature_word(word: &[u8]) -> bool
+    ensures { result ≡ is_feature_word word.now }
+{
+    !word.is_empty() && are_features(word)
+}
+
+/// Each five bytes are a sign and a feature's name.
+fn are_features(word: &[u8]) -> bool
+    ensures { result ≡ are_features word.now }
+{
+    let mut rest = word;
+    'parts: while let [sign, a, b, c, d, more @ ..] = rest {
+        if !is_feature(*sign, *a, *b, *c, *d) {
+            return false;
+        }
+        rest = more;
+    }
+    rest.is_empty()
+}
+
+/// A sign, and a feature's name.
+fn is_feature(sign: u8, a: u8, b: u8, c: u8, d: u8) -> bool
+    ensures { result ≡ is_feature sign a b c d }
+{
+    is_sign(sign)
+        && is_letter(a)
+        && is_letter_or_digit(b)
+        && is_letter_or_digit(c)
+        && is_letter_or_digit(d)
+}

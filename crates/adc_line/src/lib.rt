@@ -1,0 +1,23 @@
+//! Messages of the ADC protocol: lines, the escapes of their words, and the cut of a stream into lines.
+#![tactic(auto)]
+
+mod escaping;
+mod fault;
+mod framer;
+mod header;
+mod kind;
+mod line;
+mod parameters;
+mod stream;
+mod words;
+
+pub use escaping::{escape, unescape};
+pub use fault::{FrameFault, LineFault, UnescapeFault};
+pub use framer::{Framer, Next};
+pub use kind::Kind;
+pub use line::Line;
+pub use stream::stream_laws;
+pub use words::Words;
+
+#[cfg(test)]
+mod tests;

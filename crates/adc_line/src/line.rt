@@ -1,0 +1,135 @@
+ghost use Rattle.std.specs.Prelude.{◌≡◌, IfOk, MatchResult};
+ghost use Rattle.std.specs.Option.{option_copied};
+ghost use Rattle.adc_line.specs.Gives.{Gives};
+ghost use Rattle.adc_line.specs.Lines.{reading, text_checked};
+ghost use Rattle.adc_line.specs.WordsLeft.{words_left};
+
+use crate::fault::LineFault;
+use crate::header::{Header, header_at, header_words};
+use crate::kind::Kind;
+use crate::parameters::check_params;
+use crate::words::Words;
+use adc_base32::Sid;
+use std::alloc::Global;
+use std::marker::Model;
+
+/// The bytes that a line may have, without its line feed.
+pub(crate) const MAX_LINE: usize = 65_536;
+
+/// A line of ADC: a header and parameters, without the line feed (ADC 1.0, "Message syntax").
+#[derive(Debug, Drop)]
+pub struct Line {
+    text: String,
+    header: Header,
+}
+
+impl Model for Line {
+    ghost use Rattle.adc_line.specs.Lines.{Reading};
+
+    ghost Value = { Reading };
+
+    ghost use Rattle.adc_line.specs.LineView.{line_message, IsRead};
+
+    ghost view = { line_message };
+
+    ghost invariant = { IsRead };
+}
+
+impl Line {
+    ghost use Rattle.adc_line.specs.Grammar.{Reads};
+    ghost use Rattle.adc_line.specs.Lines.{Reading};
+
+    /// The line that bytes spell, which have no line feed at their end (ADC 1.0, "Message syntax").
+    ///
+    /// Refused with the first of these that applies: `TooLong` over 65,536 bytes, `NotUtf8`, `Header`
+    /// where the first words are no header of a type (none in the empty line), `Parameter` where a
+    /// later word is empty or holds a line feed, `Escape` where in one a backslash begins no escape.
+    /// `Memory` comes last.
+    pub fn parse(alloc: Global, bytes: &[u8]) -> Result<Line, LineFault>
+        ensures exact { Gives (λ line. line) result (reading bytes.now) }
+        ensures found { IfOk result (λ line. Reads bytes.now line) }
+        ensures only { (line : Reading) → Reads bytes.now line → MatchResult result (λ read. read ≡ line) (λ fault. fault ≡ LineFault.Memory) }
+    {
+        Line::read(alloc, bytes)
+    }
+
+    #[tactic(auto, unfolding(crate::specs::Lines::reading))]
+    fn read(alloc: Global, bytes: &[u8]) -> Result<Line, LineFault>
+        ensures { Gives (λ line. line) result (reading bytes.now) }
+    {
+        let text = text_of(bytes)?;
+        let header = header_at(text).ok_or(LineFault::Header)?;
+        check_params(Words::of(text).after(header_words(header.head.kind)))?;
+        Ok(Line {
+            text: String::from_str(alloc, text)?,
+            header,
+        })
+    }
+
+    /// Its type (ADC 1.0, "Message types").
+    pub fn kind(&self) -> Kind
+        ensures { result ≡ self.now.kind }
+    {
+        self.header.head.kind
+    }
+
+    /// The three characters of its command's name.
+    pub fn command(&self) -> [u8; 3]
+        ensures { result ≡ self.now.command }
+    {
+        self.header.head.command
+    }
+
+    /// The sender's identifier, in a line of type B, D, E or F.
+    pub fn from(&self) -> Option<Sid>
+        ensures { result ≡ self.now.from }
+    {
+        self.header.from
+    }
+
+    /// The identifier of whom it is for, in a line of type D or E.
+    pub fn target(&self) -> Option<Sid>
+        ensures { result ≡ self.now.target }
+    {
+        self.header.target
+    }
+
+    /// The feature word of a line of type F.
+    pub fn features(&self) -> Option<&str>
+        ensures { option_copied result ≡ self.now.features }
+    {
+        match self.header.head.kind {
+            Kind::Feature => Some(Words::of(&self.text).after(2).next_or_empty()),
+            _ => None,
+        }
+    }
+
+    /// Its parameters in order, escaped as they came.
+    pub fn params(&self) -> Words<'_>
+        ensures { words_left result ≡ self.now.params }
+    {
+        Words::of(&self.text).after(header_words(self.header.head.kind))
+    }
+
+    /// The whole line as it came, without the line feed.
+    pub fn text(&self) -> &str
+        ensures bytes { result.now ≡ self.now.text }
+        ensures whole { reading result.now ≡ Ok self.now }
+    {
+        self.text.as_str()
+    }
+}
+
+/// The bytes as text, where they are not too many and are UTF-8.
+#[tactic(auto, unfolding(crate::specs::Lines::text_checked))]
+fn text_of(bytes: &[u8]) -> Result<&str, LineFault>
+    ensures { MatchResult result (λ text. text_checked bytes.now ≡ Ok text.now) (λ fault. text_checked bytes.now ≡ Err fault) }
+{
+    if bytes.len() > MAX_LINE {
+        return Err(LineFault::TooLong);
+    }
+    match str::from_utf8(bytes) {
+        Ok(text) => Ok(text),
+        Err(_) => Err(LineFault::NotUtf8),
+    }
+}
