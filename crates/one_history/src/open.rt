@@ -1,0 +1,69 @@
+ghost use Rattle.std.specs.Prelude.{◌≡◌, ◌∷◌, [], Some, IfOk, IfErr};
+ghost use Rattle.one_history.specs.States.{first_host};
+
+use crate::host::Host;
+use crate::lock::Lock;
+use crate::rule::Recorded;
+use crate::word::FREE;
+use atomic_table::{Refused, Table};
+use std::alloc::{AllocFailed, Global};
+
+impl<T: Recorded<E, A>, E, A> Lock<T, E, A> {
+    /// A lock over a value that stands at the empty history, and the host, which has admitted
+    /// nobody. `about` is looked at by proofs alone.
+    /// At `AllocFailed` there was no memory, and the value comes back.
+    pub fn open(
+        alloc: Global,
+        value: T,
+        about: &A,
+    ) -> Result<(Lock<T, E, A>, Host<T, E, A>), AllocFailed<T>>
+        requires legal { T.legal about.now [] }
+        requires stands { T.stands about.now value [] }
+        ensures about { IfOk result (λ r. r.0.about ≡ about.now) }
+        ensures host { IfOk result (λ r. r.1 ≡ first_host r.0) }
+        ensures back { IfErr result (λ r. r.value ≡ value) }
+    {
+        let slots = filled(alloc, value)?;
+        match Table::new(alloc, &[FREE], slots, about) {
+            Ok((table, place)) => Ok((
+                Lock { table },
+                Host {
+                    place,
+                    admitted: 0,
+                    gathered: 0,
+                },
+            )),
+            Err(Refused { slots }) => Err(AllocFailed {
+                value: emptied(slots),
+            }),
+        }
+    }
+}
+
+// The one slot, with the value.
+fn filled<T>(alloc: Global, value: T) -> Result<Vec<Option<T>>, AllocFailed<T>>
+    ensures ok { IfOk result (λ slots. slots.items ≡ Some value ∷ []) }
+    ensures back { IfErr result (λ r. r.value ≡ value) }
+{
+    let mut slots = Vec::new(alloc);
+    match slots.push(Some(value)) {
+        Ok(()) => Ok(slots),
+        Err(AllocFailed { value }) => {
+            slots.destroy_empty();
+            let Some(value) = value else { unreachable!() };
+            Err(AllocFailed { value })
+        }
+    }
+}
+
+// The value of the one slot.
+fn emptied<T>(mut slots: Vec<Option<T>>) -> T
+    requires { (value : T) × (slots.items ≡ Some value ∷ []) }
+    ensures { slots.items ≡ Some result ∷ [] }
+{
+    let last = slots.pop();
+    slots.destroy_empty();
+    let Some(slot) = last else { unreachable!() };
+    let Some(value) = slot else { unreachable!() };
+    value
+}

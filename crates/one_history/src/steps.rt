@@ -1,0 +1,71 @@
+ghost use Rattle.one_history.specs.Plays.{Tries, Adds, Returns, Learns};
+ghost use Rattle.one_history.specs.Plays.{admitting, newly, paired, left_of, right_of, gathering};
+ghost use Rattle.one_history.specs.Rule.{spent};
+
+use crate::rule::{Recorded, Told};
+use crate::view::View;
+use atomic_table::{Join, Play, Split};
+use std::marker::PhantomData;
+
+// Takes the word and with it the slot, or finds it taken.
+pub(crate) struct Takes;
+
+impl<T: Recorded<E, A>, E, A> Play<Option<T>, View<E, A>> for Takes {
+    ghost then = { Tries T.by T.legal T.stands };
+}
+
+// Gives both back with an entry.
+pub(crate) struct Gives<B> {
+    entry: PhantomData<B>,
+}
+
+impl<T: Recorded<E, A>, E, A, B: Told<E>> Play<Option<T>, View<E, A>> for Gives<B> {
+    ghost then = { Adds T.by T.legal B.entry };
+}
+
+// Gives both back unchanged.
+pub(crate) struct PutsBack;
+
+impl<T, E, A> Play<Option<T>, View<E, A>> for PutsBack {
+    ghost then = { Returns };
+}
+
+// Looks, and changes nothing.
+pub(crate) struct Looks;
+
+impl<T: Recorded<E, A>, E, A> Play<Option<T>, View<E, A>> for Looks {
+    ghost then = { Learns T.by T.legal };
+}
+
+// Splits off a newly admitted caller's seat.
+pub(crate) struct Admits;
+
+impl<E, A> Split<View<E, A>> for Admits {
+    ghost left = { admitting };
+
+    ghost right = { newly };
+}
+
+// Joins two callers' seats, and splits them again.
+pub(crate) struct Meets;
+
+impl<E, A> Join<View<E, A>> for Meets {
+    ghost both = { paired };
+
+    ghost spent = { spent };
+}
+
+impl<E, A> Split<View<E, A>> for Meets {
+    ghost left = { left_of };
+
+    ghost right = { right_of };
+}
+
+// Joins a caller's seat to the host's.
+pub(crate) struct Gathers;
+
+impl<E, A> Join<View<E, A>> for Gathers {
+    ghost both = { gathering };
+
+    ghost spent = { spent };
+}
