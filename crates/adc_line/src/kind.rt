@@ -1,4 +1,5 @@
-ghost use Rattle.std.specs.Prelude.{◌≡◌};
+ghost use Rattle.std.specs.Prelude.{◌≡◌, Some};
+ghost use Rattle.adc_line.specs.Grammar.{letter};
 ghost use Rattle.adc_line.specs.Header.{kind_at};
 
 /// The type of a message: whom it is for (ADC 1.0, "Message types").
@@ -38,6 +39,24 @@ impl Kind {
             b'I' => Some(Kind::Info),
             b'U' => Some(Kind::Udp),
             _ => None,
+        }
+    }
+
+    /// The letter that a message of this type begins with.
+    #[tactic(auto, unfolding(crate::specs::Header::kind_at))]
+    pub fn letter(self) -> u8
+        ensures exact { result ≡ letter self }
+        ensures back { kind_at result ≡ Some self }
+    {
+        match self {
+            Kind::Broadcast => b'B',
+            Kind::Client => b'C',
+            Kind::Direct => b'D',
+            Kind::Echo => b'E',
+            Kind::Feature => b'F',
+            Kind::Hub => b'H',
+            Kind::Info => b'I',
+            Kind::Udp => b'U',
         }
     }
 }

@@ -2,6 +2,7 @@
 use Rattle.std.specs.Prelude.{ℕ, ◌==◌, Bool, true, false, not, nat_lt, List, [], ◌∷◌, length, slice_index, Option, Some, None, if◌then◌else◌}
 use Rattle.adc_line.specs.declared.kind.Kind.{Kind}
 use Rattle.adc_line.specs.declared.kind.Kind.TheVariants as kinds
+use Rattle.adc_line.specs.Grammar.{letter}
 use Rattle.adc_line.specs.Lines.{Reading}
 use Rattle.hub_core.specs.declared.deny.Deny.{Deny}
 use Rattle.hub_core.specs.declared.deny.Deny.TheVariants as denials
@@ -13,17 +14,6 @@ use Rattle.hub_core.specs.declared.verb.Verb.{Verb}
 use Rattle.hub_core.specs.declared.verb.Verb.TheVariants as verbs
 use Rattle.hub_core.specs.Support.{base, tigr, has_feature, mentions_at, supported_after, most_features}
 use Rattle.hub_core.specs.Verbs.{verb_of}
-
--- the letter of a message's type
-unfoldable pub letter : Kind → ℕ
-letter kinds.Broadcast = 66
-letter kinds.Client = 67
-letter kinds.Direct = 68
-letter kinds.Echo = 69
-letter kinds.Feature = 70
-letter kinds.Hub = 72
-letter kinds.Info = 73
-letter kinds.Udp = 85
 
 -- a line's first word: its type's letter and its command
 abbrev pub first_word : Reading → List ℕ

@@ -1,6 +1,6 @@
 ghost use Rattle.std.specs.Prelude.{◌≡◌, IfOk};
 ghost use Rattle.hub_core.specs.Effects.{nothing, denial, said, line_effect, stage_after};
-ghost use Rattle.hub_core.specs.Lines.{letter, names_another, is_for_others, is_allowed, first_word, refused};
+ghost use Rattle.hub_core.specs.Lines.{names_another, is_for_others, is_allowed, first_word, refused};
 ghost use Rattle.hub_core.specs.Verbs.{verb_of};
 
 use crate::batch::Batch;
@@ -142,21 +142,5 @@ fn first_word(line: &Line) -> [u8; 4]
     ensures { result ≡ first_word line.now }
 {
     let [a, b, c] = line.command();
-    [letter(line.kind()), a, b, c]
-}
-
-#[tactic(auto, unfolding(crate::specs::Lines::letter))]
-fn letter(kind: Kind) -> u8
-    ensures { result ≡ letter kind }
-{
-    match kind {
-        Kind::Broadcast => b'B',
-        Kind::Client => b'C',
-        Kind::Direct => b'D',
-        Kind::Echo => b'E',
-        Kind::Feature => b'F',
-        Kind::Hub => b'H',
-        Kind::Info => b'I',
-        Kind::Udp => b'U',
-    }
+    [line.kind().letter(), a, b, c]
 }
