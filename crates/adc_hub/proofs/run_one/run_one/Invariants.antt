@@ -1,0 +1,13 @@
+use Rattle.std.proofs.Common.{◌≡◌, length}
+use Rattle.std.specs.Arc.{arc_value}
+use Rattle.adc_line.specs.Stream.{IsLine}
+use Rattle.adc_hub.proofs.Heard.{IsHeard}
+use Rattle.adc_hub.proofs.run_one.run_one.Given as goal
+
+abbrev pub invariant-loop-turn : goal.invariant-loop-turn
+invariant-loop-turn g l = record {
+  heard : IsHeard (arc_value l.fn.setup) (g.R.Read.remaining l.fn.reader) (g.R.Read.remaining l.reader) (g.W.Write.contents l.fn.writer) (g.W.Write.contents l.writer)
+      l.visit.core l.visit.framer l._turn;
+  short : IsLine l.visit.framer;
+  room : length l.buffer ≡ 4096;
+}

@@ -1,0 +1,58 @@
+-- How the program ends.
+use Rattle.std.specs.Prelude.{◌≡◌, ℕ, List, [], ◌∷◌, ◌++◌, codes, Option}
+use Rattle.std.specs.Io.KnownBytes.{Keeps}
+use Rattle.hub_core.specs.Configured.{Configured}
+use Rattle.adc_hub.specs.declared.ending.Ending.{Ending}
+use Rattle.adc_hub.specs.declared.ending.Ending.TheVariants as endings
+use Rattle.adc_hub.specs.declared.run_fault.RunFault.{RunFault}
+use Rattle.adc_hub.specs.declared.run_fault.RunFault.TheVariants as faults
+use Rattle.adc_hub.specs.Faults.{StopsBy}
+use Rattle.adc_hub.specs.Parts.{AppendsFront}
+use Rattle.adc_hub.specs.Runs.{IsServed}
+
+abbrev pub status_of : Ending → ℕ
+status_of endings.Served = 0
+status_of endings.Usage = 1
+status_of endings.Memory = 4
+status_of endings.Transfer = 5
+
+-- a message is one line
+abbrev pub said_line : List ℕ → List ℕ
+said_line text = text ++ 10 ∷ []
+
+unfoldable pub message_of : Ending → List ℕ
+message_of endings.Served = []
+message_of endings.Usage = said_line (codes "adc_hub: usage: adc_hub stdin | adc_hub serve SETTINGS")
+message_of endings.Memory = said_line (codes "adc_hub: memory")
+message_of endings.Transfer = said_line (codes "adc_hub: input or output")
+
+abbrev pub ending_of : RunFault → Ending
+ending_of faults.Memory = endings.Memory
+ending_of faults.Read = endings.Transfer
+ending_of faults.Write = endings.Transfer
+ending_of faults.TooLong = endings.Transfer
+ending_of faults.Turns = endings.Transfer
+
+-- the one word after the program's name
+abbrev pub AsksForStdin : List (List ℕ) → Type 0
+AsksForStdin words = words ≡ codes "stdin" ∷ []
+
+-- the hub of a connection on standard input: named Hub, no topic, 512 users, opened at moment 0
+abbrev pub stdin_setup : Configured
+stdin_setup = record { name = codes "Hub"; topic = []; max_users = 512; opening = 0 }
+
+-- what an ending says of the input and the output
+abbrev pub EndsBy : Ending → List (List ℕ) → Option (List ℕ) → Option (List ℕ) → Option (List ℕ) → Option (List ℕ) → Type 0
+EndsBy endings.Served words unread left held holds = AsksForStdin words × IsServed stdin_setup unread left held holds
+EndsBy endings.Usage words unread left held holds = (AsksForStdin words → ⊥) × Keeps unread left × Keeps held holds
+EndsBy endings.Memory words unread left held holds = AsksForStdin words × StopsBy faults.Memory stdin_setup unread left held holds
+EndsBy endings.Transfer words unread left held holds =
+    AsksForStdin words × ((fault : RunFault) × (ending_of fault ≡ endings.Transfer) × StopsBy fault stdin_setup unread left held holds)
+
+-- the status is that of an ending that the words, the input and the output bear out
+abbrev pub Ends : ℕ → List (List ℕ) → Option (List ℕ) → Option (List ℕ) → Option (List ℕ) → Option (List ℕ) → Type 0
+Ends status words unread left held holds = (ending : Ending) × (status ≡ status_of ending) × EndsBy ending words unread left held holds
+
+-- the message of that ending was written, or its front
+abbrev pub Tells : ℕ → Option (List ℕ) → Option (List ℕ) → Type 0
+Tells status before now = (ending : Ending) × (status ≡ status_of ending) × AppendsFront before now (message_of ending)

@@ -1,0 +1,5 @@
+pub mod Runs
+pub mod Faults
+pub mod Parts
+pub mod Serving
+pub mod Endings

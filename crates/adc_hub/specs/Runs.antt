@@ -1,0 +1,84 @@
+-- What a hub for one connection reads and writes. Its history has one caller, and is written newest first.
+use Rattle.std.specs.Prelude.{◌≡◌, ◌⊎◌, ℕ, ◌+◌, ◌<◌, List, [], ◌∷◌, ◌++◌, length, take, map, replicate, Option}
+use Rattle.std.specs.List.{All, concat}
+use Rattle.std.specs.Io.KnownBytes.{Appends, Consumes, IsAtEnd}
+use Rattle.adc_line.specs.Frames.{max_line, HasNoLf}
+use Rattle.adc_line.specs.Stream.{lines, joined, IsLine}
+use Rattle.hub_core.specs.declared.history.Call.{Call}
+use Rattle.hub_core.specs.declared.history.Call.TheVariants.{Join, Line, Quit, Take}
+use Rattle.hub_core.specs.declared.history.Entry.{Entry}
+use Rattle.hub_core.specs.declared.stage.Stage.TheVariants.{Gone}
+use Rattle.hub_core.specs.Configured.{Configured}
+use Rattle.hub_core.specs.Facts.{About, facts, Legal}
+
+-- the one caller, and its connection, which is the first to join
+abbrev pub first : ℕ
+first = 1
+
+-- the connection comes from 127.0.0.1 and would be given a challenge of zeros
+abbrev pub join : Call
+join = Join (127 ∷ 0 ∷ 0 ∷ 1 ∷ []) (replicate 24 0) 0
+
+-- the connection sends a line
+abbrev pub says : List ℕ → Call
+says line = Line first line 0
+
+-- a call, takes left out
+abbrev pub asked : Call → List Call
+asked (Join peer challenge now) = Join peer challenge now ∷ []
+asked (Line connection line now) = Line connection line now ∷ []
+asked (Quit connection) = Quit connection ∷ []
+asked (Take connection count) = []
+
+-- the calls of a history, oldest first, takes left out
+abbrev pub asked_in : List Entry → List Call
+asked_in [] = []
+asked_in (e ∷ h) = asked_in h ++ asked e.call
+
+-- what the history makes of the connection
+abbrev pub about_first : Configured → List Entry → About
+about_first setup h = (facts setup h).about first
+
+-- the bytes of all messages that the connection is owed
+abbrev pub owed_in : Configured → List Entry → List ℕ
+owed_in setup h = concat (about_first setup h).owed
+
+-- the connection was shut out
+abbrev pub IsGone : Configured → List Entry → Type 0
+IsGone setup h = (about_first setup h).stage ≡ Gone
+
+-- a legal history of the one caller
+pub record IsOwn (setup : Configured) (h : List Entry) : Type 0 where
+  pub legal : Legal setup h
+  pub own : All (λ e. e.caller ≡ first) h
+
+-- what was read was answered: in a legal history of one caller, which joins and then sends each line of what was read,
+-- the connection is owed what was written
+pub record IsAnswered (setup : Configured) (unread left held holds : Option (List ℕ)) (read : List ℕ) (h : List Entry) : Type 0 where
+  pub consumed : Consumes unread left read
+  pub history : IsOwn setup h
+  pub calls : asked_in h ≡ join ∷ map says (lines read)
+  pub written : Appends held holds (owed_in setup h)
+
+-- what was read was answered in part: the calls of the history are the first of those, and what was written is the front
+-- of what the connection is owed
+pub record IsAnsweredInPart (setup : Configured) (unread left held holds : Option (List ℕ)) (read : List ℕ) (h : List Entry) : Type 0 where
+  pub consumed : Consumes unread left read
+  pub history : IsOwn setup h
+  pub calls : (later : _) × (asked_in h ++ later ≡ join ∷ map says (lines read))
+  pub written : (front : _) × (rest : _) × (owed_in setup h ≡ front ++ rest) × Appends held holds front
+
+-- behind its lines a stream has a rest, in which a line may begin
+abbrev pub IsWellCut : List ℕ → Type 0
+IsWellCut read = (rest : List ℕ) × (read ≡ joined (lines read) ++ rest) × IsLine rest
+
+-- all was answered, and the reader was at its end and no line too long, or the connection was shut out
+abbrev pub IsServed : Configured → Option (List ℕ) → Option (List ℕ) → Option (List ℕ) → Option (List ℕ) → Type 0
+IsServed setup unread left held holds =
+    (read : List ℕ) × (h : List Entry) × IsAnswered setup unread left held holds read h
+    × ((IsAtEnd left × IsWellCut read) ⊎ IsGone setup h)
+
+-- behind its lines a stream has over 65,536 bytes without a line feed
+abbrev pub IsTooLong : List ℕ → Type 0
+IsTooLong read =
+    (rest : List ℕ) × (read ≡ joined (lines read) ++ rest) × (max_line < length rest) × HasNoLf (take (max_line + 1) rest)

@@ -1,0 +1,87 @@
+ghost use Rattle.std.specs.Prelude.{◌≡◌, ◌↔◌, IsTrue, IfErr, IfOk, OnOk, map};
+ghost use Rattle.std.specs.Arc.{arc_value};
+ghost use Rattle.std.specs.String.{string_bytes};
+ghost use Rattle.adc_hub.specs.Endings.{AsksForStdin, stdin_setup, EndsBy, Ends, Tells};
+
+use crate::ending::Ending;
+use crate::run_fault::RunFault;
+use crate::run_one::run_one;
+use crate::writing::write_on;
+use hub_core::{Options, Setup, SetupRefused};
+use session_hash::First24;
+use std::alloc::Global;
+use std::io::{Read, Write};
+use std::sync::Arc;
+
+/// Does what the words after the program's name ask for, and gives the exit status.
+///
+/// `stdin` runs a hub for one connection, whose lines are `input` and whose answers go to `output`:
+/// the status is 0, or 4 where memory ran out, or 5 where the input or the output failed, a line was
+/// too long or there were too many reads. With other words the status is 1, and neither is used.
+///
+/// What went wrong is one line on `errors`; that it cannot be written changes nothing.
+pub fn program<R: AllocGlobal, I: Read, O: Write, E: Write>(
+    rt: &R,
+    words: &[String],
+    input: &mut I,
+    output: &mut O,
+    errors: &mut E,
+) -> u8
+    ensures ends { Ends result (map string_bytes words.now) (I.remaining input.old) (I.remaining input.new) (O.contents output.old) (O.contents output.new) }
+    ensures tells { Tells result (E.contents errors.old) (E.contents errors.new) }
+{
+    let ending = if asks_for_stdin(words) {
+        serve_stdin(rt.alloc(), input, output)
+    } else {
+        Ending::Usage
+    };
+    // Nobody is left to hear that the message could not be written.
+    let _ = write_on(errors, ending.message().as_bytes());
+    ending.status()
+}
+
+fn asks_for_stdin(words: &[String]) -> bool
+    ensures { IsTrue result ↔ AsksForStdin (map string_bytes words.now) }
+{
+    match words {
+        [word] => word.as_str() == "stdin",
+        _ => false,
+    }
+}
+
+/// Runs a hub with the default settings for one connection.
+fn serve_stdin<I: Read, O: Write>(alloc: Global, input: &mut I, output: &mut O) -> Ending
+    ensures { (words : _) → AsksForStdin words → EndsBy result words (I.remaining input.old) (I.remaining input.new) (O.contents output.old) (O.contents output.new) }
+{
+    let setup = match stdin_setup(alloc) {
+        Ok(setup) => setup,
+        Err(fault) => return Ending::of_fault(fault),
+    };
+    match run_one(alloc, setup, &First24, input, output) {
+        Ok(()) => Ending::Served,
+        Err(fault) => Ending::of_fault(fault),
+    }
+}
+
+/// The default settings.
+pub(crate) fn stdin_setup(alloc: Global) -> Result<Arc<Setup>, RunFault>
+    ensures ok { IfOk result (λ setup. arc_value setup ≡ stdin_setup) }
+    ensures fault { IfErr result (λ fault. fault ≡ RunFault.Memory) }
+{
+    let options = Options {
+        name: "Hub",
+        topic: "",
+        accounts: &[],
+        commands: &[],
+        registered_only: false,
+        search_interval: 0,
+        max_users: 512,
+        opening: 0,
+    };
+    match Setup::new(alloc, &options) {
+        Ok(setup) => Ok(Arc::new(alloc, setup)?),
+        Err(SetupRefused::Memory) => Err(RunFault::Memory),
+        Err(SetupRefused::Limit) => unreachable!(),
+        Err(SetupRefused::Name) => unreachable!(),
+    }
+}
