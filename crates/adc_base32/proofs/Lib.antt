@@ -1,1 +1,4 @@
+pub mod BitLists
+pub mod Codes
 pub mod Spelling
+pub mod Vacancies

@@ -1,2 +1,5 @@
+pub mod Bits
+pub mod Codec
 pub mod Digits
 pub mod Sids
+pub mod Turns

@@ -5,7 +5,8 @@ ghost use Rattle.adc_base32.specs.Digits.{digit_of, value_at};
 #[tactic(auto, unfolding(crate::specs::Digits::digit_of))]
 pub(crate) fn character(value: u8) -> u8
     requires { value < 32 }
-    ensures { result ≡ digit_of value }
+    ensures exact { result ≡ digit_of value }
+    ensures ascii { result < 128 }
 {
     if value < 26 { value + b'A' } else { value + 24 }
 }

@@ -1,9 +1,18 @@
-//! Base32 text as ADC writes it: session identifiers.
+//! Base32 text as ADC writes it: bytes and session identifiers.
 #![tactic(auto)]
 
+mod decoding;
 mod digit;
+mod encoding;
+mod fault;
+mod laws;
 mod sid;
+mod window;
 
+pub use decoding::{decode, decode24};
+pub use encoding::{encode, encode24};
+pub use fault::B32;
+pub use laws::codec_laws;
 pub use sid::Sid;
 
 #[cfg(test)]

@@ -1,7 +1,10 @@
-ghost use Rattle.std.specs.Prelude.{◌≡◌, ℕ, ◌<◌, ◌↔◌, IsSome, IfSome, IfNone};
+ghost use Rattle.std.specs.Prelude.{◌≡◌, ℕ, ◌+◌, ◌<◌, ◌↔◌, length, IsSome, IfSome, IfNone};
+ghost use Rattle.std.specs.List.{Contains};
 ghost use Rattle.adc_base32.specs.Sids.{sid_count, sid_text, sid_at, four_digits};
+ghost use Rattle.adc_base32.specs.Turns.{IsNextFree};
 
 use crate::digit::{character, value};
+use crate::window::{WINDOW, WINDOWS, first_free};
 use std::marker::Model;
 
 /// How many session identifiers there are.
@@ -66,6 +69,24 @@ impl Sid {
             character((n / 32 % 32) as u8),
             character((n % 32) as u8),
         ]
+    }
+
+    /// The first of last + 1, last + 2 and so on that nobody in `taken` has, where 1 comes after
+    /// 1,048,575. So identifier 0, `AAAA`, is never given. It takes no memory, and one pass over
+    /// `taken` while that has no more than 1,024 items.
+    pub fn next_free(last: u32, taken: &[Sid]) -> Sid
+        requires last_in { last < sid_count }
+        requires one_free { length taken.now + 1 < sid_count }
+        ensures free { Contains taken.now result → ⊥ }
+        ensures given { 0 < result }
+        ensures first { IsNextFree last taken.now result }
+    {
+        'windows: for window in 0..WINDOWS {
+            if let Some(number) = first_free(last, window * WINDOW, taken) {
+                return Sid { number };
+            }
+        }
+        unreachable!()
     }
 }
 

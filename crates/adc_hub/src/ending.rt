@@ -5,7 +5,7 @@ use crate::run_fault::RunFault;
 
 /// How the program ends.
 #[derive(Clone, Copy, Debug, PartialEq, Eq)]
-pub enum Ending {
+pub(crate) enum Ending {
     /// The input or the connection ended.
     Served,
     /// The arguments are not those that the program knows.
@@ -18,7 +18,7 @@ pub enum Ending {
 
 impl Ending {
     /// The exit status.
-    pub fn status(self) -> u8
+    pub(crate) fn status(self) -> u8
         ensures { result ≡ status_of self }
     {
         match self {
@@ -31,7 +31,7 @@ impl Ending {
 
     /// What is said on standard error: nothing, or one line.
     #[tactic(auto, unfolding(crate::specs::Endings::message_of))]
-    pub fn message(self) -> &'static str
+    pub(crate) fn message(self) -> &'static str
         ensures { result.now ≡ message_of self }
     {
         match self {
@@ -43,7 +43,7 @@ impl Ending {
     }
 
     /// How the program ends after this fault.
-    pub fn of_fault(fault: RunFault) -> Ending
+    pub(crate) fn of_fault(fault: RunFault) -> Ending
         ensures { result ≡ ending_of fault }
     {
         match fault {

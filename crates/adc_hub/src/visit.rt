@@ -1,4 +1,4 @@
-ghost use Rattle.std.specs.Prelude.{◌≡◌, [], ◌∷◌, ◌++◌, ◌≤◌, OnOk, IfOk, IfErr, OnErr};
+ghost use Rattle.std.specs.Prelude.{◌≡◌, [], ◌∷◌, ◌++◌, OnOk, IfOk, IfErr, OnErr};
 ghost use Rattle.std.specs.Arc.{arc_value};
 ghost use Rattle.hub_core.specs.Moves.{StandsAt};
 ghost use Rattle.adc_hub.specs.Runs.{first};
@@ -27,11 +27,11 @@ const MOST_TAKEN: usize = 256;
 
 /// A hub and its only connection.
 #[derive(Drop)]
-pub struct Visit {
+pub(crate) struct Visit {
     setup: Arc<Setup>,
-    core: Core,
+    pub(crate) core: Core,
     connection: Conn,
-    framer: Framer,
+    pub(crate) framer: Framer,
     line: Vec<u8>,
     output: Vec<u8>,
     ghost is_first: { connection ≡ first },
@@ -41,7 +41,7 @@ impl Visit {
     /// Opens a hub, which the connection joins.
     ///
     /// Refused: `Memory`.
-    pub fn open(alloc: Global, setup: Arc<Setup>) -> Result<Visit, RunFault>
+    pub(crate) fn open(alloc: Global, setup: Arc<Setup>) -> Result<Visit, RunFault>
         ensures starts { IfOk result (λ visit. Starts (arc_value setup) visit.core) }
         ensures unread { IfOk result (λ visit. visit.framer ≡ []) }
         ensures fault { IfErr result (λ fault. fault ≡ RunFault.Memory) }
@@ -62,7 +62,7 @@ impl Visit {
     ///
     /// Refused: `Memory`, `Write`; `TooLong` once all lines before the one that is too long were
     /// handled, unless the connection was shut out.
-    pub fn hear<H: SessionHash, W: Write>(
+    pub(crate) fn hear<H: SessionHash, W: Write>(
         &mut self,
         alloc: Global,
         hash: &H,
@@ -132,6 +132,7 @@ fn join(alloc: Global, setup: &Setup, core: &mut Core) -> Result<Conn, RunFault>
     ensures starts { OnOk result (Starts setup.now core.new) }
     ensures fault { IfErr result (λ fault. fault ≡ RunFault.Memory) }
 {
+    // So an empty hub has room.
     prove!(setup.max_users() >= 1);
     match core.join(alloc, PEER, CHALLENGE, NOW) {
         Ok(connection) => Ok(connection),

@@ -1,4 +1,4 @@
-ghost use Rattle.std.specs.Prelude.{◌≡◌, IfErr, OnOk, OnErr};
+ghost use Rattle.std.specs.Prelude.{◌≡◌, [], IsOk, IfErr, OnOk, OnErr};
 ghost use Rattle.std.specs.Io.KnownBytes.{Appends};
 ghost use Rattle.adc_hub.specs.Parts.{AppendsFront};
 
@@ -9,10 +9,11 @@ use std::io::Write;
 ///
 /// Refused: `Write` where a write or the flush fails, or a write takes no byte. Then the front of
 /// the bytes was written.
-pub fn write_on<W: Write>(writer: &mut W, bytes: &[u8]) -> Result<(), RunFault>
+pub(crate) fn write_on<W: Write>(writer: &mut W, bytes: &[u8]) -> Result<(), RunFault>
     ensures ok { OnOk result (Appends (W.contents writer.old) (W.contents writer.new) bytes.now) }
     ensures err { OnErr result (AppendsFront (W.contents writer.old) (W.contents writer.new) bytes.now) }
     ensures fault { IfErr result (λ fault. fault ≡ RunFault.Write) }
+    ensures nothing { bytes.now ≡ [] → IsOk result }
 {
     if bytes.is_empty() {
         return Ok(());

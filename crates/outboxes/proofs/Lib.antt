@@ -1,0 +1,3 @@
+pub mod Sizes
+pub mod Written
+pub mod Giving

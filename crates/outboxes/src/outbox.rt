@@ -1,0 +1,134 @@
+ghost use Rattle.std.specs.Prelude.{◌≡◌, ◌≤◌, ◌==◌, ◌&&◌, ◌∷◌, [], ◌++◌, take, drop, length, IfOk, OnOk, OnErr};
+ghost use Rattle.std.specs.List.{concat};
+ghost use Rattle.outboxes.specs.Backlogs.{empty_backlog, with_lines, given};
+ghost use Rattle.outboxes.specs.Quits.{quit_line};
+
+use crate::batch::Batch;
+use crate::place::{Place, add_lines, size_within, write_first};
+use crate::refused::{OutboxRefused, TakeRefused};
+use crate::taken::Taken;
+use adc_base32::Sid;
+use circular_buffer::HeapCircularBuffer;
+use std::alloc::Global;
+use std::marker::Model;
+
+// "IQUI ", four digits and a line feed.
+const QUIT_BYTES: usize = 10;
+
+/// The lines that wait for a connection, oldest first, within a number of lines and of bytes.
+///
+/// What one call owes the connection goes in whole or not at all. From the first time on that it does
+/// not fit, the connection lags: nothing goes in any more, and what waits can still be taken.
+#[derive(Debug, Drop)]
+pub struct Outbox {
+    places: HeapCircularBuffer<Place>,
+    bytes: usize,
+    limit: usize,
+    lags: bool,
+}
+
+impl Model for Outbox {
+    ghost use Rattle.std.specs.Prelude.{◌≡◌, ◌≤◌, map};
+    ghost use Rattle.outboxes.specs.Backlogs.{Backlog, size_of};
+
+    ghost Value = { Backlog };
+
+    ghost use Rattle.outboxes.specs.Places.{line_of};
+
+    ghost view = { λ o. record { lines = map line_of o.places.items; lags = o.lags; cap = o.places.capacity; bytes = o.limit } };
+
+    ghost invariant = { λ o. (o.bytes ≡ size_of (map line_of o.places.items)) × (o.bytes ≤ o.limit) };
+}
+
+impl Outbox {
+    /// An empty outbox for at most `cap` lines and `bytes` bytes, line feeds included. All its places are
+    /// made here: 16 bytes for each line, beside 56 of its own. For 1,024 lines it takes 16,440 bytes.
+    ///
+    /// `Memory` where it runs out.
+    pub fn new(alloc: Global, cap: usize, bytes: usize) -> Result<Outbox, OutboxRefused>
+        ensures { IfOk result (λ o. o ≡ empty_backlog cap bytes) }
+    {
+        let places = HeapCircularBuffer::with_capacity(alloc, cap)?;
+        Ok(Outbox {
+            places,
+            bytes: 0,
+            limit: bytes,
+            lags: false,
+        })
+    }
+
+    /// Adds a batch's lines at the end if the lines that then wait are at most as many, and have at most
+    /// as many bytes, as may wait. Otherwise it adds none, and the connection lags from then on; where
+    /// it lagged before, nothing happens. It takes no memory.
+    #[tactic(auto, unfolding(crate::specs::Backlogs::given))]
+    pub fn give(&mut self, batch: Batch)
+        ensures { self.new ≡ given self.old batch }
+    {
+        if self.lags {
+            return;
+        }
+        let lines = batch.into_lines();
+        match size_within(&lines, self.limit - self.bytes) {
+            Some(size) if lines.len() <= self.places.capacity() - self.places.len() => {
+                self.bytes += size;
+                add_lines(&mut self.places, lines);
+            }
+            _ => self.lags = true,
+        }
+    }
+
+    /// Adds the line that tells that a user has left (ADC 1.0, "QUI"), as `give` adds a batch of this
+    /// one line of 10 bytes. It takes no memory.
+    #[tactic(auto, unfolding(crate::specs::Backlogs::given))]
+    pub fn give_quit(&mut self, sid: Sid)
+        ensures { self.new ≡ given self.old (quit_line sid ∷ []) }
+    {
+        if !self.lags
+            && self.limit - self.bytes >= QUIT_BYTES
+            && self.places.try_push_back(Place::Quit(sid)).is_ok()
+        {
+            self.bytes += QUIT_BYTES;
+        } else {
+            self.lags = true;
+        }
+    }
+
+    /// Removes the first `k` lines, 1 to 256, or all if fewer wait, and appends their bytes to `out`.
+    ///
+    /// `Memory` where it runs out; the outbox and `out` are then as before.
+    pub fn take(&mut self, k: usize, out: &mut Vec<u8>) -> Result<Taken, TakeRefused>
+        requires some { 1 ≤ k }
+        requires few { k ≤ 256 }
+        ensures lines { IfOk result (λ taken. taken.lines ≡ length (take k self.old.lines)) }
+        ensures ended { IfOk result (λ taken. taken.ended ≡ ((length (drop k self.old.lines) == 0) && self.old.lags)) }
+        ensures rest { OnOk result (self.new ≡ with_lines self.old (drop k self.old.lines)) }
+        ensures bytes { OnOk result (out.new.items ≡ out.old.items ++ concat (take k self.old.lines)) }
+        ensures err { OnErr result (self.new ≡ self.old) }
+        ensures out_kept { OnErr result (out.new.items ≡ out.old.items) }
+    {
+        let start = out.len();
+        let count = k.min(self.places.len());
+        write_first(&self.places, count, out)?;
+        let left = self.places.len() - count;
+        self.bytes -= out.len() - start;
+        self.places.truncate_front(left);
+        Ok(Taken {
+            lines: count as u64,
+            ended: left == 0 && self.lags,
+        })
+    }
+
+    /// How many lines wait.
+    pub fn waiting(&self) -> u64
+        ensures { result ≡ length self.now.lines }
+    {
+        self.places.len() as u64
+    }
+
+    /// Whether a share has not fitted: then nothing goes in any more.
+    pub fn lagging(&self) -> bool
+        ensures { result ≡ self.now.lags }
+    {
+        self.lags
+    }
+}
