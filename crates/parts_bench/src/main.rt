@@ -2,6 +2,7 @@
 #![tactic(auto)]
 
 mod digests;
+mod identifiers;
 mod lines;
 
 use std::{env, io};
@@ -16,6 +17,8 @@ fn main(rt: HostRuntime) -> io::Result<()> {
     println!(rt; "escape: {escape} ns for 32 bytes, six of them blanks")?;
     let frames = lines::framer_rate(&rt, rt.alloc())?;
     println!(rt; "Framer: {frames} MB a second, lines of 55 bytes")?;
+    let next = identifiers::next_nanos(&rt)?;
+    println!(rt; "Sid::next_free: {next} ns with 900 taken")?;
     let tiger = digests::rate(&rt, rt.alloc())?;
     println!(rt; "TableTiger: {tiger} MB a second")
 }
