@@ -14,7 +14,7 @@ use Rattle.adc_base32.specs.Digits.{digit_of, value_at}
 use Rattle.adc_base32.proofs.Spelling.{value_at-digit_of, digit_of-value_at}
 use Rattle.adc_line.specs.Escapes.{escaped, is_special, is_escaped, ends_escape, backslash, escape_means, unescaped}
 use Rattle.adc_line.specs.Grammar.{letter, IsCommand, IsCid, Part, part_text, IsPart, IsFeatureWord, IsParameter}
-use Rattle.adc_line.specs.Header.{is_letter, is_letter_or_digit, kind_at, head_at, is_base32_digit, is_cid, is_sign, is_feature, are_features, is_feature_word}
+use Rattle.adc_line.specs.Header.{is_letter, is_letter_or_digit, kind_at, head_at, is_base32_digit, is_cid, is_sign, is_named, is_feature, are_features, is_feature_word}
 use Rattle.adc_line.proofs.EscapeLemmas.{plain_is_no_backslash, escaped-nil}
 use Rattle.adc_line.proofs.FrameLemmas.{not_true}
 use Rattle.adc_line.proofs.EscapeLaws.{unescaped-escaped, escaped-unescaped, parts_of, byte_of}
@@ -206,20 +206,20 @@ parts_in (_ ∷ _ ∷ _ ∷ []) e = absurd (false≢true e)
 parts_in (_ ∷ _ ∷ _ ∷ _ ∷ []) e = absurd (false≢true e)
 parts_in (s ∷ a ∷ b ∷ c ∷ d ∷ more) e =
     let tests = both (is_feature s a b c d) (are_features more) e in
-    let fourth = both (is_sign s && is_letter a && is_letter_or_digit b && is_letter_or_digit c) (is_letter_or_digit d) tests.0 in
-    let third = both (is_sign s && is_letter a && is_letter_or_digit b) (is_letter_or_digit c) fourth.0 in
-    let second = both (is_sign s && is_letter a) (is_letter_or_digit b) third.0 in
-    let firsts = both (is_sign s) (is_letter a) second.0 in
+    let named = both (is_sign s) (is_named a b c d) tests.0 in
+    let fourth = both (is_letter a && is_letter_or_digit b && is_letter_or_digit c) (is_letter_or_digit d) named.1 in
+    let third = both (is_letter a && is_letter_or_digit b) (is_letter_or_digit c) fourth.0 in
+    let firsts = both (is_letter a) (is_letter_or_digit b) third.0 in
     let rest = parts_in more tests.1 in
     let part : Part = record { sign = s; a = a; b = b; c = c; d = d } in
-    (part ∷ rest.0, ap (λ (xs : List ℕ). s ∷ a ∷ b ∷ c ∷ d ∷ xs) rest.1, All-cons IsPart part rest.0 (firsts.0, firsts.1, second.1, third.1, fourth.1) rest.2)
+    (part ∷ rest.0, ap (λ (xs : List ℕ). s ∷ a ∷ b ∷ c ∷ d ∷ xs) rest.1, All-cons IsPart part rest.0 (named.0, firsts.0, firsts.1, third.1, fourth.1) rest.2)
 
 are_parts : (parts : List Part) → All IsPart parts → are_features (flat_map part_text parts) ≡ true
 unfolding are_features
 are_parts [] h = refl
 are_parts (part ∷ parts) h =
     let tests = All-head IsPart part parts h in
-    ap₂ ◌&&◌ (ap₂ ◌&&◌ (ap₂ ◌&&◌ (ap₂ ◌&&◌ (ap₂ ◌&&◌ tests.0 tests.1) tests.2) tests.3) tests.4) (are_parts parts (All-tail IsPart part parts h))
+    ap₂ ◌&&◌ (ap₂ ◌&&◌ tests.0 (ap₂ ◌&&◌ (ap₂ ◌&&◌ (ap₂ ◌&&◌ tests.1 tests.2) tests.3) tests.4)) (are_parts parts (All-tail IsPart part parts h))
 
 pub IsCommand-of : (word : List ℕ) (head : Head) → head_at word ≡ Some head → (word ≡ letter head.kind ∷ head.command) × IsCommand head.command
 unfolding head_at

@@ -54,9 +54,18 @@ is_cid word = not (length word == 0) && list_all is_base32_digit word
 abbrev pub is_sign : ℕ → Bool
 is_sign c = c == 43 || c == 45
 
--- a sign and a feature's name: a letter and three letters or digits
+-- four characters of a feature's name: a letter and three letters or digits
+abbrev pub is_named : ℕ → ℕ → ℕ → ℕ → Bool
+is_named a b c d = is_letter a && is_letter_or_digit b && is_letter_or_digit c && is_letter_or_digit d
+
+-- a feature's name is these four and nothing else
+unfoldable pub is_feature_name : List ℕ → Bool
+is_feature_name name =
+    length name == 4 && is_named (slice_index name 0) (slice_index name 1) (slice_index name 2) (slice_index name 3)
+
+-- a sign and a feature's name
 abbrev pub is_feature : ℕ → ℕ → ℕ → ℕ → ℕ → Bool
-is_feature sign a b c d = is_sign sign && is_letter a && is_letter_or_digit b && is_letter_or_digit c && is_letter_or_digit d
+is_feature sign a b c d = is_sign sign && is_named a b c d
 
 -- such parts and nothing else
 unfoldable pub are_features : List ℕ → Bool

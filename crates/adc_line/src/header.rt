@@ -1,8 +1,9 @@
 ghost use Rattle.std.specs.Prelude.{◌≡◌, ◌&&◌};
 ghost use Rattle.std.specs.List.{list_all};
-ghost use Rattle.adc_line.specs.Header.{is_letter, is_letter_or_digit, is_sign, is_feature, is_base32_digit, head_at, is_cid, are_features, is_feature_word, addressed, header_of, header_at, header_words};
+ghost use Rattle.adc_line.specs.Header.{is_base32_digit, head_at, is_cid, addressed, header_of, header_at, header_words};
 ghost use Rattle.adc_line.specs.Words.{words};
 
+use crate::feature_word::{is_feature_word, is_letter, is_letter_or_digit};
 use crate::kind::Kind;
 use crate::words::Words;
 use adc_base32::Sid;
@@ -114,24 +115,6 @@ fn addressed(head: Head, second: &[u8], third: &[u8]) -> Option<Header>
     }
 }
 
-fn is_letter(byte: u8) -> bool
-    ensures { result ≡ is_letter byte }
-{
-    matches!(byte, b'A'..=b'Z')
-}
-
-fn is_letter_or_digit(byte: u8) -> bool
-    ensures { result ≡ is_letter_or_digit byte }
-{
-    matches!(byte, b'A'..=b'Z' | b'0'..=b'9')
-}
-
-fn is_sign(byte: u8) -> bool
-    ensures { result ≡ is_sign byte }
-{
-    matches!(byte, b'+' | b'-')
-}
-
 #[tactic(auto, unfolding(adc_base32::specs::Digits::value_at))]
 fn is_base32_digit(byte: u8) -> bool
     ensures { result ≡ is_base32_digit byte }
@@ -151,36 +134,4 @@ fn is_cid(word: &[u8]) -> bool
     ensures { result ≡ is_cid word.now }
 {
     !word.is_empty() && are_base32_digits(word)
-}
-
-#[tactic(auto, unfolding(crate::specs::Header::is_feature_word))]
-fn is_feature_word(word: &[u8]) -> bool
-    ensures { result ≡ is_feature_word word.now }
-{
-    !word.is_empty() && are_features(word)
-}
-
-/// Each five bytes are a sign and a feature's name.
-fn are_features(word: &[u8]) -> bool
-    ensures { result ≡ are_features word.now }
-{
-    let mut rest = word;
-    'parts: while let [sign, a, b, c, d, more @ ..] = rest {
-        if !is_feature(*sign, *a, *b, *c, *d) {
-            return false;
-        }
-        rest = more;
-    }
-    rest.is_empty()
-}
-
-/// A sign, and a feature's name.
-fn is_feature(sign: u8, a: u8, b: u8, c: u8, d: u8) -> bool
-    ensures { result ≡ is_feature sign a b c d }
-{
-    is_sign(sign)
-        && is_letter(a)
-        && is_letter_or_digit(b)
-        && is_letter_or_digit(c)
-        && is_letter_or_digit(d)
 }

@@ -3,6 +3,7 @@
 
 mod escaping;
 mod fault;
+mod feature_word;
 mod framer;
 mod header;
 mod kind;
@@ -13,6 +14,7 @@ mod words;
 
 pub use escaping::{escape, unescape};
 pub use fault::{FrameFault, LineFault, UnescapeFault};
+pub use feature_word::{is_feature_name, is_feature_word};
 pub use framer::{Framer, Next};
 pub use kind::Kind;
 pub use line::Line;

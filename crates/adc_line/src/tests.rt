@@ -271,3 +271,35 @@ fn frames_no_line_that_is_too_long(rt: HostRuntime) -> Result<(), Fail> {
     assert!(rt; out == line);
     Ok(())
 }
+
+#[test]
+fn knows_the_names_of_features(rt: HostRuntime) -> Result<(), Fail> {
+    for name in [b"TCP4".as_slice(), b"NAT0", b"A000", b"ZZZZ"] {
+        assert!(rt; is_feature_name(name), "{name:?}");
+    }
+    for name in [
+        b"".as_slice(),
+        b"TCP",
+        b"TCP4X",
+        b"tcp4",
+        b"0TCP",
+        b"TCP-",
+        b"+TCP4",
+    ] {
+        assert!(rt; !is_feature_name(name), "{name:?}");
+    }
+    for word in [b"+TCP4".as_slice(), b"-NAT0", b"+TCP4-NAT0", b"+SEGA-SEGA"] {
+        assert!(rt; is_feature_word(word), "{word:?}");
+    }
+    for word in [
+        b"".as_slice(),
+        b"TCP4",
+        b"+tcp4",
+        b"+TCP",
+        b"+TCP4-",
+        b"+TCP4,NAT0",
+    ] {
+        assert!(rt; !is_feature_word(word), "{word:?}");
+    }
+    Ok(())
+}

@@ -1,6 +1,6 @@
 use Rattle.std.proofs.Common.{◌≡◌, length}
 use Rattle.adc_line.specs.Header.{are_features}
-use Rattle.adc_line.proofs.header.are_features.Given as goal
+use Rattle.adc_line.proofs.feature_word.are_features.Given as goal
 
 abbrev pub invariant-parts : goal.invariant-parts
 invariant-parts l = are_features l.rest ≡ are_features l.word

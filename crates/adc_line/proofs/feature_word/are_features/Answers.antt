@@ -1,7 +1,7 @@
 use Rattle.std.proofs.Common.{◌∙◌, sym}
 use Rattle.std.proofs.lemmas.List.{take_rest}
 use Rattle.adc_line.proofs.WordLemmas.{are_features-no, are_features-yes, are_features-short}
-use Rattle.adc_line.proofs.header.are_features.Goals as goal
+use Rattle.adc_line.proofs.feature_word.are_features.Goals as goal
 
 pub returns-then-not-is_feature : goal.returns-then-not-is_feature
 returns-then-not-is_feature c =
