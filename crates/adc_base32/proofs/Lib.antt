@@ -1,4 +1,5 @@
 pub mod BitLists
 pub mod Codes
+pub mod Spelled
 pub mod Spelling
 pub mod Vacancies

@@ -2,4 +2,5 @@ pub mod Bits
 pub mod Codec
 pub mod Digits
 pub mod Sids
+pub mod Spelled
 pub mod Turns

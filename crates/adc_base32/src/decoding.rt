@@ -1,8 +1,9 @@
-ghost use Rattle.std.specs.Prelude.{◌≡◌, ◌≢◌, ◌*◌, ◌-◌, ℕ, ◌<◌, List, length, take, drop, replicate, vec_len, IfOk, IfErr};
+ghost use Rattle.std.specs.Prelude.{◌≡◌, ◌≢◌, ◌*◌, ◌-◌, ℕ, ◌<◌, List, length, take, drop, replicate, Some, None, vec_len, IfOk, IfErr};
 ghost use Rattle.std.specs.Bool.{Decides};
 ghost use Rattle.std.specs.List.{All};
 ghost use Rattle.adc_base32.specs.Bits.{AreDigits, IsBase32, byte_bits, text_bits, text_len, value_of};
 ghost use Rattle.adc_base32.specs.Codec.{IsDecodeFault};
+ghost use Rattle.adc_base32.specs.Spelled.{spelled};
 
 use crate::digit::value;
 use crate::fault::B32;
@@ -33,6 +34,8 @@ pub fn decode24(text: &[u8]) -> Result<[u8; 24], B32>
     ensures fault { IfErr result (λ fault. IsDecodeFault text.now 24 fault) }
     ensures no_bytes { IfErr result (λ fault. (bytes : List ℕ) → length bytes ≡ 24 → IsBase32 text.now bytes → ⊥) }
     ensures no_memory { IfErr result (λ fault. fault ≢ B32.Memory) }
+    ensures read { IfOk result (λ bytes. spelled 24 text.now ≡ Some bytes) }
+    ensures unread { IfErr result (λ _. spelled 24 text.now ≡ None) }
 {
     let bytes = checked24(text)?;
     Ok(bytes)
@@ -55,6 +58,8 @@ fn checked24(text: &[u8]) -> Result<[u8; 24], B32>
     ensures small { IfOk result (λ bytes. All (λ b. b < 256) bytes) }
     ensures fault { IfErr result (λ fault. IsDecodeFault text.now 24 fault) }
     ensures no_memory { IfErr result (λ fault. fault ≢ B32.Memory) }
+    ensures read { IfOk result (λ bytes. spelled 24 text.now ≡ Some bytes) }
+    ensures unread { IfErr result (λ _. spelled 24 text.now ≡ None) }
 {
     check(text, 24)?;
     let mut bytes = [0; 24];
@@ -68,6 +73,7 @@ fn check(text: &[u8], n: usize) -> Result<(), B32>
     ensures zeros { IfOk result (λ _. drop (8 * n) (text_bits text.now) ≡ replicate (5 * length text.now - 8 * n) 0) }
     ensures fault { IfErr result (λ fault. IsDecodeFault text.now n fault) }
     ensures no_memory { IfErr result (λ fault. fault ≢ B32.Memory) }
+    ensures unread { IfErr result (λ _. spelled n text.now ≡ None) }
 {
     if n > text.len() || n / 5 * 8 + (n % 5 * 8 + 4) / 5 != text.len() {
         return Err(B32::Length);

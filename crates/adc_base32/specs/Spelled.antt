@@ -1,0 +1,33 @@
+-- The bytes that a base32 text spells, computed from its bits.
+use Rattle.std.specs.Prelude.{◌≡◌, ℕ, zero, suc, ◌+◌, ◌*◌, ◌==◌, ◌&&◌, Bool, true, false, List, [], ◌∷◌, length, take, drop, Option, Some, None, is_some}
+use Rattle.std.specs.List.{list_all}
+use Rattle.adc_base32.specs.Digits.{value_at}
+use Rattle.adc_base32.specs.Bits.{text_bits, text_len}
+
+-- the number that bits go on with from a number
+unfoldable pub number_from : ℕ → List ℕ → ℕ
+number_from high [] = high
+number_from high (bit ∷ bits) = number_from (high * 2 + bit) bits
+
+-- so many bytes, eight bits each
+unfoldable pub bytes_from : ℕ → List ℕ → List ℕ
+bytes_from zero bits = []
+bytes_from (suc n) bits = number_from 0 (take 8 bits) ∷ bytes_from n (drop 8 bits)
+
+abbrev pub is_digit : ℕ → Bool
+is_digit c = is_some (value_at c)
+
+abbrev pub is_zero : ℕ → Bool
+is_zero bit = bit == 0
+
+-- a text spells n bytes: it has as many digits as they take, and the bits beyond them are zero
+abbrev pub spells : ℕ → List ℕ → Bool
+spells n text = length text == text_len n && list_all is_digit text && list_all is_zero (drop (8 * n) (text_bits text))
+
+abbrev pub only_if : Bool → List ℕ → Option (List ℕ)
+only_if true bytes = Some bytes
+only_if false bytes = None
+
+-- the n bytes that a text spells, if it spells so many
+unfoldable pub spelled : ℕ → List ℕ → Option (List ℕ)
+spelled n text = only_if (spells n text) (bytes_from n (text_bits text))
