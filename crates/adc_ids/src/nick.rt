@@ -1,7 +1,7 @@
-ghost use Rattle.std.specs.Prelude.{◌≡◌, ℕ, List, IfOk, IfErr, chars, string_bytes, encode_utf8_all};
+ghost use Rattle.std.specs.Prelude.{◌≡◌, true, false, ℕ, List, IfOk, IfErr, chars, string_bytes, encode_utf8_all};
 ghost use Rattle.std.specs.Bool.{Decides};
 ghost use Rattle.unicode_normalization.specs.Forms.{nfc};
-ghost use Rattle.adc_ids.specs.Nicks.{IsNick};
+ghost use Rattle.adc_ids.specs.Nicks.{IsNick, is_nick};
 
 use std::alloc::{AllocError, Global};
 use std::marker::Model;
@@ -47,6 +47,8 @@ impl Nick {
         ensures exact { IfOk result (λ nick. nick ≡ chars text.now) }
         ensures valid { IfOk result (λ nick. IsNick nick) }
         ensures invalid { IfErr result (λ fault. fault ≡ NickFault.Invalid → IsNick (chars text.now) → ⊥) }
+        ensures accepted { IfOk result (λ nick. is_nick nick ≡ true) }
+        ensures refused { IfErr result (λ fault. fault ≡ NickFault.Invalid → is_nick (chars text.now) ≡ false) }
     {
         if !is_nick(text) {
             return Err(NickFault::Invalid);
@@ -66,6 +68,14 @@ impl Nick {
 }
 
 fn is_nick(text: &str) -> bool
+    ensures decides { Decides result (IsNick (chars text.now)) }
+    ensures tells { result ≡ is_nick (chars text.now) }
+{
+    tells_nick(text)
+}
+
+/// Whether a text is a nick, by its code points.
+fn tells_nick(text: &str) -> bool
     ensures { Decides result (IsNick (chars text.now)) }
 {
     let mut points: u32 = 0;

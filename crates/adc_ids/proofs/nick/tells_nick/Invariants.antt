@@ -1,6 +1,6 @@
 use Rattle.std.proofs.Common.{◌≡◌, ◌<◌, ◌≤◌, ℕ, length, get_or}
 use Rattle.std.specs.Str.{chars}
-use Rattle.adc_ids.proofs.nick.is_nick.Given as goal
+use Rattle.adc_ids.proofs.nick.tells_nick.Given as goal
 
 abbrev pub invariant-points : goal.invariant-points
 invariant-points l = record {
