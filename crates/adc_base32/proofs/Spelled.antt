@@ -1,15 +1,16 @@
 -- What a text spells is what the relation says: its bits, cut into eights, are the bytes.
-use Rattle.std.proofs.Common.{◌≡◌, ◌≢◌, ◌∙◌, sym, ap, ap₂, refl, ℕ, zero, suc, ◌+◌, ◌*◌, ◌-◌, ◌/◌, ◌%◌, ◌^◌, ◌<◌, ◌≤◌, ◌&&◌, ◌==◌, Bool, true, false, ◌∷◌, [], ◌++◌, List, length, replicate, take, drop, Option, Some, None, IsSome, is_some, arith, eqb, append_assoc}
-use Rattle.std.specs.List.{flat_map, All, list_all}
+use Rattle.std.proofs.Common.{◌≡◌, ◌≢◌, ◌∙◌, sym, ap, ap₂, refl, ℕ, zero, suc, ◌+◌, ◌*◌, ◌-◌, ◌/◌, ◌%◌, ◌^◌, ◌<◌, ◌&&◌, ◌==◌, Bool, true, false, ◌∷◌, [], ◌++◌, List, length, replicate, take, drop, Option, Some, None, IsSome, unwrap_or, subst, arith, append_assoc}
+use Rattle.std.specs.List.{All, list_all}
 use Rattle.std.proofs.lemmas.Bool.{false≢true, eq-eqb, eqb-true}
 use Rattle.std.proofs.lemmas.List.Elements.{All-head, All-tail, All-cons, All-nil}
 use Rattle.std.proofs.lemmas.Nat.{mod-pow-add}
 use Rattle.std.proofs.Math.Nat.{pow-succ'}
 use Rattle.std.proofs.lemmas.List.{length-drop}
 use Rattle.std.proofs.Math.Seq.{take-append_seam, drop-append_seam}
-use Rattle.adc_base32.specs.Bits.{bits, byte_bits, text_bits, AreDigits, IsBase32, text_len}
-use Rattle.adc_base32.specs.Digits.{value_at}
-use Rattle.adc_base32.specs.Spelled.{number_from, bytes_from, is_digit, is_zero, spells, only_if, spelled}
+use Rattle.adc_base32.specs.Bits.{bits, byte_bits, digit_bits, text_bits, value_of, AreDigits, IsBase32, text_len}
+use Rattle.adc_base32.specs.Digits.{digit_of, value_at}
+use Rattle.adc_base32.specs.Spelled.{number_from, bytes_from, digits_from, is_digit, is_zero, spells, only_if, spelled, spelling}
+use Rattle.adc_base32.proofs.Spelling.{digit_of-value_at}
 use Rattle.adc_base32.proofs.BitLists.{length-bits}
 use Rattle.adc_base32.proofs.Codes.{length-byte_bits, length-text_bits}
 
@@ -50,8 +51,8 @@ bytes_from-cons : (n b : ℕ) (rest : List ℕ) → b < 256 → bytes_from (suc 
 unfolding bytes_from
 bytes_from-cons n b rest below =
     ap₂ (λ (x : ℕ) (xs : List ℕ). x ∷ xs)
-      (ap (number_from 0) (ap (λ k. take k (bits 8 b ++ rest)) (sym (length-bits 8 b)) ∙ take-append_seam (bits 8 b) rest) ∙ byte-read b below)
-      (ap (bytes_from n) (ap (λ k. drop k (bits 8 b ++ rest)) (sym (length-bits 8 b)) ∙ drop-append_seam (bits 8 b) rest))
+    (ap (number_from 0) (ap (λ k. take k (bits 8 b ++ rest)) (sym (length-bits 8 b)) ∙ take-append_seam (bits 8 b) rest) ∙ byte-read b below)
+    (ap (bytes_from n) (ap (λ k. drop k (bits 8 b ++ rest)) (sym (length-bits 8 b)) ∙ drop-append_seam (bits 8 b) rest))
 
 abbrev IsDigit : ℕ → Type 0
 IsDigit c = IsSome (value_at c)
@@ -92,11 +93,11 @@ spelled-of n text bytes long spelt small =
     let seam : text_bits text ≡ byte_bits bytes ++ replicate (5 * length text - 8 * length bytes) 0 = spelt.2 in
     let fits : (length text == text_len n) ≡ true = ap (λ k. length text == text_len k) (sym long) ∙ eq-eqb (length text) (text_len (length bytes)) spelt.0 in
     let rest : drop (8 * n) (text_bits text) ≡ replicate (5 * length text - 8 * length bytes) 0 =
-        ap (λ k. drop k (text_bits text)) (ap (λ k. 8 * k) (sym long) ∙ sym (length-byte_bits bytes))
-        ∙ ap (drop (length (byte_bits bytes))) seam ∙ drop-append_seam (byte_bits bytes) (replicate (5 * length text - 8 * length bytes) 0) in
+    ap (λ k. drop k (text_bits text)) (ap (λ k. 8 * k) (sym long) ∙ sym (length-byte_bits bytes))
+    ∙ ap (drop (length (byte_bits bytes))) seam ∙ drop-append_seam (byte_bits bytes) (replicate (5 * length text - 8 * length bytes) 0) in
     let zeros : list_all is_zero (drop (8 * n) (text_bits text)) ≡ true = ap (list_all is_zero) rest ∙ all-zeros (5 * length text - 8 * length bytes) in
     ap₂ only_if (ap₂ ◌&&◌ (ap₂ ◌&&◌ fits (all-digits text spelt.1)) zeros)
-      (ap₂ bytes_from (sym long) seam ∙ bytes_from-byte_bits bytes (replicate (5 * length text - 8 * length bytes) 0) small)
+    (ap₂ bytes_from (sym long) seam ∙ bytes_from-byte_bits bytes (replicate (5 * length text - 8 * length bytes) 0) small)
 
 unspelled : (n : ℕ) (text : List ℕ) → spells n text ≡ false → spelled n text ≡ None
 unfolding spelled
@@ -110,18 +111,56 @@ refuted false against = refl
 pub spelled-length : (n : ℕ) (text : List ℕ) → length text ≢ text_len n → spelled n text ≡ None
 spelled-length n text long =
     unspelled n text (refuted (spells n text) (λ yes. long (eqb-true (length text) (text_len n)
-      (both (length text == text_len n) (list_all is_digit text) (both (length text == text_len n && list_all is_digit text) (list_all is_zero (drop (8 * n) (text_bits text))) yes).0).0)))
+    (both (length text == text_len n) (list_all is_digit text) (both (length text == text_len n && list_all is_digit text) (list_all is_zero (drop (8 * n) (text_bits text))) yes).0).0)))
 
 -- with a character that is no digit, it spells none
 pub spelled-digits : (n : ℕ) (text : List ℕ) → (AreDigits text → ⊥) → spelled n text ≡ None
 spelled-digits n text odd =
     unspelled n text (refuted (spells n text) (λ yes. odd (digits-all text
-      (both (length text == text_len n) (list_all is_digit text) (both (length text == text_len n && list_all is_digit text) (list_all is_zero (drop (8 * n) (text_bits text))) yes).0).1)))
+    (both (length text == text_len n) (list_all is_digit text) (both (length text == text_len n && list_all is_digit text) (list_all is_zero (drop (8 * n) (text_bits text))) yes).0).1)))
 
 -- with other bits than zeros behind the bytes, it spells none
 pub spelled-zeros : (n : ℕ) (text : List ℕ) → (drop (8 * n) (text_bits text) ≡ replicate (5 * length text - 8 * n) 0 → ⊥) → spelled n text ≡ None
 spelled-zeros n text odd =
     unspelled n text (refuted (spells n text) (λ yes.
-      let zeros = (both (length text == text_len n && list_all is_digit text) (list_all is_zero (drop (8 * n) (text_bits text))) yes).1 in
-      odd (zeros-all (drop (8 * n) (text_bits text)) zeros
-        ∙ ap (λ k. replicate k 0) (length-drop (8 * n) (text_bits text) ∙ ap (λ k. k - 8 * n) (length-text_bits text)))))
+    let zeros = (both (length text == text_len n && list_all is_digit text) (list_all is_zero (drop (8 * n) (text_bits text))) yes).1 in
+    odd (zeros-all (drop (8 * n) (text_bits text)) zeros
+    ∙ ap (λ k. replicate k 0) (length-drop (8 * n) (text_bits text) ∙ ap (λ k. k - 8 * n) (length-text_bits text)))))
+
+value-cases : (c : ℕ) (found : Option ℕ) → value_at c ≡ found → IsSome found → (value_of c < 32) × (digit_of (value_of c) ≡ c)
+unfolding value_of
+value-cases c (Some v) is some =
+    let told = digit_of-value_at c v is in
+    let same : unwrap_or (value_at c) 0 ≡ v = ap (λ o. unwrap_or o 0) is in
+    (subst (λ x. x < 32) (sym same) told.1, ap digit_of same ∙ told.0)
+value-cases c None is some = absurd (false≢true some)
+
+value-below : (c : ℕ) → IsDigit c → value_of c < 32
+value-below c digit = (value-cases c (value_at c) refl digit).0
+
+digit-back : (c : ℕ) → IsDigit c → digit_of (value_of c) ≡ c
+digit-back c digit = (value-cases c (value_at c) refl digit).1
+
+digits_from-cons : (n c : ℕ) (rest : List ℕ) → IsDigit c → digits_from (suc n) (digit_bits c ++ rest) ≡ c ∷ digits_from n rest
+unfolding digits_from
+digits_from-cons n c rest digit =
+    let long : length (digit_bits c) ≡ 5 = length-bits 5 (value_of c) in
+    let small : value_of c < 32 = value-below c digit in
+    ap₂ (λ (x : ℕ) (xs : List ℕ). x ∷ xs)
+    (ap (λ xs. digit_of (number_from 0 xs)) (ap (λ k. take k (digit_bits c ++ rest)) (sym long) ∙ take-append_seam (digit_bits c) rest)
+    ∙ ap digit_of (number_from-bits 5 0 (value_of c) ∙ omega (arith, small)) ∙ digit-back c digit)
+    (ap (digits_from n) (ap (λ k. drop k (digit_bits c ++ rest)) (sym long) ∙ drop-append_seam (digit_bits c) rest))
+
+-- digits are read off their bits
+digits_from-text_bits : (text : List ℕ) → AreDigits text → digits_from (length text) (text_bits text) ≡ text
+unfolding digits_from
+digits_from-text_bits [] h = refl
+digits_from-text_bits (c ∷ text) h =
+    digits_from-cons (length text) c (text_bits text) (All-head IsDigit c text h) ∙ ap (λ (xs : List ℕ). c ∷ xs) (digits_from-text_bits text (All-tail IsDigit c text h))
+
+-- bytes have one spelling
+pub spelling-of : (text bytes : List ℕ) → IsBase32 text bytes → text ≡ spelling bytes
+unfolding spelling
+spelling-of text bytes spelt =
+    sym (digits_from-text_bits text spelt.1)
+    ∙ ap₂ digits_from spelt.0 (spelt.2 ∙ ap (λ k. byte_bits bytes ++ replicate (5 * k - 8 * length bytes) 0) spelt.0)

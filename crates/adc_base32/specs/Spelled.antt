@@ -1,8 +1,8 @@
--- The bytes that a base32 text spells, computed from its bits.
-use Rattle.std.specs.Prelude.{◌≡◌, ℕ, zero, suc, ◌+◌, ◌*◌, ◌==◌, ◌&&◌, Bool, true, false, List, [], ◌∷◌, length, take, drop, Option, Some, None, is_some}
+-- The bytes that a base32 text spells, and the text that spells bytes, computed from their bits.
+use Rattle.std.specs.Prelude.{ℕ, zero, suc, ◌+◌, ◌-◌, ◌*◌, ◌==◌, ◌&&◌, Bool, true, false, List, [], ◌∷◌, ◌++◌, length, take, drop, replicate, Option, Some, None, is_some}
 use Rattle.std.specs.List.{list_all}
-use Rattle.adc_base32.specs.Digits.{value_at}
-use Rattle.adc_base32.specs.Bits.{text_bits, text_len}
+use Rattle.adc_base32.specs.Digits.{digit_of, value_at}
+use Rattle.adc_base32.specs.Bits.{byte_bits, text_bits, text_len}
 
 -- the number that bits go on with from a number
 unfoldable pub number_from : ℕ → List ℕ → ℕ
@@ -31,3 +31,13 @@ only_if false bytes = None
 -- the n bytes that a text spells, if it spells so many
 unfoldable pub spelled : ℕ → List ℕ → Option (List ℕ)
 spelled n text = only_if (spells n text) (bytes_from n (text_bits text))
+
+-- so many digits, five bits each
+unfoldable pub digits_from : ℕ → List ℕ → List ℕ
+digits_from zero bits = []
+digits_from (suc n) bits = digit_of (number_from 0 (take 5 bits)) ∷ digits_from n (drop 5 bits)
+
+-- the text that spells bytes: their bits, and zeros to the end of the last digit
+unfoldable pub spelling : List ℕ → List ℕ
+spelling bytes =
+    digits_from (text_len (length bytes)) (byte_bits bytes ++ replicate (5 * text_len (length bytes) - 8 * length bytes) 0)

@@ -1,6 +1,7 @@
 ghost use Rattle.std.specs.Prelude.{◌≡◌, ℕ, List, ◌++◌, ◌∷◌, [], ◌%◌, IfOk, IfErr, OnOk, length};
 ghost use Rattle.std.specs.String.{string_bytes};
 ghost use Rattle.adc_base32.specs.Digits.{digit_of};
+ghost use Rattle.adc_base32.specs.Spelled.{spelling};
 ghost use Rattle.adc_base32.specs.Bits.{IsBase32, text_len};
 
 use crate::digit::character;
@@ -42,6 +43,7 @@ fn digits(alloc: Global, bytes: &[u8]) -> Result<String, AllocError>
 pub fn encode24(bytes: &[u8; 24]) -> [u8; 39]
     ensures spelt { IsBase32 result bytes.now }
     ensures only { (other : List ℕ) → IsBase32 other bytes.now → other ≡ result }
+    ensures exact { result ≡ spelling bytes.now }
 {
     digits24(bytes)
 }

@@ -1,7 +1,7 @@
 ghost use Rattle.std.specs.Prelude.{◌≡◌, ℕ, ◌+◌, ◌<◌, ◌↔◌, length, IsSome, IfSome, IfNone};
 ghost use Rattle.std.specs.List.{Contains};
 ghost use Rattle.adc_base32.specs.Sids.{sid_count, sid_text, sid_at, four_digits};
-ghost use Rattle.adc_base32.specs.Turns.{IsNextFree};
+ghost use Rattle.adc_base32.specs.Turns.{IsNextFree, next_free};
 
 use crate::digit::{character, value};
 use crate::window::{WINDOW, WINDOWS, first_free};
@@ -80,6 +80,7 @@ impl Sid {
         ensures free { Contains taken.now result → ⊥ }
         ensures given { 0 < result }
         ensures first { IsNextFree last taken.now result }
+        ensures exact { result ≡ next_free last taken.now }
     {
         'windows: for window in 0..WINDOWS {
             if let Some(number) = first_free(last, window * WINDOW, taken) {

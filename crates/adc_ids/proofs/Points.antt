@@ -67,9 +67,9 @@ is_nick-Decides points =
     let some = Decides-leb 1 (length points) in
     let few = Decides-leb (length points) 64 in (
       (λ yes.
-        let tests = both (leb 1 (length points) && leb (length points) 64) (list_all (ltb 32) points) yes in
-        let sizes = both (leb 1 (length points)) (leb (length points) 64) tests.0 in
-        (some.0 sizes.0, few.0 sizes.1, above-all points tests.1)),
+          let tests = both (leb 1 (length points) && leb (length points) 64) (list_all (ltb 32) points) yes in
+          let sizes = both (leb 1 (length points)) (leb (length points) 64) tests.0 in
+          (some.0 sizes.0, few.0 sizes.1, above-all points tests.1)),
       (λ nick. ap₂ ◌&&◌ (ap₂ ◌&&◌ (some.1 nick.0) (few.1 nick.1)) (all-above points nick.2)),
     )
 

@@ -1,6 +1,6 @@
 ghost use Rattle.std.specs.Prelude.{◌≡◌, ℕ, List, length, IfSome, IfNone};
 ghost use Rattle.adc_base32.specs.Bits.{IsBase32};
-ghost use Rattle.adc_base32.specs.Spelled.{spelled};
+ghost use Rattle.adc_base32.specs.Spelled.{spelled, spelling};
 
 use adc_base32::{decode24, encode24};
 use std::marker::Model;
@@ -51,6 +51,7 @@ impl Cid {
     pub fn text(&self) -> [u8; 39]
         ensures spelt { IsBase32 result self.now }
         ensures only { (other : List ℕ) → IsBase32 other self.now → other ≡ result }
+        ensures exact { result ≡ spelling self.now }
     {
         encode24(&self.bytes)
     }

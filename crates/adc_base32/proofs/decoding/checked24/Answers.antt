@@ -9,5 +9,5 @@ returns-clause-spelt c =
 pub returns-clause-read : goal.returns-clause-read
 returns-clause-read c =
     spelled-of 24 c.args.text.now c.fill.new.bytes c.fill.auto.bytes
-      (decoded c.args.text.now c.fill.new.bytes 24 c.fill.auto.bytes c.in_ok-check.ensures.length c.in_ok-check.ensures.digits c.fill.ensures.bits c.in_ok-check.ensures.zeros)
-      c.fill.ensures.small
+    (decoded c.args.text.now c.fill.new.bytes 24 c.fill.auto.bytes c.in_ok-check.ensures.length c.in_ok-check.ensures.digits c.fill.ensures.bits c.in_ok-check.ensures.zeros)
+    c.fill.ensures.small
