@@ -1,0 +1,5 @@
+pub mod Firsts
+pub mod Mentioned
+pub mod Sightings
+pub mod LineByLine
+pub mod StatusParts

@@ -1,0 +1,12 @@
+pub mod Stages
+pub mod Commands
+pub mod Mentions
+pub mod Support
+pub mod Seen
+pub mod SupportAnswers
+pub mod Denials
+pub mod Statuses
+pub mod Dotted
+pub mod Rules
+pub mod Orders
+pub mod Checks

@@ -1,0 +1,33 @@
+-- What is answered where the words of a SUP are read.
+use Rattle.std.specs.Prelude.{◌≡◌, ℕ, Bool, not, nat_lt, List, length, is_some, Result, Ok, Err, if◌then◌else◌}
+use Rattle.std.specs.List.{list_all}
+use Rattle.login_state.specs.declared.fault.SupFault.{SupFault}
+use Rattle.login_state.specs.declared.fault.SupFault.TheVariants.{Memory, Bad, TooMany}
+use Rattle.login_state.specs.Mentions.{mention_at}
+use Rattle.login_state.specs.Support.{supported_after, said}
+
+-- how many features a client may have
+abbrev pub most_features : ℕ
+most_features = 64
+
+abbrev pub is_mention : List ℕ → Bool
+is_mention word = is_some (mention_at word)
+
+-- each word says something of a feature
+abbrev pub are_mentions : List (List ℕ) → Bool
+are_mentions words = list_all is_mention words
+
+-- the features, unless they are too many
+abbrev pub counted : List (List ℕ) → Result (List (List ℕ)) SupFault
+counted features = if nat_lt most_features (length features) then Err TooMany else Ok features
+
+-- what is supported after these words: each must be a mention, and then at most 64 features may be left
+unfoldable pub applied : List (List ℕ) → List (List ℕ) → Result (List (List ℕ)) SupFault
+applied before words = if not (are_mentions words) then Err Bad else counted (supported_after before (said words))
+
+-- the answer is the one that is wanted; `Memory` says nothing
+abbrev pub Gives : Result (List (List ℕ)) SupFault → Result (List (List ℕ)) SupFault → Type 0
+Gives (Ok features) wanted = wanted ≡ Ok features
+Gives (Err Memory) wanted = Unit {0}
+Gives (Err Bad) wanted = wanted ≡ Err Bad
+Gives (Err TooMany) wanted = wanted ≡ Err TooMany

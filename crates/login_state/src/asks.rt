@@ -1,0 +1,63 @@
+use crate::findings::{
+    Account, Address, Admission, Ban, Claim, Identity, Required, Size, Validity,
+};
+
+/// What was found of a login, one finding for each check (ADC 1.0, "INF").
+#[derive(Clone, Copy, Debug)]
+pub struct InfAsk {
+    /// The words: good where each begins with a field's name and they name at most 40 fields.
+    pub words: Validity,
+    /// ID, the client's identifier.
+    pub id: Required,
+    /// PD, the private identifier.
+    pub pid: Required,
+    /// NI, the nick. `Bad`: it is there, and no nick.
+    pub nick: Required,
+    /// SS, how many bytes are shared: empty, missing, or 1 to 20 decimal digits with a value below 2 to the 64th.
+    pub share_size: Validity,
+    /// SF, how many files are shared: as SS.
+    pub shared_files: Validity,
+    /// Whether the identifier is the hash of the private one.
+    pub identity: Identity,
+    /// I4: right where it is missing, empty, `0.0.0.0` or the peer's.
+    pub address: Address,
+    /// Whether the hub lets this nick in.
+    pub admission: Admission,
+    /// What is looked at once more where a password follows.
+    pub entry: EntryAsk,
+}
+
+/// What was found of an update by a user who is present, one finding for each check (ADC 1.0, "INF").
+#[derive(Clone, Copy, Debug)]
+pub struct UpdateAsk {
+    /// The words: good where each begins with a field's name and they name at most 40 fields.
+    pub words: Validity,
+    /// ID: foreign where it is given, were it empty, and is not the user's own.
+    pub identity: Identity,
+    /// SS, how many bytes are shared: empty, missing, or 1 to 20 decimal digits with a value below 2 to the 64th.
+    pub share_size: Validity,
+    /// SF, how many files are shared: as SS.
+    pub shared_files: Validity,
+    /// NI: bad where it is given, and is empty or no nick.
+    pub nick: Validity,
+    /// Whether the change of nick concerns an account.
+    pub account: Account,
+    /// I4: right where it is missing, empty, `0.0.0.0` or the peer's.
+    pub address: Address,
+    /// How many fields the user has once the update is merged.
+    pub size: Size,
+    /// Whether another present user has the nick.
+    pub nick_claim: Claim,
+}
+
+/// What was found of a client that wants to enter, one finding for each check: at its login and, since it may have
+/// changed by then, again once its password was right.
+#[derive(Clone, Copy, Debug)]
+pub struct EntryAsk {
+    /// Whether the identifier is shut out.
+    pub ban: Ban,
+    /// Whether a present user has the nick.
+    pub nick_claim: Claim,
+    /// Whether a present user has the identifier.
+    pub cid_claim: Claim,
+}

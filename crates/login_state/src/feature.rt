@@ -1,0 +1,108 @@
+ghost use Rattle.std.specs.Prelude.{◌≡◌};
+ghost use Rattle.login_state.specs.Mentions.{base, tigr, ping, ucmd, feature_named, signed, mention_at};
+
+use adc_line::is_feature_name;
+use std::marker::Model;
+
+/// A feature, by the four characters of its name (ADC 1.0, "SUP").
+#[derive(Clone, Copy, Debug, PartialEq, Eq, PartialOrd, Ord)]
+pub struct Feature {
+    name: [u8; 4],
+}
+
+impl Model for Feature {
+    ghost use Rattle.std.specs.Prelude.{ℕ, List};
+
+    ghost Value = { List ℕ };
+
+    ghost view = { λ feature. feature.name };
+
+    ghost inverse = { λ name. record { name = name } };
+}
+
+impl Feature {
+    /// BASE, the protocol itself, without which nobody can talk to the hub.
+    pub fn base() -> Feature
+        ensures { result ≡ base }
+    {
+        Feature { name: *b"BASE" }
+    }
+
+    /// TIGR, the hash of the session.
+    pub fn tigr() -> Feature
+        ensures { result ≡ tigr }
+    {
+        Feature { name: *b"TIGR" }
+    }
+
+    /// PING: the hub tells about itself at once (ADC-EXT, "PING").
+    pub fn ping() -> Feature
+        ensures { result ≡ ping }
+    {
+        Feature { name: *b"PING" }
+    }
+
+    /// UCMD: the hub offers commands in the client's menus (ADC-EXT, "UCMD").
+    pub fn ucmd() -> Feature
+        ensures { result ≡ ucmd }
+    {
+        Feature { name: *b"UCMD" }
+    }
+
+    /// The feature of a name, a letter A to Z and three letters or digits, where it is one. `BAS0` and `UCM0` are early
+    /// names of BASE and UCMD.
+    #[tactic(auto, unfolding(crate::specs::Mentions::feature_named))]
+    pub fn named(name: [u8; 4]) -> Option<Feature>
+        ensures { result ≡ feature_named name }
+    {
+        if !is_feature_name(&name) {
+            return None;
+        }
+        if name == *b"BAS0" {
+            return Some(Feature::base());
+        }
+        if name == *b"UCM0" {
+            return Some(Feature::ucmd());
+        }
+        Some(Feature { name })
+    }
+
+    /// The four characters of its name.
+    pub fn name(self) -> [u8; 4]
+        ensures { result ≡ self }
+    {
+        self.name
+    }
+}
+
+/// What one word of a SUP says of a feature.
+#[derive(Clone, Copy, Debug)]
+pub enum Mention {
+    /// `AD`: the client supports it.
+    Adds(Feature),
+    /// `RM`: the client supports it no more.
+    Removes(Feature),
+}
+
+/// What a word says: `AD` or `RM`, and a feature's name.
+#[tactic(auto, unfolding(crate::specs::Mentions::mention_at))]
+pub(crate) fn mention_at(word: &[u8]) -> Option<Mention>
+    ensures { result ≡ mention_at word.now }
+{
+    let [first, second, a, b, c, d] = word else {
+        return None;
+    };
+    let feature = Feature::named([*a, *b, *c, *d])?;
+    signed(*first, *second, feature)
+}
+
+#[tactic(auto, unfolding(crate::specs::Mentions::signed))]
+fn signed(first: u8, second: u8, feature: Feature) -> Option<Mention>
+    ensures { result ≡ signed first second feature }
+{
+    match (first, second) {
+        (b'A', b'D') => Some(Mention::Adds(feature)),
+        (b'R', b'M') => Some(Mention::Removes(feature)),
+        _ => None,
+    }
+}

@@ -1,0 +1,84 @@
+/// What was found of a field that a login must have.
+#[derive(Clone, Copy, Debug, PartialEq, Eq)]
+pub enum Required {
+    /// It is not there, or empty.
+    Missing,
+    /// It is there, and no value of its kind.
+    Bad,
+    /// It is there and valid.
+    Good,
+}
+
+/// Whether what was sent is valid. A field that need not be there is valid where it is not.
+#[derive(Clone, Copy, Debug, PartialEq, Eq)]
+pub enum Validity {
+    /// It is not.
+    Bad,
+    /// It is.
+    Good,
+}
+
+/// Whose the identifier is that a client sent.
+#[derive(Clone, Copy, Debug, PartialEq, Eq)]
+pub enum Identity {
+    /// The client's own, or none was sent where none need be.
+    Own,
+    /// Not the client's.
+    Foreign,
+}
+
+/// How long a client is shut out.
+#[derive(Clone, Copy, Debug, PartialEq, Eq)]
+pub enum Ban {
+    /// It is not.
+    Free,
+    /// For good.
+    Ever,
+    /// For so many seconds from now on.
+    For(u64),
+}
+
+/// The address that a client sent.
+#[derive(Clone, Copy, Debug, PartialEq, Eq)]
+pub enum Address {
+    /// It is the one that the hub sees, or leaves the choice to the hub.
+    Right,
+    /// It is another than the one that the hub sees, which stands here.
+    Wrong([u8; 4]),
+}
+
+/// Whom the hub lets in.
+#[derive(Clone, Copy, Debug, PartialEq, Eq)]
+pub enum Admission {
+    /// This client.
+    Admitted,
+    /// Accounts alone, and the nick is none's.
+    RegisteredOnly,
+}
+
+/// Whether another user has what a client wants.
+#[derive(Clone, Copy, Debug, PartialEq, Eq)]
+pub enum Claim {
+    /// Nobody has it.
+    Free,
+    /// A present user has it.
+    Taken,
+}
+
+/// Whether a change of nick leaves the nick of an account, or takes one.
+#[derive(Clone, Copy, Debug, PartialEq, Eq)]
+pub enum Account {
+    /// Neither.
+    Untouched,
+    /// The old nick or the new one is an account's, and they differ.
+    Touched,
+}
+
+/// Whether a user's fields, once an update is merged, are as many as a user may have.
+#[derive(Clone, Copy, Debug, PartialEq, Eq)]
+pub enum Size {
+    /// They are at most 40.
+    Fits,
+    /// They are more.
+    TooMany,
+}
