@@ -7,7 +7,7 @@ use Rattle.login_state.specs.declared.deny.InfField.{InfField}
 use Rattle.login_state.specs.declared.deny.InfField.TheVariants.{Id, Pid, Nick, ShareSize, SharedFiles}
 use Rattle.login_state.specs.declared.deny.Severity.{Severity}
 use Rattle.login_state.specs.declared.deny.Severity.TheVariants.{Recoverable, Fatal}
-use Rattle.login_state.specs.Dotted.{dotted}
+use Rattle.inf_fields.specs.Cleaning.{dotted}
 
 -- the name of a field of an INF
 abbrev pub field_name : InfField → List ℕ

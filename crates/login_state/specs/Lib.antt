@@ -6,7 +6,6 @@ pub mod Seen
 pub mod SupportAnswers
 pub mod Denials
 pub mod Statuses
-pub mod Dotted
 pub mod Rules
 pub mod Orders
 pub mod Checks

@@ -6,7 +6,7 @@ use Rattle.login_state.specs.declared.deny.Deny.TheVariants.{Protocol, WrongSid,
 use Rattle.login_state.specs.declared.deny.Severity.{Severity}
 use Rattle.login_state.specs.declared.deny.Severity.TheVariants.{Recoverable, Fatal}
 use Rattle.login_state.specs.Denials.{field_name}
-use Rattle.login_state.specs.Dotted.{dotted}
+use Rattle.inf_fields.specs.Cleaning.{dotted}
 
 abbrev pub severity_digit : Severity → List ℕ
 severity_digit Recoverable = codes "1"

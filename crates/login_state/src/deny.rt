@@ -2,7 +2,7 @@ ghost use Rattle.std.specs.Prelude.{◌≡◌, ◌++◌, IfOk, OnOk};
 ghost use Rattle.login_state.specs.Denials.{denial_line, field_name, severity_of, is_fatal};
 ghost use Rattle.login_state.specs.Statuses.{severity_digit, error_text, detail};
 
-use crate::dotted::dotted;
+use inf_fields::dotted;
 use std::alloc::{AllocError, Global};
 
 /// How severe a status is (ADC 1.0, "STA").

@@ -5,7 +5,6 @@ mod asks;
 mod checks;
 mod commands;
 mod deny;
-mod dotted;
 mod fault;
 mod feature;
 mod features;

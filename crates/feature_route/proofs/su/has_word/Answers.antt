@@ -1,0 +1,11 @@
+use Rattle.std.proofs.Common.{rules, lit<}
+use Rattle.std.specs.Prelude.{bytes_eq}
+use Rattle.std.proofs.lemmas.Iterator.Search.{any_from_yields_List}
+use Rattle.std.proofs.lemmas.Iterator.Splits.{YieldsList-from_str_split}
+use Rattle.feature_route.proofs.su.has_word.Goals as goal
+
+pub returns : goal.returns
+returns c =
+    any_from_yields_List (bytes_eq c.args.name) _ _ _ c.any.ensures.ran
+    (YieldsList-from_str_split 44 c.args.su.now (lit< tt) c.split.ensures.text c.split.ensures.has_more c.split.ensures.pattern)
+    (λ x b q k. search rules)

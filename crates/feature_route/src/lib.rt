@@ -1,0 +1,17 @@
+//! Who hears a message: all users, one, two, or those who have certain features.
+#![tactic(auto)]
+
+mod feature_set;
+mod features;
+mod hearers;
+mod routing;
+mod su;
+mod want;
+
+pub use feature_set::FeatureSet;
+pub use hearers::Audience;
+pub use routing::audience;
+pub use want::Want;
+
+#[cfg(test)]
+mod tests;

@@ -1,0 +1,64 @@
+ghost use Rattle.std.specs.Prelude.{◌≡◌};
+ghost use Rattle.std.specs.Option.{option_copied};
+ghost use Rattle.feature_route.specs.Audiences.{audience, direct, echoed, featured};
+
+use crate::hearers::Audience;
+use crate::want::Want;
+use adc_base32::Sid;
+use adc_line::{Kind, Line};
+
+/// For whom a line is, by its type (ADC 1.0, "Message types"); `target_present` says whether the user
+/// that it names as its target is present.
+///
+/// B: all. D: the target, and nobody where that user is away. E: the target and the sender, once each
+/// also where they are the same, and nobody where the target is away. F: those who have every feature
+/// that its feature word wants and none that it does not want, the sender treated alike. C, H, I, U:
+/// nobody.
+#[tactic(auto, unfolding(crate::specs::Audiences::audience))]
+pub fn audience(line: &Line, target_present: bool) -> Audience<'_>
+    ensures { result ≡ audience line.now target_present }
+{
+    match line.kind() {
+        Kind::Broadcast => Audience::All,
+        Kind::Direct => direct(line.target(), target_present),
+        Kind::Echo => echoed(line.target(), line.from(), target_present),
+        Kind::Feature => featured(line.features()),
+        Kind::Client | Kind::Hub | Kind::Info | Kind::Udp => Audience::Nobody,
+    }
+}
+
+fn direct<'a>(target: Option<Sid>, target_present: bool) -> Audience<'a>
+    ensures { result ≡ direct target_present target }
+{
+    match target {
+        Some(target) if target_present => Audience::One(target),
+        _ => Audience::Nobody,
+    }
+}
+
+fn echoed<'a>(target: Option<Sid>, own: Option<Sid>, target_present: bool) -> Audience<'a>
+    ensures { result ≡ echoed target_present target own }
+{
+    let Some(target) = target else {
+        return Audience::Nobody;
+    };
+    let Some(own) = own else {
+        return Audience::Nobody;
+    };
+    if !target_present {
+        return Audience::Nobody;
+    }
+    if target == own {
+        return Audience::One(target);
+    }
+    Audience::Two(target, own)
+}
+
+fn featured(word: Option<&str>) -> Audience<'_>
+    ensures { result ≡ featured (option_copied word.entry) }
+{
+    match word {
+        Some(word) => Audience::Having(Want::of(word)),
+        None => Audience::Nobody,
+    }
+}

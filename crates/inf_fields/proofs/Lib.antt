@@ -1,0 +1,10 @@
+pub mod AmountLemmas
+pub mod ChangeLaws
+pub mod Changes
+pub mod CleanLemmas
+pub mod EntryLemmas
+pub mod MergingLaws
+pub mod NameLemmas
+pub mod OrderLaws
+pub mod Tallies
+pub mod UpdateLemmas

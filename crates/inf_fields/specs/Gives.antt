@@ -1,0 +1,19 @@
+-- An answer that is what a definition wants, want of memory apart.
+use Rattle.std.specs.Prelude.{◌≡◌, List, Result, Ok, Err}
+use Rattle.inf_fields.specs.Field.{Field}
+use Rattle.inf_fields.specs.declared.fault.InfFault.{InfFault}
+use Rattle.inf_fields.specs.declared.fault.InfFault.TheVariants.{Memory, BadName, TooMany}
+
+-- the answer is the one that is wanted; `Memory` says nothing
+abbrev pub Gives : Result (List Field) InfFault → Result (List Field) InfFault → Type 0
+Gives (Ok fields) wanted = wanted ≡ Ok fields
+Gives (Err Memory) wanted = Unit {0}
+Gives (Err BadName) wanted = wanted ≡ Err BadName
+Gives (Err TooMany) wanted = wanted ≡ Err TooMany
+
+-- the same of a change: after it the fields are the ones that are wanted, and after a refusal those before
+abbrev pub GivesChange : Result (Unit {0}) InfFault → Result (List Field) InfFault → List Field → List Field → Type 0
+GivesChange (Ok _) wanted old new = wanted ≡ Ok new
+GivesChange (Err Memory) wanted old new = new ≡ old
+GivesChange (Err BadName) wanted old new = (wanted ≡ Err BadName) × (new ≡ old)
+GivesChange (Err TooMany) wanted old new = (wanted ≡ Err TooMany) × (new ≡ old)

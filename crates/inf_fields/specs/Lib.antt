@@ -1,0 +1,13 @@
+pub mod Amounts
+pub mod Changes
+pub mod Cleaning
+pub mod Field
+pub mod FieldNames
+pub mod FieldsView
+pub mod Gives
+pub mod Merging
+pub mod NameBytes
+pub mod Order
+pub mod Stored
+pub mod Updates
+pub mod UpdateView

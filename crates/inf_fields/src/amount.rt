@@ -1,0 +1,28 @@
+ghost use Rattle.std.specs.Prelude.{◌≡◌};
+ghost use Rattle.std.specs.Char.{is_ascii_digit};
+ghost use Rattle.std.specs.List.{list_all};
+ghost use Rattle.inf_fields.specs.Amounts.{is_short_number, number_at};
+
+/// The number that a value of SS (bytes shared) or SF (files shared) spells: 1 to 20 decimal
+/// digits, and below 2 to the 64th. `None` for any other value. Takes no memory (ADC 1.0, "INF").
+#[tactic(auto, unfolding(crate::specs::Amounts::number_at))]
+pub fn shared_amount(value: &str) -> Option<u64>
+    ensures { result ≡ number_at value.now }
+{
+    if !is_short_number(value.as_bytes()) {
+        return None;
+    }
+    value.parse().ok()
+}
+
+fn is_short_number(digits: &[u8]) -> bool
+    ensures { result ≡ is_short_number digits.now }
+{
+    1 <= digits.len() && digits.len() <= 20 && are_digits(digits)
+}
+
+fn are_digits(bytes: &[u8]) -> bool
+    ensures { result ≡ list_all is_ascii_digit bytes.now }
+{
+    bytes.iter().all(|b| b.is_ascii_digit())
+}

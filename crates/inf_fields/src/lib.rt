@@ -1,0 +1,23 @@
+//! The fields that INF messages say of a user: updates, their merge, and what may be passed on of them.
+#![tactic(auto)]
+
+mod address;
+mod amount;
+mod entries;
+mod fault;
+mod fields;
+mod laws;
+mod name;
+mod parameter;
+mod update;
+
+pub use address::dotted;
+pub use amount::shared_amount;
+pub use fault::InfFault;
+pub use fields::Fields;
+pub use laws::merging_laws;
+pub use name::FieldName;
+pub use update::Update;
+
+#[cfg(test)]
+mod tests;

@@ -1,0 +1,66 @@
+-- The forms of acts, word by word.
+use Rattle.std.proofs.Common.{◌≡◌, ◌∙◌, sym, ap, refl, subst, ℕ, ◌≤◌, true, false, List, [], ◌∷◌, length, Option, Some, None, Result, Ok, Err, Bor, arith}
+use Rattle.std.specs.Prelude.{chars, is_some, IsErrAnd, ok_or, option_copied}
+use Rattle.std.proofs.lemmas.Bool.{false≢true}
+use Rattle.adc_ids.specs.declared.nick.NickFault.{NickFault}
+use Rattle.adc_ids.specs.declared.nick.NickFault.TheVariants as nicks
+use Rattle.adc_ids.specs.Nicks.{is_nick}
+use Rattle.operator_acts.specs.declared.act.Act.{Act}
+use Rattle.operator_acts.specs.declared.act.Act.TheVariants as acts
+use Rattle.operator_acts.specs.declared.fault.ActFault.{ActFault}
+use Rattle.operator_acts.specs.Acts.{nick_at, seconds_at, where_it_is, kick_of, kick_by, ban_of, ban_by, unban_of, rest_of, words, words_after}
+use Rattle.operator_acts.specs.Gives.{Gives, fault_of}
+use Rattle.operator_acts.proofs.Cuts.{some-word}
+
+-- a nick that is read, and one that is none
+nick-there : (word nick : List ℕ) → nick ≡ chars word → is_nick nick ≡ true → nick_at word ≡ Some nick
+unfolding nick_at
+nick-there word nick is good =
+    ap (λ n. where_it_is (is_nick n) n) (sym is) ∙ ap (λ b. where_it_is b nick) good
+
+nick-none : (word : List ℕ) → is_nick (chars word) ≡ false → nick_at word ≡ None
+unfolding nick_at
+nick-none word bad = ap (λ b. where_it_is b (chars word)) bad
+
+pub kick-read : (ws more : List (List ℕ)) (word nick reason : List ℕ) → ws ≡ word ∷ more → nick ≡ chars word → is_nick nick ≡ true → reason ≡ rest_of more → kick_of ws ≡ Some (acts.Kick nick reason)
+kick-read ws more word nick reason are is good rest =
+    ap kick_of are ∙ ap (λ o. kick_by o (rest_of more)) (nick-there word nick is good) ∙ ap (λ r. Some (acts.Kick nick r)) (sym rest)
+
+pub kick-refused : (ws more : List (List ℕ)) (word : List ℕ) (fault : NickFault) → ws ≡ word ∷ more → (fault ≡ nicks.Invalid → is_nick (chars word) ≡ false) → Gives (Err (fault_of fault)) (kick_of ws)
+kick-refused ws more word nicks.Memory are bad = tt
+kick-refused ws more word nicks.Invalid are bad = ap kick_of are ∙ ap (λ o. kick_by o (rest_of more)) (nick-none word (bad refl))
+
+pub ban-read : (ws others more : List (List ℕ)) (word time nick reason : List ℕ) (seconds : ℕ) → ws ≡ word ∷ others → others ≡ time ∷ more
+    → seconds_at time ≡ Some seconds → nick ≡ chars word → is_nick nick ≡ true → reason ≡ rest_of more → ban_of ws ≡ Some (acts.Ban nick seconds reason)
+ban-read ws others more word time nick reason seconds are and-are long is good rest =
+    ap ban_of (are ∙ ap (λ xs. word ∷ xs) and-are) ∙ ap (λ s. ban_by (nick_at word) s (rest_of more)) long
+    ∙ ap (λ o. ban_by o (Some seconds) (rest_of more)) (nick-there word nick is good) ∙ ap (λ r. Some (acts.Ban nick seconds r)) (sym rest)
+
+ban-none : (o : Option ℕ) (reason : List ℕ) → ban_by None o reason ≡ None
+ban-none None reason = refl
+ban-none (Some s) reason = refl
+
+pub ban-refused : (ws others more : List (List ℕ)) (word time : List ℕ) (fault : NickFault) → ws ≡ word ∷ others → others ≡ time ∷ more
+    → (fault ≡ nicks.Invalid → is_nick (chars word) ≡ false) → Gives (Err (fault_of fault)) (ban_of ws)
+ban-refused ws others more word time nicks.Memory are and-are bad = tt
+ban-refused ws others more word time nicks.Invalid are and-are bad =
+    ap ban_of (are ∙ ap (λ xs. word ∷ xs) and-are) ∙ ap (λ o. ban_by o (seconds_at time) (rest_of more)) (nick-none word (bad refl)) ∙ ban-none (seconds_at time) (rest_of more)
+
+unban-by : (word : List ℕ) (more : List (List ℕ)) → 1 ≤ length more → unban_of (word ∷ more) ≡ None
+unban-by word [] some = absurd (omega arith)
+unban-by word (x ∷ xs) some = refl
+
+-- nothing may follow the client identifier
+pub unban-some : (ws : List (List ℕ)) (word : List ℕ) (more : Option (Bor (List ℕ))) → ws ≡ word ∷ words_after (option_copied more) → is_some more ≡ true → unban_of ws ≡ None
+unban-some ws word None are there = absurd (false≢true there)
+unban-some ws word (Some text) are there = ap unban_of are ∙ unban-by word (words text.now) (some-word text.now)
+
+-- a fault passed on by `?`
+pub passed-on : (answer : Result Act ActFault) (fault : NickFault) (said : Option Act) → IsErrAnd answer (λ made. made ≡ fault_of fault) → Gives (Err (fault_of fault)) said → Gives answer said
+passed-on (Ok act) fault said made refused = absurd made
+passed-on (Err made) fault said is refused = subst (λ (e : ActFault). Gives (Err e) said) (sym is) refused
+
+-- an option that was made a result
+pub some-there : {X : Type 0} (o : Option X) (fault : ActFault) (x : X) → ok_or o fault ≡ Ok x → o ≡ Some x
+some-there None fault x is = cc
+some-there (Some y) fault x is = let e : y ≡ x = cc in ap Some e

@@ -1,0 +1,5 @@
+pub mod Cuts
+pub mod Digits
+pub mod Entries
+pub mod Forms
+pub mod LastActs

@@ -1,0 +1,9 @@
+//! How often a connection may search.
+#![tactic(auto)]
+
+mod interval;
+
+pub use interval::may_search;
+
+#[cfg(test)]
+mod tests;
