@@ -1,0 +1,93 @@
+-- What an update does to one field of a user.
+use Rattle.std.proofs.Common.{◌≡◌, ◌∙◌, sym, ap, ap₂, refl, ℕ, Bool, true, false, not, ◌&&◌, ◌||◌, cond, List, [], ◌∷◌, ◌++◌, map, filter, Option, Some, None, unwrap_or}
+use Rattle.std.specs.Option.{option_or}
+use Rattle.std.specs.Prelude.{if◌then◌else◌}
+use Rattle.std.specs.Str.{bytes_eq}
+use Rattle.std.proofs.lemmas.Bool.{false≢true}
+use Rattle.std.proofs.lemmas.Slice.Eq.{bytes_eq-Decides}
+use Rattle.inf_fields.specs.Cleaning.{any_address, asks_for_address, clean, dotted, is_held_back, with_address}
+use Rattle.inf_fields.specs.Field.{Field, field, is_called, value_of}
+use Rattle.inf_fields.specs.FieldNames.{address6_name, address_name, client_type_name, id_name, port6_name, private_id_name}
+use Rattle.inf_fields.specs.Merging.{if_filled, last_value, merged, merged_with}
+use Rattle.inf_fields.proofs.MergingLaws.{merged-more, value_of-merged}
+use Rattle.hub_rules.specs.Identities.{given}
+
+-- ---- merging
+
+or-none : (o : Option (List ℕ)) → option_or o None ≡ o
+or-none None = refl
+or-none (Some x) = refl
+
+or-assoc : (a b c : Option (List ℕ)) → option_or (option_or a b) c ≡ option_or a (option_or b c)
+or-assoc (Some x) b c = refl
+or-assoc None b c = refl
+
+last_value-push : (name : List ℕ) (updates : List (List Field)) (u : List Field) → last_value name (updates ++ u ∷ []) ≡ option_or (value_of name u) (last_value name updates)
+last_value-push name [] u = sym (or-none (value_of name u))
+last_value-push name (v ∷ updates) u =
+    ap (λ o. option_or o (value_of name v)) (last_value-push name updates u) ∙ or-assoc (value_of name u) (last_value name updates) (value_of name v)
+
+filled-given : (o : Option (List ℕ)) → unwrap_or (if_filled o) [] ≡ unwrap_or o []
+filled-given None = refl
+filled-given (Some []) = refl
+filled-given (Some (b ∷ more)) = refl
+
+or-given : (a b : Option (List ℕ)) → unwrap_or (option_or a b) [] ≡ unwrap_or a (unwrap_or b [])
+or-given (Some x) b = refl
+or-given None b = refl
+
+-- a field has the value that the update gives it, and else the one before
+given-merged : (name : List ℕ) (infs : List (List Field)) (u : List Field) → given name (merged_with (merged infs) u) ≡ unwrap_or (value_of name u) (given name (merged infs))
+given-merged name infs u =
+    ap (given name) (sym (merged-more infs u))
+    ∙ ap (λ o. unwrap_or o []) (value_of-merged name (infs ++ u ∷ []) ∙ ap if_filled (last_value-push name infs u))
+    ∙ filled-given (option_or (value_of name u) (last_value name infs))
+    ∙ or-given (value_of name u) (last_value name infs)
+    ∙ ap (unwrap_or (value_of name u)) (sym (ap (λ o. unwrap_or o []) (value_of-merged name infs) ∙ filled-given (last_value name infs)))
+
+pub given-after : (name : List ℕ) (fields : List Field) (infs : List (List Field)) (u : List Field) → fields ≡ merged infs
+    → given name (merged_with fields u) ≡ unwrap_or (value_of name u) (given name fields)
+given-after name fields infs u is =
+    ap (λ fs. given name (merged_with fs u)) is ∙ given-merged name infs u ∙ ap (λ fs. unwrap_or (value_of name u) (given name fs)) (sym is)
+
+-- ---- what is passed on
+
+-- the client's identifier is passed on as it is
+other-name : (other : List ℕ) (f : Field) (called : Bool) → bytes_eq id_name other ≡ false → is_called other f ≡ called → is_called id_name f ≡ true → called ≡ false
+other-name other f true apart is here =
+    absurd (false≢true (sym apart ∙ ap (bytes_eq id_name) ((bytes_eq-Decides other f.name).0 is) ∙ here))
+other-name other f false apart is here = refl
+
+other-is : (other : List ℕ) (f : Field) → bytes_eq id_name other ≡ false → is_called id_name f ≡ true → is_called other f ≡ false
+other-is other f apart here = other-name other f (is_called other f) apart refl here
+
+passed-name : (asks : Bool) (f g : Field) → g.name ≡ f.name → (if asks then g else f).name ≡ f.name
+passed-name true f g same = same
+passed-name false f g same = refl
+
+-- a field that is the identifier is not held back, and keeps its value
+id-kept : (f : Field) → is_called id_name f ≡ true → is_held_back f ≡ false
+id-kept f here =
+    ap₂ ◌||◌ (ap₂ ◌||◌ (ap₂ ◌||◌ (other-is private_id_name f refl here) (other-is client_type_name f refl here)) (other-is address6_name f refl here)) (other-is port6_name f refl here)
+
+id-value : (peer : List ℕ) (f : Field) → is_called id_name f ≡ true → with_address peer f ≡ f
+id-value peer f here = ap (λ b. if (b && bytes_eq any_address f.value) then field f.name (dotted peer) else f) (other-is address_name f refl here)
+
+clean-cons : (held called : Bool) (peer : List ℕ) (f : Field) (fields : List Field) → is_held_back f ≡ held → is_called id_name f ≡ called
+    → value_of id_name (map (with_address peer) (filter (λ g. not (is_held_back g)) fields)) ≡ value_of id_name fields
+    → value_of id_name (map (with_address peer) (cond (not held) (f ∷ filter (λ g. not (is_held_back g)) fields) (filter (λ g. not (is_held_back g)) fields)))
+    ≡ (if called then Some f.value else value_of id_name fields)
+clean-cons true true peer f fields held called rest = absurd (false≢true (sym (id-kept f called) ∙ held))
+clean-cons true false peer f fields held called rest = rest
+clean-cons false true peer f fields held called rest =
+    ap (λ g. if is_called id_name g then Some g.value else value_of id_name (map (with_address peer) (filter (λ g. not (is_held_back g)) fields))) (id-value peer f called)
+    ∙ ap (λ b. if b then Some f.value else value_of id_name (map (with_address peer) (filter (λ g. not (is_held_back g)) fields))) called
+clean-cons false false peer f fields held called rest =
+    ap (λ b. if b then Some (with_address peer f).value else value_of id_name (map (with_address peer) (filter (λ g. not (is_held_back g)) fields)))
+    (ap (bytes_eq id_name) (passed-name (asks_for_address f) f (field f.name (dotted peer)) refl) ∙ called)
+    ∙ rest
+
+pub id-clean : (fields : List Field) (peer : List ℕ) → value_of id_name (clean fields peer) ≡ value_of id_name fields
+unfolding clean
+id-clean [] peer = refl
+id-clean (f ∷ fields) peer = clean-cons (is_held_back f) (is_called id_name f) peer f fields refl refl (id-clean fields peer)

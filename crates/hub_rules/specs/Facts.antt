@@ -1,0 +1,172 @@
+-- What the calls so far amount to. A history is a list of entries, written **newest first**: `e ∷ h` is the history h
+-- and then the entry e. So 'h begins with s' says that s is an end of the list h.
+use Rattle.std.specs.Prelude.{ℕ, ◌+◌, ◌==◌, ◌&&◌, not, nat_le, Bool, true, false, List, [], ◌∷◌, ◌++◌, length, map, take, filter, None}
+use Rattle.adc_base32.specs.Turns.{next_free}
+use Rattle.login_state.specs.declared.stage.Stage.TheVariants as stages
+use Rattle.operator_acts.specs.Bans.{with_ban, without_ban}
+use Rattle.operator_acts.specs.declared.ban.Ban.{Ban}
+use Rattle.user_table.specs.Listed.{Listed}
+use Rattle.hub_rules.specs.declared.effect.Effect.{Effect}
+use Rattle.hub_rules.specs.declared.effect.Turn.{Turn}
+use Rattle.hub_rules.specs.declared.effect.Turn.TheVariants as turns
+use Rattle.hub_rules.specs.declared.effect.World.{World}
+use Rattle.hub_rules.specs.declared.effect.World.TheVariants as worlds
+use Rattle.hub_rules.specs.declared.history.Call.{Call}
+use Rattle.hub_rules.specs.declared.history.Call.TheVariants.{Join, Line, Quit, Take}
+use Rattle.hub_rules.specs.declared.history.Entry.{Entry}
+use Rattle.hub_rules.specs.Configured.{Configured}
+use Rattle.hub_rules.specs.Effects.{line_effect, departure, is_present}
+use Rattle.hub_rules.specs.Identities.{listed}
+use Rattle.hub_rules.specs.Prepared.{prepared}
+use Rattle.hub_rules.specs.Shares.{About, affected, chosen, waiting}
+use Rattle.hub_rules.specs.Sights.{Sight, Own}
+
+-- what belongs to the hub
+pub record Facts : Type 0 where
+  -- how many joins were accepted; connection c is the c-th of them
+  pub joins : ℕ
+  -- the session identifier that was given last
+  pub last : ℕ
+  -- the connections that joined and did not quit, oldest first
+  pub opened : List ℕ
+  -- those of them whose users are present, in order of entry
+  pub present : List ℕ
+  pub bans : List (List ℕ × Ban)
+  pub topic : List ℕ
+  pub about : ℕ → About
+
+-- a connection that never joined
+abbrev pub nobody : About
+nobody = record {
+  owner = 0;
+  sid = 0;
+  peer = [];
+  challenge = [];
+  stage = stages.Gone;
+  features = [];
+  fields = [];
+  expected = [];
+  searched = None;
+  owed = [];
+  taken = 0;
+  lags = false;
+}
+
+-- before the first call
+abbrev pub start : Configured → Facts
+start setup = record { joins = 0; last = 0; opened = []; present = []; bans = []; topic = setup.topic; about = λ c. nobody }
+
+-- a connection that has just joined
+abbrev pub newcomer : ℕ → ℕ → List ℕ → List ℕ → About
+newcomer owner sid peer challenge = record nobody { owner = owner; sid = sid; peer = peer; challenge = challenge; stage = stages.Protocol }
+
+-- ---- what a decision looks at
+
+abbrev pub user_of : (ℕ → About) → ℕ → Listed
+user_of about c = listed (about c).sid (about c).fields
+
+abbrev pub sight_of : Configured → Facts → Sight
+sight_of setup f = record { setup = setup; users = map (user_of f.about) f.present; bans = f.bans; topic = f.topic }
+
+abbrev pub own_of : About → Own
+own_of a = record {
+  sid = a.sid;
+  peer = a.peer;
+  challenge = a.challenge;
+  stage = a.stage;
+  features = a.features;
+  fields = a.fields;
+  expected = a.expected;
+  searched = a.searched;
+}
+
+-- what a line of connection c leads to
+abbrev pub effect_of_line : Configured → (List ℕ → List ℕ) → Facts → ℕ → List ℕ → ℕ → Effect
+effect_of_line setup hash f c bytes now =
+    line_effect (sight_of setup f) (own_of (f.about c)) (prepared setup hash (f.about c).challenge bytes) now
+
+-- ---- what an effect does
+
+abbrev pub enters : Turn → Bool
+enters turns.Enters = true
+enters (turns.EntersAs entrant) = true
+enters turn = false
+
+abbrev pub newcomer_if : Bool → ℕ → List ℕ
+newcomer_if true c = c ∷ []
+newcomer_if false c = []
+
+-- the connections after an effect of connection c
+abbrev pub about_after : ℕ → Effect → (ℕ → About) → ℕ → About
+about_after c effect about d = affected (d == c) effect (about d)
+
+-- those whose users are still present, and the one that enters
+abbrev pub present_after : ℕ → Effect → (ℕ → About) → List ℕ → List ℕ
+present_after c effect about present =
+    filter (λ d. is_present (about_after c effect about d).stage) present ++ newcomer_if (enters effect.turn) c
+
+abbrev pub bans_after : World → List (List ℕ × Ban) → List (List ℕ × Ban)
+bans_after (worlds.Ban banned) bans = with_ban bans banned.cid (record { seconds = banned.seconds; moment = banned.now })
+bans_after (worlds.Unban cid) bans = without_ban bans cid
+bans_after world bans = bans
+
+abbrev pub topic_after : World → List ℕ → List ℕ
+topic_after (worlds.Topic topic) before = topic
+topic_after world before = before
+
+unfoldable pub happens : ℕ → Effect → Facts → Facts
+happens c effect f = record f {
+  present = present_after c effect f.about f.present;
+  bans = bans_after effect.world f.bans;
+  topic = topic_after effect.world f.topic;
+  about = about_after c effect f.about;
+}
+
+-- ---- calls
+
+-- how many joins can be counted
+abbrev pub max_joins : ℕ
+max_joins = 18_446_744_073_709_551_615
+
+-- a join is accepted where there is room, and joins can still be counted
+abbrev pub has_place : Configured → Facts → Bool
+has_place setup f = not (nat_le setup.max_users (length f.opened))
+
+abbrev pub has_joins : Facts → Bool
+has_joins f = not (nat_le max_joins f.joins)
+
+-- the first identifier after the last one that no open connection has
+abbrev pub next_sid : Facts → ℕ
+next_sid f = next_free f.last (map (λ c. (f.about c).sid) f.opened)
+
+-- one connection changes, and no other
+abbrev pub with_one : ℕ → (About → About) → (ℕ → About) → ℕ → About
+with_one c change about d = chosen (d == c) (change (about d)) (about d)
+
+unfoldable pub joined : Facts → ℕ → List ℕ → List ℕ → Facts
+joined f owner peer challenge = record f {
+  joins = f.joins + 1;
+  last = next_sid f;
+  opened = f.opened ++ (f.joins + 1) ∷ [];
+  about = with_one (f.joins + 1) (λ a. newcomer owner (next_sid f) peer challenge) f.about;
+}
+
+-- a connection that left
+unfoldable pub closed : ℕ → Facts → Facts
+closed c f = record f { opened = filter (λ d. not (d == c)) f.opened }
+
+-- so many lines are taken
+abbrev pub given : ℕ → About → About
+given count a = record a { taken = a.taken + length (take count (waiting a)) }
+
+-- the hub after one call more
+unfoldable pub after : Configured → (List ℕ → List ℕ) → Facts → ℕ → Call → Facts
+after setup hash f caller (Join peer challenge now) = chosen (has_place setup f && has_joins f) (joined f caller peer challenge) f
+after setup hash f caller (Line c bytes now) = happens c (effect_of_line setup hash f c bytes now) f
+after setup hash f caller (Quit c) = closed c (happens c (departure (f.about c).stage (f.about c).sid) f)
+after setup hash f caller (Take c count) = record f { about = with_one c (given count) f.about }
+
+-- the hub after a history
+unfoldable pub facts : Configured → (List ℕ → List ℕ) → List Entry → Facts
+facts setup hash [] = start setup
+facts setup hash (e ∷ h) = after setup hash (facts setup hash h) e.caller e.call

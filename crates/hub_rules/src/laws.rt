@@ -1,0 +1,49 @@
+//! What every history keeps, in the words of the protocol. Each law is proved of the rules themselves.
+
+ghost use Rattle.hub_rules.specs.Promises.{FewAreOpen, OthersAreOut, PresentAreUsers, SidsAreGiven, SidsDiffer, TakenIsTheSum, UsersAreOpen};
+ghost use Rattle.hub_rules.specs.Differing.{CidsDiffer, NicksDiffer};
+ghost use Rattle.hub_rules.specs.Entering.{PresentInOrder};
+ghost use Rattle.hub_rules.specs.Opening.{OpenAreThoseThatStayed};
+ghost use Rattle.hub_rules.specs.Stepping.{StageIsLastMade};
+ghost use Rattle.hub_rules.specs.Said.{FeaturesAreLastAdded, InfoIsMerged};
+ghost use Rattle.hub_rules.specs.World.{BanIsTheLastAct, TopicIsTheLast};
+
+/// Who is present: exactly those whose connections are at the stage NORMAL, all of them open; who never joined, or quit, is shut out
+/// (ADC 1.0, "States"). They stand in the order of the entries by which they entered. In a legal history open are those that joined and
+/// did not quit. A stage is what the last entry that changes it made it.
+pub fn presence_laws()
+    ensures users { PresentAreUsers }
+    ensures open { UsersAreOpen }
+    ensures others { OthersAreOut }
+    ensures order { PresentInOrder }
+    ensures stayed { OpenAreThoseThatStayed }
+    ensures stage { StageIsLastMade }
+{}
+
+/// Session identifiers: two open connections have two, none has `AAAA`, and no more are open than the hub admits (ADC 1.0, "SID").
+pub fn identifier_laws()
+    ensures differ { SidsDiffer }
+    ensures given { SidsAreGiven }
+    ensures few { FewAreOpen }
+{}
+
+/// Takes: in a legal history what a connection took is the sum over the replies to its takes.
+pub fn take_laws()
+    ensures { TakenIsTheSum }
+{}
+
+/// What operators left: of a ban what the last act on its client identifier leaves, and the topic that was set last.
+pub fn operator_laws()
+    ensures bans { BanIsTheLastAct }
+    ensures topic { TopicIsTheLast }
+{}
+
+/// What is known of a client: it supports the features whose last mention in any of its accepted SUP adds them, and its user's
+/// fields are the merge of all its accepted INF, without what is not passed on (ADC 1.0, "SUP", "INF"). Two users who are present have
+/// two nicks, by their normal forms C, and two client identifiers.
+pub fn knowledge_laws()
+    ensures features { FeaturesAreLastAdded }
+    ensures info { InfoIsMerged }
+    ensures nicks { NicksDiffer }
+    ensures identifiers { CidsDiffer }
+{}

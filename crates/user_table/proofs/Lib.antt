@@ -1,0 +1,4 @@
+pub mod DistinctLemmas
+pub mod PlaceLemmas
+pub mod RenewalLemmas
+pub mod TableLemmas
