@@ -28,7 +28,7 @@ use Rattle.hub_rules.proofs.Entries.{not-over}
 use Rattle.hub_rules.proofs.Fits.{Fits, fits-departure}
 use Rattle.hub_rules.proofs.Kept.{apart-one}
 use Rattle.hub_rules.proofs.Lines.{fits-line}
-use Rattle.hub_rules.proofs.Members.{has}
+use Rattle.hub_rules.proofs.Members.{has, or-parts}
 use Rattle.hub_rules.proofs.Saying.{told_of}
 use Rattle.hub_rules.proofs.Sids.{Numbered, numbered_of}
 use Rattle.hub_rules.proofs.Sound.{Sound, about-stage, happens-open, happens-sound, or-true, removed_by, stage_next}
@@ -47,10 +47,6 @@ listed-sid : (sid : ℕ) (fields : List Field) → (listed sid fields).sid ≡ s
 unfolding listed
 listed-sid sid fields = refl
 
-or-either : (a b : Bool) → (a || b) ≡ false → (a ≡ false) × (b ≡ false)
-or-either true b e = absurd (false≢true (sym e))
-or-either false b e = (refl, e)
-
 none-of : (p : Listed → Bool) (g : ℕ → Listed) (d x : ℕ) (xs : List ℕ) (same : Bool) → eqb x d ≡ same → (same ≡ false → p (g d) ≡ false) → p (g x) ≡ false → p (g d) ≡ false
 none-of p g d x xs true is later here = ap (λ y. p (g y)) (sym (eqb-true x d is)) ∙ here
 none-of p g d x xs false is later here = later refl
@@ -59,7 +55,7 @@ none-of p g d x xs false is later here = later refl
 none-at : (p : Listed → Bool) (g : ℕ → Listed) (d : ℕ) (xs : List ℕ) → list_any p (map g xs) ≡ false → has d xs ≡ true → p (g d) ≡ false
 none-at p g d [] none there = absurd (false≢true there)
 none-at p g d (x ∷ xs) none there =
-    let parts = or-either (p (g x)) (list_any p (map g xs)) none in
+    let parts = or-parts (p (g x)) (list_any p (map g xs)) none in
     none-of p g d x xs (eqb x d) refl (λ other. none-at p g d xs parts.1 (sym (ap (λ b. b || has d xs) other) ∙ there)) parts.0
 
 after-present : (removed : Bool) (turn : Turn) (stage : Stage) → is_present (stage_next removed true turn stage) ≡ true → is_present (stage_after turn stage) ≡ true

@@ -42,6 +42,7 @@ use Rattle.hub_rules.specs.Requests.{refused, request_of}
 use Rattle.hub_rules.specs.Shares.{fields_after, stage_after}
 use Rattle.hub_rules.specs.Sights.{Own, PreparedLine, Sight, another_has_key, is_account, is_here, user_after}
 use Rattle.hub_rules.proofs.Claims.{entry-free, go, is_denied, id-known, login-free, update-free}
+use Rattle.hub_rules.proofs.Members.{or-parts}
 use Rattle.hub_rules.proofs.Merges.{given-after, id-clean}
 
 -- another user than the one with this session identifier passes the test
@@ -97,10 +98,6 @@ clear-nothing hub own = clear-kept hub own nothing refl (λ here. here)
 weaker : (test other : Bool) → test ≡ false → (test && other) ≡ false
 weaker true other e = absurd (false≢true (sym e))
 weaker false other e = refl
-
-or-parts : (a b : Bool) → (a || b) ≡ false → (a ≡ false) × (b ≡ false)
-or-parts true b e = absurd (false≢true (sym e))
-or-parts false b e = (refl, e)
 
 -- where nobody is so, nobody else is
 nobody-else : (test : Listed → Bool) (sid : ℕ) (users : List Listed) → list_any test users ≡ false → list_any (λ (user : Listed). test user && not (has_sid sid user)) users ≡ false

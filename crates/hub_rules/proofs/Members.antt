@@ -62,13 +62,13 @@ other-end x d xs false true is is-same fresh none =
     absurd (false≢true (sym none ∙ ap (λ b. b || has d xs) (ap (λ y. eqb x y) (eqb-true d x is-same) ∙ eq-eqb x x refl)))
 other-end x d xs false false is is-same fresh none = has-append x xs (d ∷ []) ∙ ap₂ ◌||◌ is (ap (λ b. b || false) is-same)
 
-right-false : (a b : Bool) → (a || b) ≡ false → b ≡ false
-right-false true b e = absurd (false≢true (sym e))
-right-false false b e = e
+pub or-parts : (a b : Bool) → (a || b) ≡ false → (a ≡ false) × (b ≡ false)
+or-parts true b e = absurd (false≢true (sym e))
+or-parts false b e = (refl, e)
 
 -- one more, that is not there
 pub apart-push : (d : ℕ) (xs : List ℕ) → has d xs ≡ false → apart xs ≡ true → apart (xs ++ d ∷ []) ≡ true
 apart-push d [] none e = refl
 apart-push d (x ∷ xs) none e =
     let tests = both (not (has x xs)) (apart xs) e in
-    ap₂ (λ a b. not a && b) (other-end x d xs (has x xs) (eqb d x) refl refl tests.0 none) (apart-push d xs (right-false (eqb x d) (has d xs) none) tests.1)
+    ap₂ (λ a b. not a && b) (other-end x d xs (has x xs) (eqb d x) refl refl tests.0 none) (apart-push d xs (or-parts (eqb x d) (has d xs) none).1 tests.1)

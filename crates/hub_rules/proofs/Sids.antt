@@ -13,7 +13,7 @@ use Rattle.hub_rules.specs.Effects.{departure}
 use Rattle.hub_rules.specs.Facts.{Facts, facts, after, joined, closed, happens, about_after, given, has_place, has_joins, newcomer, next_sid, with_one, effect_of_line}
 use Rattle.hub_rules.specs.Shares.{About, chosen, given_share, has_room, owes, removed_if, turned, with_share}
 use Rattle.hub_rules.proofs.Calls.{sound_of, not-open}
-use Rattle.hub_rules.proofs.Members.{has, has-append, has-filter, apart, apart-push, both}
+use Rattle.hub_rules.proofs.Members.{has, has-append, has-filter, apart, apart-push, both, or-parts}
 use Rattle.hub_rules.proofs.Sound.{Sound, and-left, eqb-sym, or-false, or-true}
 
 abbrev pub sids : Facts → List ℕ
@@ -46,18 +46,10 @@ length-map g [] = refl
 length-map g (x ∷ xs) = ap suc (length-map g xs)
 
 -- what a part has, the whole has
-or-left : (a b : Bool) → (a || b) ≡ false → a ≡ false
-or-left true b e = absurd (false≢true (sym e))
-or-left false b e = refl
-
-or-right : (a b : Bool) → (a || b) ≡ false → b ≡ false
-or-right true b e = absurd (false≢true (sym e))
-or-right false b e = e
-
 none-kept : (g : ℕ → ℕ) (p : ℕ → Bool) (y x : ℕ) (xs : List ℕ) (keep : Bool) → (has y (map g xs) ≡ false → has y (map g (filter p xs)) ≡ false)
     → (eqb (g x) y || has y (map g xs)) ≡ false → has y (map g (cond keep (x ∷ filter p xs) (filter p xs))) ≡ false
-none-kept g p y x xs true rest none = ap₂ ◌||◌ (or-left (eqb (g x) y) (has y (map g xs)) none) (rest (or-right (eqb (g x) y) (has y (map g xs)) none))
-none-kept g p y x xs false rest none = rest (or-right (eqb (g x) y) (has y (map g xs)) none)
+none-kept g p y x xs true rest none = ap₂ ◌||◌ (or-parts (eqb (g x) y) (has y (map g xs)) none).0 (rest (or-parts (eqb (g x) y) (has y (map g xs)) none).1)
+none-kept g p y x xs false rest none = rest (or-parts (eqb (g x) y) (has y (map g xs)) none).1
 
 none-filtered : (g : ℕ → ℕ) (p : ℕ → Bool) (y : ℕ) (xs : List ℕ) → has y (map g xs) ≡ false → has y (map g (filter p xs)) ≡ false
 none-filtered g p y [] none = refl

@@ -37,6 +37,7 @@ use Rattle.hub_rules.specs.Requests.{request_of}
 use Rattle.hub_rules.specs.Shares.{About, chosen, stage_after}
 use Rattle.hub_rules.specs.Sights.{Own, PreparedLine, Sight, is_account, user_after}
 use Rattle.hub_rules.specs.Stepping.{StageIsLastMade, entry_stage, accepted_stage, decided_stage, gone_if, greeted, heard_stage, last_made, line_stage, logged_in, only_if, stage_made}
+use Rattle.hub_rules.proofs.Members.{and-false}
 use Rattle.hub_rules.proofs.Sound.{about-stage, removed_by, stage_next}
 
 -- ---- one line
@@ -145,10 +146,6 @@ line-made setup hash f caller c d bytes now =
     ≡ unwrap_or (line_stage (sight_of setup f) (own_of (f.about d)) (prepared setup hash (f.about d).challenge bytes) now) (f.about x).stage) (sym (eqb-true c d is))
     (makes-line (sight_of setup f) (own_of (f.about d)) (prepared setup hash (f.about d).challenge bytes) now))
 
-no-removal : (b : Bool) → (b && false) ≡ false
-no-removal true = refl
-no-removal false = refl
-
 quit-next : (same : Bool) (stage : Stage) → stage_next false same turns.Falls stage ≡ unwrap_or (only_if same (Some stages.Gone)) stage
 quit-next true stage = refl
 quit-next false stage = refl
@@ -158,9 +155,9 @@ quit-made : (setup : Configured) (hash : List ℕ → List ℕ) (f : Facts) (cal
 unfolding after closed happens
 quit-made setup hash f caller c d =
     about-stage d (departure (f.about d).stage (f.about d).sid) f c
-    ∙ ap (λ r. stage_next r (c == d) turns.Falls (f.about c).stage) (no-removal (is_present (f.about c).stage))
+    ∙ ap (λ r. stage_next r (c == d) turns.Falls (f.about c).stage) (and-false (is_present (f.about c).stage))
     ∙ quit-next (c == d) (f.about c).stage
-    ∙ ap (λ r. unwrap_or (option_or (gone_if r) (only_if (c == d) (Some stages.Gone))) (f.about c).stage) (sym (no-removal (is_present (f.about c).stage)))
+    ∙ ap (λ r. unwrap_or (option_or (gone_if r) (only_if (c == d) (Some stages.Gone))) (f.about c).stage) (sym (and-false (is_present (f.about c).stage)))
 
 join-one : (f : Facts) (owner : ℕ) (peer challenge : List ℕ) (c : ℕ) (same : Bool)
     → (chosen same (newcomer owner (next_sid f) peer challenge) (f.about c)).stage ≡ unwrap_or (only_if same (Some stages.Protocol)) (f.about c).stage
@@ -179,7 +176,7 @@ unfolding after
 join-made setup hash f caller c peer challenge now =
     join-chosen f caller peer challenge c (has_place setup f && has_joins f)
     ∙ ap (λ r. unwrap_or (option_or (gone_if r) (only_if (has_place setup f && has_joins f && (c == (f.joins + 1))) (Some stages.Protocol))) (f.about c).stage)
-    (sym (no-removal (is_present (f.about c).stage)))
+    (sym (and-false (is_present (f.about c).stage)))
 
 take-one-stage : (count : ℕ) (a : About) (same : Bool) → (chosen same (given count a) a).stage ≡ a.stage
 take-one-stage count a true = refl
@@ -190,7 +187,7 @@ take-made : (setup : Configured) (hash : List ℕ → List ℕ) (f : Facts) (cal
 unfolding after
 take-made setup hash f caller c d count =
     take-one-stage count (f.about c) (c == d)
-    ∙ ap (λ r. unwrap_or (option_or (gone_if r) None) (f.about c).stage) (sym (no-removal (is_present (f.about c).stage)))
+    ∙ ap (λ r. unwrap_or (option_or (gone_if r) None) (f.about c).stage) (sym (and-false (is_present (f.about c).stage)))
 
 call-made : (setup : Configured) (hash : List ℕ → List ℕ) (f : Facts) (caller c : ℕ) (call : Call)
     → ((after setup hash f caller call).about c).stage ≡ unwrap_or (stage_made setup hash f c call) (f.about c).stage
