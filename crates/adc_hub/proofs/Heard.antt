@@ -10,12 +10,12 @@ use Rattle.std.proofs.lemmas.List.Elements.{All-nil, All-append}
 use Rattle.adc_line.specs.Frames.{is_lf}
 use Rattle.adc_line.specs.Stream.{lines, joined, IsLine}
 use Rattle.adc_line.proofs.FrameLemmas.{lines-more}
-use Rattle.hub_core.specs.declared.history.Entry.{Entry}
-use Rattle.hub_core.specs.declared.stage.Verdict.{Verdict}
-use Rattle.hub_core.specs.declared.stage.Verdict.TheVariants.{Kept, Ended}
-use Rattle.hub_core.specs.Configured.{Configured}
-use Rattle.hub_core.specs.CoreState.{CoreState}
-use Rattle.hub_core.specs.Facts.{About, Legal, facts}
+use Rattle.greeting_hub.specs.declared.history.Entry.{Entry}
+use Rattle.greeting_hub.specs.declared.stage.Verdict.{Verdict}
+use Rattle.greeting_hub.specs.declared.stage.Verdict.TheVariants.{Kept, Ended}
+use Rattle.greeting_hub.specs.Configured.{Configured}
+use Rattle.greeting_hub.specs.CoreState.{CoreState}
+use Rattle.greeting_hub.specs.Facts.{About, Legal, facts}
 use Rattle.adc_hub.specs.declared.run_fault.RunFault.{RunFault}
 use Rattle.adc_hub.specs.declared.run_fault.RunFault.TheVariants as faults
 use Rattle.adc_hub.specs.Faults.{StopsBy, most_reads}

@@ -11,9 +11,9 @@ use Rattle.adc_line.specs.Frames.{lf, max_line, HasNoLf}
 use Rattle.adc_line.specs.NextLine.{IsNext, IsFirstLine}
 use Rattle.adc_line.specs.Stream.{lines, joined, IsLine}
 use Rattle.adc_line.proofs.FrameLemmas.{lines-line}
-use Rattle.hub_core.specs.declared.stage.Verdict.{Verdict}
-use Rattle.hub_core.specs.declared.stage.Verdict.TheVariants.{Kept}
-use Rattle.hub_core.specs.CoreState.{CoreState}
+use Rattle.greeting_hub.specs.declared.stage.Verdict.{Verdict}
+use Rattle.greeting_hub.specs.declared.stage.Verdict.TheVariants.{Kept}
+use Rattle.greeting_hub.specs.CoreState.{CoreState}
 use Rattle.adc_hub.specs.Runs.{join, says}
 use Rattle.adc_hub.specs.Serving.{IsCutOff, continued, GoesOn, BreaksOff, IsCutInto, StopsHearing, IsInAnswering}
 use Rattle.adc_hub.specs.declared.run_fault.RunFault.{RunFault}

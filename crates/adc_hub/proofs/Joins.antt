@@ -6,15 +6,15 @@ use Rattle.std.specs.Io.KnownBytes.{Appends}
 use Rattle.std.proofs.lemmas.Bool.Decides.{nat_tests}
 use Rattle.std.proofs.lemmas.List.Elements.{All-cons, All-nil}
 use Rattle.std.proofs.KnownBytes.{Appends-nil}
-use Rattle.hub_core.specs.declared.history.Entry.{Entry}
-use Rattle.hub_core.specs.declared.history.Reply.{Reply}
-use Rattle.hub_core.specs.declared.history.Reply.TheVariants.{Joined, Full, SidsSpent}
-use Rattle.hub_core.specs.declared.refused.JoinRefused.TheVariants as refusals
-use Rattle.hub_core.specs.Promises.{JoinMoves}
-use Rattle.hub_core.specs.Configured.{Configured}
-use Rattle.hub_core.specs.CoreState.{CoreState}
-use Rattle.hub_core.specs.Facts.{Facts, facts, after, reply, Legal, chosen, joined, start, join_reply}
-use Rattle.hub_core.specs.Moves.{Moves, StandsAt, entry}
+use Rattle.greeting_hub.specs.declared.history.Entry.{Entry}
+use Rattle.greeting_hub.specs.declared.history.Reply.{Reply}
+use Rattle.greeting_hub.specs.declared.history.Reply.TheVariants.{Joined, Full, SidsSpent}
+use Rattle.greeting_hub.specs.declared.refused.JoinRefused.TheVariants as refusals
+use Rattle.greeting_hub.specs.Promises.{JoinMoves}
+use Rattle.greeting_hub.specs.Configured.{Configured}
+use Rattle.greeting_hub.specs.CoreState.{CoreState}
+use Rattle.greeting_hub.specs.Facts.{Facts, facts, after, reply, Legal, chosen, joined, start, join_reply}
+use Rattle.greeting_hub.specs.Moves.{Moves, StandsAt, entry}
 use Rattle.adc_hub.specs.Runs.{first, join}
 use Rattle.adc_hub.specs.Serving.{IsAlone, Starts, taken_in}
 

@@ -3,14 +3,14 @@ use Rattle.std.proofs.Common.{◌≡◌, ◌∙◌, sym, ap, subst, ℕ, List, [
 use Rattle.std.specs.Prelude.{Option}
 use Rattle.std.specs.Io.KnownBytes.{Appends}
 use Rattle.std.proofs.lemmas.List.{map_push}
-use Rattle.hub_core.specs.declared.history.Call.TheVariants.{Line}
-use Rattle.hub_core.specs.declared.history.Entry.{Entry}
-use Rattle.hub_core.specs.declared.history.Reply.TheVariants.{Said}
-use Rattle.hub_core.specs.declared.stage.Verdict.{Verdict}
-use Rattle.hub_core.specs.Configured.{Configured}
-use Rattle.hub_core.specs.CoreState.{CoreState}
-use Rattle.hub_core.specs.Moves.{Moves}
-use Rattle.hub_core.specs.State.{IsSeated}
+use Rattle.greeting_hub.specs.declared.history.Call.TheVariants.{Line}
+use Rattle.greeting_hub.specs.declared.history.Entry.{Entry}
+use Rattle.greeting_hub.specs.declared.history.Reply.TheVariants.{Said}
+use Rattle.greeting_hub.specs.declared.stage.Verdict.{Verdict}
+use Rattle.greeting_hub.specs.Configured.{Configured}
+use Rattle.greeting_hub.specs.CoreState.{CoreState}
+use Rattle.greeting_hub.specs.Moves.{Moves}
+use Rattle.greeting_hub.specs.State.{IsSeated}
 use Rattle.adc_hub.specs.Runs.{first, join, says}
 use Rattle.adc_hub.specs.Serving.{Run, IsUnderWay, IsRunning, IsReady, IsCutOff, continued, CatchesUp, FallsShort, GoesOn, BreaksOff}
 use Rattle.adc_hub.proofs.Steps.{said, line_alone, line_written, line_gone}

@@ -6,22 +6,22 @@ use Rattle.std.proofs.lemmas.List.Elements.{All-cons}
 use Rattle.std.proofs.lemmas.List.Folds.{concat-append}
 use Rattle.std.specs.List.{All, concat, list_any}
 use Rattle.std.specs.Prelude.{◌==◌}
-use Rattle.hub_core.specs.declared.history.Call.{Call}
-use Rattle.hub_core.specs.declared.history.Call.TheVariants.{Take}
-use Rattle.hub_core.specs.declared.history.Entry.{Entry}
-use Rattle.hub_core.specs.declared.history.Reply.{Reply}
-use Rattle.hub_core.specs.declared.history.Reply.TheVariants.{Said, Took}
-use Rattle.hub_core.specs.declared.stage.Verdict.{Verdict}
-use Rattle.hub_core.specs.declared.stage.Verdict.TheVariants.{Ended}
-use Rattle.hub_core.specs.declared.effect.Effect.{Effect}
-use Rattle.hub_core.specs.declared.stage.Stage.{Stage}
-use Rattle.hub_core.specs.declared.stage.Stage.TheVariants.{Protocol, Identify, Gone}
-use Rattle.hub_core.specs.Stages.{verdict_of}
-use Rattle.hub_core.specs.Configured.{Configured}
-use Rattle.hub_core.specs.CoreState.{CoreState}
-use Rattle.hub_core.specs.Facts.{About, Facts, facts, after, reply, Legal, is_open, waiting, given, affected, effect_of_line}
-use Rattle.hub_core.specs.Moves.{Moves, StandsAt, entry}
-use Rattle.hub_core.specs.State.{Stands, IsSeated, seat_of}
+use Rattle.greeting_hub.specs.declared.history.Call.{Call}
+use Rattle.greeting_hub.specs.declared.history.Call.TheVariants.{Take}
+use Rattle.greeting_hub.specs.declared.history.Entry.{Entry}
+use Rattle.greeting_hub.specs.declared.history.Reply.{Reply}
+use Rattle.greeting_hub.specs.declared.history.Reply.TheVariants.{Said, Took}
+use Rattle.greeting_hub.specs.declared.stage.Verdict.{Verdict}
+use Rattle.greeting_hub.specs.declared.stage.Verdict.TheVariants.{Ended}
+use Rattle.greeting_hub.specs.declared.effect.Effect.{Effect}
+use Rattle.greeting_hub.specs.declared.stage.Stage.{Stage}
+use Rattle.greeting_hub.specs.declared.stage.Stage.TheVariants.{Protocol, Identify, Gone}
+use Rattle.greeting_hub.specs.Stages.{verdict_of}
+use Rattle.greeting_hub.specs.Configured.{Configured}
+use Rattle.greeting_hub.specs.CoreState.{CoreState}
+use Rattle.greeting_hub.specs.Facts.{About, Facts, facts, after, reply, Legal, is_open, waiting, given, affected, effect_of_line}
+use Rattle.greeting_hub.specs.Moves.{Moves, StandsAt, entry}
+use Rattle.greeting_hub.specs.State.{Stands, IsSeated, seat_of}
 use Rattle.adc_hub.specs.Runs.{first, says, asked_in, about_first, IsGone}
 use Rattle.adc_hub.specs.Serving.{IsAlone, taken_in, IsCaughtUp}
 

@@ -4,15 +4,15 @@ use Rattle.std.specs.Prelude.{Option}
 use Rattle.std.specs.List.{concat}
 use Rattle.std.specs.Io.KnownBytes.{Appends}
 use Rattle.std.proofs.KnownBytes.{Appends-trans}
-use Rattle.hub_core.specs.declared.history.Call.TheVariants.{Take}
-use Rattle.hub_core.specs.declared.history.Entry.{Entry}
-use Rattle.hub_core.specs.declared.history.Reply.TheVariants.{Took}
-use Rattle.hub_core.specs.declared.seat.Seat.{Seat}
-use Rattle.hub_core.specs.Configured.{Configured}
-use Rattle.hub_core.specs.CoreState.{CoreState}
-use Rattle.hub_core.specs.Facts.{facts, waiting}
-use Rattle.hub_core.specs.Moves.{Moves}
-use Rattle.hub_core.specs.State.{Stands, IsSeated, seat_of}
+use Rattle.greeting_hub.specs.declared.history.Call.TheVariants.{Take}
+use Rattle.greeting_hub.specs.declared.history.Entry.{Entry}
+use Rattle.greeting_hub.specs.declared.history.Reply.TheVariants.{Took}
+use Rattle.greeting_hub.specs.declared.seat.Seat.{Seat}
+use Rattle.greeting_hub.specs.Configured.{Configured}
+use Rattle.greeting_hub.specs.CoreState.{CoreState}
+use Rattle.greeting_hub.specs.Facts.{facts, waiting}
+use Rattle.greeting_hub.specs.Moves.{Moves}
+use Rattle.greeting_hub.specs.State.{Stands, IsSeated, seat_of}
 use Rattle.adc_hub.specs.Parts.{AppendsFront}
 use Rattle.adc_hub.specs.Runs.{first, about_first, IsGone}
 use Rattle.adc_hub.specs.Serving.{IsAlone, Run, IsUnderWay, IsRunning, IsCutOff, at_history, taken_in, CatchesUp, FallsShort}

@@ -1,7 +1,7 @@
 -- How the program ends.
 use Rattle.std.specs.Prelude.{◌≡◌, ℕ, List, [], ◌∷◌, ◌++◌, codes, Option}
 use Rattle.std.specs.Io.KnownBytes.{Keeps}
-use Rattle.hub_core.specs.Configured.{Configured}
+use Rattle.greeting_hub.specs.Configured.{Configured}
 use Rattle.adc_hub.specs.declared.ending.Ending.{Ending}
 use Rattle.adc_hub.specs.declared.ending.Ending.TheVariants as endings
 use Rattle.adc_hub.specs.declared.run_fault.RunFault.{RunFault}

@@ -1,7 +1,7 @@
 -- What was done before a run ended by a fault.
 use Rattle.std.specs.Prelude.{ℕ, ◌≤◌, List, length, Option}
-use Rattle.hub_core.specs.declared.history.Entry.{Entry}
-use Rattle.hub_core.specs.Configured.{Configured}
+use Rattle.greeting_hub.specs.declared.history.Entry.{Entry}
+use Rattle.greeting_hub.specs.Configured.{Configured}
 use Rattle.adc_hub.specs.declared.run_fault.RunFault.{RunFault}
 use Rattle.adc_hub.specs.declared.run_fault.RunFault.TheVariants.{Memory, Read, Write, TooLong, Turns}
 use Rattle.adc_hub.specs.Runs.{IsAnswered, IsAnsweredInPart, IsTooLong}

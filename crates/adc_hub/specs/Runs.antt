@@ -4,12 +4,12 @@ use Rattle.std.specs.List.{All, concat}
 use Rattle.std.specs.Io.KnownBytes.{Appends, Consumes, IsAtEnd}
 use Rattle.adc_line.specs.Frames.{max_line, HasNoLf}
 use Rattle.adc_line.specs.Stream.{lines, joined, IsLine}
-use Rattle.hub_core.specs.declared.history.Call.{Call}
-use Rattle.hub_core.specs.declared.history.Call.TheVariants.{Join, Line, Quit, Take}
-use Rattle.hub_core.specs.declared.history.Entry.{Entry}
-use Rattle.hub_core.specs.declared.stage.Stage.TheVariants.{Gone}
-use Rattle.hub_core.specs.Configured.{Configured}
-use Rattle.hub_core.specs.Facts.{About, facts, Legal}
+use Rattle.greeting_hub.specs.declared.history.Call.{Call}
+use Rattle.greeting_hub.specs.declared.history.Call.TheVariants.{Join, Line, Quit, Take}
+use Rattle.greeting_hub.specs.declared.history.Entry.{Entry}
+use Rattle.greeting_hub.specs.declared.stage.Stage.TheVariants.{Gone}
+use Rattle.greeting_hub.specs.Configured.{Configured}
+use Rattle.greeting_hub.specs.Facts.{About, facts, Legal}
 
 -- the one caller, and its connection, which is the first to join
 abbrev pub first : ℕ

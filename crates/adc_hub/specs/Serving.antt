@@ -4,13 +4,13 @@ use Rattle.std.specs.List.{All, concat}
 use Rattle.std.specs.Io.KnownBytes.{Appends}
 use Rattle.adc_line.specs.Frames.{max_line, HasNoLf}
 use Rattle.adc_line.specs.Stream.{lines, joined, IsLine}
-use Rattle.hub_core.specs.declared.history.Entry.{Entry}
-use Rattle.hub_core.specs.declared.stage.Verdict.{Verdict}
-use Rattle.hub_core.specs.declared.stage.Verdict.TheVariants.{Kept, Ended}
-use Rattle.hub_core.specs.Configured.{Configured}
-use Rattle.hub_core.specs.CoreState.{CoreState}
-use Rattle.hub_core.specs.Facts.{facts}
-use Rattle.hub_core.specs.Moves.{StandsAt}
+use Rattle.greeting_hub.specs.declared.history.Entry.{Entry}
+use Rattle.greeting_hub.specs.declared.stage.Verdict.{Verdict}
+use Rattle.greeting_hub.specs.declared.stage.Verdict.TheVariants.{Kept, Ended}
+use Rattle.greeting_hub.specs.Configured.{Configured}
+use Rattle.greeting_hub.specs.CoreState.{CoreState}
+use Rattle.greeting_hub.specs.Facts.{facts}
+use Rattle.greeting_hub.specs.Moves.{StandsAt}
 use Rattle.adc_hub.specs.declared.run_fault.RunFault.{RunFault}
 use Rattle.adc_hub.specs.declared.run_fault.RunFault.TheVariants as faults
 use Rattle.adc_hub.specs.Runs.{first, join, says, asked_in, about_first, owed_in, IsGone, IsOwn}

@@ -7,7 +7,7 @@ use crate::ending::Ending;
 use crate::run_fault::RunFault;
 use crate::run_one::run_one;
 use crate::writing::write_on;
-use hub_core::{Options, Setup, SetupRefused};
+use greeting_hub::{Options, Setup, SetupRefused};
 use session_hash::First24;
 use std::alloc::Global;
 use std::io::{Read, Write};

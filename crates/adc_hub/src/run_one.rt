@@ -5,7 +5,7 @@ ghost use Rattle.adc_hub.specs.Runs.{IsServed};
 
 use crate::run_fault::RunFault;
 use crate::visit::Visit;
-use hub_core::{Setup, Verdict};
+use greeting_hub::{Setup, Verdict};
 use session_hash::SessionHash;
 use std::alloc::Global;
 use std::io::{Read, Write};

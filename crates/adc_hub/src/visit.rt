@@ -1,13 +1,13 @@
 ghost use Rattle.std.specs.Prelude.{◌≡◌, [], ◌∷◌, ◌++◌, OnOk, IfOk, IfErr, OnErr};
 ghost use Rattle.std.specs.Arc.{arc_value};
-ghost use Rattle.hub_core.specs.Moves.{StandsAt};
+ghost use Rattle.greeting_hub.specs.Moves.{StandsAt};
 ghost use Rattle.adc_hub.specs.Runs.{first};
 ghost use Rattle.adc_hub.specs.Serving.{IsReady, IsRunning, Starts, CatchesUp, FallsShort, GoesOn, BreaksOff, Hears, StopsHearing, IsInAnswering};
 
 use crate::run_fault::RunFault;
 use crate::writing::write_on;
 use adc_line::{Framer, Next};
-use hub_core::{Conn, Core, JoinRefused, Setup, Verdict, prepare};
+use greeting_hub::{Conn, Core, JoinRefused, Setup, Verdict, prepare};
 use session_hash::SessionHash;
 use std::alloc::Global;
 use std::io::Write;

@@ -1,7 +1,9 @@
-pub mod Tests
+pub mod Carried
+pub mod Ended
+pub mod Places
 pub mod Seating
-pub mod Lines
-pub mod Mentioned
-pub mod Changed
-pub mod Sound
+pub mod Settling
+pub mod Sharing
 pub mod Standing
+pub mod Tests
+pub mod Users

@@ -1,189 +1,393 @@
 -- A hub that stands at a history stands at the next one after each call.
-use Rattle.std.proofs.Common.{◌≡◌, ◌∙◌, sym, ap, refl, subst, ℕ, ◌+◌, ◌-◌, ◌<◌, ◌≤◌, Bool, true, false, not, List, [], ◌∷◌, ◌++◌, length, map, take, drop, arith, length-take}
-use Rattle.std.specs.Prelude.{◌==◌, ◌&&◌, nat_le, filter}
+use Rattle.std.proofs.Common.{◌≡◌, ◌∙◌, sym, ap, ap₂, refl, subst, ℕ, ◌+◌, ◌<◌, ◌≤◌, Bool, true, false, not, ◌&&◌, ◌||◌, ◌==◌, eqb, List, [], ◌∷◌, ◌++◌, length, map, take, drop, filter, arith, append-nil}
+use Rattle.std.specs.Prelude.{nat_le}
 use Rattle.std.specs.List.{concat, list_any}
-use Rattle.std.proofs.lemmas.Bool.Decides.{nat_tests}
-use Rattle.std.proofs.lemmas.List.{drop-append-le, drop-drop, drop_min, map-append, length-map, length-drop}
-use Rattle.hub_core.specs.declared.effect.Effect.{Effect}
-use Rattle.hub_core.specs.declared.history.Call.TheVariants.{Join, Line, Quit, Take}
-use Rattle.hub_core.specs.declared.history.Entry.{Entry}
-use Rattle.hub_core.specs.declared.history.Reply.TheVariants.{Joined, Full, SidsSpent, Said, Left, Took}
+use Rattle.std.proofs.lemmas.Bool.{false≢true, eqb-true, eq-eqb, leb-false}
+use Rattle.std.proofs.lemmas.List.{map-append, length-map}
+use Rattle.adc_base32.specs.Turns.{next_free}
+use Rattle.outboxes.specs.Backlogs.{Backlog, empty_backlog, fits, size_of, with_lines}
+use Rattle.operator_acts.specs.declared.ban.Ban.{Ban}
+use Rattle.outboxes.specs.Quits.{quit_line}
+use Rattle.user_table.specs.Listed.{Listed}
+use Rattle.user_table.specs.Tables.{totals_of, without_sid}
+use Rattle.user_table.specs.declared.totals.Totals.{Totals}
+use Rattle.login_state.specs.declared.stage.Stage.{Stage}
+use Rattle.login_state.specs.declared.stage.Stage.TheVariants as stages
+use Rattle.hub_core.specs.declared.look.Look.{Look}
+use Rattle.hub_core.specs.Promises.{CountsJoins, LooksAt, SidOf, SumsUp}
+use Rattle.hub_core.specs.declared.seat.Phase.TheVariants as phases
 use Rattle.hub_core.specs.declared.seat.Seat.{Seat}
-use Rattle.hub_core.specs.declared.stage.Stage.TheVariants.{Gone}
-use Rattle.hub_core.specs.declared.stage.Verdict.{Verdict}
-use Rattle.hub_core.specs.Configured.{Configured}
 use Rattle.hub_core.specs.CoreState.{CoreState}
-use Rattle.hub_core.specs.Effects.{stage_after, features_after}
-use Rattle.hub_core.specs.Facts.{About, Facts, facts, after, reply, Legal, joined, newcomer, happens, affected, effect_of_line, closed, departed, given, waiting, with_one, chosen, has_place, has_sid, last_sid, join_reply, take_reply, is_open}
-use Rattle.hub_core.specs.Moves.{Moves, StandsAt}
-use Rattle.hub_core.specs.Promises.{SidOf}
-use Rattle.hub_core.specs.Seats.{at_seat, settled, heard_at, lightened, new_seat, stage_in, outbox_in, sid_in, has_ended}
-use Rattle.hub_core.specs.Stages.{verdict_of, is_over as is_stage_over}
-use Rattle.hub_core.specs.State.{Stands, HasSeat, IsSeated, core_of, seat_of, seat_with}
-use Rattle.hub_core.proofs.Seating.{Each-weaker, seats_one, seats_same, seats_without, in_seat-open, seated-open, with_one-here, with_one-other}
-use Rattle.hub_core.proofs.Sound.{Sound, sound_of}
-use Rattle.hub_core.proofs.Tests.{below-false, true-le, false-le}
+use Rattle.hub_core.specs.Decided.{Decided}
+use Rattle.hub_core.specs.Leaving.{has_ended, left_core, lightened, lightened_core, lines_in, others_of, told, told_all_if, told_if}
+use Rattle.hub_core.specs.Moves.{LineMoves, Moves, StandsAt}
+use Rattle.hub_core.specs.Phases.{phase_at, phase_of, stage_in}
+use Rattle.hub_core.specs.Seats.{at_seat, in_seat, new_seat, outbox_in, phase_in, seat_of, seat_with, sid_in}
+use Rattle.hub_core.specs.State.{HasSeat, IsSeated, Stands, carried_out, core_of, has_seat}
+use Rattle.hub_rules.specs.declared.effect.Effect.{Effect}
+use Rattle.hub_rules.specs.declared.history.Call.TheVariants.{Join, Line, Quit, Take}
+use Rattle.hub_rules.specs.declared.history.Entry.{Entry}
+use Rattle.hub_rules.specs.declared.history.Reply.TheVariants.{Joined, Full, JoinsSpent, Said, Left, Took}
+use Rattle.hub_rules.specs.declared.history.Verdict.{Verdict}
+use Rattle.hub_rules.specs.Configured.{Configured}
+use Rattle.hub_rules.specs.Effects.{departure, farewell, given_if, is_over, is_present, line_effect}
+use Rattle.hub_rules.specs.Facts.{Facts, about_after, after, closed, effect_of_line, facts, given, happens, has_joins, has_place, joined, max_joins, newcomer, next_sid, own_of, present_after, sight_of, user_of, with_one}
+use Rattle.hub_rules.specs.Identities.{listed}
+use Rattle.hub_rules.proofs.Entries.{not-over}
+use Rattle.hub_rules.specs.Legal.{Legal, is_open, join_reply, reply, take_reply, verdict_of}
+use Rattle.hub_rules.specs.Shares.{About, affected, backlog_of, chosen, given_share, has_room, max_bytes, max_lines, removed_if, waiting, with_share}
+use Rattle.hub_rules.specs.Sights.{PreparedLine}
+use Rattle.hub_rules.specs.Prepared.{prepared}
+use Rattle.hub_rules.proofs.Calls.{absent-newcomer, not-open, sound_of}
+use Rattle.hub_rules.proofs.Members.{has}
+use Rattle.hub_rules.proofs.Sids.{Numbered, numbered_of}
+use Rattle.hub_rules.proofs.Sound.{Sound, or-true}
+use Rattle.hub_rules.proofs.Suits.{Suits}
+use Rattle.hub_rules.proofs.Tidy.{Tidy, suits_of, tidy_of, waiting-given}
+use Rattle.hub_core.proofs.Carried.{carried-out, decided-is, same-core}
+use Rattle.hub_core.proofs.Seating.{at-one, in-open, map-seats, others-seats, others_of as numbers_but, seat_one, seated-open, seats-left, seats-same}
+use Rattle.hub_core.proofs.Sharing.{gives, stage-kept}
+use Rattle.hub_core.proofs.Tests.{false-le, true-le}
+use Rattle.hub_core.proofs.Users.{users-carried}
 
-same_core : {a b : Configured} {j k : ℕ} {s t : List Seat} → a ≡ b → j ≡ k → s ≡ t
-    → ◌≡◌ {A = CoreState} (record { setup = a; joins = j; seats = s }) (record { setup = b; joins = k; seats = t })
-same_core {a} {b} {j} {k} {s} {t} p q r =
-    ap (λ x. record { setup = x; joins = j; seats = s }) p
-    ∙ ap (λ x. record { setup = b; joins = x; seats = s }) q
-    ∙ ap (λ x. record { setup = b; joins = k; seats = x }) r
+-- ---- lines
 
--- what is owed waits, behind what waits already
-settles : (effect : Effect) (c : ℕ) (a : About) → a.taken ≤ length a.owed → settled effect (seat_with c a) ≡ seat_with c (affected effect a)
-settles effect c a h =
-    ap (λ messages. record { number = c; sid = a.sid; peer = a.peer; challenge = a.challenge; stage = stage_after effect.turn a.stage; features = features_after effect.turn a.features; outbox = messages })
-    (sym (drop-append-le a.taken a.owed effect.own h))
+-- the stage of an open connection is read off its seat
+phase-open : (setup : Configured) (c : ℕ) (effect : Effect) (f : Facts) → has c f.opened ≡ true
+    → stage_in (phase_in c (core_of setup (happens c effect f)).seats) ≡ ((happens c effect f).about c).stage
+unfolding happens
+phase-open setup c effect f open_c =
+    ap stage_in (in-open c (λ seat. seat.phase) phases.Gone (about_after c effect f.about) f.opened open_c) ∙ stage-kept c (about_after c effect f.about c)
+
+pub line-moves : (old new : CoreState) (c : ℕ) (line : PreparedLine) (now : ℕ) (seat : Seat) (effect : Effect) (verdict : Verdict)
+    → old.setup.max_users ≤ 900
+    → seat ≡ in_seat c (λ s. s) seat old.seats
+    → Decided old seat line now effect
+    → new ≡ carried_out c effect old
+    → verdict ≡ verdict_of (stage_in (phase_in c new.seats))
+    → LineMoves old c line now verdict new
+unfolding Legal Stands facts after reply
+line-moves old new c line now seat effect verdict small is_seat decided is_new is_verdict setup hash h caller at may is_line =
+    let f : Facts = facts setup hash h in
+    let sound : Sound f = sound_of setup hash h in
+    let few : setup.max_users ≤ 900 = subst (λ (s : CoreState). s.setup.max_users ≤ 900) at.stands small in
+    let n : Numbered setup f = numbered_of setup hash h few in
+    let mine : seat ≡ seat_of f.about c =
+    is_seat ∙ ap (λ (s : CoreState). in_seat c (λ x. x) seat s.seats) at.stands ∙ in-open c (λ s. s) seat f.about f.opened may.0 in
+    let is_effect : effect ≡ effect_of_line setup hash f c line.bytes now =
+    decided-is setup f c line now effect sound n (tidy_of setup hash h c) may.0
+    (subst (λ (s : Seat). Decided (core_of setup f) s line now effect) mine (subst (λ (s : CoreState). Decided s seat line now effect) at.stands decided))
+    ∙ ap (λ l. line_effect (sight_of setup f) (own_of (f.about c)) l now) is_line in
+    let stands : new ≡ core_of setup (happens c (effect_of_line setup hash f c line.bytes now) f) =
+    is_new ∙ ap₂ (carried_out c) is_effect at.stands
+    ∙ carried-out setup c (effect_of_line setup hash f c line.bytes now) f sound n may.0 (suits_of setup hash h c line.bytes now) in
+    let stage : stage_in (phase_in c new.seats) ≡ ((happens c (effect_of_line setup hash f c line.bytes now) f).about c).stage =
+    ap (λ (s : CoreState). stage_in (phase_in c s.seats)) stands ∙ phase-open setup c (effect_of_line setup hash f c line.bytes now) f may.0 in
+    record { legal = (at.legal, may, ap Said (is_verdict ∙ ap verdict_of stage)); stands = stands }
+
+-- ---- takes
+
+given-phase : (stage : Stage) (count : ℕ) (a : About) → phase_at stage a ≡ phase_at stage (given count a)
+given-phase stages.Protocol count a = refl
+given-phase stages.Identify count a = refl
+given-phase stages.Verify count a = refl
+given-phase stages.Normal count a = refl
+given-phase stages.Gone count a = refl
 
 lightens : (count c : ℕ) (a : About) → lightened count (seat_with c a) ≡ seat_with c (given count a)
 lightens count c a =
-    ap (λ messages. record (seat_with c a) { outbox = messages })
-    (sym (drop_min count (waiting a))
-    ∙ ap (λ n. drop n (waiting a)) (sym (length-take count (waiting a)))
-    ∙ drop-drop (length (take count (waiting a))) a.taken a.owed)
+    ap (λ (ls : List (List ℕ)). record (seat_with c a) { outbox = with_lines (backlog_of a) ls }) (sym (waiting-given count a))
+    ∙ ap (λ p. record (seat_with c (given count a)) { phase = p }) (given-phase a.stage count a)
 
-pub line_moves : (old new : CoreState) (c : ℕ) (bytes : List ℕ) (now : ℕ) (verdict : Verdict)
-    → new ≡ record old { seats = at_seat c (heard_at old.setup bytes) old.seats }
-    → verdict ≡ verdict_of (stage_in c new.seats)
-    → Moves old (Line c bytes now) (Said verdict) new
-unfolding Legal Stands facts after reply
-line_moves old new c bytes now verdict is_new is_verdict setup h caller at may =
-    let f : Facts = facts setup h in
-    let sound : Sound f = sound_of setup h in
-    let effect : Effect = effect_of_line setup f c bytes in
-    let seats : at_seat c (heard_at old.setup bytes) old.seats ≡ map (seat_of (with_one c (affected effect) f.about)) f.opened =
-    ap (λ s. at_seat c (heard_at s.setup bytes) s.seats) at.stands
-    ∙ seats_one c (affected effect) (heard_at setup bytes) f.about (settles effect c (f.about c) (sound.taken c)) 0 f.opened sound.rising in
-    let stands : new ≡ core_of setup (happens c effect f) =
-    is_new ∙ same_core (ap (λ s. s.setup) at.stands) (ap (λ s. s.joins) at.stands) seats in
-    let stage : stage_in c new.seats ≡ (with_one c (affected effect) f.about c).stage =
-    ap (λ s. stage_in c s.seats) stands ∙ in_seat-open c (λ seat. seat.stage) Gone (with_one c (affected effect) f.about) f.opened may.0 in
-    record { legal = (at.legal, may, ap Said (is_verdict ∙ ap verdict_of stage)); stands = stands }
+-- a change of one connection
+chosen-seat : (c d : ℕ) (change : Seat → Seat) (turn : About → About) (about : ℕ → About) (same : Bool) → ((a : About) → change (seat_with d a) ≡ seat_with d (turn a))
+    → chosen same (change (seat_of about d)) (seat_of about d) ≡ seat_with d (chosen same (turn (about d)) (about d))
+chosen-seat c d change turn about true each = each (about d)
+chosen-seat c d change turn about false each = refl
 
-sub_none : (n count : ℕ) → ((n - count) == 0) ≡ nat_le n count
-sub_none n count = grind (arith, nat_tests)
+one-changes : (c : ℕ) (change : Seat → Seat) (turn : About → About) (f : Facts) → Sound f → ((d : ℕ) (a : About) → change (seat_with d a) ≡ seat_with d (turn a))
+    → at_seat c change (map (seat_of f.about) f.opened) ≡ map (seat_of (with_one c turn f.about)) f.opened
+one-changes c change turn f sound each =
+    at-one c change f.about f.opened sound.open_once
+    ∙ seats-same (seat_one c change f.about) (seat_of (with_one c turn f.about)) f.opened (λ d. chosen-seat c d change turn f.about (d == c) (each d))
 
--- nothing is left exactly where no more waits than is taken
-none_left : (count : ℕ) (messages : List (List ℕ)) → (length (drop count messages) == 0) ≡ nat_le (length messages) count
-none_left count messages = rw (length-drop count messages) (sub_none (length messages) count)
+user-one : (turn : About → About) (a : About) (same : Bool) → (turn a).sid ≡ a.sid → (turn a).fields ≡ a.fields
+    → listed a.sid a.fields ≡ listed (chosen same (turn a) a).sid (chosen same (turn a) a).fields
+user-one turn a true sid fields = sym (ap₂ listed sid fields)
+user-one turn a false sid fields = refl
 
-pub take_moves : (old new : CoreState) (c count lines : ℕ) (bytes : List ℕ) (over : Bool)
-    → new ≡ record old { seats = at_seat c (lightened count) old.seats }
-    → bytes ≡ concat (take count (outbox_in c old.seats))
-    → lines ≡ length (take count (outbox_in c old.seats))
+-- a take changes no user
+users-one : (c : ℕ) (turn : About → About) (f : Facts) → ((a : About) → (turn a).sid ≡ a.sid) → ((a : About) → (turn a).fields ≡ a.fields) → (xs : List ℕ)
+    → map (user_of f.about) xs ≡ map (user_of (with_one c turn f.about)) xs
+users-one c turn f sid fields [] = refl
+users-one c turn f sid fields (d ∷ xs) =
+    ap₂ (λ (u : Listed) (us : List Listed). u ∷ us) (user-one turn (f.about d) (d == c) (sid (f.about d)) (fields (f.about d))) (users-one c turn f sid fields xs)
+
+pub take-moves : (old new : CoreState) (c count lines : ℕ) (bytes : List ℕ) (over : Bool)
+    → new ≡ lightened_core c count old
+    → bytes ≡ concat (take count (lines_in c old.seats))
+    → lines ≡ length (take count (lines_in c old.seats))
     → over ≡ has_ended c count old.seats
     → Moves old (Take c count) (Took bytes lines over) new
 unfolding Legal Stands facts after reply
-take_moves old new c count lines bytes over is_new is_bytes is_lines is_over setup h caller at may =
-    let f : Facts = facts setup h in
-    let sound : Sound f = sound_of setup h in
-    let seats : at_seat c (lightened count) old.seats ≡ map (seat_of (with_one c (given count) f.about)) f.opened =
-    ap (λ s. at_seat c (lightened count) s.seats) at.stands
-    ∙ seats_one c (given count) (lightened count) f.about (lightens count c (f.about c)) 0 f.opened sound.rising in
+take-moves old new c count lines bytes over is_new is_bytes is_lines is_ended setup hash h caller at may =
+    let f : Facts = facts setup hash h in
+    let sound : Sound f = sound_of setup hash h in
     let stands : new ≡ core_of setup (record f { about = with_one c (given count) f.about }) =
-    is_new ∙ same_core (ap (λ s. s.setup) at.stands) (ap (λ s. s.joins) at.stands) seats in
-    let outbox : outbox_in c old.seats ≡ waiting (f.about c) =
-    ap (λ s. outbox_in c s.seats) at.stands ∙ in_seat-open c (λ seat. seat.outbox) [] f.about f.opened may.0 in
-    let stage : stage_in c old.seats ≡ (f.about c).stage =
-    ap (λ s. stage_in c s.seats) at.stands ∙ in_seat-open c (λ seat. seat.stage) Gone f.about f.opened may.0 in
-    let ended : over ≡ (nat_le (length (waiting (f.about c))) count && is_stage_over (f.about c).stage) =
-    is_over ∙ ap (λ b. b && is_stage_over (stage_in c old.seats)) (none_left count (outbox_in c old.seats))
-    ∙ ap (λ m. nat_le (length m) count && is_stage_over (stage_in c old.seats)) outbox
-    ∙ ap (λ s. nat_le (length (waiting (f.about c))) count && is_stage_over s) stage in
+    is_new ∙ ap (lightened_core c count) at.stands
+    ∙ same-core setup f.joins f.last (one-changes c (lightened count) (given count) f sound (λ d a. lightens count d a))
+    (users-one c (given count) f (λ a. refl) (λ a. refl) f.present) in
+    let outbox : outbox_in c old.seats ≡ backlog_of (f.about c) =
+    ap (λ (s : CoreState). outbox_in c s.seats) at.stands ∙ in-open c (λ seat. seat.outbox) (empty_backlog max_lines max_bytes) f.about f.opened may.0 in
+    let stage : stage_in (phase_in c old.seats) ≡ (f.about c).stage =
+    ap (λ (s : CoreState). stage_in (phase_in c s.seats)) at.stands ∙ ap stage_in (in-open c (λ seat. seat.phase) phases.Gone f.about f.opened may.0) ∙ stage-kept c (f.about c) in
+    let ended : over ≡ (nat_le (length (waiting (f.about c))) count && (is_over (f.about c).stage || (f.about c).lags)) =
+    is_ended ∙ ap₂ (λ (o : Backlog) s. nat_le (length o.lines) count && (is_over s || o.lags)) outbox stage in
     let replied : Took bytes lines over ≡ take_reply count (f.about c) =
-    ap (λ b. Took b lines over) (is_bytes ∙ ap (λ m. concat (take count m)) outbox)
-    ∙ ap (λ n. Took (concat (take count (waiting (f.about c)))) n over) (is_lines ∙ ap (λ m. length (take count m)) outbox)
+    ap (λ b. Took b lines over) (is_bytes ∙ ap (λ (o : Backlog). concat (take count o.lines)) outbox)
+    ∙ ap (λ n. Took (concat (take count (waiting (f.about c)))) n over) (is_lines ∙ ap (λ (o : Backlog). length (take count o.lines)) outbox)
     ∙ ap (λ b. Took (concat (take count (waiting (f.about c)))) (length (take count (waiting (f.about c)))) b) ended in
     record { legal = (at.legal, may, replied); stands = stands }
 
-pub quit_moves : (old new : CoreState) (c : ℕ) → new ≡ record old { seats = filter (λ (seat : Seat). not (seat.number == c)) old.seats } → Moves old (Quit c) Left new
+-- ---- quits
+
+nothing-more : (room : Bool) (a : About) → has_room a [] ≡ room → (room ≡ false → a.lags ≡ true) → given_share room a [] ≡ a
+nothing-more true a is lag = ap (λ ls. record a { owed = ls }) (append-nil a.owed)
+nothing-more false a is lag = ap (λ b. record a { lags = b }) (sym (lag refl))
+
+no-room : (lags fit : Bool) → fit ≡ true → (not lags && fit) ≡ false → lags ≡ true
+no-room true fit is none = refl
+no-room false fit is none = absurd (false≢true (sym none ∙ is))
+
+fits-nothing : (a : About) → Tidy a → fits (backlog_of a) [] ≡ true
+fits-nothing a tidy =
+    ap₂ ◌&&◌ (true-le (length (waiting a) + 0) max_lines (omega (arith, tidy.lines))) (true-le (size_of (waiting a) + 0) max_bytes (omega (arith, tidy.bytes)))
+
+-- a connection that is owed nothing is as before
+pub with-nothing : (a : About) → Tidy a → with_share a [] ≡ a
+unfolding with_share
+with-nothing a tidy = nothing-more (has_room a []) a refl (no-room a.lags (fits (backlog_of a) []) (fits-nothing a tidy))
+
+abbrev leaves : About → Effect
+leaves a = departure a.stage a.sid
+
+told-one : (here there : Bool) (sid d : ℕ) (a : About) → a.taken ≤ length a.owed → Tidy a
+    → chosen here (told_if there sid (seat_with d a)) (seat_with d a) ≡ seat_with d (with_share a (given_if (there && true) (given_if here (quit_line sid ∷ [])) ++ []))
+told-one true true sid d a few tidy = gives d a (quit_line sid ∷ []) few
+told-one true false sid d a few tidy = ap (seat_with d) (sym (with-nothing a tidy))
+told-one false true sid d a few tidy = ap (seat_with d) (sym (with-nothing a tidy))
+told-one false false sid d a few tidy = ap (seat_with d) (sym (with-nothing a tidy))
+
+-- nobody is shut out by a departure
+none-removed : (b : Bool) (a : About) → removed_if (b && false) a ≡ a
+none-removed true a = refl
+none-removed false a = refl
+
+other-share : (c d : ℕ) (a b : About) → (d == c) ≡ false → affected (d == c) (leaves a) b ≡ with_share b (given_if (is_present b.stage && true) (farewell a.stage a.sid) ++ [])
+other-share c d a b other =
+    ap (λ same. affected same (leaves a) b) other
+    ∙ none-removed (is_present b.stage) (with_share b (given_if (is_present b.stage && true) (farewell a.stage a.sid) ++ []))
+
+abbrev told_seat : Bool → ℕ → Seat → Seat
+told_seat here sid seat = chosen here (told sid seat) seat
+
+left-seat : (c d : ℕ) (a b : About) → (d == c) ≡ false → b.taken ≤ length b.owed → Tidy b
+    → told_seat (is_present a.stage) a.sid (seat_with d b) ≡ seat_with d (affected (d == c) (leaves a) b)
+left-seat c d a b other few tidy =
+    ap (λ s. chosen (is_present a.stage) (told_if (is_present s) a.sid (seat_with d b)) (seat_with d b)) (stage-kept d b)
+    ∙ told-one (is_present a.stage) (is_present b.stage) a.sid d b few tidy
+    ∙ ap (seat_with d) (sym (other-share c d a b other))
+
+map-told : (here : Bool) (sid : ℕ) (seats : List Seat) → told_all_if here sid seats ≡ map (told_seat here sid) seats
+map-told true sid seats = refl
+map-told false sid [] = refl
+map-told false sid (seat ∷ seats) = ap (λ (ss : List Seat). seat ∷ ss) (map-told false sid seats)
+
+seats-gone : (c : ℕ) (f : Facts) → Sound f → ((d : ℕ) → Tidy (f.about d))
+    → told_all_if (is_present (f.about c).stage) (f.about c).sid (others_of c (map (seat_of f.about) f.opened))
+    ≡ map (seat_of (about_after c (leaves (f.about c)) f.about)) (numbers_but c f.opened)
+seats-gone c f sound tidy =
+    ap (told_all_if (is_present (f.about c).stage) (f.about c).sid) (seats-left c (seat_of f.about) f.opened (λ d. refl))
+    ∙ map-told (is_present (f.about c).stage) (f.about c).sid (map (seat_of f.about) (numbers_but c f.opened))
+    ∙ map-seats (told_seat (is_present (f.about c).stage) (f.about c).sid) (seat_of f.about) (numbers_but c f.opened)
+    ∙ others-seats c (λ d. told_seat (is_present (f.about c).stage) (f.about c).sid (seat_of f.about d)) (seat_of (about_after c (leaves (f.about c)) f.about)) f.opened
+    (λ d other. left-seat c d (f.about c) (f.about d) other (sound.taken d) (tidy d))
+
+suits-leaves : (a : About) → Suits (own_of a) (leaves a)
+suits-leaves a = record { turn = tt; routed = tt; lone = λ other. absurd (false≢true (sym other)) }
+
+left-stands : (setup : Configured) (c : ℕ) (f : Facts) → Sound f → Numbered setup f → ((d : ℕ) → Tidy (f.about d)) → has c f.opened ≡ true
+    → left_core c (core_of setup f) ≡ core_of setup (closed c (happens c (leaves (f.about c)) f))
+unfolding closed happens
+left-stands setup c f sound n tidy open_c =
+    let sid : sid_in c (map (seat_of f.about) f.opened) ≡ (f.about c).sid = in-open c (λ seat. seat.sid) 0 f.about f.opened open_c in
+    let stage : stage_in (phase_in c (map (seat_of f.about) f.opened)) ≡ (f.about c).stage =
+    ap stage_in (in-open c (λ seat. seat.phase) phases.Gone f.about f.opened open_c) ∙ stage-kept c (f.about c) in
+    same-core setup f.joins f.last
+    (ap₂ (λ s i. told_all_if (is_present s) i (others_of c (map (seat_of f.about) f.opened))) stage sid ∙ seats-gone c f sound tidy)
+    (ap (λ i. without_sid i (map (user_of f.about) f.present)) sid ∙ users-carried setup f c (leaves (f.about c)) sound n open_c (suits-leaves (f.about c)))
+
+pub quit-moves : (old new : CoreState) (c : ℕ) → old.setup.max_users ≤ 900 → new ≡ left_core c old → Moves old (Quit c) Left new
 unfolding Legal Stands facts after reply
-quit_moves old new c is_new setup h caller at may =
-    let f : Facts = facts setup h in
-    let stands : new ≡ core_of setup (closed c f) =
-    is_new ∙ same_core (ap (λ s. s.setup) at.stands) (ap (λ s. s.joins) at.stands)
-    (ap (λ s. filter (λ (seat : Seat). not (seat.number == c)) s.seats) at.stands ∙ seats_without c departed f.about f.opened) in
-    record { legal = (at.legal, may, refl); stands = stands }
+quit-moves old new c small is_new setup hash h caller at may =
+    let f : Facts = facts setup hash h in
+    let few : setup.max_users ≤ 900 = subst (λ (s : CoreState). s.setup.max_users ≤ 900) at.stands small in
+    record {
+      legal = (at.legal, may, refl);
+      stands = is_new ∙ ap (left_core c) at.stands
+          ∙ left-stands setup c f (sound_of setup hash h) (numbered_of setup hash h few) (tidy_of setup hash h) may.0;
+    }
+
+-- ---- joins
 
 -- whether a join is accepted can be seen at the hub
 places : (setup : Configured) (f : Facts) (old : CoreState) → old ≡ core_of setup f
-    → (has_place setup f ≡ not (nat_le old.setup.max_users (length old.seats))) × (has_sid f ≡ not (nat_le last_sid old.joins))
+    → (has_place setup f ≡ not (nat_le old.setup.max_users (length old.seats))) × (has_joins f ≡ not (nat_le max_joins old.joins))
 places setup f old stands =
-    let seats : length old.seats ≡ length f.opened = ap (λ s. length s.seats) stands ∙ length-map f.opened (seat_of f.about) in
-    let most : old.setup.max_users ≡ setup.max_users = ap (λ s. s.setup.max_users) stands in
-    let joins : old.joins ≡ f.joins = ap (λ s. s.joins) stands in
-    (sym (ap (λ n. not (nat_le n (length old.seats))) most ∙ ap (λ n. not (nat_le setup.max_users n)) seats), sym (ap (λ n. not (nat_le last_sid n)) joins))
+    let seats : length old.seats ≡ length f.opened = ap (λ (s : CoreState). length s.seats) stands ∙ length-map f.opened (seat_of f.about) in
+    let most : old.setup.max_users ≡ setup.max_users = ap (λ (s : CoreState). s.setup.max_users) stands in
+    let joins : old.joins ≡ f.joins = ap (λ (s : CoreState). s.joins) stands in
+    (sym (ap (λ n. not (nat_le n (length old.seats))) most ∙ ap (λ n. not (nat_le setup.max_users n)) seats), sym (ap (λ n. not (nat_le max_joins n)) joins))
 
-pub full_moves : (old : CoreState) (peer challenge : List ℕ) (now : ℕ) → old.setup.max_users ≤ length old.seats → Moves old (Join peer challenge now) Full old
+pub full-moves : (old : CoreState) (peer challenge : List ℕ) (now : ℕ) → old.setup.max_users ≤ length old.seats → Moves old (Join peer challenge now) Full old
 unfolding Legal Stands facts after reply
-full_moves old peer challenge now full setup h caller at may =
-    let f : Facts = facts setup h in
+full-moves old peer challenge now full setup hash h caller at may =
+    let f : Facts = facts setup hash h in
     let none : has_place setup f ≡ false = (places setup f old at.stands).0 ∙ ap not (true-le old.setup.max_users (length old.seats) full) in
     record {
-      legal = (at.legal, may, sym (ap (λ b. join_reply b (has_sid f) f.joins) none));
-      stands = at.stands ∙ ap (core_of setup) (sym (ap (λ b. chosen (b && has_sid f) (joined f caller peer challenge) f) none));
+      legal = (at.legal, may, sym (ap (λ b. join_reply b (has_joins f) f.joins) none));
+      stands = at.stands ∙ ap (core_of setup) (sym (ap (λ b. chosen (b && has_joins f) (joined f caller peer challenge) f) none));
     }
 
-pub spent_moves : (old : CoreState) (peer challenge : List ℕ) (now : ℕ) → length old.seats < old.setup.max_users → last_sid ≤ old.joins → Moves old (Join peer challenge now) SidsSpent old
+pub spent-moves : (old : CoreState) (peer challenge : List ℕ) (now : ℕ) → length old.seats < old.setup.max_users → max_joins ≤ old.joins → Moves old (Join peer challenge now) JoinsSpent old
 unfolding Legal Stands facts after reply
-spent_moves old peer challenge now room spent setup h caller at may =
-    let f : Facts = facts setup h in
+spent-moves old peer challenge now room spent setup hash h caller at may =
+    let f : Facts = facts setup hash h in
     let place : has_place setup f ≡ true = (places setup f old at.stands).0 ∙ ap not (false-le old.setup.max_users (length old.seats) room) in
-    let none : has_sid f ≡ false = (places setup f old at.stands).1 ∙ ap not (true-le last_sid old.joins spent) in
+    let none : has_joins f ≡ false = (places setup f old at.stands).1 ∙ ap not (true-le max_joins old.joins spent) in
     record {
-      legal = (at.legal, may, sym (ap (λ b. join_reply b (has_sid f) f.joins) place ∙ ap (λ b. join_reply true b f.joins) none));
-      stands = at.stands ∙ ap (core_of setup) (sym (ap (λ b. chosen (b && has_sid f) (joined f caller peer challenge) f) place ∙ ap (λ b. chosen b (joined f caller peer challenge) f) none));
+      legal = (at.legal, may, sym (ap (λ b. join_reply b (has_joins f) f.joins) place ∙ ap (λ b. join_reply true b f.joins) none));
+      stands = at.stands ∙ ap (core_of setup) (sym (ap (λ b. chosen (b && has_joins f) (joined f caller peer challenge) f) place ∙ ap (λ b. chosen b (joined f caller peer challenge) f) none));
     }
 
-join_moves_at : (old new : CoreState) (peer challenge : List ℕ) (now : ℕ) → length old.seats < old.setup.max_users → old.joins < last_sid
-    → new ≡ record old { joins = old.joins + 1; seats = old.seats ++ new_seat (old.joins + 1) (old.joins + 1) peer challenge ∷ [] }
+-- the identifiers that are taken
+abbrev pub sids_in : List Seat → List ℕ
+sids_in seats = map (λ (seat : Seat). seat.sid) seats
+
+-- a connection joined
+abbrev pub joined_core : ℕ → List ℕ → List ℕ → CoreState → CoreState
+joined_core sid peer challenge core =
+    record core { joins = core.joins + 1; last = sid; seats = core.seats ++ new_seat (core.joins + 1) sid peer challenge ∷ [] }
+
+map-sids : (about : ℕ → About) (xs : List ℕ) → sids_in (map (seat_of about) xs) ≡ map (λ d. (about d).sid) xs
+map-sids about [] = refl
+map-sids about (d ∷ xs) = ap (λ (ns : List ℕ). (about d).sid ∷ ns) (map-sids about xs)
+
+same-on : {A : Type 0} (p q : ℕ → A) (xs : List ℕ) → ((d : ℕ) → has d xs ≡ true → p d ≡ q d) → map p xs ≡ map q xs
+same-on p q [] each = refl
+same-on p q (d ∷ xs) each =
+    ap₂ (λ y ys. y ∷ ys) (each d (ap (λ b. b || has d xs) (eq-eqb d d refl))) (same-on p q xs (λ x there. each x (ap (λ b. (d == x) || b) there ∙ or-true (d == x))))
+
+not-new : (f : Facts) → Sound f → (d : ℕ) → has d f.opened ≡ true → (same : Bool) → (d == (f.joins + 1)) ≡ same → same ≡ false
+not-new f sound d there true is = absurd (false≢true (sym (not-open f sound) ∙ ap (λ x. has x f.opened) (sym (eqb-true d (f.joins + 1) is)) ∙ there))
+not-new f sound d there false is = refl
+
+other-kept : (f : Facts) → Sound f → (mine : About) → (d : ℕ) → has d f.opened ≡ true → with_one (f.joins + 1) (λ a. mine) f.about d ≡ f.about d
+other-kept f sound mine d there = ap (λ b. chosen b mine (f.about d)) (not-new f sound d there (d == (f.joins + 1)) refl)
+
+joined-stands : (setup : Configured) (f : Facts) (caller : ℕ) (peer challenge : List ℕ) → Sound f
+    → joined_core (next_sid f) peer challenge (core_of setup f) ≡ core_of setup (joined f caller peer challenge)
+unfolding joined
+joined-stands setup f caller peer challenge sound =
+    let mine : About = newcomer caller (next_sid f) peer challenge in
+    let now_about : ℕ → About = with_one (f.joins + 1) (λ a. mine) f.about in
+    same-core setup (f.joins + 1) (next_sid f)
+    (ap (λ (ss : List Seat). ss ++ new_seat (f.joins + 1) (next_sid f) peer challenge ∷ [])
+    (same-on (seat_of f.about) (seat_of now_about) f.opened (λ d there. ap (seat_with d) (sym (other-kept f sound mine d there))))
+    ∙ ap (λ (s : Seat). map (seat_of now_about) f.opened ++ s ∷ []) (ap (seat_with (f.joins + 1)) (sym (ap (λ b. chosen b mine (f.about (f.joins + 1))) (eq-eqb (f.joins + 1) (f.joins + 1) refl))))
+    ∙ sym (map-append (seat_of now_about) f.opened ((f.joins + 1) ∷ [])))
+    (same-on (user_of f.about) (user_of now_about) f.present
+    (λ d there. ap (λ (a : About). listed a.sid a.fields)
+    (sym (other-kept f sound mine d (sound.are_open d (not-over (f.about d).stage (sym (sound.entered d) ∙ there)))))))
+
+join-moves-at : (old new : CoreState) (peer challenge : List ℕ) (now sid : ℕ) → length old.seats < old.setup.max_users → old.joins < max_joins
+    → sid ≡ next_free old.last (sids_in old.seats)
+    → new ≡ joined_core sid peer challenge old
     → Moves old (Join peer challenge now) (Joined (old.joins + 1)) new
 unfolding Legal Stands facts after reply
-join_moves_at old new peer challenge now room left is_new setup h caller at may =
-    let f : Facts = facts setup h in
-    let sound : Sound f = sound_of setup h in
+join-moves-at old new peer challenge now sid room left is_sid is_new setup hash h caller at may =
+    let f : Facts = facts setup hash h in
     let place : has_place setup f ≡ true = (places setup f old at.stands).0 ∙ ap not (false-le old.setup.max_users (length old.seats) room) in
-    let sid : has_sid f ≡ true = (places setup f old at.stands).1 ∙ ap not (false-le last_sid old.joins left) in
-    let joins : old.joins ≡ f.joins = ap (λ s. s.joins) at.stands in
-    let now_about : ℕ → About = with_one (f.joins + 1) (λ a. newcomer caller (f.joins + 1) peer challenge) f.about in
-    let before : map (seat_of now_about) f.opened ≡ map (seat_of f.about) f.opened =
-    seats_same f.about now_about f.opened (Each-weaker (λ d. d ≤ f.joins) (λ d. now_about d ≡ f.about d) (λ d k. with_one-other (f.joins + 1) d (λ a. newcomer caller (f.joins + 1) peer challenge) f.about (below-false d (f.joins + 1) (omega arith))) f.opened sound.within) in
-    let mine : seat_of now_about (f.joins + 1) ≡ new_seat (f.joins + 1) (f.joins + 1) peer challenge =
-    ap (seat_with (f.joins + 1)) (with_one-here (f.joins + 1) (λ a. newcomer caller (f.joins + 1) peer challenge) f.about) in
-    let seats : old.seats ++ new_seat (old.joins + 1) (old.joins + 1) peer challenge ∷ [] ≡ map (seat_of now_about) (f.opened ++ (f.joins + 1) ∷ []) =
-    ap (λ s. s.seats ++ new_seat (s.joins + 1) (s.joins + 1) peer challenge ∷ []) at.stands
-    ∙ ap (λ s. s ++ new_seat (f.joins + 1) (f.joins + 1) peer challenge ∷ []) (sym before)
-    ∙ ap (λ s. map (seat_of now_about) f.opened ++ s ∷ []) (sym mine)
-    ∙ sym (map-append (seat_of now_about) f.opened ((f.joins + 1) ∷ [])) in
-    let stands : new ≡ core_of setup (joined f caller peer challenge) = is_new ∙ same_core (ap (λ s. s.setup) at.stands) (ap (λ n. n + 1) joins) seats in
+    let counted : has_joins f ≡ true = (places setup f old at.stands).1 ∙ ap not (false-le max_joins old.joins left) in
+    let joins : old.joins ≡ f.joins = ap (λ (s : CoreState). s.joins) at.stands in
+    let next : sid ≡ next_sid f =
+    is_sid ∙ ap (λ (s : CoreState). next_free s.last (sids_in s.seats)) at.stands ∙ ap (next_free f.last) (map-sids f.about f.opened) in
+    let stands : new ≡ core_of setup (joined f caller peer challenge) =
+    is_new ∙ ap₂ (λ i (s : CoreState). joined_core i peer challenge s) next at.stands ∙ joined-stands setup f caller peer challenge (sound_of setup hash h) in
     record {
-      legal = (at.legal, may, ap (λ n. Joined (n + 1)) joins ∙ sym (ap (λ b. join_reply b (has_sid f) f.joins) place ∙ ap (λ b. join_reply true b f.joins) sid));
-      stands = stands ∙ ap (core_of setup) (sym (ap (λ b. chosen (b && has_sid f) (joined f caller peer challenge) f) place ∙ ap (λ b. chosen b (joined f caller peer challenge) f) sid));
+      legal = (at.legal, may, ap (λ n. Joined (n + 1)) joins ∙ sym (ap (λ b. join_reply b (has_joins f) f.joins) place ∙ ap (λ b. join_reply true b f.joins) counted));
+      stands = stands ∙ ap (core_of setup) (sym (ap (λ b. chosen (b && has_joins f) (joined f caller peer challenge) f) place ∙ ap (λ b. chosen b (joined f caller peer challenge) f) counted));
     }
 
-pub join_moves : (old new : CoreState) (peer challenge : List ℕ) (now n : ℕ) → n ≡ old.joins + 1 → length old.seats < old.setup.max_users → old.joins < last_sid
-    → new ≡ record old { joins = n; seats = old.seats ++ new_seat n n peer challenge ∷ [] }
+pub join-moves : (old new : CoreState) (peer challenge : List ℕ) (now sid n : ℕ) → n ≡ old.joins + 1 → length old.seats < old.setup.max_users → old.joins < max_joins
+    → sid ≡ next_free old.last (sids_in old.seats)
+    → new ≡ joined_core sid peer challenge old
     → Moves old (Join peer challenge now) (Joined n) new
-join_moves old new peer challenge now n is_n room left is_new =
-    subst (λ m. Moves old (Join peer challenge now) (Joined m) new) (sym is_n)
-    (join_moves_at old new peer challenge now room left (is_new ∙ ap (λ m. record old { joins = m; seats = old.seats ++ new_seat m m peer challenge ∷ [] }) is_n))
+join-moves old new peer challenge now sid n is_n room left is_sid is_new =
+    subst (λ m. Moves old (Join peer challenge now) (Joined m) new) (sym is_n) (join-moves-at old new peer challenge now sid room left is_sid is_new)
 
-pub sid_stands : (core : CoreState) (c sid : ℕ) → sid ≡ sid_in c core.seats → HasSeat c core.seats → SidOf sid c core
-unfolding Stands
-sid_stands core c sid e has setup h at =
-    let f : Facts = facts setup h in
-    let opened : list_any (λ d. d == c) f.opened ≡ true =
-    sym (seated-open c f.about f.opened) ∙ sym (ap (λ s. list_any (λ (seat : Seat). seat.number == c) s.seats) at.stands) ∙ has in
-    e ∙ ap (λ s. sid_in c s.seats) at.stands ∙ in_seat-open c (λ seat. seat.sid) 0 f.about f.opened opened
+-- ---- looks
 
-pub open_stands : (setup : Configured) → StandsAt setup [] (record { setup = setup; joins = 0; seats = [] })
+pub open-stands : (setup : Configured) (hash : List ℕ → List ℕ)
+    → StandsAt setup hash [] (record { setup = setup; joins = 0; last = 0; seats = []; users = []; bans = []; topic = setup.topic })
 unfolding Legal Stands facts
-open_stands setup = record { legal = tt; stands = refl }
+open-stands setup hash = record { legal = tt; stands = refl }
+
+opened-at : (setup : Configured) (hash : List ℕ → List ℕ) (h : List Entry) (core : CoreState) (c : ℕ) → StandsAt setup hash h core → HasSeat c core.seats
+    → has c (facts setup hash h).opened ≡ true
+unfolding Stands
+opened-at setup hash h core c at has_one =
+    sym (seated-open c (facts setup hash h).about (facts setup hash h).opened)
+    ∙ sym (ap (λ (s : CoreState). list_any (λ (seat : Seat). seat.number == c) s.seats) at.stands) ∙ has_one
+
+pub sid-told : (core : CoreState) (c sid : ℕ) → sid ≡ sid_in c core.seats → HasSeat c core.seats → SidOf sid c core
+unfolding Stands
+sid-told core c sid e has_one setup hash h at =
+    let f : Facts = facts setup hash h in
+    e ∙ ap (λ (s : CoreState). sid_in c s.seats) at.stands ∙ in-open c (λ seat. seat.sid) 0 f.about f.opened (opened-at setup hash h core c at has_one)
+
+pub look-told : (core : CoreState) (c : ℕ) (look : Look) → look.stage ≡ stage_in (phase_in c core.seats) → look.present ≡ length core.users
+    → look.waiting ≡ length (lines_in c core.seats) → HasSeat c core.seats → LooksAt look c core
+unfolding Stands
+look-told core c look stage present waits has_one setup hash h at =
+    let f : Facts = facts setup hash h in
+    let open_c = opened-at setup hash h core c at has_one in
+    ap₂ (λ s n. record { stage = s; present = n; waiting = look.waiting })
+    (stage ∙ ap (λ (s : CoreState). stage_in (phase_in c s.seats)) at.stands
+    ∙ ap stage_in (in-open c (λ seat. seat.phase) phases.Gone f.about f.opened open_c) ∙ stage-kept c (f.about c))
+    (present ∙ ap (λ (s : CoreState). length s.users) at.stands ∙ length-map f.present (user_of f.about))
+    ∙ ap (λ n. record { stage = (f.about c).stage; present = length f.present; waiting = n })
+    (waits ∙ ap (λ (s : CoreState). length (lines_in c s.seats)) at.stands
+    ∙ ap (λ (o : Backlog). length o.lines) (in-open c (λ seat. seat.outbox) (empty_backlog max_lines max_bytes) f.about f.opened open_c))
+
+pub joins-told : (core : CoreState) (joins : ℕ) → joins ≡ core.joins → CountsJoins joins core
+unfolding Stands
+joins-told core joins e setup hash h at = e ∙ ap (λ (s : CoreState). s.joins) at.stands
+
+pub totals-told : (core : CoreState) (totals : Totals) → totals ≡ totals_of core.users → SumsUp totals core
+unfolding Stands
+totals-told core totals e setup hash h at = e ∙ ap (λ (s : CoreState). totals_of s.users) at.stands
 
 -- a connection that is open has a seat
-pub seated : (setup : Configured) (h : List Entry) (core : CoreState) (c : ℕ) → StandsAt setup h core → is_open c (facts setup h) ≡ true → IsSeated c core
+pub seated : (setup : Configured) (hash : List ℕ → List ℕ) (h : List Entry) (core : CoreState) (c : ℕ) → StandsAt setup hash h core → is_open c (facts setup hash h) ≡ true → IsSeated c core
 unfolding Stands
-seated setup h core c at opened =
-    ap (λ s. list_any (λ (seat : Seat). seat.number == c) s.seats) at.stands ∙ seated-open c (facts setup h).about (facts setup h).opened ∙ opened
+seated setup hash h core c at opened =
+    ap (λ (s : CoreState). list_any (λ (seat : Seat). seat.number == c) s.seats) at.stands ∙ seated-open c (facts setup hash h).about (facts setup hash h).opened ∙ opened
+
+pub open-stands-as : (setup : Configured) (seats : List Seat) (users : List Listed) (bans : List (List ℕ × Ban)) (topic : List ℕ) → seats ≡ [] → users ≡ [] → bans ≡ [] → topic ≡ setup.topic
+    → (hash : List ℕ → List ℕ) → StandsAt setup hash [] (record { setup = setup; joins = 0; last = 0; seats = seats; users = users; bans = bans; topic = topic })
+open-stands-as setup seats users bans topic s u b t hash =
+    subst (λ (x : List Seat). StandsAt setup hash [] (record { setup = setup; joins = 0; last = 0; seats = x; users = users; bans = bans; topic = topic })) (sym s)
+    (subst (λ (x : List Listed). StandsAt setup hash [] (record { setup = setup; joins = 0; last = 0; seats = []; users = x; bans = bans; topic = topic })) (sym u)
+    (subst (λ (x : List (List ℕ × Ban)). StandsAt setup hash [] (record { setup = setup; joins = 0; last = 0; seats = []; users = []; bans = x; topic = topic })) (sym b)
+    (subst (λ (x : List ℕ). StandsAt setup hash [] (record { setup = setup; joins = 0; last = 0; seats = []; users = []; bans = []; topic = x })) (sym t) (open-stands setup hash))))

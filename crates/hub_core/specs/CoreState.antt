@@ -1,9 +1,19 @@
 -- A hub as contracts see it.
 use Rattle.std.specs.Prelude.{ℕ, List}
+use Rattle.operator_acts.specs.declared.ban.Ban.{Ban}
+use Rattle.user_table.specs.Listed.{Listed}
 use Rattle.hub_core.specs.declared.seat.Seat.{Seat}
-use Rattle.hub_core.specs.Configured.{Configured}
+use Rattle.hub_rules.specs.Configured.{Configured}
 
 pub record CoreState : Type 0 where
   pub setup : Configured
+  -- how many joins were accepted
   pub joins : ℕ
+  -- the session identifier that was given last
+  pub last : ℕ
+  -- what is kept of the connections that are open, in the order of their joins
   pub seats : List Seat
+  -- the users who are present, in order of entry
+  pub users : List Listed
+  pub bans : List (List ℕ × Ban)
+  pub topic : List ℕ

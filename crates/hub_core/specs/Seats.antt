@@ -1,53 +1,123 @@
--- What is kept of the connections, and how it changes.
-use Rattle.std.specs.Prelude.{ℕ, ◌==◌, ◌++◌, ◌&&◌, Bool, List, [], ◌∷◌, drop, length, if◌then◌else◌}
-use Rattle.hub_core.specs.declared.effect.Effect.{Effect}
+-- What is kept of the connections, and what an effect makes of it.
+use Rattle.std.specs.Prelude.{ℕ, ◌==◌, ◌&&◌, Bool, true, false, List, [], ◌∷◌, ◌++◌, map, Option, Some, None, if◌then◌else◌}
+use Rattle.login_state.specs.declared.stage.Stage.{Stage}
+use Rattle.login_state.specs.declared.stage.Stage.TheVariants.{Gone}
+use Rattle.outboxes.specs.Backlogs.{Backlog, empty_backlog, given}
+use Rattle.hub_core.specs.declared.seat.Phase.{Phase}
+use Rattle.hub_core.specs.declared.seat.Phase.TheVariants as phases
+use Rattle.hub_core.specs.declared.seat.Removal.{Removal}
+use Rattle.hub_core.specs.declared.seat.Removal.TheVariants.{Nobody, User}
 use Rattle.hub_core.specs.declared.seat.Seat.{Seat}
-use Rattle.hub_core.specs.declared.stage.Stage.{Stage}
-use Rattle.hub_core.specs.declared.stage.Stage.TheVariants.{Protocol, Gone}
-use Rattle.hub_core.specs.Configured.{Configured}
-use Rattle.hub_core.specs.Effects.{line_effect, stage_after, features_after}
-use Rattle.hub_core.specs.Stages.{is_over}
+use Rattle.hub_core.specs.Phases.{phase_after, phase_hears, phase_of, stage_in}
+use Rattle.hub_rules.specs.declared.effect.Effect.{Effect}
+use Rattle.hub_rules.specs.declared.effect.Turn.{Turn}
+use Rattle.hub_rules.specs.declared.effect.Turn.TheVariants.{Stays}
+use Rattle.hub_rules.specs.declared.effect.World.{World}
+use Rattle.hub_rules.specs.declared.effect.World.TheVariants as worlds
+use Rattle.hub_rules.specs.Effects.{given_if, is_present}
+use Rattle.hub_rules.specs.Shares.{About, backlog_of, features_after, max_bytes, max_lines, searched_after}
+
+-- what is kept of a connection of which this is known
+abbrev pub seat_with : ℕ → About → Seat
+seat_with c a = record {
+  number = c;
+  sid = a.sid;
+  peer = a.peer;
+  challenge = a.challenge;
+  phase = phase_of a;
+  features = a.features;
+  searched = a.searched;
+  outbox = backlog_of a;
+}
+
+abbrev pub seat_of : (ℕ → About) → ℕ → Seat
+seat_of about c = seat_with c (about c)
 
 -- the seat of a connection that has just joined
 abbrev pub new_seat : ℕ → ℕ → List ℕ → List ℕ → Seat
-new_seat number sid peer challenge =
-    record { number = number; sid = sid; peer = peer; challenge = challenge; stage = Protocol; features = []; outbox = [] }
-
--- what was decided is carried out at a connection's seat
-abbrev pub settled : Effect → Seat → Seat
-settled effect seat = record seat {
-  stage = stage_after effect.turn seat.stage;
-  features = features_after effect.turn seat.features;
-  outbox = seat.outbox ++ effect.own;
+new_seat number sid peer challenge = record {
+  number = number;
+  sid = sid;
+  peer = peer;
+  challenge = challenge;
+  phase = phases.Protocol;
+  features = [];
+  searched = None;
+  outbox = empty_backlog max_lines max_bytes;
 }
 
--- so many messages are taken from a seat's outbox
-abbrev pub lightened : ℕ → Seat → Seat
-lightened count seat = record seat { outbox = drop count seat.outbox }
+-- ---- shares
+
+-- the messages that an effect of connection c owes to the connection of a seat
+abbrev pub seat_share : ℕ → Effect → Seat → List (List ℕ)
+seat_share c effect seat =
+    given_if (phase_hears seat.phase (seat.number == c) effect.hearers seat.sid) effect.others ++ given_if (seat.number == c) effect.own
+
+abbrev pub given_seat : List (List ℕ) → Seat → Seat
+given_seat share seat = record seat { outbox = given seat.outbox share }
+
+-- the user whom an operator shuts out
+abbrev pub removed_of : World → Removal
+removed_of (worlds.Kick sid) = User sid
+removed_of (worlds.Ban banned) = User banned.sid
+removed_of world = Nobody
+
+abbrev pub is_named : Removal → ℕ → Bool
+is_named Nobody own = false
+is_named (User sid) own = own == sid
+
+abbrev pub gone_if : Bool → Seat → Seat
+gone_if true seat = record seat { phase = phases.Gone }
+gone_if false seat = seat
+
+abbrev pub removed_seat : Removal → Seat → Seat
+removed_seat removed seat = gone_if (is_present (stage_in seat.phase) && is_named removed seat.sid) seat
+
+-- a share is given, and the user shut out where it is the one
+abbrev pub settled : Removal → Seat → List (List ℕ) → Seat
+settled removed seat share = removed_seat removed (given_seat share seat)
+
+abbrev pub settled_by : Removal → Seat → Option (List (List ℕ)) → Seat
+settled_by removed seat None = seat
+settled_by removed seat (Some share) = settled removed seat share
+
+-- each seat has its share
+unfoldable pub settled_all : Removal → List Seat → List (List (List ℕ)) → List Seat
+settled_all removed [] shares = []
+settled_all removed (seat ∷ seats) [] = seat ∷ seats
+settled_all removed (seat ∷ seats) (share ∷ shares) = settled removed seat share ∷ settled_all removed seats shares
+
+-- ---- the connection that sent the line
+
+-- its turn, where nothing changes for all
+abbrev pub turn_taken : World → Turn → Turn
+turn_taken worlds.Same turn = turn
+turn_taken world turn = Stays
+
+abbrev pub seat_turned : Turn → Seat → Seat
+seat_turned turn seat = record seat { phase = phase_after turn seat.phase; features = features_after turn seat.features }
+
+abbrev pub searched_seat : Option ℕ → Seat → Seat
+searched_seat searched seat = record seat { searched = searched_after searched seat.searched }
+
+abbrev pub turned_seat : Effect → Seat → Seat
+turned_seat effect seat = searched_seat effect.searched (seat_turned (turn_taken effect.world effect.turn) seat)
 
 -- the seat of connection c changes
 unfoldable pub at_seat : ℕ → (Seat → Seat) → List Seat → List Seat
 at_seat c change [] = []
 at_seat c change (seat ∷ seats) = if seat.number == c then change seat ∷ seats else seat ∷ at_seat c change seats
 
--- a line of this seat's connection has its effect
-abbrev pub heard_at : Configured → List ℕ → Seat → Seat
-heard_at setup bytes seat = settled (line_effect setup seat.stage seat.sid seat.features bytes) seat
-
 -- what is read off the seat of connection c
 unfoldable pub in_seat : {A : Type 0} → ℕ → (Seat → A) → A → List Seat → A
 in_seat c read none [] = none
 in_seat c read none (seat ∷ seats) = if seat.number == c then read seat else in_seat c read none seats
 
-abbrev pub stage_in : ℕ → List Seat → Stage
-stage_in c seats = in_seat c (λ seat. seat.stage) Gone seats
-
-abbrev pub outbox_in : ℕ → List Seat → List (List ℕ)
-outbox_in c seats = in_seat c (λ seat. seat.outbox) [] seats
-
 abbrev pub sid_in : ℕ → List Seat → ℕ
 sid_in c seats = in_seat c (λ seat. seat.sid) 0 seats
 
--- a take of so many messages leaves nothing, and nothing more will come
-abbrev pub has_ended : ℕ → ℕ → List Seat → Bool
-has_ended c count seats = (length (drop count (outbox_in c seats)) == 0) && is_over (stage_in c seats)
+abbrev pub phase_in : ℕ → List Seat → Phase
+phase_in c seats = in_seat c (λ seat. seat.phase) phases.Gone seats
+
+abbrev pub outbox_in : ℕ → List Seat → Backlog
+outbox_in c seats = in_seat c (λ seat. seat.outbox) (empty_backlog max_lines max_bytes) seats

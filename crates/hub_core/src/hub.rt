@@ -1,19 +1,38 @@
-ghost use Rattle.std.specs.Prelude.{◌≡◌, ◌≤◌, ◌↔◌, [], IsTrue, IfOk, OnErr};
+ghost use Rattle.std.specs.Prelude.{◌≡◌, ◌≤◌, ◌↔◌, ℕ, List, [], IsTrue, IfOk, OnOk, OnErr};
 ghost use Rattle.std.specs.Arc.{arc_value};
-ghost use Rattle.hub_core.specs.declared.history.Call.TheVariants.{Join, Line, Quit};
-ghost use Rattle.hub_core.specs.declared.history.Reply.TheVariants.{Said, Left};
-ghost use Rattle.hub_core.specs.Moves.{Moves, StandsAt};
-ghost use Rattle.hub_core.specs.State.{IsSeated};
+ghost use Rattle.hub_rules.specs.declared.history.Call.TheVariants.{Join, Quit};
+ghost use Rattle.hub_rules.specs.declared.history.Reply.TheVariants.{Left};
+ghost use Rattle.hub_core.specs.Moves.{Moves, LineMoves, StandsAt};
+ghost use Rattle.hub_core.specs.Leaving.{left_core, lightened_core};
+ghost use Rattle.hub_core.specs.Decided.{IsDecided, IsHeard};
+ghost use Rattle.hub_core.specs.Phases.{stage_in};
+ghost use Rattle.hub_core.specs.Seats.{phase_in};
+ghost use Rattle.hub_core.specs.State.{IsSeated, carried_out};
+ghost use Rattle.hub_rules.specs.Legal.{verdict_of};
 
+use crate::change::Commons;
 use crate::connection::Connection;
-use crate::outbox::Taken;
+use crate::decision::decide_at;
+use crate::look::Look;
 use crate::seat::Seat;
-use crate::seats::{forget, has_seat, hear, lighten, sid_of};
-use crate::{JoinRefused, LineRefused, OpenRefused, Prepared, Setup, TakeRefused, Verdict};
+use crate::seats::{forget, has_seat, lighten, place, sids, tell_if};
+use crate::share::{removal, settle, shares};
+use crate::{JoinRefused, OpenRefused};
 use adc_base32::Sid;
-use std::alloc::Global;
+use hub_rules::{Effect, Topic, Verdict};
+use hub_setup::{LineRefused, Prepared, Setup};
+use operator_acts::Bans;
+use outboxes::{Outbox, TakeRefused, Taken};
+use std::alloc::{AllocError, Global};
 use std::marker::Model;
 use std::sync::Arc;
+use user_table::{IndexedUsers, Totals, Users};
+
+/// How many lines may wait for a connection.
+const MAX_LINES: usize = 1_024;
+
+/// How many bytes they may have together.
+const MAX_BYTES: usize = 1_048_576;
 
 /// A hub for one thread. Its promises are about histories: after any list of calls, each answer and
 /// what it keeps are what the calls before demand. A call refused for want of memory changes nothing.
@@ -21,43 +40,51 @@ use std::sync::Arc;
 pub struct Core {
     setup: Arc<Setup>,
     joins: u64,
+    last: u32,
     seats: Vec<Seat>,
+    commons: Commons,
 }
 
 impl Model for Core {
-    ghost use Rattle.std.specs.Prelude.{◌≤◌};
+    ghost use Rattle.std.specs.Prelude.{◌≤◌, ◌<◌};
     ghost use Rattle.std.specs.Arc.{arc_value};
     ghost use Rattle.hub_core.specs.CoreState.{CoreState};
-    ghost use Rattle.hub_core.specs.Facts.{last_sid};
 
     ghost Value = { CoreState };
 
-    ghost view = { λ c. record { setup = arc_value c.setup; joins = c.joins; seats = c.seats.items } };
+    ghost view = { λ c. record { setup = arc_value c.setup; joins = c.joins; last = c.last; seats = c.seats.items; users = c.commons.users; bans = c.commons.bans; topic = c.commons.topic } };
 
-    ghost invariant = { λ c. c.joins ≤ last_sid };
+    ghost invariant = { λ c. ((arc_value c.setup).max_users ≤ 900) × (c.last < 1_048_576) };
 }
 
 impl Core {
-    ghost use Rattle.hub_core.specs.Promises.{JoinMoves, TakeMoves, SidOf};
+    ghost use Rattle.hub_core.specs.Promises.{JoinMoves, TakeMoves, SidOf, LooksAt, CountsJoins, SumsUp};
 
     /// Opens a hub, to which nobody has connected.
     ///
     /// Refused: `Memory`.
     pub fn open(alloc: Global, setup: Arc<Setup>) -> Result<Core, OpenRefused>
-        ensures { IfOk result (λ core. StandsAt (arc_value setup) [] core) }
+        ensures { IfOk result (λ core. (hash : List ℕ → List ℕ) → StandsAt (arc_value setup) hash [] core) }
     {
-        let places = setup.max_users() as usize;
+        let seats = Vec::with_capacity(alloc, setup.max_users() as usize)?;
+        let topic = Topic::new(alloc, setup.topic())?;
         Ok(Core {
             setup,
             joins: 0,
-            seats: Vec::with_capacity(alloc, places)?,
+            last: 0,
+            seats,
+            commons: Commons {
+                users: IndexedUsers::new(alloc),
+                bans: Bans::new(alloc),
+                topic,
+            },
         })
     }
 
     /// Admits a connection from this address, with the challenge that it would be given.
     ///
     /// Refused, by the first that applies: `Full` where as many connections are open as the setup
-    /// admits, `SidsSpent` after 1,048,575 joins; then `Memory`.
+    /// admits, `JoinsSpent` after 18,446,744,073,709,551,615 joins; then `Memory`.
     pub fn join(
         &mut self,
         alloc: Global,
@@ -70,13 +97,17 @@ impl Core {
         if self.seats.len() >= self.setup.max_users() as usize {
             return Err(JoinRefused::Full);
         }
+        if self.joins == u64::MAX {
+            return Err(JoinRefused::JoinsSpent);
+        }
+        let taken = sids(alloc, &self.seats)?;
+        let sid = Sid::next_free(self.last, &taken);
+        let outbox = Outbox::new(alloc, MAX_LINES, MAX_BYTES)?;
         let number = self.joins + 1;
-        let Some(sid) = Sid::from_u32(number as u32) else {
-            return Err(JoinRefused::SidsSpent);
-        };
         self.seats
-            .push(Seat::new(alloc, number, sid, peer, challenge))?;
+            .push(Seat::new(alloc, number, sid, peer, challenge, outbox))?;
         self.joins = number;
+        self.last = sid.number();
         Ok(Connection { number })
     }
 
@@ -87,17 +118,18 @@ impl Core {
         has_seat(&self.seats, connection.number)
     }
 
-    /// The identifier of a connection that is open.
+    /// The session identifier of a connection that is open.
     pub fn sid(&self, connection: Connection) -> Sid
         requires seated { IsSeated connection self.now }
         ensures { SidOf result connection self.now }
     {
-        sid_of(&self.seats, connection.number)
+        self.seats[place(&self.seats, connection.number)].sid
     }
 
-    /// Handles a line of a connection that is open, at a moment in seconds.
+    /// Handles a line of a connection that is open, at a moment in seconds. The line was made ready for this
+    /// connection: by this hub's setup and hash, with its challenge.
     ///
-    /// Refused: `Memory`; then the line may be sent again.
+    /// Refused: `Memory`; then nothing changed, and the line may be sent again.
     pub fn line(
         &mut self,
         alloc: Global,
@@ -106,19 +138,19 @@ impl Core {
         now: u64,
     ) -> Result<Verdict, LineRefused>
         requires seated { IsSeated connection self.old }
-        ensures moves { IfOk result (λ verdict. Moves self.old (Line connection line.now.bytes now) (Said verdict) self.new) }
+        ensures moves { IfOk result (λ verdict. LineMoves self.old connection line.now now verdict self.new) }
         ensures err { OnErr result (self.new ≡ self.old) }
     {
-        let verdict = hear(alloc, &self.setup, &mut self.seats, connection.number, line)?;
+        let verdict = self.hear(alloc, connection.number, line, now)?;
         Ok(verdict)
     }
 
-    /// Lets a connection that is open go. What waited for it is given up.
+    /// Lets a connection that is open go. What waited for it is given up. It takes no memory.
     pub fn quit(&mut self, connection: Connection)
         requires seated { IsSeated connection self.old }
         ensures { Moves self.old (Quit connection) Left self.new }
     {
-        forget(&mut self.seats, connection.number);
+        self.leave(connection.number);
     }
 
     /// Removes the first `count` lines that wait for an open connection, or all if fewer wait, and
@@ -127,7 +159,6 @@ impl Core {
     /// Refused: `Memory`; then nothing is removed or appended.
     pub fn take(
         &mut self,
-        alloc: Global,
         connection: Connection,
         count: usize,
         out: &mut Vec<u8>,
@@ -138,7 +169,110 @@ impl Core {
         ensures moves { IfOk result (λ taken. TakeMoves taken connection count out.old.items out.new.items self.old self.new) }
         ensures err { OnErr result ((self.new ≡ self.old) × (out.new.items ≡ out.old.items)) }
     {
-        let taken = lighten(alloc, &mut self.seats, connection.number, count, out)?;
+        let taken = lighten(&mut self.seats, connection.number, count, out)?;
         Ok(taken)
+    }
+
+    /// What one look at an open connection shows. It takes no memory.
+    pub fn look(&self, connection: Connection) -> Look
+        requires seated { IsSeated connection self.now }
+        ensures { LooksAt result connection self.now }
+    {
+        let seat = &self.seats[place(&self.seats, connection.number)];
+        Look {
+            stage: seat.phase.stage(),
+            present: self.commons.users.totals().users,
+            waiting: seat.outbox.waiting(),
+        }
+    }
+
+    /// How many users are present, and what they share. It takes no memory.
+    pub fn totals(&self) -> Totals
+        ensures { SumsUp result self.now }
+    {
+        self.commons.users.totals()
+    }
+
+    /// How many joins were accepted. It takes no memory.
+    pub fn joins(&self) -> u64
+        ensures { CountsJoins result self.now }
+    {
+        self.joins
+    }
+
+    fn hear(
+        &mut self,
+        alloc: Global,
+        number: u64,
+        line: &Prepared,
+        now: u64,
+    ) -> Result<Verdict, AllocError>
+        requires { IsSeated number self.old }
+        ensures heard { OnOk result (IsHeard number line.now now self.old self.new) }
+        ensures verdict { IfOk result (λ verdict. verdict ≡ verdict_of (stage_in (phase_in number self.new.seats))) }
+        ensures err { OnErr result (self.new ≡ self.old) }
+    {
+        let effect = self.decide(alloc, number, line, now)?;
+        self.carry_out(alloc, number, effect)?;
+        let verdict = self.verdict(number);
+        Ok(verdict)
+    }
+
+    /// What a line of a connection leads to.
+    fn decide<'a>(
+        &self,
+        alloc: Global,
+        number: u64,
+        line: &'a Prepared,
+        now: u64,
+    ) -> Result<Effect<'a>, AllocError>
+        requires { IsSeated number self.now }
+        ensures { IfOk result (λ effect. IsDecided number line.now now self.now effect) }
+    {
+        let seat = &self.seats[place(&self.seats, number)];
+        let effect = decide_at(alloc, &self.setup, &self.commons, seat, line, now)?;
+        Ok(effect)
+    }
+
+    fn verdict(&self, number: u64) -> Verdict
+        requires { IsSeated number self.now }
+        ensures { result ≡ verdict_of (stage_in (phase_in number self.now.seats)) }
+    {
+        self.seats[place(&self.seats, number)].phase.verdict()
+    }
+
+    fn leave(&mut self, number: u64)
+        requires { IsSeated number self.old }
+        ensures left { self.new ≡ left_core number self.old }
+        ensures few { self.old.setup.max_users ≤ 900 }
+    {
+        let seat = &self.seats[place(&self.seats, number)];
+        let sid = seat.sid;
+        let was_present = seat.phase.is_present();
+        forget(&mut self.seats, number);
+        tell_if(&mut self.seats, was_present, sid);
+        self.commons.users.remove(sid);
+    }
+
+    /// Carries out what was decided of a line of a connection, whole or not at all.
+    fn carry_out(
+        &mut self,
+        alloc: Global,
+        number: u64,
+        effect: Effect<'_>,
+    ) -> Result<(), AllocError>
+        requires { IsSeated number self.old }
+        ensures ok { OnOk result (self.new ≡ carried_out number effect.entry self.old) }
+        ensures few { self.old.setup.max_users ≤ 900 }
+        ensures err { OnErr result (self.new ≡ self.old) }
+    {
+        let shares = shares(alloc, &self.seats, number, &effect)?;
+        let removal = removal(&effect.world);
+        let place = place(&self.seats, number);
+        let seat = &mut self.seats[place];
+        self.commons.change(seat, effect.turn, effect.world)?;
+        seat.note_search(effect.searched);
+        settle(&mut self.seats, shares, &removal);
+        Ok(())
     }
 }

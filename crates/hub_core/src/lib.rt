@@ -1,30 +1,24 @@
 //! The hub for one thread: one call after another, each answered as the calls before it demand.
 #![tactic(auto)]
 
-mod batch;
+mod change;
 mod connection;
-mod deny;
-mod effect;
-mod features;
-mod history;
+mod decision;
 mod hub;
-mod message;
-mod outbox;
-mod preparation;
+mod look;
 mod refused;
 mod seat;
 mod seats;
-mod setup;
-mod stage;
-mod sup;
-mod texts;
-mod verb;
+mod share;
 
 pub use connection::Connection as Conn;
-pub use history::{Call, Entry, Reply};
 pub use hub::Core;
-pub use outbox::Taken;
-pub use preparation::{Prepared, prepare};
-pub use refused::{JoinRefused, LineRefused, OpenRefused, SetupRefused, TakeRefused};
-pub use setup::{Account, MenuEntry, MenuItem, Options, Setup};
-pub use stage::{Stage, Verdict};
+pub use look::Look;
+pub use hub_rules::Verdict;
+pub use hub_setup::{
+    Account, LineRefused, MenuEntry, MenuItem, Options, Prepared, Setup, SetupRefused, prepare,
+};
+pub use login_state::Stage;
+pub use outboxes::{TakeRefused, Taken};
+pub use refused::{JoinRefused, OpenRefused};
+pub use user_table::Totals;

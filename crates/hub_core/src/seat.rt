@@ -1,12 +1,40 @@
-ghost use Rattle.std.specs.Prelude.{◌≡◌, OnOk, OnErr};
-ghost use Rattle.hub_core.specs.Seats.{new_seat, settled};
+ghost use Rattle.std.specs.Prelude.{◌≡◌};
+ghost use Rattle.hub_core.specs.Leaving.{told};
+ghost use Rattle.hub_core.specs.Phases.{stage_in};
+ghost use Rattle.hub_core.specs.Seats.{is_named, new_seat, searched_seat, settled_by};
+ghost use Rattle.hub_rules.specs.Effects.{is_over, is_present};
+ghost use Rattle.hub_rules.specs.Legal.{verdict_of};
 
-use crate::Stage;
-use crate::effect::{Effect, Turn};
-use crate::features::Features;
-use crate::outbox::Outbox;
 use adc_base32::Sid;
-use std::alloc::{AllocError, Global};
+use feature_route::FeatureSet;
+use hub_rules::{Entrant, Verdict};
+use login_state::{Features, Stage};
+use outboxes::{Batch, Outbox};
+use std::alloc::Global;
+
+/// How far a connection has come, with what is kept of its user (ADC 1.0, "States").
+#[derive(Debug, Drop)]
+pub enum Phase {
+    /// It has yet to say what it supports.
+    Protocol,
+    /// It has yet to log in.
+    Identify,
+    /// This user may enter, once its password gives this digest.
+    Verify(Entrant, [u8; 24]),
+    /// Its user is present, with these features in the field SU.
+    Normal(FeatureSet),
+    /// It is shut out.
+    Gone,
+}
+
+/// Whom an operator shuts out.
+#[derive(Debug, Drop)]
+pub enum Removal {
+    /// Nobody.
+    Nobody,
+    /// The user with this session identifier.
+    User(Sid),
+}
 
 /// What is kept of a connection.
 #[derive(Debug, Drop)]
@@ -16,47 +44,122 @@ pub struct Seat {
     pub(crate) sid: Sid,
     pub(crate) peer: [u8; 4],
     pub(crate) challenge: [u8; 24],
-    pub(crate) stage: Stage,
+    pub(crate) phase: Phase,
     pub(crate) features: Features,
+    /// The moment of its last search that went out, in seconds.
+    pub(crate) searched: Option<u64>,
     pub(crate) outbox: Outbox,
 }
 
+impl Phase {
+    /// The stage alone.
+    pub(crate) fn stage(&self) -> Stage
+        ensures { result ≡ stage_in self.now }
+    {
+        match self {
+            Phase::Protocol => Stage::Protocol,
+            Phase::Identify => Stage::Identify,
+            Phase::Verify(_, _) => Stage::Verify,
+            Phase::Normal(_) => Stage::Normal,
+            Phase::Gone => Stage::Gone,
+        }
+    }
+
+    /// Whether it is shut out.
+    pub(crate) fn is_over(&self) -> bool
+        ensures { result ≡ is_over (stage_in self.now) }
+    {
+        match self {
+            Phase::Gone => true,
+            Phase::Protocol | Phase::Identify | Phase::Verify(_, _) | Phase::Normal(_) => false,
+        }
+    }
+
+    /// What its connection is told after a line.
+    pub(crate) fn verdict(&self) -> Verdict
+        ensures { result ≡ verdict_of (stage_in self.now) }
+    {
+        if self.is_over() {
+            Verdict::Ended
+        } else {
+            Verdict::Kept
+        }
+    }
+
+    /// Whether its user is present.
+    pub(crate) fn is_present(&self) -> bool
+        ensures { result ≡ is_present (stage_in self.now) }
+    {
+        match self {
+            Phase::Normal(_) => true,
+            Phase::Protocol | Phase::Identify | Phase::Verify(_, _) | Phase::Gone => false,
+        }
+    }
+}
+
 impl Seat {
-    /// The seat of a connection that has just joined.
+    /// The seat of a connection that has just joined, with its outbox.
     pub(crate) fn new(
         alloc: Global,
         number: u64,
         sid: Sid,
         peer: [u8; 4],
         challenge: [u8; 24],
+        outbox: Outbox,
     ) -> Seat
-        ensures { result ≡ new_seat number sid peer challenge }
+        ensures { result ≡ record (new_seat number sid peer challenge) { outbox = outbox } }
     {
         Seat {
             number,
             sid,
             peer,
             challenge,
-            stage: Stage::Protocol,
+            phase: Phase::Protocol,
             features: Features::new(alloc),
-            outbox: Outbox::new(alloc),
+            searched: None,
+            outbox,
         }
     }
 
-    /// Carries out what was decided, whole or not at all.
-    pub(crate) fn settle(&mut self, effect: Effect) -> Result<(), AllocError>
-        ensures ok { OnOk result (self.new ≡ settled effect self.old) }
-        ensures err { OnErr result (self.new ≡ self.old) }
+    /// Gives the connection its share, if there is one, and shuts its user out where an operator named it.
+    pub(crate) fn settle(&mut self, share: Option<Batch>, removal: &Removal)
+        ensures { self.new ≡ settled_by removal.now self.old share }
     {
-        self.outbox.give(effect.own)?;
-        match effect.turn {
-            Turn::Stays => {}
-            Turn::Greets(features) => {
-                self.stage = Stage::Identify;
-                self.features = features;
-            }
-            Turn::Falls => self.stage = Stage::Gone,
+        let Some(share) = share else {
+            return;
+        };
+        self.outbox.give(share);
+        if self.phase.is_present() && removal.names(self.sid) {
+            self.phase = Phase::Gone;
         }
-        Ok(())
+    }
+
+    /// Keeps the moment of a search, if there was one.
+    pub(crate) fn note_search(&mut self, searched: Option<u64>)
+        ensures { self.new ≡ searched_seat searched self.old }
+    {
+        if searched.is_some() {
+            self.searched = searched;
+        }
+    }
+
+    /// Tells the user that another left, where it is present.
+    pub(crate) fn hear_quit(&mut self, sid: Sid)
+        ensures { self.new ≡ told sid self.old }
+    {
+        if self.phase.is_present() {
+            self.outbox.give_quit(sid);
+        }
+    }
+}
+
+impl Removal {
+    fn names(&self, own: Sid) -> bool
+        ensures { result ≡ is_named self.now own }
+    {
+        match self {
+            Removal::User(sid) => own == *sid,
+            Removal::Nobody => false,
+        }
     }
 }

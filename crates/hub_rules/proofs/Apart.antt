@@ -43,7 +43,7 @@ knows-key sid fields = ap (λ k. bytes_eq k (key_in fields)) (listed-key sid fie
 knows-cid : Knows cid_in has_cid
 knows-cid sid fields = ap (λ k. bytes_eq k (cid_in fields)) (listed-cid sid fields) ∙ (bytes_eq-Decides (cid_in fields) (cid_in fields)).1 refl
 
-listed-sid : (sid : ℕ) (fields : List Field) → (listed sid fields).sid ≡ sid
+pub listed-sid : (sid : ℕ) (fields : List Field) → (listed sid fields).sid ≡ sid
 unfolding listed
 listed-sid sid fields = refl
 
@@ -62,7 +62,7 @@ after-present : (removed : Bool) (turn : Turn) (stage : Stage) → is_present (s
 after-present true turn stage here = absurd (false≢true here)
 after-present false turn stage here = here
 
-differs-sid : (setup : Configured) (f : Facts) → Sound f → Numbered setup f → (c d : ℕ) → has c f.opened ≡ true → has d f.opened ≡ true → (c == d) ≡ false → (same : Bool)
+pub differs-sid : (setup : Configured) (f : Facts) → Sound f → Numbered setup f → (c d : ℕ) → has c f.opened ≡ true → has d f.opened ≡ true → (c == d) ≡ false → (same : Bool)
     → eqb (f.about d).sid (f.about c).sid ≡ same → same ≡ false
 differs-sid setup f sound n c d open-c open-d other true is =
     absurd (false≢true (sym other ∙ eq-eqb c d (apart-one (λ x. (f.about x).sid) c d f.opened n.apart_sids open-c open-d (sym (eqb-true (f.about d).sid (f.about c).sid is)))))

@@ -156,7 +156,7 @@ clear-login hub own line now (Ok u) none =
     (go _ none))
 clear-login hub own line now (Err fault) none = clear-nothing hub own
 
-later-none : (first later : Option Deny) → or_else first later ≡ None → later ≡ None
+pub later-none : (first later : Option Deny) → or_else first later ≡ None → later ≡ None
 later-none None later none = none
 later-none (Some deny) later none = absurd (false≢true (sym (ap is_denied none)))
 
@@ -168,16 +168,16 @@ clear-password hub own now params effect enters none =
 
 -- ---- updates
 
-ask-update : (hub : Sight) (own : Own) (u : List Field) (user : Listed) → (update_ask hub own u user).nick_claim ≡ taken_if (another_has_key hub own.sid user.key)
+pub ask-update : (hub : Sight) (own : Own) (u : List Field) (user : Listed) → (update_ask hub own u user).nick_claim ≡ taken_if (another_has_key hub own.sid user.key)
 unfolding update_ask
 ask-update hub own u user = refl
 
-ask-identity : (hub : Sight) (own : Own) (u : List Field) (user : Listed) → (update_ask hub own u user).identity ≡ own_if_given own.fields (value_of id_name u)
+pub ask-identity : (hub : Sight) (own : Own) (u : List Field) (user : Listed) → (update_ask hub own u user).identity ≡ own_if_given own.fields (value_of id_name u)
 unfolding update_ask
 ask-identity hub own u user = refl
 
 -- an update that names no other identifier leaves the one that is known
-same-cid : (own : Own) (u : List Field) (infs : List (List Field)) → own.fields ≡ merged infs → own_if_given own.fields (value_of id_name u) ≡ identities.Own
+pub same-cid : (own : Own) (u : List Field) (infs : List (List Field)) → own.fields ≡ merged infs → own_if_given own.fields (value_of id_name u) ≡ identities.Own
     → cid_in (merged_with own.fields (clean u own.peer)) ≡ cid_in own.fields
 same-cid own u infs known identity =
     ap (λ (id : List ℕ). unwrap_or (spelled 24 id) [])

@@ -14,5 +14,7 @@ pub mod Saying
 pub mod Sids
 pub mod Sound
 pub mod Stages
+pub mod Suits
+pub mod Tidy
 pub mod Turning
 pub mod Worlds

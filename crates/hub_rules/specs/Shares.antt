@@ -1,5 +1,5 @@
 -- What each connection is owed, and what becomes of each, by one effect.
-use Rattle.std.specs.Prelude.{ℕ, ◌==◌, ◌&&◌, not, Bool, true, false, List, ◌++◌, drop, Option, Some, None}
+use Rattle.std.specs.Prelude.{ℕ, ◌==◌, ◌&&◌, not, Bool, true, false, List, [], ◌++◌, drop, Option, Some, None}
 use Rattle.feature_route.specs.Audiences.{holds}
 use Rattle.inf_fields.specs.Field.{Field}
 use Rattle.inf_fields.specs.Merging.{merged_with}
@@ -27,7 +27,7 @@ pub record About : Type 0 where
   pub features : List (List ℕ)
   -- what is known of its user, or will be once its password is right
   pub fields : List Field
-  -- the digest that its password must give
+  -- the digest that its password must give, until it does
   pub expected : List ℕ
   -- the moment of its last search that went out
   pub searched : Option ℕ
@@ -108,6 +108,7 @@ fields_after turn before = before
 
 abbrev pub expected_after : Turn → List ℕ → List ℕ
 expected_after (turns.Waits entrant expected) before = expected
+expected_after turns.Enters before = []
 expected_after turn before = before
 
 abbrev pub searched_after : Option ℕ → Option ℕ → Option ℕ

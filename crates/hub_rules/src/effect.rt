@@ -1,9 +1,12 @@
+ghost use Rattle.std.specs.Prelude.{◌≡◌, IfOk};
+
 use adc_base32::Sid;
 use adc_ids::{Cid, Nick};
 use feature_route::{Audience, FeatureSet};
 use inf_fields::Update;
 use login_state::Features;
 use outboxes::Batch;
+use std::alloc::{AllocError, Global};
 use std::marker::Model;
 use user_table::User;
 
@@ -74,6 +77,24 @@ impl Model for Topic {
     ghost Value = { List ℕ };
 
     ghost view = { λ topic. string_bytes topic.text };
+}
+
+impl Topic {
+    /// This text, which may be empty. Refused only where memory runs out.
+    pub fn new(alloc: Global, text: &str) -> Result<Topic, AllocError>
+        ensures { IfOk result (λ topic. topic ≡ text.now) }
+    {
+        Ok(Topic {
+            text: String::from_str(alloc, text)?,
+        })
+    }
+
+    /// The text, unescaped.
+    pub fn as_str(&self) -> &str
+        ensures { result.now ≡ self.now }
+    {
+        self.text.as_str()
+    }
 }
 
 /// What changes for all.

@@ -1,8 +1,8 @@
-ghost use Rattle.std.specs.Prelude.{◌≡◌, [], ◌∷◌, ◌++◌, map, OnOk, OnErr};
+ghost use Rattle.std.specs.Prelude.{◌≡◌, [], ◌∷◌, ◌++◌, length, map, take, OnOk, OnErr};
 
 use crate::refused::PushRefused;
 use bytes::Bytes;
-use std::alloc::Global;
+use std::alloc::{AllocError, Global};
 use std::marker::Model;
 
 /// Lines that one call owes to one connection: an outbox is given all of them or none.
@@ -41,10 +41,46 @@ impl Batch {
         Ok(())
     }
 
+    /// Adds all lines of another batch at the end, in order. The bytes are shared and not copied.
+    ///
+    /// `Memory` where it runs out; the batch is then as before.
+    pub fn push_all(&mut self, other: &Batch) -> Result<(), PushRefused>
+        ensures ok { OnOk result (self.new ≡ self.old ++ other.now) }
+        ensures err { OnErr result (self.new ≡ self.old) }
+    {
+        push_copies(&mut self.lines, &other.lines)?;
+        Ok(())
+    }
+
     /// The lines, in order.
     pub(crate) fn into_lines(self) -> Vec<Box<Bytes>>
         ensures { map (λ line. line.value) result.items ≡ self }
     {
         self.lines
     }
+}
+
+/// Adds a handle of each line.
+fn push_copies(lines: &mut Vec<Box<Bytes>>, more: &[Box<Bytes>]) -> Result<(), AllocError>
+    ensures ok { OnOk result (map (λ line. line.value) lines.new.items ≡ map (λ line. line.value) lines.old.items ++ map (λ line. line.value) more.now) }
+    ensures err { OnErr result (lines.new.items ≡ lines.old.items) }
+{
+    let start = lines.len();
+    for line in more {
+        if push_copy(lines, line).is_err() {
+            lines.truncate(start);
+            return Err(AllocError);
+        }
+    }
+    Ok(())
+}
+
+fn push_copy(lines: &mut Vec<Box<Bytes>>, line: &Bytes) -> Result<(), AllocError>
+    ensures ok { OnOk result (map (λ line. line.value) lines.new.items ≡ map (λ line. line.value) lines.old.items ++ line.now ∷ []) }
+    ensures prefix { OnOk result (take (length lines.old.items) lines.new.items ≡ lines.old.items) }
+    ensures err { OnErr result (lines.new.items ≡ lines.old.items) }
+{
+    let alloc = *lines.allocator();
+    lines.push(Box::new(alloc, line.clone()?)?)?;
+    Ok(())
 }

@@ -33,6 +33,12 @@ impl<T: Drop> From<AllocFailed<T>> for PushRefused {
     }
 }
 
+impl From<AllocError> for PushRefused {
+    fn from(_: AllocError) -> PushRefused {
+        PushRefused::Memory
+    }
+}
+
 impl From<AllocError> for TakeRefused {
     fn from(_: AllocError) -> TakeRefused {
         TakeRefused::Memory

@@ -1,4 +1,11 @@
 pub mod DistinctLemmas
+pub mod IndexLemmas
+pub mod IndexedLemmas
+pub mod NickLemmas
 pub mod PlaceLemmas
 pub mod RenewalLemmas
+pub mod RunLemmas
+pub mod SeatLemmas
+pub mod ShareLemmas
+pub mod SidLemmas
 pub mod TableLemmas

@@ -1,3 +1,6 @@
+ghost use Rattle.std.specs.Prelude.{◌≡◌, ◌+◌, ◌<◌, ◌≤◌, ◌^◌};
+ghost use Rattle.user_table.specs.Shares.{lowered, raised};
+
 /// How many users are present, and what they share together.
 #[derive(Clone, Copy, Debug, PartialEq, Eq)]
 pub struct Totals {
@@ -7,4 +10,37 @@ pub struct Totals {
     pub ss: u128,
     /// How many files they share: the sum of their fields SF.
     pub sf: u128,
+}
+
+/// What one user shares: bytes by the field SS, files by the field SF.
+#[derive(Clone, Copy, Debug, PartialEq, Eq)]
+pub(crate) struct Shared {
+    pub(crate) ss: u64,
+    pub(crate) sf: u64,
+}
+
+impl Totals {
+    /// Counts one user more.
+    pub(crate) fn raise(&mut self, shared: Shared)
+        requires users { self.old.users + 1 < 2 ^ 64 }
+        requires ss { self.old.ss + shared.ss < 2 ^ 128 }
+        requires sf { self.old.sf + shared.sf < 2 ^ 128 }
+        ensures { self.new ≡ raised shared self.old }
+    {
+        self.users += 1;
+        self.ss += u128::from(shared.ss);
+        self.sf += u128::from(shared.sf);
+    }
+
+    /// Counts one user less, who was counted.
+    pub(crate) fn lower(&mut self, shared: Shared)
+        requires users { 1 ≤ self.old.users }
+        requires ss { shared.ss ≤ self.old.ss }
+        requires sf { shared.sf ≤ self.old.sf }
+        ensures { self.new ≡ lowered shared self.old }
+    {
+        self.users -= 1;
+        self.ss -= u128::from(shared.ss);
+        self.sf -= u128::from(shared.sf);
+    }
 }

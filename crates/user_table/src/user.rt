@@ -4,13 +4,17 @@ ghost use Rattle.std.specs.String.{string_bytes};
 ghost use Rattle.inf_fields.specs.FieldNames.{share_size_name, shared_files_name};
 ghost use Rattle.inf_fields.specs.Merging.{fits};
 ghost use Rattle.user_table.specs.Listed.{Listed};
+ghost use Rattle.user_table.specs.Renaming.{renamed};
+ghost use Rattle.user_table.specs.Shares.{shared_by};
 ghost use Rattle.user_table.specs.Tables.{amount, updated};
 
+use crate::totals::Shared;
 use adc_base32::Sid;
 use adc_ids::Cid;
 use inf_fields::{FieldName, Fields, Update, shared_amount};
 use std::alloc::AllocError;
 use std::marker::Model;
+use std::mem::replace;
 
 /// A user who is present.
 #[derive(Debug, Drop)]
@@ -90,6 +94,16 @@ impl User {
         amount(&self.fields, FieldName::shared_files())
     }
 
+    /// What the user shares.
+    pub(crate) fn shared(&self) -> Shared
+        ensures { result ≡ shared_by self.now }
+    {
+        Shared {
+            ss: self.share_size(),
+            sf: self.shared_files(),
+        }
+    }
+
     /// Merges an update for which there is room, and takes the key that is given. Refused only where
     /// memory runs out; then the user is as before.
     pub(crate) fn change(&mut self, update: &Update, key: Option<String>) -> Result<(), AllocError>
@@ -104,6 +118,14 @@ impl User {
             self.key = key;
         }
         Ok(())
+    }
+
+    /// Takes another key, and gives back the one before.
+    pub(crate) fn rename(&mut self, key: String) -> String
+        ensures renamed { self.new ≡ renamed (string_bytes key) self.old }
+        ensures before { string_bytes result ≡ self.old.key }
+    {
+        replace(&mut self.key, key)
     }
 }
 

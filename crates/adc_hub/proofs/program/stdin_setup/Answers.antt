@@ -1,4 +1,4 @@
-use Rattle.hub_core.specs.Settings.{configured}
+use Rattle.greeting_hub.specs.Settings.{configured}
 use Rattle.adc_hub.proofs.program.stdin_setup.Goals as goal
 
 pub unreachable-requires : goal.unreachable-requires

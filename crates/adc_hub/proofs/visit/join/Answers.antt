@@ -1,5 +1,5 @@
 use Rattle.std.proofs.Common.{refl}
-use Rattle.hub_core.specs.declared.history.Reply.TheVariants.{Joined}
+use Rattle.greeting_hub.specs.declared.history.Reply.TheVariants.{Joined}
 use Rattle.adc_hub.proofs.Joins.{join_starts, join_first, join_not_full, join_not_spent}
 use Rattle.adc_hub.proofs.visit.join.Goals as goal
 

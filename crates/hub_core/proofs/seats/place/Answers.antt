@@ -1,7 +1,7 @@
 use Rattle.std.proofs.Common.{sym}
 use Rattle.std.specs.Prelude.{◌==◌}
 use Rattle.hub_core.specs.declared.seat.Seat.{Seat}
-use Rattle.hub_core.proofs.Seating.{none_passes}
+use Rattle.hub_core.proofs.Places.{none_passes}
 use Rattle.hub_core.proofs.seats.place.Goals as goal
 
 pub unreachable-requires : goal.unreachable-requires

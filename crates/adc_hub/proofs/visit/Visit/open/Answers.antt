@@ -1,5 +1,5 @@
 use Rattle.std.proofs.Common.{subst}
-use Rattle.hub_core.specs.Configured.{Configured}
+use Rattle.greeting_hub.specs.Configured.{Configured}
 use Rattle.adc_hub.specs.Serving.{Starts}
 use Rattle.adc_hub.proofs.visit.Visit.open.Goals as goal
 

@@ -1,25 +1,27 @@
-use Rattle.std.proofs.Common.{◌≡◌, ◌∙◌, ap, refl, ◌+◌, ◌<◌, length, arith, ◌++◌, ◌∷◌, []}
+use Rattle.std.proofs.Common.{◌≡◌, ◌∙◌, ap, ap₂, refl, List, ◌+◌, ◌<◌, length, arith, ◌++◌, ◌∷◌, []}
 use Rattle.std.specs.Arc.{arc_value}
+use Rattle.adc_base32.specs.Turns.{next_free}
+use Rattle.outboxes.specs.Backlogs.{Backlog}
+use Rattle.hub_core.specs.declared.seat.Seat.{Seat}
 use Rattle.hub_core.specs.CoreState.{CoreState}
 use Rattle.hub_core.specs.Seats.{new_seat}
-use Rattle.hub_core.proofs.Standing.{full_moves, spent_moves, join_moves}
-use Rattle.hub_core.proofs.Tests.{spent}
+use Rattle.hub_core.proofs.Standing.{full-moves, join-moves, joined_core, sids_in, spent-moves}
 use Rattle.hub_core.proofs.hub.Core.join.Goals as goal
 
 pub returns-then-len-max_users : goal.returns-then-len-max_users
 returns-then-len-max_users c =
     let setups : arc_value c.self.inside.setup ≡ c.args.self.now.setup = ap (λ (s : CoreState). s.setup) c.self.view_is in
     let seats : c.self.inside.seats.items ≡ c.args.self.now.seats = ap (λ (s : CoreState). s.seats) c.self.view_is in
-    (full_moves _ _ _ _ (omega (arith, c.if-len-max_users.true, c.max_users.ensures.exact, ap (λ s. s.max_users) (c.deref.ensures ∙ setups), c.len.ensures, c.self.inside.seats.ok.0, ap length seats)), refl)
+    (full-moves _ _ _ _ (omega (arith, c.if-len-max_users.true, c.max_users.ensures.exact, ap (λ s. s.max_users) (c.deref.ensures ∙ setups), c.len.ensures, c.self.inside.seats.ok.0, ap length seats)), refl)
 
-pub returns-in_default : goal.returns-in_default
-returns-in_default c =
+pub returns-then-self : goal.returns-then-self
+returns-then-self c =
     let setups : arc_value c.self.inside.setup ≡ c.args.self.now.setup = ap (λ (s : CoreState). s.setup) c.self.view_is in
     let seats : c.self.inside.seats.items ≡ c.args.self.now.seats = ap (λ (s : CoreState). s.seats) c.self.view_is in
     let joins : c.self.inside.joins ≡ c.args.self.now.joins = ap (λ (s : CoreState). s.joins) c.self.view_is in (
-      spent_moves _ _ _ _
+      spent-moves _ _ _ _
           (omega (arith, c.if-len-max_users.false, c.max_users.ensures.exact, ap (λ s. s.max_users) (c.deref.ensures ∙ setups), c.len.ensures, c.self.inside.seats.ok.0, ap length seats))
-          (rw (← joins) (spent c.self.inside.joins c.in_default.ensures.variant.1)),
+          (omega (arith, c.if-self.true, joins)),
       refl,
     )
 
@@ -28,11 +30,14 @@ returns c =
     let setups : arc_value c.self.inside.setup ≡ c.args.self.now.setup = ap (λ (s : CoreState). s.setup) c.self.view_is in
     let seats : c.self.inside.seats.items ≡ c.args.self.now.seats = ap (λ (s : CoreState). s.seats) c.self.view_is in
     let joins : c.self.inside.joins ≡ c.args.self.now.joins = ap (λ (s : CoreState). s.joins) c.self.view_is in
-    let below : c.self.inside.joins + 1 < 1048576 = c.in-Some.ensures.variant.0 refl in
-    join_moves _ _ _ _ _ _ (ap (λ n. n + 1) joins)
+    join-moves _ _ _ _ _ c.next_free-sid.result _ (ap (λ n. n + 1) joins)
     (omega (arith, c.if-len-max_users.false, c.max_users.ensures.exact, ap (λ s. s.max_users) (c.deref.ensures ∙ setups), c.len.ensures, c.self.inside.seats.ok.0, ap length seats))
-    (omega (arith, below, joins))
-    (ap (λ s. record { setup = arc_value c.self.inside.setup; joins = c.self.inside.joins + 1; seats = s })
+    (omega (arith, c.if-self.false, c.self.ranges, joins))
+    (c.next_free-sid.ensures.exact
+    ∙ ap₂ next_free (ap (λ (s : CoreState). s.last) c.self.view_is) (c.deref-3.ensures.value ∙ c.in_ok-taken.ensures ∙ ap sids_in (c.deref-2.ensures.value ∙ seats)))
+    (ap (λ (ss : List Seat). record { setup = arc_value c.self.inside.setup; joins = c.self.inside.joins + 1; last = c.number-self-inside.result; seats = ss; users = c.self.inside.commons.users; bans = c.self.inside.commons.bans; topic = c.self.inside.commons.topic })
     (c.in_ok-push.ensures.items
-    ∙ ap (λ seat. c.self.inside.seats.items ++ seat ∷ []) (c.new.ensures ∙ ap (λ n. new_seat (c.self.inside.joins + 1) n c.args.peer c.args.challenge) c.in-Some.ensures.number))
-    ∙ ap (λ (core : CoreState). record core { joins = c.self.inside.joins + 1; seats = core.seats ++ new_seat (c.self.inside.joins + 1) (c.self.inside.joins + 1) c.args.peer c.args.challenge ∷ [] }) c.self.view_is)
+    ∙ ap (λ (seat : Seat). c.self.inside.seats.items ++ seat ∷ []) (c.new-2.ensures ∙ ap (λ (o : Backlog). record (new_seat (c.self.inside.joins + 1) c.next_free-sid.result c.args.peer c.args.challenge) { outbox = o }) c.in_ok-outbox.ensures))
+    ∙ ap (λ n. record { setup = arc_value c.self.inside.setup; joins = c.self.inside.joins + 1; last = n; seats = c.self.inside.seats.items ++ new_seat (c.self.inside.joins + 1) c.next_free-sid.result c.args.peer c.args.challenge ∷ []; users = c.self.inside.commons.users; bans = c.self.inside.commons.bans; topic = c.self.inside.commons.topic })
+    c.number-self-inside.ensures.exact
+    ∙ ap (joined_core c.next_free-sid.result c.args.peer c.args.challenge) c.self.view_is)

@@ -1,18 +1,18 @@
-use Rattle.std.proofs.Common.{◌∙◌, ap}
-use Rattle.std.specs.Arc.{arc_value}
-use Rattle.hub_core.specs.CoreState.{CoreState}
-use Rattle.hub_core.specs.Seats.{at_seat, heard_at, stage_in}
-use Rattle.hub_core.specs.Stages.{verdict_of}
-use Rattle.hub_core.proofs.Standing.{line_moves}
+use Rattle.std.proofs.Common.{◌∙◌, ap, subst}
+use Rattle.hub_core.specs.Decided.{IsHeard}
+use Rattle.hub_core.specs.Phases.{stage_in}
+use Rattle.hub_core.specs.Seats.{phase_in}
+use Rattle.hub_rules.specs.Legal.{verdict_of}
+use Rattle.hub_core.proofs.Standing.{line-moves}
 use Rattle.hub_core.proofs.hub.Core.line.Goals as goal
 
 pub returns : goal.returns
-returns c = record {
-  moves = line_moves _ _ _ _ _ _
-      (ap (λ seats. record { setup = arc_value c.self.inside.setup; joins = c.self.inside.joins; seats = seats })
-      (c.in_ok-verdict.ensures.ok ∙ ap (λ u. at_seat c.connection.inside.number (heard_at u c.args.line.now.bytes) c.self.inside.seats.items) c.deref.ensures)
-      ∙ ap (λ (core : CoreState). record core { seats = at_seat c.connection.inside.number (heard_at core.setup c.args.line.now.bytes) core.seats }) c.self.view_is
-      ∙ ap (λ n. record c.args.self.now { seats = at_seat n (heard_at c.args.self.now.setup c.args.line.now.bytes) c.args.self.now.seats }) c.connection.view_is)
-      (c.in_ok-verdict.ensures.verdict ∙ ap (λ n. verdict_of (stage_in n c.hear.new.seats.items)) c.connection.view_is);
-  err = tt;
-}
+returns c =
+    let heard : IsHeard c.args.connection c.args.line.now c.args.now c.args.self.now c.hear.new.self =
+    subst (λ n. IsHeard n c.args.line.now c.args.now c.args.self.now c.hear.new.self) c.connection.view_is c.in_ok-verdict.ensures.heard in
+    record {
+      moves = line-moves c.args.self.now c.hear.new.self c.args.connection c.args.line.now c.args.now heard.decided.seat heard.effect c.in_ok-verdict.verdict
+          heard.few heard.decided.is_seat heard.decided.decided heard.carried
+          (c.in_ok-verdict.ensures.verdict ∙ ap (λ n. verdict_of (stage_in (phase_in n c.hear.new.self.seats))) c.connection.view_is);
+      err = tt;
+    }

@@ -1,6 +1,10 @@
-use Rattle.hub_core.proofs.Standing.{open_stands}
+use Rattle.std.proofs.Common.{◌∙◌, ap}
 use Rattle.std.specs.Arc.{arc_value}
+use Rattle.hub_rules.specs.Configured.{Configured}
+use Rattle.hub_core.proofs.Standing.{open-stands-as}
 use Rattle.hub_core.proofs.hub.Core.open.Goals as goal
 
 pub returns : goal.returns
-returns c = rw c.in_ok-with_capacity.ensures.items (open_stands (arc_value c.args.setup))
+returns c hash =
+    open-stands-as (arc_value c.args.setup) c.in_ok-seats.seats.items c.new-2.result c.new-3.result c.in_ok-topic.topic c.in_ok-seats.ensures.items c.new-2.ensures c.new-3.ensures
+    (c.in_ok-topic.ensures ∙ c.topic.ensures ∙ ap (λ (s : Configured). s.topic) c.deref-2.ensures) hash

@@ -1,14 +1,7 @@
-use Rattle.std.proofs.Common.{◌∙◌, ap, not}
-use Rattle.std.specs.Prelude.{◌==◌, filter}
-use Rattle.std.specs.Arc.{arc_value}
-use Rattle.hub_core.specs.CoreState.{CoreState}
-use Rattle.hub_core.specs.declared.seat.Seat.{Seat}
-use Rattle.hub_core.proofs.Standing.{quit_moves}
+use Rattle.std.proofs.Common.{◌∙◌, ap}
+use Rattle.hub_core.specs.Leaving.{left_core}
+use Rattle.hub_core.proofs.Standing.{quit-moves}
 use Rattle.hub_core.proofs.hub.Core.quit.Goals as goal
 
 pub returns : goal.returns
-returns c =
-    quit_moves _ _ _
-    (ap (λ seats. record { setup = arc_value c.self.inside.setup; joins = c.self.inside.joins; seats = seats }) c.forget.ensures
-    ∙ ap (λ (core : CoreState). record core { seats = filter (λ (seat : Seat). not (seat.number == c.connection.inside.number)) core.seats }) c.self.view_is
-    ∙ ap (λ n. record c.args.self.now { seats = filter (λ (seat : Seat). not (seat.number == n)) c.args.self.now.seats }) c.connection.view_is)
+returns c = quit-moves _ _ _ c.leave.ensures.few (c.leave.ensures.left ∙ ap (λ n. left_core n c.args.self.now) c.connection.view_is)

@@ -1,0 +1,167 @@
+-- What was decided of a line, carried out, makes of a hub that stands at a history one that stands at the next.
+use Rattle.std.proofs.Common.{◌≡◌, ◌∙◌, sym, ap, ap₂, refl, subst, ℕ, ◌≤◌, Bool, true, false, ◌||◌, ◌==◌, eqb, List, [], ◌∷◌, map, length, get_or, slice_set, Option, Some, None, cond}
+use Rattle.std.specs.Prelude.{if◌then◌else◌}
+use Rattle.std.proofs.lemmas.Bool.{false≢true, eqb-true, eq-eqb}
+use Rattle.inf_fields.specs.Field.{Field}
+use Rattle.login_state.specs.declared.stage.Stage.{Stage}
+use Rattle.login_state.specs.declared.stage.Stage.TheVariants as stages
+use Rattle.operator_acts.specs.declared.ban.Ban.{Ban}
+use Rattle.user_table.specs.Listed.{Listed}
+use Rattle.user_table.specs.Tables.{first_who, has_sid, user_by_sid}
+use Rattle.hub_core.specs.declared.seat.Phase.{Phase}
+use Rattle.hub_core.specs.declared.seat.Phase.TheVariants as phases
+use Rattle.hub_core.specs.declared.seat.Seat.{Seat}
+use Rattle.hub_core.specs.CoreState.{CoreState}
+use Rattle.hub_core.specs.Decided.{Decided, DecidedBy}
+use Rattle.hub_core.specs.Phases.{phase_at, phase_of}
+use Rattle.hub_core.specs.Seats.{at_seat, phase_in, removed_of, seat_of, seat_share, seat_with, settled_all, sid_in, turned_seat}
+use Rattle.hub_core.specs.State.{carried_out, core_of, users_after}
+use Rattle.hub_rules.specs.declared.effect.Effect.{Effect}
+use Rattle.hub_rules.specs.Configured.{Configured}
+use Rattle.adc_line.specs.Lines as lines
+use Rattle.hub_rules.specs.Effects.{entrant, heard, is_over, is_present, line_effect}
+use Rattle.hub_rules.specs.Facts.{Facts, about_after, bans_after, happens, own_of, sight_of, topic_after, user_of}
+use Rattle.hub_rules.specs.Identities.{listed}
+use Rattle.hub_rules.specs.Quiet.{nothing}
+use Rattle.hub_rules.specs.Shares.{About}
+use Rattle.hub_rules.specs.Sights.{Own, PreparedLine, Sight}
+use Rattle.hub_rules.proofs.Apart.{differs-sid, listed-sid}
+use Rattle.hub_rules.proofs.Entries.{not-over}
+use Rattle.hub_rules.proofs.Members.{has}
+use Rattle.hub_rules.proofs.Sids.{Numbered}
+use Rattle.hub_rules.proofs.Sound.{Sound, or-true}
+use Rattle.hub_rules.proofs.Suits.{Suits}
+use Rattle.hub_rules.proofs.Tidy.{Tidy, is_unasked, is_unnamed}
+use Rattle.hub_core.proofs.Seating.{at-one, in-open, map-seats, not-self, seat_one, seats-same, settled-map}
+use Rattle.hub_core.proofs.Places.{StandsFirst, phase-at, set-read, sid-at}
+use Rattle.hub_core.proofs.Sharing.{settles}
+use Rattle.hub_core.proofs.Users.{users-carried}
+
+-- ---- one equation for a hub
+
+pub same-core : (setup : Configured) (joins last : ℕ) {s t : List Seat} {us vs : List Listed} {bans : List (List ℕ × Ban)} {topic : List ℕ} → s ≡ t → us ≡ vs
+    → ◌≡◌ {A = CoreState} (record { setup = setup; joins = joins; last = last; seats = s; users = us; bans = bans; topic = topic })
+    (record { setup = setup; joins = joins; last = last; seats = t; users = vs; bans = bans; topic = topic })
+same-core setup joins last {s} {t} {us} {vs} {bans} {topic} seats users =
+    ap₂ (λ (x : List Seat) (y : List Listed). record { setup = setup; joins = joins; last = last; seats = x; users = y; bans = bans; topic = topic }) seats users
+
+seats-carried : (setup : Configured) (c : ℕ) (effect : Effect) (f : Facts) → Sound f → Suits (own_of (f.about c)) effect
+    → settled_all (removed_of effect.world) (at_seat c (turned_seat effect) (map (seat_of f.about) f.opened)) (map (seat_share c effect) (map (seat_of f.about) f.opened))
+    ≡ map (seat_of (about_after c effect f.about)) f.opened
+seats-carried setup c effect f sound suits =
+    ap₂ (settled_all (removed_of effect.world)) (at-one c (turned_seat effect) f.about f.opened sound.open_once) (map-seats (seat_share c effect) (seat_of f.about) f.opened)
+    ∙ settled-map (removed_of effect.world) (seat_one c (turned_seat effect) f.about) (λ d. seat_share c effect (seat_of f.about d)) f.opened
+    ∙ seats-same _ (seat_of (about_after c effect f.about)) f.opened
+    (λ d. settles c effect d (f.about d) suits.routed (sound.taken d) (λ is. subst (λ x. Suits (own_of (f.about x)) effect) (sym (eqb-true d c is)) suits))
+
+pub carried-out : (setup : Configured) (c : ℕ) (effect : Effect) (f : Facts) → Sound f → Numbered setup f → has c f.opened ≡ true → Suits (own_of (f.about c)) effect
+    → carried_out c effect (core_of setup f) ≡ core_of setup (happens c effect f)
+unfolding carried_out happens
+carried-out setup c effect f sound n open_c suits =
+    same-core setup f.joins f.last (seats-carried setup c effect f sound suits)
+    (ap₂ (λ sid phase. users_after effect.world effect.turn sid phase (map (user_of f.about) f.present))
+    (in-open c (λ seat. seat.sid) 0 f.about f.opened open_c) (in-open c (λ seat. seat.phase) phases.Gone f.about f.opened open_c)
+    ∙ users-carried setup f c effect sound n open_c suits)
+
+-- ---- the decision
+
+abbrev own_with : About → Stage → List Field → List ℕ → Own
+own_with a stage fields expected =
+    record { sid = a.sid; peer = a.peer; challenge = a.challenge; stage = stage; features = a.features; fields = fields; expected = expected; searched = a.searched }
+
+own-is : (a : About) (stage : Stage) (fields : List Field) (expected : List ℕ) → a.stage ≡ stage → a.fields ≡ fields → a.expected ≡ expected → own_with a stage fields expected ≡ own_of a
+own-is a stage fields expected s fs e =
+    ap (λ x. own_with a x fields expected) (sym s) ∙ ap (λ x. own_with a a.stage x expected) (sym fs) ∙ ap (λ x. own_with a a.stage a.fields x) (sym e)
+
+quiet-by : (hub : Sight) (own : Own) (line : PreparedLine) (now : ℕ) → is_over own.stage ≡ true → line_effect hub own line now ≡ nothing
+unfolding line_effect
+quiet-by hub own line now over = ap (λ b. if b then nothing else (if length line.bytes == 0 then nothing else heard hub own line now (lines.reading line.bytes))) over
+
+entrant-user : (sid : ℕ) (fields : List Field) → (entrant (listed sid fields)).user ≡ listed sid (entrant (listed sid fields)).user.fields
+unfolding listed
+entrant-user sid fields = refl
+
+entrant-fields : (sid : ℕ) (fields : List Field) → (entrant (listed sid fields)).user.fields ≡ fields
+unfolding listed
+entrant-fields sid fields = refl
+
+fields-listed : (sid : ℕ) (fields : List Field) → (listed sid fields).fields ≡ fields
+unfolding listed
+fields-listed sid fields = refl
+
+itself-listed : (sid : ℕ) (fields : List Field) → listed sid fields ≡ listed sid (listed sid fields).fields
+unfolding listed
+itself-listed sid fields = refl
+
+-- the user of a connection is found by its session identifier
+found-one : (f : Facts) (c d : ℕ) (xs : List ℕ) (same : Bool) → (d == c) ≡ same → has_sid (f.about c).sid (user_of f.about d) ≡ same
+    → (same ≡ false → first_who (has_sid (f.about c).sid) (map (user_of f.about) xs) ≡ Some (user_of f.about c))
+    → (if has_sid (f.about c).sid (user_of f.about d) then Some (user_of f.about d) else first_who (has_sid (f.about c).sid) (map (user_of f.about) xs)) ≡ Some (user_of f.about c)
+found-one f c d xs true is tell rest =
+    ap (λ b. if b then Some (user_of f.about d) else first_who (has_sid (f.about c).sid) (map (user_of f.about) xs)) tell ∙ ap (λ x. Some (user_of f.about x)) (eqb-true d c is)
+found-one f c d xs false is tell rest =
+    ap (λ b. if b then Some (user_of f.about d) else first_who (has_sid (f.about c).sid) (map (user_of f.about) xs)) tell ∙ rest refl
+
+rest-has : (c d : ℕ) (xs : List ℕ) → (d == c) ≡ false → ((d == c) || has c xs) ≡ true → has c xs ≡ true
+rest-has c d xs other there = sym (ap (λ b. b || has c xs) other) ∙ there
+
+found-by : (f : Facts) (c : ℕ) (xs : List ℕ) → ((d : ℕ) → has d xs ≡ true → has_sid (f.about c).sid (user_of f.about d) ≡ (d == c)) → has c xs ≡ true
+    → first_who (has_sid (f.about c).sid) (map (user_of f.about) xs) ≡ Some (user_of f.about c)
+unfolding first_who
+found-by f c [] tells there = absurd (false≢true there)
+found-by f c (d ∷ xs) tells there =
+    found-one f c d xs (d == c) refl (tells d (ap (λ b. b || has d xs) (eq-eqb d d refl)))
+    (λ other. found-by f c xs (λ x here. tells x (ap (λ b. (d == x) || b) here ∙ or-true (d == x))) (rest-has c d xs other there))
+
+tells-sid : (setup : Configured) (f : Facts) (c : ℕ) → Sound f → Numbered setup f → has c f.opened ≡ true → (d : ℕ) → has d f.opened ≡ true → (same : Bool) → (d == c) ≡ same
+    → eqb (f.about d).sid (f.about c).sid ≡ same
+tells-sid setup f c sound n open_c d open_d true is = eq-eqb (f.about d).sid (f.about c).sid (ap (λ x. (f.about x).sid) (eqb-true d c is))
+tells-sid setup f c sound n open_c d open_d false is = differs-sid setup f sound n c d open_c open_d (not-self d c is) (eqb (f.about d).sid (f.about c).sid) refl
+
+pub found-user : (setup : Configured) (f : Facts) (c : ℕ) → Sound f → Numbered setup f → has c f.opened ≡ true → is_present (f.about c).stage ≡ true
+    → user_by_sid (f.about c).sid (map (user_of f.about) f.present) ≡ Some (user_of f.about c)
+found-user setup f c sound n open_c here =
+    found-by f c f.present
+    (λ d there. ap (λ s. eqb s (f.about c).sid) (listed-sid (f.about d).sid (f.about d).fields)
+    ∙ tells-sid setup f c sound n open_c d (sound.are_open d (not-over (f.about d).stage (sym (sound.entered d) ∙ there))) (d == c) refl)
+    (sound.entered c ∙ here)
+
+decided-by : (setup : Configured) (f : Facts) (c : ℕ) (line : PreparedLine) (now : ℕ) (effect : Effect) (stage : Stage) → (f.about c).stage ≡ stage
+    → Sound f → Numbered setup f → Tidy (f.about c) → has c f.opened ≡ true
+    → DecidedBy (phase_at stage (f.about c)) (sight_of setup f) (seat_of f.about c) line now effect
+    → effect ≡ line_effect (sight_of setup f) (own_of (f.about c)) line now
+decided-by setup f c line now effect stages.Protocol is sound n tidy open_c decided =
+    decided ∙ ap (λ o. line_effect (sight_of setup f) o line now)
+    (own-is (f.about c) stages.Protocol [] [] is (tidy.unnamed (ap is_unnamed is)) (tidy.unasked (ap is_unasked is)))
+decided-by setup f c line now effect stages.Identify is sound n tidy open_c decided =
+    decided ∙ ap (λ o. line_effect (sight_of setup f) o line now)
+    (own-is (f.about c) stages.Identify [] [] is (tidy.unnamed (ap is_unnamed is)) (tidy.unasked (ap is_unasked is)))
+decided-by setup f c line now effect stages.Verify is sound n tidy open_c decided =
+    decided (entrant-user (f.about c).sid (f.about c).fields)
+    ∙ ap (λ o. line_effect (sight_of setup f) o line now)
+    (own-is (f.about c) stages.Verify _ (f.about c).expected is (sym (entrant-fields (f.about c).sid (f.about c).fields)) refl)
+decided-by setup f c line now effect stages.Normal is sound n tidy open_c decided =
+    decided (user_of f.about c) (found-user setup f c sound n open_c (ap is_present is)) (itself-listed (f.about c).sid (f.about c).fields)
+    ∙ ap (λ o. line_effect (sight_of setup f) o line now)
+    (own-is (f.about c) stages.Normal _ [] is (sym (fields-listed (f.about c).sid (f.about c).fields)) (tidy.unasked (ap is_unasked is)))
+decided-by setup f c line now effect stages.Gone is sound n tidy open_c decided =
+    decided ∙ sym (quiet-by (sight_of setup f) (own_of (f.about c)) line now (ap is_over is))
+
+-- what was decided at the seat is what the rules say
+pub decided-is : (setup : Configured) (f : Facts) (c : ℕ) (line : PreparedLine) (now : ℕ) (effect : Effect) → Sound f → Numbered setup f → Tidy (f.about c) → has c f.opened ≡ true
+    → Decided (core_of setup f) (seat_of f.about c) line now effect → effect ≡ line_effect (sight_of setup f) (own_of (f.about c)) line now
+decided-is setup f c line now effect sound n tidy open_c decided = decided-by setup f c line now effect (f.about c).stage refl sound n tidy open_c decided
+
+-- what the code makes of a hub, part by part
+pub carried-as : (core : CoreState) (c : ℕ) (effect : Effect) (i : ℕ) (seat now : Seat) (seats : List Seat) (users : List Listed) (bans : List (List ℕ × Ban)) (topic : List ℕ)
+    → StandsFirst c core.seats i → seat ≡ get_or core.seats i seat → now ≡ turned_seat effect seat
+    → seats ≡ settled_all (removed_of effect.world) (slice_set core.seats i now) (map (seat_share c effect) core.seats)
+    → users ≡ users_after effect.world effect.turn seat.sid seat.phase core.users
+    → bans ≡ bans_after effect.world core.bans → topic ≡ topic_after effect.world core.topic
+    → record core { seats = seats; users = users; bans = bans; topic = topic } ≡ carried_out c effect core
+unfolding carried_out
+carried-as core c effect i seat now seats users bans topic at is_seat is_now is_seats is_users is_bans is_topic =
+    ap₂ (λ (b : List (List ℕ × Ban)) (t : List ℕ). record core { seats = seats; users = users; bans = b; topic = t }) is_bans is_topic
+    ∙ same-core core.setup core.joins core.last
+    (is_seats ∙ ap (λ (ss : List Seat). settled_all (removed_of effect.world) ss (map (seat_share c effect) core.seats)) (set-read c (turned_seat effect) core.seats i seat now at is_seat is_now))
+    (is_users ∙ ap₂ (λ sid phase. users_after effect.world effect.turn sid phase core.users) (sym (sid-at c core.seats i seat at is_seat)) (sym (phase-at c core.seats i seat at is_seat)))

@@ -1,0 +1,30 @@
+use Rattle.std.proofs.Common.{◌≡◌, ◌∙◌, sym, ap, ap₂, ◌≤◌, length, subst}
+use Rattle.std.specs.Arc.{arc_value}
+use Rattle.std.proofs.lemmas.List.{with_items_is}
+use Rattle.user_table.specs.Tables.{without_sid}
+use Rattle.hub_core.specs.CoreState.{CoreState}
+use Rattle.hub_core.specs.Leaving.{left_core, others_of, told_all_if}
+use Rattle.hub_core.specs.Phases.{stage_in}
+use Rattle.hub_core.proofs.Carried.{same-core}
+use Rattle.hub_core.proofs.Places.{StandsFirst, found, phase-at, sid-at}
+use Rattle.hub_core.proofs.Settling.{length-told}
+use Rattle.hub_rules.specs.Effects.{is_present}
+use Rattle.hub_core.proofs.hub.Core.leave.Goals as goal
+
+pub returns : goal.returns
+returns c =
+    let at : StandsFirst c.args.number c.self.inside.seats.items c.place.result =
+    found c.args.number c.self.inside.seats.items c.deref.result.now c.place.result c.deref.ensures.value c.place.ensures in
+    record {
+      left = same-core (arc_value c.self.inside.setup) c.self.inside.joins c.self.inside.last
+          (with_items_is c.forget.new.seats c.tell_if.new.seats
+          (ap length c.tell_if.ensures ∙ length-told c.is_present-was_present.result c.index-seat.result.now.sid c.deref_mut.result.now ∙ c.deref_mut.ensures.len)
+          ∙ c.tell_if.ensures
+          ∙ ap (told_all_if c.is_present-was_present.result c.index-seat.result.now.sid) (c.deref_mut.ensures.value ∙ c.forget.ensures)
+          ∙ ap₂ (λ b sid. told_all_if b sid (others_of c.args.number c.self.inside.seats.items))
+          (c.is_present-was_present.ensures ∙ ap (λ p. is_present (stage_in p)) (sym (phase-at c.args.number c.self.inside.seats.items c.place.result c.index-seat.result.now at c.index-seat.ensures)))
+          (sym (sid-at c.args.number c.self.inside.seats.items c.place.result c.index-seat.result.now at c.index-seat.ensures)))
+          (c.remove.ensures.left ∙ ap (λ sid. without_sid sid c.self.inside.commons.users) (sym (sid-at c.args.number c.self.inside.seats.items c.place.result c.index-seat.result.now at c.index-seat.ensures)))
+          ∙ ap (left_core c.args.number) c.self.view_is;
+      few = subst (λ (s : CoreState). s.setup.max_users ≤ 900) c.self.view_is c.self.invariant.0;
+    }

@@ -1,0 +1,53 @@
+-- What a connection leaves behind, and what a take leaves.
+use Rattle.std.specs.Prelude.{ℕ, ◌==◌, ◌&&◌, ◌||◌, not, Bool, true, false, List, [], ◌∷◌, drop, filter, length, map, nat_le, take}
+use Rattle.outboxes.specs.Backlogs.{Backlog, with_lines}
+use Rattle.outboxes.specs.Quits.{quit_line}
+use Rattle.user_table.specs.Tables.{without_sid}
+use Rattle.hub_core.specs.declared.seat.Phase.{Phase}
+use Rattle.hub_core.specs.declared.seat.Seat.{Seat}
+use Rattle.hub_core.specs.CoreState.{CoreState}
+use Rattle.hub_core.specs.Phases.{stage_in}
+use Rattle.hub_core.specs.Seats.{at_seat, given_seat, outbox_in, phase_in, sid_in}
+use Rattle.hub_rules.specs.Effects.{is_over, is_present}
+
+-- ---- quits
+
+abbrev pub told_if : Bool → ℕ → Seat → Seat
+told_if true sid seat = given_seat (quit_line sid ∷ []) seat
+told_if false sid seat = seat
+
+-- a user who is present is told that another left
+abbrev pub told : ℕ → Seat → Seat
+told sid seat = told_if (is_present (stage_in seat.phase)) sid seat
+
+-- those who stay are told where the one who left was present
+abbrev pub told_all_if : Bool → ℕ → List Seat → List Seat
+told_all_if true sid seats = map (told sid) seats
+told_all_if false sid seats = seats
+
+abbrev pub others_of : ℕ → List Seat → List Seat
+others_of c seats = filter (λ (seat : Seat). not (seat.number == c)) seats
+
+-- connection c left
+abbrev pub left_core : ℕ → CoreState → CoreState
+left_core c core = record core {
+  seats = told_all_if (is_present (stage_in (phase_in c core.seats))) (sid_in c core.seats) (others_of c core.seats);
+  users = without_sid (sid_in c core.seats) core.users;
+}
+
+-- ---- takes
+
+-- so many lines are taken from a seat's outbox
+abbrev pub lightened : ℕ → Seat → Seat
+lightened count seat = record seat { outbox = with_lines seat.outbox (drop count seat.outbox.lines) }
+
+abbrev pub lightened_core : ℕ → ℕ → CoreState → CoreState
+lightened_core c count core = record core { seats = at_seat c (lightened count) core.seats }
+
+abbrev pub lines_in : ℕ → List Seat → List (List ℕ)
+lines_in c seats = (outbox_in c seats).lines
+
+-- a take of so many lines leaves nothing, and nothing more will come
+abbrev pub has_ended : ℕ → ℕ → List Seat → Bool
+has_ended c count seats =
+    nat_le (length (lines_in c seats)) count && (is_over (stage_in (phase_in c seats)) || (outbox_in c seats).lags)

@@ -1,0 +1,176 @@
+ghost use Rattle.std.specs.Prelude.{◌≡◌, ◌++◌, ◌∷◌, [], ℕ, IfErr, OnErr, OnOk};
+ghost use Rattle.user_table.specs.Changes.{given_key};
+ghost use Rattle.operator_acts.specs.Bans.{with_ban};
+ghost use Rattle.user_table.specs.Tables.{with_update, without_sid};
+ghost use Rattle.hub_core.specs.Phases.{awaited, entered_phase};
+ghost use Rattle.hub_core.specs.declared.seat.Phase.TheVariants.{Normal};
+ghost use Rattle.hub_core.specs.Seats.{seat_turned, turn_taken};
+ghost use Rattle.hub_core.specs.State.{users_after, users_turned};
+ghost use Rattle.hub_rules.specs.Facts.{bans_after, topic_after};
+
+use crate::seat::{Phase, Seat};
+use hub_rules::{Banned, Change, Entrant, Topic, Turn, World};
+use operator_acts::Bans;
+use std::alloc::AllocError;
+use std::mem;
+use user_table::{IndexedUsers, User, Users, takes_update};
+
+/// What all connections share: the users who are present, the bans, the topic.
+#[derive(Debug, Drop)]
+pub struct Commons {
+    pub(crate) users: IndexedUsers,
+    pub(crate) bans: Bans,
+    pub(crate) topic: Topic,
+}
+
+impl Commons {
+    /// Changes what all connections share, and takes the turn of the connection that sent the line, whole or not at all.
+    pub(crate) fn change(&mut self, seat: &mut Seat, turn: Turn, world: World) -> Result<(), AllocError>
+        ensures users { OnOk result (self.new.users ≡ users_after world turn seat.old.sid seat.old.phase self.old.users) }
+        ensures bans { OnOk result (self.new.bans ≡ bans_after world self.old.bans) }
+        ensures topic { OnOk result (self.new.topic ≡ topic_after world self.old.topic) }
+        ensures seat { OnOk result (seat.new ≡ seat_turned (turn_taken world turn) seat.old) }
+        ensures err { OnErr result ((self.new ≡ self.old) × (seat.new ≡ seat.old)) }
+    {
+        match world {
+            World::Same => take_turn(&mut self.users, seat, turn),
+            World::Kick(sid) => {
+                self.users.remove(sid);
+                Ok(())
+            }
+            World::Ban(banned) => ban(&mut self.users, &mut self.bans, banned),
+            World::Unban(cid) => {
+                self.bans.remove(cid);
+                Ok(())
+            }
+            World::Topic(topic) => {
+                self.topic = topic;
+                Ok(())
+            }
+        }
+    }
+}
+
+/// Shuts a user out, and whoever comes with its client identifier. That there is room for the ban was looked at when the act
+/// was decided, so only memory can be wanting.
+fn ban(users: &mut IndexedUsers, bans: &mut Bans, banned: Banned) -> Result<(), AllocError>
+    ensures users { OnOk result (users.new ≡ without_sid banned.sid users.old) }
+    ensures bans { OnOk result (bans.new ≡ with_ban bans.old banned.cid (record { seconds = banned.seconds; moment = banned.now })) }
+    ensures err { OnErr result ((users.new ≡ users.old) × (bans.new ≡ bans.old)) }
+{
+    if bans.add(banned.cid, banned.seconds, banned.now).is_err() {
+        return Err(AllocError);
+    }
+    users.remove(banned.sid);
+    Ok(())
+}
+
+/// Takes the turn of the connection that sent the line, whole or not at all.
+fn take_turn(users: &mut IndexedUsers, seat: &mut Seat, turn: Turn) -> Result<(), AllocError>
+    ensures users { OnOk result (users.new ≡ users_turned turn seat.old.sid seat.old.phase users.old) }
+    ensures seat { OnOk result (seat.new ≡ seat_turned turn seat.old) }
+    ensures err { OnErr result ((users.new ≡ users.old) × (seat.new ≡ seat.old)) }
+{
+    match turn {
+        Turn::Stays => Ok(()),
+        Turn::Greets(features) => {
+            seat.phase = Phase::Identify;
+            seat.features = features;
+            Ok(())
+        }
+        Turn::Waits(newcomer, expected) => {
+            seat.phase = Phase::Verify(newcomer, expected);
+            Ok(())
+        }
+        Turn::Enters => enter(users, seat),
+        Turn::EntersAs(newcomer) => enter_as(users, seat, newcomer),
+        Turn::Learns(features) => {
+            seat.features = features;
+            Ok(())
+        }
+        Turn::Updates(change) => update(users, seat, change),
+        Turn::Falls => {
+            users.remove(seat.sid);
+            seat.phase = Phase::Gone;
+            Ok(())
+        }
+    }
+}
+
+/// The user for whose password the hub waited enters.
+fn enter(users: &mut IndexedUsers, seat: &mut Seat) -> Result<(), AllocError>
+    ensures users { OnOk result (users.new ≡ users.old ++ awaited seat.old.phase) }
+    ensures seat { OnOk result (seat.new ≡ record seat.old { phase = entered_phase seat.old.phase }) }
+    ensures err { OnErr result ((users.new ≡ users.old) × (seat.new ≡ seat.old)) }
+{
+    match mem::replace(&mut seat.phase, Phase::Gone) {
+        Phase::Verify(newcomer, expected) => {
+            let Entrant { user, support } = newcomer;
+            match insert(users, user) {
+                Ok(()) => {
+                    seat.phase = Phase::Normal(support);
+                    Ok(())
+                }
+                Err(user) => {
+                    seat.phase = Phase::Verify(Entrant { user, support }, expected);
+                    Err(AllocError)
+                }
+            }
+        }
+        other => {
+            seat.phase = other;
+            Ok(())
+        }
+    }
+}
+
+/// A user enters at its login.
+fn enter_as(users: &mut IndexedUsers, seat: &mut Seat, newcomer: Entrant) -> Result<(), AllocError>
+    ensures users { OnOk result (users.new ≡ users.old ++ newcomer.user ∷ []) }
+    ensures seat { OnOk result (seat.new ≡ record seat.old { phase = Normal newcomer.support }) }
+    ensures err { OnErr result ((users.new ≡ users.old) × (seat.new ≡ seat.old)) }
+{
+    let Entrant { user, support } = newcomer;
+    if insert(users, user).is_err() {
+        return Err(AllocError);
+    }
+    seat.phase = Phase::Normal(support);
+    Ok(())
+}
+
+/// The fields of a user change. That nobody else has the nick, and that there is room for the fields, was looked at when the
+/// update was decided, so only memory can be wanting.
+fn update(users: &mut IndexedUsers, seat: &mut Seat, change: Change) -> Result<(), AllocError>
+    ensures users { OnOk result (users.new ≡ with_update seat.old.sid change.update (given_key change.nick) users.old) }
+    ensures seat { OnOk result (seat.new ≡ record seat.old { phase = Normal change.support }) }
+    ensures err { OnErr result ((users.new ≡ users.old) × (seat.new ≡ seat.old)) }
+{
+    let Change {
+        update,
+        nick,
+        support,
+    } = change;
+    if !takes_update(users, seat.sid, &update) {
+        return Err(AllocError);
+    }
+    if users.merge_info(seat.sid, &update, nick).is_err() {
+        return Err(AllocError);
+    }
+    seat.phase = Phase::Normal(support);
+    Ok(())
+}
+
+/// Puts a user behind the others, or gives it back. That nobody has its identifiers or its nick was looked at when the entry
+/// was decided, so only memory can be wanting.
+fn insert(users: &mut IndexedUsers, user: User) -> Result<(), User>
+    ensures ok { OnOk result (users.new ≡ users.old ++ user ∷ []) }
+    ensures err { IfErr result (λ returned. (returned ≡ user) × (users.new ≡ users.old)) }
+{
+    if users.by_sid(user.sid()).is_some() {
+        return Err(user);
+    }
+    match users.insert(user) {
+        Ok(()) => Ok(()),
+        Err((_, user)) => Err(user),
+    }
+}

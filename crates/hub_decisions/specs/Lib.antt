@@ -1,0 +1,3 @@
+pub mod Progresses
+pub mod Commands
+pub mod Findings

@@ -1,0 +1,222 @@
+ghost use Rattle.std.specs.Prelude.{◌≡◌, [], ◌∷◌, IfOk, Some, is_some};
+ghost use Rattle.adc_line.specs.WordsLeft.{words_left};
+ghost use Rattle.hub_decisions.specs.Progresses.{IsListed, own_of, sight_of, stage_of};
+ghost use Rattle.hub_decisions.specs.Commands.{commanded};
+ghost use Rattle.hub_rules.specs.Acts.{act_denied, act_effect, asked_denied, asked_effect, ban_denied, ban_effect, carried, is_command, kick_denied, kick_effect, unban_denied, user_called};
+ghost use Rattle.hub_rules.specs.Effects.{unless_denied};
+ghost use Rattle.hub_rules.specs.Texts as texts;
+ghost use Rattle.hub_rules.specs.declared.effect.World.TheVariants as worlds;
+ghost use Rattle.login_state.specs.declared.stage.Stage.TheVariants as stages;
+ghost use Rattle.hub_rules.specs.Accounts.{account_with, operates};
+ghost use Rattle.operator_acts.specs.Acts.{act_at};
+ghost use Rattle.operator_acts.specs.Bans.{ban_on, is_full};
+
+use crate::denial::denial;
+use crate::lines::{nothing, one};
+use crate::own::{Own, Progress};
+use crate::sight::Sight;
+use crate::words::text_in;
+use adc_ids::{Cid, Nick};
+use adc_line::Words;
+use feature_route::Audience;
+use hub_rules::{Banned, Effect, Hearers, Topic, Turn, World};
+use hub_setup::{Setup, done_line, removal_line, topic_line};
+use login_state::Deny;
+use operator_acts::{Act, ActFault, Bans, FreeText, Left};
+use outboxes::Batch;
+use std::alloc::{AllocError, Global};
+use user_table::{User, Users};
+
+/// How many client identifiers may have a ban.
+const MAX_BANS: usize = 1_024;
+
+/// A user says something to the hub (ADC 1.0, "MSG"). A text that begins with `!` is a command for
+/// operators; others are for nobody, and lead to nothing.
+///
+/// Denied: a command of another user than an operator (125), one of no form (100); a kick or a ban of
+/// somebody who is not present (100), a ban where there is no room for it (100), an end of a ban that is
+/// not held (100). Changes: a user is shut out, an identifier is let in again, or the topic is set. Told:
+/// all users hear of a removal and of a topic, and the operator that it is done. Refused only where
+/// memory runs out.
+#[tactic(auto, unfolding(hub_rules::specs::Acts::act_denied, hub_rules::specs::Acts::act_effect))]
+pub(crate) fn acts<'a, U: Users>(
+    alloc: Global,
+    hub: &Sight<'_, U>,
+    own: &Own<'_>,
+    words: Words<'_>,
+    now: u64,
+) -> Result<Effect<'a>, AllocError>
+    ensures { IfOk result (λ effect. let sight = sight_of hub.now.setup.now (U.listed hub.now.users.now) hub.now.bans.now hub.now.topic.now in stage_of own.now.progress ≡ stages.Normal → IsListed own.now.sid own.now.progress → effect ≡ unless_denied (own_of own.now) (act_denied sight (own_of own.now) (words_left words.entry)) (act_effect sight (own_of own.now) now (words_left words.entry))) }
+{
+    let text = text_in(alloc, words)?;
+    let text = text.as_str();
+    if !is_command(text) {
+        return Ok(nothing(alloc));
+    }
+    let Progress::Normal(user) = &own.progress else {
+        return Ok(nothing(alloc));
+    };
+    command(alloc, hub, own, user.key(), text, now)
+}
+
+/// Commands begin with `!`.
+fn is_command(text: &str) -> bool
+    ensures { result ≡ is_command text.now }
+{
+    match text.as_bytes() {
+        [] => false,
+        [first, ..] => *first == b'!',
+    }
+}
+
+/// What a command leads to, of the user whose nick has this key.
+fn command<'a, U: Users>(
+    alloc: Global,
+    hub: &Sight<'_, U>,
+    own: &Own<'_>,
+    key: &str,
+    text: &str,
+    now: u64,
+) -> Result<Effect<'a>, AllocError>
+    ensures { IfOk result (λ effect. effect ≡ commanded (sight_of hub.now.setup.now (U.listed hub.now.users.now) hub.now.bans.now hub.now.topic.now) (own_of own.now) now key.now (act_at text.now)) }
+{
+    if !is_operator(hub.setup, key) {
+        return denial(alloc, own, Deny::Access(*b"HMSG"));
+    }
+    match Act::parse(alloc, text) {
+        Ok(act) => asked(alloc, hub, own, &act, now),
+        Err(ActFault::Bad) => denial(alloc, own, Deny::BadCommand),
+        Err(ActFault::Memory) => Err(AllocError),
+    }
+}
+
+/// Whether the account with this key is an operator's.
+fn is_operator(setup: &Setup, key: &str) -> bool
+    ensures { result ≡ operates (account_with key.now setup.now.accounts) }
+{
+    match setup.account(key) {
+        Some(account) => account.is_operator(),
+        None => false,
+    }
+}
+
+/// What an operator asks for.
+fn asked<'a, U: Users>(
+    alloc: Global,
+    hub: &Sight<'_, U>,
+    own: &Own<'_>,
+    act: &Act<'_>,
+    now: u64,
+) -> Result<Effect<'a>, AllocError>
+    ensures { IfOk result (λ effect. let sight = sight_of hub.now.setup.now (U.listed hub.now.users.now) hub.now.bans.now hub.now.topic.now in effect ≡ unless_denied (own_of own.now) (asked_denied sight (Some act.now)) (asked_effect sight (own_of own.now) now (Some act.now))) }
+{
+    match act {
+        Act::Kick { nick, reason } => kick(alloc, hub, own, nick, reason),
+        Act::Ban {
+            nick,
+            seconds,
+            reason,
+        } => ban(alloc, hub, own, nick, *seconds, reason, now),
+        Act::Unban(cid) => unban(alloc, hub, own, *cid),
+        Act::Topic(text) => topic(alloc, text),
+    }
+}
+
+fn kick<'a, U: Users>(
+    alloc: Global,
+    hub: &Sight<'_, U>,
+    own: &Own<'_>,
+    nick: &Nick,
+    reason: &FreeText<'_>,
+) -> Result<Effect<'a>, AllocError>
+    ensures { IfOk result (λ effect. let target = user_called (sight_of hub.now.setup.now (U.listed hub.now.users.now) hub.now.bans.now hub.now.topic.now) nick.now in effect ≡ unless_denied (own_of own.now) (kick_denied target) (kick_effect (own_of own.now) reason.now target)) }
+{
+    let key = nick.key(alloc)?;
+    let Some(target) = hub.users.by_nick(&key) else {
+        return denial(alloc, own, Deny::NoUser);
+    };
+    let line = removal_line(alloc, target.sid(), own.sid, None, reason.as_str())?;
+    carried(alloc, one(alloc, line)?, World::Kick(target.sid()))
+}
+
+fn ban<'a, U: Users>(
+    alloc: Global,
+    hub: &Sight<'_, U>,
+    own: &Own<'_>,
+    nick: &Nick,
+    seconds: u32,
+    reason: &FreeText<'_>,
+    now: u64,
+) -> Result<Effect<'a>, AllocError>
+    ensures { IfOk result (λ effect. let sight = sight_of hub.now.setup.now (U.listed hub.now.users.now) hub.now.bans.now hub.now.topic.now in let target = user_called sight nick.now in effect ≡ unless_denied (own_of own.now) (ban_denied sight target) (ban_effect (own_of own.now) now seconds reason.now target)) }
+{
+    let key = nick.key(alloc)?;
+    let Some(target) = hub.users.by_nick(&key) else {
+        return denial(alloc, own, Deny::NoUser);
+    };
+    if is_full(hub.bans, target.cid()) {
+        return denial(alloc, own, Deny::BansFull);
+    }
+    let line = removal_line(alloc, target.sid(), own.sid, Some(seconds), reason.as_str())?;
+    let banned = Banned {
+        sid: target.sid(),
+        cid: target.cid(),
+        seconds,
+        now,
+    };
+    carried(alloc, one(alloc, line)?, World::Ban(banned))
+}
+
+fn unban<'a, U: Users>(
+    alloc: Global,
+    hub: &Sight<'_, U>,
+    own: &Own<'_>,
+    cid: Cid,
+) -> Result<Effect<'a>, AllocError>
+    ensures { IfOk result (λ effect. effect ≡ unless_denied (own_of own.now) (unban_denied (sight_of hub.now.setup.now (U.listed hub.now.users.now) hub.now.bans.now hub.now.topic.now) cid) (carried [] (worlds.Unban cid))) }
+{
+    if !is_banned(hub.bans, cid) {
+        return denial(alloc, own, Deny::NoBan);
+    }
+    carried(alloc, Batch::new(alloc), World::Unban(cid))
+}
+
+fn topic<'a>(alloc: Global, text: &FreeText<'_>) -> Result<Effect<'a>, AllocError>
+    ensures { IfOk result (λ effect. effect ≡ carried (texts.topic_line text.now ∷ []) (worlds.Topic text.now)) }
+{
+    let line = topic_line(alloc, text.as_str())?;
+    let topic = Topic::new(alloc, text.as_str())?;
+    carried(alloc, one(alloc, line)?, World::Topic(topic))
+}
+
+/// All users who are present are told, and then the operator that it is done.
+fn carried<'a>(alloc: Global, others: Batch, world: World) -> Result<Effect<'a>, AllocError>
+    ensures { IfOk result (λ effect. effect ≡ carried others world) }
+{
+    Ok(Effect {
+        own: one(alloc, done_line(alloc)?)?,
+        others,
+        hearers: Hearers::Those(Audience::All),
+        turn: Turn::Stays,
+        world,
+        searched: None,
+    })
+}
+
+/// Whether there is no room for a ban on an identifier.
+fn is_full(bans: &Bans, cid: Cid) -> bool
+    ensures { result ≡ is_full bans.now cid }
+{
+    !is_banned(bans, cid) && bans.count() >= MAX_BANS
+}
+
+/// Whether a ban is held on an identifier. Of every ban something is left at the moment 0.
+#[tactic(auto, unfolding(operator_acts::specs::Bans::left), using(crate::proofs::Held::held_at_first))]
+fn is_banned(bans: &Bans, cid: Cid) -> bool
+    ensures { result ≡ is_some (ban_on bans.now cid) }
+{
+    match bans.left(cid, 0) {
+        Left::Free => false,
+        Left::For(_) | Left::Ever => true,
+    }
+}

@@ -1,0 +1,126 @@
+//! What the checks of a login, of an update and of a password find (ADC 1.0, "INF", "PAS").
+
+ghost use Rattle.std.specs.Prelude.{◌≡◌, IfOk, is_some};
+ghost use Rattle.hub_decisions.specs.Progresses.{sight_of};
+ghost use Rattle.hub_rules.specs.Accounts.{account_with};
+ghost use Rattle.hub_rules.specs.Asks.{address_found, admission_found, amount_found, ban_found, entry_ask, good_if, identity_found, required_found, taken_if};
+ghost use Rattle.hub_rules.specs.Sights.{Sight as Seen};
+ghost use Rattle.user_table.specs.Listed.{Listed};
+
+use crate::present::{has_cid, has_key};
+use crate::sight::Sight;
+use adc_ids::Cid;
+use hub_setup::Setup;
+use inf_fields::{dotted, shared_amount};
+use login_state::{Address, Admission, Ban, Claim, EntryAsk, Identity, Required, Validity};
+use operator_acts::Left;
+use std::alloc::{AllocError, Global};
+use user_table::Users;
+
+pub(crate) fn good_if(good: bool) -> Validity
+    ensures { result ≡ good_if good }
+{
+    if good { Validity::Good } else { Validity::Bad }
+}
+
+pub(crate) fn taken_if(taken: bool) -> Claim
+    ensures { result ≡ taken_if taken }
+{
+    if taken { Claim::Taken } else { Claim::Free }
+}
+
+/// A field that a login needs: missing where it is empty, and else valid or not.
+pub(crate) fn required_found(valid: bool, value: &str) -> Required
+    ensures { result ≡ required_found valid value.now }
+{
+    match value.as_bytes() {
+        [] => Required::Missing,
+        [_, ..] => { if valid { Required::Good } else { Required::Bad } }
+    }
+}
+
+/// A number that need not be there.
+pub(crate) fn amount_found(value: &str) -> Validity
+    ensures { result ≡ amount_found value.now }
+{
+    match value.as_bytes() {
+        [] => Validity::Good,
+        [_, ..] => good_if(shared_amount(value).is_some()),
+    }
+}
+
+/// Whether the client's identifier is the hash of the private one.
+pub(crate) fn identity_found(cid: Option<Cid>, digest: Option<[u8; 24]>) -> Identity
+    ensures { result ≡ identity_found cid digest }
+{
+    let Some(cid) = cid else {
+        return Identity::Foreign;
+    };
+    let Some(digest) = digest else {
+        return Identity::Foreign;
+    };
+    if cid.bytes() == digest {
+        Identity::Own
+    } else {
+        Identity::Foreign
+    }
+}
+
+/// An address is right where it is empty, `0.0.0.0`, or the peer's. Refused only where memory runs out.
+pub(crate) fn address_found(
+    alloc: Global,
+    peer: [u8; 4],
+    address: &str,
+) -> Result<Address, AllocError>
+    ensures { IfOk result (λ found. found ≡ address_found peer address.now) }
+{
+    if address.is_empty() || address == "0.0.0.0" {
+        return Ok(Address::Right);
+    }
+    let seen = dotted(alloc, peer)?;
+    if address == seen.as_str() {
+        Ok(Address::Right)
+    } else {
+        Ok(Address::Wrong(peer))
+    }
+}
+
+fn ban_found(left: Left) -> Ban
+    ensures { result ≡ ban_found left }
+{
+    match left {
+        Left::Free => Ban::Free,
+        Left::For(seconds) => Ban::For(seconds),
+        Left::Ever => Ban::Ever,
+    }
+}
+
+/// Whether this is the key of an account's nick.
+pub(crate) fn is_account(setup: &Setup, key: &str) -> bool
+    ensures { result ≡ is_some (account_with key.now setup.now.accounts) }
+{
+    setup.account(key).is_some()
+}
+
+/// Whether the hub lets this nick in.
+pub(crate) fn admission_found(setup: &Setup, key: &str) -> Admission
+    ensures { (sight : Seen) → sight.setup ≡ setup.now → result ≡ admission_found sight key.now }
+{
+    if setup.registered_only() && !is_account(setup, key) {
+        Admission::RegisteredOnly
+    } else {
+        Admission::Admitted
+    }
+}
+
+/// What is found of a user who is to enter, by its client identifier and the key of its nick.
+#[tactic(auto, unfolding(hub_rules::specs::Asks::entry_ask))]
+pub(crate) fn entry_ask<U: Users>(hub: &Sight<'_, U>, now: u64, cid: Cid, key: &str) -> EntryAsk
+    ensures { (user : Listed) → user.cid ≡ cid → user.key ≡ key.now → result ≡ entry_ask (sight_of hub.now.setup.now (U.listed hub.now.users.now) hub.now.bans.now hub.now.topic.now) now user }
+{
+    EntryAsk {
+        ban: ban_found(hub.bans.left(cid, now)),
+        nick_claim: taken_if(has_key(hub.users, key)),
+        cid_claim: taken_if(has_cid(hub.users, cid)),
+    }
+}

@@ -1,0 +1,89 @@
+ghost use Rattle.std.specs.Prelude.{◌≡◌, ◌++◌, map, IfOk};
+ghost use Rattle.hub_decisions.specs.Progresses.{own_of, sight_of};
+ghost use Rattle.hub_rules.specs.Effects.{enters, given_if, line_of, welcome};
+ghost use Rattle.hub_rules.specs.Texts.{menu_line};
+ghost use Rattle.hub_rules.specs.declared.effect.Turn.TheVariants as turns;
+ghost use Rattle.login_state.specs.Mentions.{ucmd};
+ghost use Rattle.login_state.specs.Support.{has_feature};
+
+use crate::lines::{one, push};
+use crate::own::Own;
+use crate::sight::Sight;
+use bytes::Bytes;
+use hub_rules::{Effect, Hearers, Turn, World};
+use hub_setup::{Setup, user_line};
+use login_state::{Feature, Features};
+use outboxes::Batch;
+use std::alloc::{AllocError, Global};
+use user_table::{User, Users};
+
+/// A user enters (ADC 1.0, "INF"; ADC-EXT, "UCMD"). Its client is told of the users who are present,
+/// in order of entry, then of itself, and then the menu where it has one; the others are told of the
+/// newcomer. Refused only where memory runs out.
+pub(crate) fn enters<'a, U: Users>(
+    alloc: Global,
+    hub: &Sight<'_, U>,
+    own: &Own<'_>,
+    user: &User,
+) -> Result<Effect<'a>, AllocError>
+    ensures { IfOk result (λ effect. effect ≡ enters (sight_of hub.now.setup.now (U.listed hub.now.users.now) hub.now.bans.now hub.now.topic.now) (own_of own.now) user.now turns.Enters) }
+{
+    let line = line_of(alloc, hub, user)?;
+    let shared = line.clone()?;
+    Ok(Effect {
+        own: welcome(alloc, hub, own.features, user, line)?,
+        others: one(alloc, shared)?,
+        hearers: Hearers::Others,
+        turn: Turn::Enters,
+        world: World::Same,
+        searched: None,
+    })
+}
+
+/// What a newcomer hears, whose own line is at hand.
+fn welcome<U: Users>(
+    alloc: Global,
+    hub: &Sight<'_, U>,
+    features: &Features,
+    user: &User,
+    line: Bytes,
+) -> Result<Batch, AllocError>
+    ensures { let sight = sight_of hub.now.setup.now (U.listed hub.now.users.now) hub.now.bans.now hub.now.topic.now in line ≡ line_of sight user.now → IfOk result (λ batch. batch ≡ welcome sight features.now user.now) }
+{
+    let mut batch = present_lines(alloc, hub)?;
+    push(&mut batch, line)?;
+    with_menu(hub.setup, features, batch)
+}
+
+/// The batch with the menu at its end, where the client has one.
+fn with_menu(setup: &Setup, features: &Features, batch: Batch) -> Result<Batch, AllocError>
+    ensures { IfOk result (λ all. all ≡ batch ++ given_if (has_feature ucmd features.now) (map menu_line setup.now.menu)) }
+{
+    if !features.has(Feature::ucmd()) {
+        return Ok(batch);
+    }
+    setup.menu(batch)
+}
+
+/// The lines of the users who are present, in order of entry.
+fn present_lines<U: Users>(alloc: Global, hub: &Sight<'_, U>) -> Result<Batch, AllocError>
+    ensures { IfOk result (λ batch. batch ≡ map (line_of (sight_of hub.now.setup.now (U.listed hub.now.users.now) hub.now.bans.now hub.now.topic.now)) (U.listed hub.now.users.now)) }
+{
+    let mut batch = Batch::new(alloc);
+    let count = hub.users.totals().users;
+    for place in 0..count {
+        let Some(user) = hub.users.at(place as usize) else {
+            unreachable!()
+        };
+        push(&mut batch, line_of(alloc, hub, user)?)?;
+    }
+    Ok(batch)
+}
+
+/// The line of a user, with what the hub says of it.
+fn line_of<U: Users>(alloc: Global, hub: &Sight<'_, U>, user: &User) -> Result<Bytes, AllocError>
+    ensures { IfOk result (λ line. line ≡ line_of (sight_of hub.now.setup.now (U.listed hub.now.users.now) hub.now.bans.now hub.now.topic.now) user.now) }
+{
+    let account = hub.setup.account(user.key());
+    user_line(alloc, user.sid(), user.fields(), account)
+}

@@ -1,0 +1,27 @@
+//! What a line leads to, which is decided here before anything is changed.
+#![tactic(auto)]
+
+mod act;
+mod asks;
+mod decision;
+mod denial;
+mod entering;
+mod given;
+mod lines;
+mod login;
+mod message;
+mod own;
+mod password;
+mod present;
+mod request;
+mod sight;
+mod sup;
+mod update;
+mod words;
+
+pub use decision::decide;
+pub use own::{Own, Progress};
+pub use sight::Sight;
+
+#[cfg(test)]
+mod tests;

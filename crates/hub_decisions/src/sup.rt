@@ -1,0 +1,126 @@
+ghost use Rattle.std.specs.Prelude.{◌≡◌, [], ◌∷◌, IfOk, Ok, Err, None, Some, MatchResult};
+ghost use Rattle.std.specs.String.{string_bytes};
+ghost use Rattle.adc_line.specs.WordsLeft.{words_left};
+ghost use Rattle.hub_decisions.specs.Progresses.{own_of, sight_of};
+ghost use Rattle.hub_rules.specs.Denied.{sup_denied};
+ghost use Rattle.hub_rules.specs.Effects.{greeting, greets, learns, ping_of, unless_denied};
+ghost use Rattle.login_state.specs.SupportAnswers.{applied};
+
+use crate::denial::denial;
+use crate::lines::{one, push};
+use crate::own::Own;
+use crate::sight::Sight;
+use adc_line::Words;
+use hub_rules::{Effect, Hearers, Turn, World};
+use hub_setup::{hub_line, identifier_line, ping_fields, support_line};
+use login_state::{Check, Deny, Feature, Features, SupFault, check_sup};
+use outboxes::Batch;
+use std::alloc::{AllocError, Global};
+use user_table::Users;
+
+/// A client says for the first time what it supports (ADC 1.0, "SUP"; ADC-EXT, "PING").
+///
+/// Denied: words that are none, or over 64 features (140), no BASE (245), no TIGR (247). Changes: what
+/// the client supports; it may log in. Told: the client alone is greeted. Refused only where memory
+/// runs out.
+pub(crate) fn greets<'a, U: Users>(
+    alloc: Global,
+    hub: &Sight<'_, U>,
+    own: &Own<'_>,
+    words: Words<'_>,
+    now: u64,
+) -> Result<Effect<'a>, AllocError>
+    ensures { IfOk result (λ effect. let after = applied own.now.features.now (words_left words.entry) in effect ≡ unless_denied (own_of own.now) (sup_denied after) (greets (sight_of hub.now.setup.now (U.listed hub.now.users.now) hub.now.bans.now hub.now.topic.now) (own_of own.now) now after)) }
+{
+    let features = match supported(alloc, own.features, words)? {
+        Ok(features) => features,
+        Err(deny) => return denial(alloc, own, deny),
+    };
+    Ok(Effect {
+        own: greeting(alloc, hub, own, &features, now)?,
+        others: Batch::new(alloc),
+        hearers: Hearers::Others,
+        turn: Turn::Greets(features),
+        world: World::Same,
+        searched: None,
+    })
+}
+
+/// A user who is present says that its client supports other features (ADC 1.0, "SUP").
+///
+/// Denied: words that are none, or over 64 features (140), no BASE (245), no TIGR (247). Changes: what
+/// the client supports. Told: nobody. Refused only where memory runs out.
+pub(crate) fn learns<'a>(
+    alloc: Global,
+    own: &Own<'_>,
+    words: Words<'_>,
+) -> Result<Effect<'a>, AllocError>
+    ensures { IfOk result (λ effect. let after = applied own.now.features.now (words_left words.entry) in effect ≡ unless_denied (own_of own.now) (sup_denied after) (learns after)) }
+{
+    let features = match supported(alloc, own.features, words)? {
+        Ok(features) => features,
+        Err(deny) => return denial(alloc, own, deny),
+    };
+    Ok(Effect {
+        own: Batch::new(alloc),
+        others: Batch::new(alloc),
+        hearers: Hearers::Others,
+        turn: Turn::Learns(features),
+        world: World::Same,
+        searched: None,
+    })
+}
+
+/// What a client supports after a SUP, or why it is denied.
+fn supported(
+    alloc: Global,
+    before: &Features,
+    words: Words<'_>,
+) -> Result<Result<Features, Deny>, AllocError>
+    ensures { IfOk result (λ answer. let after = applied before.now (words_left words.entry) in MatchResult answer (λ features. (after ≡ Ok features) × (sup_denied after ≡ None)) (λ deny. sup_denied after ≡ Some deny)) }
+{
+    let features = match before.apply(alloc, words) {
+        Ok(features) => features,
+        Err(SupFault::Memory) => return Err(AllocError),
+        Err(SupFault::Bad | SupFault::TooMany) => return Ok(Err(Deny::Protocol)),
+    };
+    match check_sup(&features) {
+        Check::Go => Ok(Ok(features)),
+        Check::Deny(deny) => Ok(Err(deny)),
+    }
+}
+
+/// What the hub supports, the client's session identifier, and the hub itself.
+fn greeting<U: Users>(
+    alloc: Global,
+    hub: &Sight<'_, U>,
+    own: &Own<'_>,
+    features: &Features,
+    now: u64,
+) -> Result<Batch, AllocError>
+    ensures { IfOk result (λ batch. batch ≡ greeting (sight_of hub.now.setup.now (U.listed hub.now.users.now) hub.now.bans.now hub.now.topic.now) now own.now.sid features.now) }
+{
+    let ping = ping_of(alloc, hub, features, now)?;
+    let mut batch = one(alloc, support_line(alloc)?)?;
+    push(&mut batch, identifier_line(alloc, own.sid)?)?;
+    let topic = hub.topic.as_str();
+    push(&mut batch, hub_line(alloc, hub.setup, topic, &ping)?)?;
+    Ok(batch)
+}
+
+/// What a client hears beside that asked about the hub.
+fn ping_of<U: Users>(
+    alloc: Global,
+    hub: &Sight<'_, U>,
+    features: &Features,
+    now: u64,
+) -> Result<String, AllocError>
+    ensures { IfOk result (λ text. string_bytes text ≡ ping_of (sight_of hub.now.setup.now (U.listed hub.now.users.now) hub.now.bans.now hub.now.topic.now) now features.now) }
+{
+    if !features.has(Feature::ping()) {
+        return Ok(String::new(alloc));
+    }
+    let totals = hub.users.totals();
+    let open_for = now.saturating_sub(hub.setup.opening());
+    ping_fields(alloc, &totals, hub.setup.max_users(), open_for)
+}

@@ -1,0 +1,361 @@
+-- What a line leads to is of a kind that a hub can carry out: a turn of its connection's stage, with users as they are listed.
+use Rattle.std.proofs.Common.{◌≡◌, ◌∙◌, sym, ap, ap₂, refl, ℕ, Bool, true, false, not, ◌==◌, List, length, Option, Some, None, Result, Ok, Err, unwrap_or}
+use Rattle.std.specs.Prelude.{if◌then◌else◌, codes}
+use Rattle.std.specs.Option.{option_map}
+use Rattle.std.specs.Str.{bytes_eq}
+use Rattle.std.proofs.lemmas.Bool.{false≢true}
+use Rattle.adc_line.specs.declared.fault.LineFault.{LineFault}
+use Rattle.adc_line.specs.declared.kind.Kind.{Kind}
+use Rattle.adc_line.specs.declared.kind.Kind.TheVariants as kinds
+use Rattle.adc_line.specs.Lines as lines
+use Rattle.adc_line.specs.Lines.{Reading}
+use Rattle.feature_route.specs.Audiences.{audience, both, both_if, by_kind, direct, echoed, featured, holds, holds_words}
+use Rattle.feature_route.specs.Matching.{feature_set}
+use Rattle.feature_route.specs.declared.hearers.Audience.{Audience}
+use Rattle.feature_route.specs.declared.hearers.Audience.TheVariants as audiences
+use Rattle.feature_route.proofs.Parts.{meets-feature_set}
+use Rattle.inf_fields.specs.Cleaning.{clean}
+use Rattle.inf_fields.specs.Field.{Field, value_of}
+use Rattle.inf_fields.specs.FieldNames.{nick_name}
+use Rattle.inf_fields.specs.Merging.{merged, merged_with}
+use Rattle.inf_fields.specs.Updates as updates
+use Rattle.inf_fields.specs.declared.fault.InfFault.{InfFault}
+use Rattle.login_state.specs.declared.deny.Deny.{Deny}
+use Rattle.login_state.specs.declared.deny.Deny.TheVariants as denials
+use Rattle.login_state.specs.declared.fault.SupFault.{SupFault}
+use Rattle.login_state.specs.declared.stage.Stage.{Stage}
+use Rattle.login_state.specs.declared.stage.Stage.TheVariants as stages
+use Rattle.login_state.specs.Denials.{is_fatal}
+use Rattle.login_state.specs.SupportAnswers.{applied}
+use Rattle.operator_acts.specs.Acts.{act_at}
+use Rattle.operator_acts.specs.declared.act.Act.{Act}
+use Rattle.operator_acts.specs.declared.act.Act.TheVariants as acts
+use Rattle.user_table.specs.Changes.{given_key}
+use Rattle.user_table.specs.Listed.{Listed}
+use Rattle.user_table.specs.Tables.{changed_key, updated}
+use Rattle.hub_rules.specs.declared.effect.Effect.{Effect}
+use Rattle.hub_rules.specs.declared.effect.Hearers.{Hearers}
+use Rattle.hub_rules.specs.declared.effect.Hearers.TheVariants.{Others, Those}
+use Rattle.hub_rules.specs.declared.effect.Turn.{Turn}
+use Rattle.hub_rules.specs.declared.effect.Turn.TheVariants as turns
+use Rattle.hub_rules.specs.declared.effect.World.{World}
+use Rattle.hub_rules.specs.declared.effect.World.TheVariants as worlds
+use Rattle.hub_rules.specs.declared.request.Request.{Request}
+use Rattle.hub_rules.specs.declared.request.Request.TheVariants as requests
+use Rattle.hub_rules.specs.Acts.{act_effect, asked_effect, ban_effect, is_command, kick_effect, text_in, user_called}
+use Rattle.hub_rules.specs.Denied.{denied, request_denied, update_denied}
+use Rattle.hub_rules.specs.Effects.{accepted, admits, denial, enters, entrant, fall_if, greets, heard, is_over, is_target_here, learns, line_effect, logs_in, nick_points, passes_on, unless_denied, update_effect, updates_user}
+use Rattle.hub_rules.specs.Identities.{cid_in, given, key_in, key_of, listed, meaning, su_in}
+use Rattle.hub_rules.specs.Quiet.{nothing}
+use Rattle.hub_rules.specs.Requests.{refused, request_of, to_users}
+use Rattle.hub_rules.specs.Sights.{Own, PreparedLine, Sight, is_account, user_after}
+use Rattle.hub_rules.specs.Asks.{own_if_given, update_ask}
+use Rattle.login_state.specs.declared.findings.Identity.TheVariants as identities
+use Rattle.hub_rules.proofs.Claims.{go, update-free}
+use Rattle.hub_rules.proofs.Clearing.{ask-identity, ask-update, later-none, same-cid}
+use Rattle.hub_rules.proofs.Merges.{given-after}
+
+-- a user who may enter is listed as its fields say
+abbrev pub IsListed : Own → Listed → Type 0
+IsListed own user = user ≡ listed own.sid user.fields
+
+-- a turn of a connection
+abbrev pub Suited : Own → Turn → Type 0
+Suited own turns.Stays = Unit {0}
+Suited own (turns.Greets features) = own.stage ≡ stages.Protocol
+Suited own (turns.Waits newcomer expected) = (own.stage ≡ stages.Identify) × (newcomer ≡ entrant (listed own.sid newcomer.user.fields))
+Suited own turns.Enters = own.stage ≡ stages.Verify
+Suited own (turns.EntersAs newcomer) = (own.stage ≡ stages.Identify) × (newcomer ≡ entrant (listed own.sid newcomer.user.fields))
+Suited own (turns.Learns features) = Unit {0}
+Suited own (turns.Updates change) =
+    (own.stage ≡ stages.Normal)
+    × (change.support ≡ feature_set (su_in (merged_with own.fields change.update)))
+    × (listed own.sid (merged_with own.fields change.update) ≡ updated change.update (given_key change.nick) (listed own.sid own.fields))
+Suited own turns.Falls = Unit {0}
+
+-- a set made of an SU tells who hears
+abbrev pub Routed : Hearers → Type 0
+Routed Others = Unit {0}
+Routed (Those to) = (sid : ℕ) (su : List ℕ) → holds_words to sid (feature_set su) ≡ holds to sid su
+
+abbrev pub is_same : World → Bool
+is_same worlds.Same = true
+is_same world = false
+
+-- what changes for all, and the turn of the sender, are never both something
+pub record Suits (own : Own) (effect : Effect) : Type 0 where
+  pub turn : Suited own effect.turn
+  pub routed : Routed effect.hearers
+  pub lone : is_same effect.world ≡ false → effect.turn ≡ turns.Stays
+
+-- ---- who hears
+
+routed-two : (same : Bool) (target own : ℕ) → Routed (Those (both_if same target own))
+unfolding holds_words
+routed-two true target own sid su = refl
+routed-two false target own sid su = refl
+
+routed-both : (target own : Option ℕ) → Routed (Those (both target own))
+unfolding holds_words
+routed-both None own sid su = refl
+routed-both (Some target) None sid su = refl
+routed-both (Some target) (Some own) sid su = routed-two (target == own) target own sid su
+
+routed-direct : (here : Bool) (target : Option ℕ) → Routed (Those (direct here target))
+unfolding holds_words
+routed-direct true None sid su = refl
+routed-direct true (Some target) sid su = refl
+routed-direct false target sid su = refl
+
+routed-echoed : (here : Bool) (target own : Option ℕ) → Routed (Those (echoed here target own))
+unfolding holds_words
+routed-echoed true target own sid su = routed-both target own sid su
+routed-echoed false target own sid su = refl
+
+routed-featured : (word : Option (List ℕ)) → Routed (Those (featured word))
+unfolding holds_words
+routed-featured None sid su = refl
+routed-featured (Some word) sid su = meets-feature_set word su
+
+routed-kind : (kind : Kind) (line : Reading) (here : Bool) → Routed (Those (by_kind kind line here))
+unfolding holds_words
+routed-kind kinds.Broadcast line here sid su = refl
+routed-kind kinds.Client line here sid su = refl
+routed-kind kinds.Direct line here sid su = routed-direct here line.target sid su
+routed-kind kinds.Echo line here sid su = routed-echoed here line.target line.from sid su
+routed-kind kinds.Feature line here sid su = routed-featured line.features sid su
+routed-kind kinds.Hub line here sid su = refl
+routed-kind kinds.Info line here sid su = refl
+routed-kind kinds.Udp line here sid su = refl
+
+routed-audience : (line : Reading) (here : Bool) → Routed (Those (audience line here))
+unfolding audience
+routed-audience line here sid su = routed-kind line.kind line here sid su
+
+routed-all : Routed (Those audiences.All)
+unfolding holds_words
+routed-all sid su = refl
+
+-- ---- what is asked at which stage
+
+abbrev asked_at : Stage → Request → Bool
+asked_at stages.Protocol requests.Greeting = true
+asked_at stages.Protocol requests.Nothing = true
+asked_at stages.Protocol request = false
+asked_at stages.Identify requests.Login = true
+asked_at stages.Identify requests.Nothing = true
+asked_at stages.Identify request = false
+asked_at stages.Verify requests.Password = true
+asked_at stages.Verify requests.Nothing = true
+asked_at stages.Verify request = false
+asked_at stages.Normal requests.Greeting = false
+asked_at stages.Normal requests.Login = false
+asked_at stages.Normal requests.Password = false
+asked_at stages.Normal request = true
+asked_at stages.Gone requests.Nothing = true
+asked_at stages.Gone request = false
+
+asked-if : (stage : Stage) (b : Bool) (x y : Request) → asked_at stage x ≡ true → asked_at stage y ≡ true → asked_at stage (if b then x else y) ≡ true
+asked-if stage true x y first second = first
+asked-if stage false x y first second = second
+
+asked-users : (command : List ℕ) → asked_at stages.Normal (to_users command) ≡ true
+asked-users command = asked-if stages.Normal (bytes_eq command (codes "SCH")) requests.Search requests.Message refl refl
+
+asked : (stage : Stage) (kind : Kind) (command : List ℕ) → asked_at stage (request_of stage kind command) ≡ true
+unfolding request_of
+asked stages.Protocol kinds.Hub command = asked-if stages.Protocol (bytes_eq command (codes "SUP")) requests.Greeting requests.Nothing refl refl
+asked stages.Protocol kinds.Broadcast command = refl
+asked stages.Protocol kinds.Client command = refl
+asked stages.Protocol kinds.Direct command = refl
+asked stages.Protocol kinds.Echo command = refl
+asked stages.Protocol kinds.Feature command = refl
+asked stages.Protocol kinds.Info command = refl
+asked stages.Protocol kinds.Udp command = refl
+asked stages.Identify kinds.Broadcast command = asked-if stages.Identify (bytes_eq command (codes "INF")) requests.Login requests.Nothing refl refl
+asked stages.Identify kinds.Hub command = refl
+asked stages.Identify kinds.Client command = refl
+asked stages.Identify kinds.Direct command = refl
+asked stages.Identify kinds.Echo command = refl
+asked stages.Identify kinds.Feature command = refl
+asked stages.Identify kinds.Info command = refl
+asked stages.Identify kinds.Udp command = refl
+asked stages.Verify kinds.Hub command = asked-if stages.Verify (bytes_eq command (codes "PAS")) requests.Password requests.Nothing refl refl
+asked stages.Verify kinds.Broadcast command = refl
+asked stages.Verify kinds.Client command = refl
+asked stages.Verify kinds.Direct command = refl
+asked stages.Verify kinds.Echo command = refl
+asked stages.Verify kinds.Feature command = refl
+asked stages.Verify kinds.Info command = refl
+asked stages.Verify kinds.Udp command = refl
+asked stages.Normal kinds.Broadcast command =
+    asked-if stages.Normal (bytes_eq command (codes "INF")) requests.Update (to_users command) refl (asked-users command)
+asked stages.Normal kinds.Direct command = asked-users command
+asked stages.Normal kinds.Echo command = asked-users command
+asked stages.Normal kinds.Feature command = asked-users command
+asked stages.Normal kinds.Hub command =
+    asked-if stages.Normal (bytes_eq command (codes "SUP")) requests.Support _ refl
+    (asked-if stages.Normal (bytes_eq command (codes "MSG")) requests.Act requests.Nothing refl refl)
+asked stages.Normal kinds.Client command = refl
+asked stages.Normal kinds.Info command = refl
+asked stages.Normal kinds.Udp command = refl
+asked stages.Gone kind command = refl
+
+at-protocol : (stage : Stage) → asked_at stage requests.Greeting ≡ true → stage ≡ stages.Protocol
+at-protocol stages.Protocol is = refl
+at-protocol stages.Identify is = absurd (false≢true is)
+at-protocol stages.Verify is = absurd (false≢true is)
+at-protocol stages.Normal is = absurd (false≢true is)
+at-protocol stages.Gone is = absurd (false≢true is)
+
+at-identify : (stage : Stage) → asked_at stage requests.Login ≡ true → stage ≡ stages.Identify
+at-identify stages.Protocol is = absurd (false≢true is)
+at-identify stages.Identify is = refl
+at-identify stages.Verify is = absurd (false≢true is)
+at-identify stages.Normal is = absurd (false≢true is)
+at-identify stages.Gone is = absurd (false≢true is)
+
+at-verify : (stage : Stage) → asked_at stage requests.Password ≡ true → stage ≡ stages.Verify
+at-verify stages.Protocol is = absurd (false≢true is)
+at-verify stages.Identify is = absurd (false≢true is)
+at-verify stages.Verify is = refl
+at-verify stages.Normal is = absurd (false≢true is)
+at-verify stages.Gone is = absurd (false≢true is)
+
+at-normal : (stage : Stage) → asked_at stage requests.Update ≡ true → stage ≡ stages.Normal
+at-normal stages.Protocol is = absurd (false≢true is)
+at-normal stages.Identify is = absurd (false≢true is)
+at-normal stages.Verify is = absurd (false≢true is)
+at-normal stages.Normal is = refl
+at-normal stages.Gone is = absurd (false≢true is)
+
+-- ---- what each request leads to
+
+true-false : true ≡ false → ⊥
+true-false e = false≢true (sym e)
+
+suits-nothing : (own : Own) → Suits own nothing
+suits-nothing own = record { turn = tt; routed = tt; lone = λ other. refl }
+
+suited-fall : (own : Own) (b : Bool) → Suited own (fall_if b)
+suited-fall own true = tt
+suited-fall own false = tt
+
+suits-denial : (own : Own) (deny : Deny) → Suits own (denial own deny)
+unfolding denial
+suits-denial own deny = record { turn = suited-fall own (is_fatal deny); routed = tt; lone = λ other. absurd (true-false other) }
+
+suits-greets : (hub : Sight) (own : Own) (now : ℕ) (r : Result (List (List ℕ)) SupFault) → own.stage ≡ stages.Protocol → Suits own (greets hub own now r)
+suits-greets hub own now (Ok features) at = record { turn = at; routed = tt; lone = λ other. absurd (true-false other) }
+suits-greets hub own now (Err fault) at = suits-nothing own
+
+suits-learns : (own : Own) (r : Result (List (List ℕ)) SupFault) → Suits own (learns r)
+suits-learns own (Ok features) = record { turn = tt; routed = tt; lone = λ other. absurd (true-false other) }
+suits-learns own (Err fault) = suits-nothing own
+
+listed-fields : (sid : ℕ) (fields : List Field) → listed sid (listed sid fields).fields ≡ listed sid fields
+unfolding listed
+listed-fields sid fields = refl
+
+suits-admits : (hub : Sight) (own : Own) (line : PreparedLine) (b : Bool) (fields : List Field) → own.stage ≡ stages.Identify
+    → Suits own (admits hub own line b (listed own.sid fields))
+suits-admits hub own line true fields at =
+    record { turn = (at, ap entrant (sym (listed-fields own.sid fields))); routed = tt; lone = λ other. absurd (true-false other) }
+suits-admits hub own line false fields at =
+    record { turn = (at, ap entrant (sym (listed-fields own.sid fields))); routed = tt; lone = λ other. absurd (true-false other) }
+
+suits-login : (hub : Sight) (own : Own) (line : PreparedLine) (r : Result (List Field) InfFault) → own.stage ≡ stages.Identify → Suits own (logs_in hub own line r)
+suits-login hub own line (Ok u) at =
+    suits-admits hub own line (is_account hub (user_after own u).key) (merged_with own.fields (clean u own.peer)) at
+suits-login hub own line (Err fault) at = suits-nothing own
+
+-- the nick that is given is that of the user afterwards
+key-by : (fields : List Field) (nick : Option (List ℕ)) → key_of (meaning (unwrap_or nick (given nick_name fields))) ≡ changed_key (given_key (option_map nick_points nick)) (key_in fields)
+key-by fields None = refl
+key-by fields (Some nick) = refl
+
+abbrev with_names : ℕ → List Field → List ℕ → List ℕ → Listed
+with_names sid fields cid key = record { sid = sid; cid = cid; key = key; fields = fields }
+
+listed-same : (sid : ℕ) (before : List Field) (u : List Field) (key : Option (List ℕ)) → cid_in (merged_with before u) ≡ cid_in before
+    → key_in (merged_with before u) ≡ changed_key key (key_in before) → listed sid (merged_with before u) ≡ updated u key (listed sid before)
+unfolding listed
+listed-same sid before u key cid nick =
+    ap₂ (with_names sid (merged_with before u)) cid nick
+
+suits-update : (hub : Sight) (own : Own) (infs : List (List Field)) (r : Result (List Field) InfFault) → own.stage ≡ stages.Normal → own.fields ≡ merged infs
+    → update_denied hub own r ≡ None → Suits own (updates_user own r)
+suits-update hub own infs (Ok u) at known none =
+    let free = update-free (update_ask hub own u (user_after own u)) _ (ask-update hub own u (user_after own u)) (go _ none) in
+    record {
+      turn = (
+        at,
+        refl,
+        listed-same own.sid own.fields (clean u own.peer) (given_key (option_map nick_points (value_of nick_name (clean u own.peer))))
+            (same-cid own u infs known (sym (ask-identity hub own u (user_after own u)) ∙ free.1))
+            (ap (λ (n : List ℕ). key_of (meaning n)) (given-after nick_name own.fields infs (clean u own.peer) known)
+            ∙ key-by own.fields (value_of nick_name (clean u own.peer))),
+      );
+      routed = routed-all;
+      lone = λ other. absurd (true-false other);
+    }
+suits-update hub own infs (Err fault) at known none = suits-nothing own
+
+suits-kick : (own : Own) (reason : List ℕ) (target : Option Listed) → Suits own (kick_effect own reason target)
+suits-kick own reason None = suits-nothing own
+suits-kick own reason (Some target) = record { turn = tt; routed = routed-all; lone = λ other. refl }
+
+suits-ban : (own : Own) (now seconds : ℕ) (reason : List ℕ) (target : Option Listed) → Suits own (ban_effect own now seconds reason target)
+suits-ban own now seconds reason None = suits-nothing own
+suits-ban own now seconds reason (Some target) = record { turn = tt; routed = routed-all; lone = λ other. refl }
+
+suits-asked : (hub : Sight) (own : Own) (now : ℕ) (act : Option Act) → Suits own (asked_effect hub own now act)
+suits-asked hub own now None = suits-nothing own
+suits-asked hub own now (Some (acts.Kick nick reason)) = suits-kick own reason (user_called hub nick)
+suits-asked hub own now (Some (acts.Ban nick seconds reason)) = suits-ban own now seconds reason (user_called hub nick)
+suits-asked hub own now (Some (acts.Unban cid)) = record { turn = tt; routed = routed-all; lone = λ other. refl }
+suits-asked hub own now (Some (acts.Topic text)) = record { turn = tt; routed = routed-all; lone = λ other. refl }
+
+suits-if : (own : Own) (b : Bool) (x y : Effect) → Suits own x → Suits own y → Suits own (if b then x else y)
+suits-if own true x y here there = here
+suits-if own false x y here there = there
+
+suits-act : (hub : Sight) (own : Own) (now : ℕ) (params : List (List ℕ)) → Suits own (act_effect hub own now params)
+unfolding act_effect
+suits-act hub own now params = suits-if own (not (is_command (text_in params))) nothing _ (suits-nothing own) (suits-asked hub own now (act_at (text_in params)))
+
+suits-message : (hub : Sight) (own : Own) (line : Reading) (searched : Option ℕ) → Suits own (passes_on hub line searched)
+suits-message hub own line searched =
+    record { turn = tt; routed = routed-audience line (is_target_here hub line.target); lone = λ other. refl }
+
+suits-accepted : (hub : Sight) (own : Own) (line : PreparedLine) (now : ℕ) (reading : Reading) (request : Request) (infs : List (List Field)) → asked_at own.stage request ≡ true
+    → own.fields ≡ merged infs → request_denied hub own line now reading request ≡ None → Suits own (accepted hub own line now reading request)
+unfolding accepted request_denied
+suits-accepted hub own line now reading requests.Greeting infs at known none = suits-greets hub own now (applied own.features reading.params) (at-protocol own.stage at)
+suits-accepted hub own line now reading requests.Login infs at known none = suits-login hub own line (updates.reading reading.params) (at-identify own.stage at)
+suits-accepted hub own line now reading requests.Password infs at known none =
+    record { turn = at-verify own.stage at; routed = tt; lone = λ other. absurd (true-false other) }
+suits-accepted hub own line now reading requests.Update infs at known none = suits-update hub own infs (updates.reading reading.params) (at-normal own.stage at) known none
+suits-accepted hub own line now reading requests.Support infs at known none = suits-learns own (applied own.features reading.params)
+suits-accepted hub own line now reading requests.Act infs at known none = suits-act hub own now reading.params
+suits-accepted hub own line now reading requests.Search infs at known none = suits-message hub own reading (Some now)
+suits-accepted hub own line now reading requests.Message infs at known none = suits-message hub own reading None
+suits-accepted hub own line now reading requests.Nothing infs at known none = suits-nothing own
+
+suits-unless : (own : Own) (refusal : Option Deny) (effect : Effect) → (refusal ≡ None → Suits own effect) → Suits own (unless_denied own refusal effect)
+suits-unless own (Some deny) effect suits = suits-denial own deny
+suits-unless own None effect suits = suits refl
+
+suits-heard : (hub : Sight) (own : Own) (line : PreparedLine) (now : ℕ) (infs : List (List Field)) (r : Result Reading LineFault) → own.fields ≡ merged infs
+    → Suits own (heard hub own line now r)
+suits-heard hub own line now infs (Ok reading) known =
+    suits-unless own (denied hub own line now reading) _
+    (λ none. suits-accepted hub own line now reading (request_of own.stage reading.kind reading.command) infs (asked own.stage reading.kind reading.command) known
+    (later-none (refused own.stage own.sid reading) _ none))
+suits-heard hub own line now infs (Err fault) known = suits-denial own denials.Protocol
+
+pub suits-line : (hub : Sight) (own : Own) (line : PreparedLine) (now : ℕ) (infs : List (List Field)) → own.fields ≡ merged infs → Suits own (line_effect hub own line now)
+unfolding line_effect
+suits-line hub own line now infs known =
+    suits-if own (is_over own.stage) nothing _ (suits-nothing own)
+    (suits-if own (length line.bytes == 0) nothing _ (suits-nothing own) (suits-heard hub own line now infs (lines.reading line.bytes) known))

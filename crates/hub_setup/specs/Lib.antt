@@ -1,0 +1,5 @@
+pub mod Settings
+pub mod MenuLines
+pub mod SetupView
+pub mod Prepared
+pub mod PreparedReading

@@ -1,0 +1,25 @@
+//! What a hub is set up with, the lines that are made ready before its turn, and the messages that it writes.
+#![tactic(auto)]
+
+mod menu;
+mod options;
+mod preparation;
+mod refused;
+mod registered;
+mod setup;
+mod texts;
+mod user_texts;
+
+pub use options::{Account, MenuEntry, MenuItem, Options};
+pub use preparation::{Prepared, Says, prepare};
+pub use refused::{LineRefused, SetupRefused};
+pub use registered::Registered;
+pub use setup::Setup;
+pub use texts::{
+    challenge_line, denial_line, done_line, hub_line, identifier_line, passed_line, ping_fields,
+    support_line, topic_line,
+};
+pub use user_texts::{removal_line, update_line, user_line};
+
+#[cfg(test)]
+mod tests;

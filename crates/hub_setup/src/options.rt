@@ -1,0 +1,51 @@
+/// A registered user.
+#[derive(Clone, Copy, Debug)]
+pub struct Account<'a> {
+    /// The nick: 1 to 64 code points, each above 32 (ADC 1.0, the field NI of "INF").
+    pub nick: &'a str,
+    /// The password, which is not empty.
+    pub password: &'a str,
+    /// Whether the user may kick and ban, and set the topic.
+    pub operator: bool,
+}
+
+/// What a menu entry of a client stands for (ADC-EXT, "UCMD").
+#[derive(Clone, Copy, Debug)]
+pub enum MenuItem<'a> {
+    /// The text that the client sends.
+    Text(&'a str),
+    /// A line between entries.
+    Separator,
+}
+
+/// An entry for the clients' menus (ADC-EXT, "UCMD").
+#[derive(Clone, Copy, Debug)]
+pub struct MenuEntry<'a> {
+    /// Its name, which is not empty.
+    pub name: &'a str,
+    /// Where it is shown, 1 to 15: the sum of 1 (hub), 2 (user), 4 (search) and 8 (file list).
+    pub context: u8,
+    /// What it stands for.
+    pub item: MenuItem<'a>,
+}
+
+/// What a hub is to be set up with.
+#[derive(Clone, Copy, Debug)]
+pub struct Options<'a> {
+    /// The hub's name, not empty.
+    pub name: &'a str,
+    /// The topic, which may be empty.
+    pub topic: &'a str,
+    /// The registered users, at most 32, no two with nicks of one normal form C.
+    pub accounts: &'a [Account<'a>],
+    /// The entries for the clients' menus, at most 64.
+    pub commands: &'a [MenuEntry<'a>],
+    /// Whether only registered users are admitted.
+    pub registered_only: bool,
+    /// How many seconds lie between two searches of one user, at least.
+    pub search_interval: u32,
+    /// How many connections are admitted at once, from 1 to 900.
+    pub max_users: u32,
+    /// The moment at which the hub opens, in seconds.
+    pub opening: u64,
+}

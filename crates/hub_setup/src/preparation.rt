@@ -1,0 +1,250 @@
+ghost use Rattle.std.specs.Prelude.{◌≡◌, Ok, IfOk, map};
+ghost use Rattle.std.specs.Map.Iter.{deref};
+ghost use Rattle.std.specs.Option.{option_copied};
+ghost use Rattle.std.specs.String.{string_bytes};
+ghost use Rattle.adc_line.specs.Lines as lines;
+ghost use Rattle.inf_fields.specs.Updates as updates;
+ghost use Rattle.hub_rules.specs.Identities.{key_in, nick_in};
+ghost use Rattle.hub_rules.specs.Prepared.{owner_digest, password_digest, password_of, prepared, update_in, update_of};
+ghost use Rattle.hub_setup.specs.PreparedReading.{IsSaid};
+
+use crate::refused::LineRefused;
+use crate::registered::Registered;
+use crate::setup::Setup;
+use adc_ids::Pid;
+use adc_line::{Kind, Line, LineFault, UnescapeFault, unescape};
+use inf_fields::{FieldName, InfFault, Update};
+use session_hash::SessionHash;
+use std::alloc::{AllocError, Global};
+use std::marker::Model;
+use unicode_normalization::to_nfc;
+
+/// A line that was read and is ready for the hub: all that can be done before the hub's turn.
+#[derive(Debug, Drop)]
+pub struct Prepared {
+    content: Content,
+    update: Option<Update>,
+    owner: Option<[u8; 24]>,
+    password: Option<[u8; 24]>,
+}
+
+/// What the bytes of a line were found to be.
+#[derive(Debug, Drop)]
+enum Content {
+    /// A message.
+    Message(Line),
+    /// Bytes that are no message; there may be none.
+    Other(Vec<u8>),
+}
+
+/// What a prepared line says.
+#[derive(Debug, Drop)]
+pub enum Says<'a> {
+    /// Nothing: the line is empty.
+    Nothing,
+    /// A message.
+    Message(&'a Line),
+    /// It is no message.
+    NoMessage,
+}
+
+impl Model for Prepared {
+    ghost use Rattle.hub_rules.specs.Sights.{PreparedLine};
+
+    ghost Value = { PreparedLine };
+
+    ghost use Rattle.hub_setup.specs.Prepared.{line_of, IsPrepared};
+
+    ghost view = { line_of };
+
+    ghost invariant = { IsPrepared };
+}
+
+/// Reads the bytes of a line, without its line feed, for a connection that was given this challenge. Where they are an
+/// INF for all whose words make an update, its fields are read, the digest is made of the private identifier in them
+/// (ADC 1.0, "INF"), and, where the nick is a registered user's, that of the password followed by the challenge
+/// (ADC 1.0, "GPA"). Takes no lock.
+///
+/// Refused only where memory runs out (`Memory`).
+#[tactic(auto, unfolding(hub_rules::specs::Prepared::prepared))]
+pub fn prepare<H: SessionHash>(
+    alloc: Global,
+    setup: &Setup,
+    hash: &H,
+    challenge: [u8; 24],
+    bytes: &[u8],
+) -> Result<Prepared, LineRefused>
+    ensures { IfOk result (λ line. line ≡ prepared setup.now (H.digest_of hash.now) challenge bytes.now) }
+{
+    let line = match Line::parse(alloc, bytes) {
+        Ok(line) => line,
+        Err(LineFault::Memory) => return Err(LineRefused::Memory),
+        Err(_) => {
+            return Ok(Prepared {
+                content: Content::Other(Vec::from_slice(alloc, bytes)?),
+                update: None,
+                owner: None,
+                password: None,
+            });
+        }
+    };
+    let update = update_of(alloc, &line)?;
+    Ok(Prepared {
+        owner: owner_digest(hash, &update),
+        password: password_digest(alloc, setup, hash, challenge, &update)?,
+        content: Content::Message(line),
+        update,
+    })
+}
+
+/// The update that a message makes, where it is an INF for all.
+fn update_of(alloc: Global, line: &Line) -> Result<Option<Update>, AllocError>
+    ensures { IfOk result (λ update. update ≡ update_of (Ok line.now)) }
+{
+    if line.kind() != Kind::Broadcast || line.command() != *b"INF" {
+        return Ok(None);
+    }
+    let words = words_of(alloc, line)?;
+    update_in(alloc, &words)
+}
+
+/// The parameters of a message.
+fn words_of(alloc: Global, line: &Line) -> Result<Vec<&str>, AllocError>
+    ensures { IfOk result (λ words. map deref words.items ≡ line.now.params) }
+{
+    let mut words = Vec::new(alloc);
+    for word in line.params() {
+        words.push(word).map_err(|_| AllocError)?;
+    }
+    Ok(words)
+}
+
+fn update_in(alloc: Global, words: &[&str]) -> Result<Option<Update>, AllocError>
+    ensures { IfOk result (λ update. update ≡ update_in (updates.reading (map deref words.now))) }
+{
+    match Update::read(alloc, words) {
+        Ok(update) => Ok(Some(update)),
+        Err(InfFault::Memory) => Err(AllocError),
+        Err(_) => Ok(None),
+    }
+}
+
+/// The digest of the private identifier, where there is one.
+fn owner_digest<H: SessionHash>(hash: &H, update: &Option<Update>) -> Option<[u8; 24]>
+    ensures { result ≡ owner_digest (H.digest_of hash.now) update.now }
+{
+    match update {
+        Some(update) => {
+            let word = update.get(FieldName::private_id()).unwrap_or("");
+            let pid = Pid::parse(word.as_bytes())?;
+            Some(hash.digest(&pid.bytes()))
+        }
+        None => None,
+    }
+}
+
+/// The digest of the password and the challenge, where the nick is a registered user's.
+fn password_digest<H: SessionHash>(
+    alloc: Global,
+    setup: &Setup,
+    hash: &H,
+    challenge: [u8; 24],
+    update: &Option<Update>,
+) -> Result<Option<[u8; 24]>, AllocError>
+    ensures { IfOk result (λ digest. digest ≡ password_digest setup.now (H.digest_of hash.now) challenge update.now) }
+{
+    match update {
+        Some(update) => {
+            let key = key_in(alloc, update)?;
+            password_of(alloc, hash, challenge, setup.account(&key))
+        }
+        None => Ok(None),
+    }
+}
+
+fn password_of<H: SessionHash>(
+    alloc: Global,
+    hash: &H,
+    challenge: [u8; 24],
+    account: Option<&Registered>,
+) -> Result<Option<[u8; 24]>, AllocError>
+    ensures { IfOk result (λ digest. digest ≡ password_of (H.digest_of hash.now) challenge (option_copied account.entry)) }
+{
+    match account {
+        Some(account) => {
+            let mut secret = Vec::from_slice(alloc, account.password().as_bytes())?;
+            secret.extend_from_slice(&challenge)?;
+            Ok(Some(hash.digest(&secret)))
+        }
+        None => Ok(None),
+    }
+}
+
+/// What the nick of an update is found by. It need not be a valid one.
+fn key_in(alloc: Global, update: &Update) -> Result<String, AllocError>
+    ensures { IfOk result (λ key. string_bytes key ≡ key_in update.now) }
+{
+    let nick = nick_in(alloc, update)?;
+    to_nfc(alloc, &nick)
+}
+
+/// What the word of the nick means; the empty text where there is none.
+fn nick_in(alloc: Global, update: &Update) -> Result<String, AllocError>
+    ensures { IfOk result (λ nick. string_bytes nick ≡ nick_in update.now) }
+{
+    let word = update.get(FieldName::nick()).unwrap_or("");
+    match unescape(alloc, word) {
+        Ok(nick) => Ok(nick),
+        Err(UnescapeFault::Memory) => Err(AllocError),
+        Err(UnescapeFault::Escape) => Ok(String::new(alloc)),
+    }
+}
+
+impl Prepared {
+    /// What it says.
+    pub fn says(&self) -> Says<'_>
+        ensures { IsSaid result self.now.bytes }
+    {
+        match &self.content {
+            Content::Message(line) => message_or_nothing(line),
+            Content::Other(bytes) => {
+                if bytes.is_empty() {
+                    Says::Nothing
+                } else {
+                    Says::NoMessage
+                }
+            }
+        }
+    }
+
+    /// The fields that it updates, where it is an INF for all whose words make an update (ADC 1.0, "INF").
+    pub fn update(&self) -> Option<&Update>
+        ensures { option_copied result ≡ update_of (lines.reading self.now.bytes) }
+    {
+        self.update.as_ref()
+    }
+
+    /// The digest of the private identifier of the update, where there is one.
+    pub fn owner(&self) -> Option<[u8; 24]>
+        ensures { result ≡ self.now.owner }
+    {
+        self.owner
+    }
+
+    /// The digest of password and challenge, where the nick of the update is a registered user's.
+    pub fn password(&self) -> Option<[u8; 24]>
+        ensures { result ≡ self.now.password }
+    {
+        self.password
+    }
+}
+
+fn message_or_nothing(line: &Line) -> Says<'_>
+    ensures { IsSaid result line.entry.now.text }
+{
+    if line.text().is_empty() {
+        Says::Nothing
+    } else {
+        Says::Message(line)
+    }
+}

@@ -1,0 +1,162 @@
+ghost use Rattle.std.specs.Prelude.{◌≡◌, ◌≤◌, ◌++◌, map, IfOk};
+ghost use Rattle.std.specs.Option.{option_copied};
+ghost use Rattle.hub_rules.specs.Accounts.{account_with};
+ghost use Rattle.hub_rules.specs.Texts.{menu_line};
+ghost use Rattle.hub_setup.specs.Settings.{configured, IsConfigured, is_past_limit};
+
+use crate::menu::{MenuLine, are_commands, menu_lines, with_menu};
+use crate::options::Options;
+use crate::refused::SetupRefused;
+use crate::registered::{Registered, registered_users};
+use outboxes::Batch;
+use std::alloc::{AllocError, Global};
+use std::marker::Model;
+
+/// How many registered users a hub may have.
+const MOST_ACCOUNTS: usize = 32;
+
+/// How many entries a hub may have for the clients' menus.
+const MOST_COMMANDS: usize = 64;
+
+/// How many connections a hub may be set up to admit.
+const MOST_USERS: u32 = 900;
+
+/// What a hub is set up with.
+#[derive(Debug, Drop)]
+pub struct Setup {
+    name: String,
+    topic: String,
+    accounts: Vec<Registered>,
+    menu: Vec<MenuLine>,
+    registered_only: bool,
+    search_interval: u32,
+    max_users: u32,
+    opening: u64,
+}
+
+impl Model for Setup {
+    ghost use Rattle.hub_rules.specs.Configured.{Configured};
+
+    ghost Value = { Configured };
+
+    ghost use Rattle.hub_setup.specs.SetupView.{setup_view, IsWithinLimits};
+
+    ghost view = { setup_view };
+
+    ghost invariant = { IsWithinLimits };
+}
+
+impl Setup {
+    /// The setup that the options describe. The messages of the menu are written here, once.
+    ///
+    /// Refused, by the first that applies: `Limit` over 32 accounts, over 64 menu entries, or where not 1 to 900
+    /// connections are to be admitted; `Name` where the name is empty; `Account` where a nick is none (1 to 64 code
+    /// points, each above 32: ADC 1.0, "INF"), a password is empty, or two nicks have one normal form C; `Command`
+    /// where a menu entry has no name or a context that is not 1 to 15 (ADC-EXT, "UCMD"). `Memory` where memory runs
+    /// out before a fault that is looked for later was found.
+    #[tactic(auto, unfolding(crate::specs::Settings::configured))]
+    pub fn new(alloc: Global, options: &Options<'_>) -> Result<Setup, SetupRefused>
+        ensures exact { IsConfigured result (configured options.now) }
+    {
+        if is_past_limit(options) {
+            return Err(SetupRefused::Limit);
+        }
+        if options.name.is_empty() {
+            return Err(SetupRefused::Name);
+        }
+        let accounts = registered_users(alloc, options.accounts)?;
+        if !are_commands(options.commands) {
+            return Err(SetupRefused::Command);
+        }
+        Ok(Setup {
+            name: String::from_str(alloc, options.name)?,
+            topic: String::from_str(alloc, options.topic)?,
+            accounts,
+            menu: menu_lines(alloc, options.commands)?,
+            registered_only: options.registered_only,
+            search_interval: options.search_interval,
+            max_users: options.max_users,
+            opening: options.opening,
+        })
+    }
+
+    /// The hub's name, not empty.
+    pub fn name(&self) -> &str
+        ensures { result.now ≡ self.now.name }
+    {
+        self.name.as_str()
+    }
+
+    /// The topic at the opening; it may be empty.
+    pub fn topic(&self) -> &str
+        ensures { result.now ≡ self.now.topic }
+    {
+        self.topic.as_str()
+    }
+
+    /// Whether only registered users are admitted.
+    pub fn registered_only(&self) -> bool
+        ensures { result ≡ self.now.registered_only }
+    {
+        self.registered_only
+    }
+
+    /// How many seconds lie between two searches of one user, at least.
+    pub fn search_interval(&self) -> u64
+        ensures { result ≡ self.now.search_interval }
+    {
+        u64::from(self.search_interval)
+    }
+
+    /// The moment at which the hub opens, in seconds.
+    pub fn opening(&self) -> u64
+        ensures { result ≡ self.now.opening }
+    {
+        self.opening
+    }
+
+    /// How many connections are admitted at once, from 1 to 900.
+    pub fn max_users(&self) -> u32
+        ensures exact { result ≡ self.now.max_users }
+        ensures some { 1 ≤ self.now.max_users }
+        ensures few { self.now.max_users ≤ 900 }
+    {
+        self.max_users
+    }
+
+    /// The registered user whose nick has this key, its normal form C. Takes no memory.
+    pub fn account(&self, key: &str) -> Option<&Registered>
+        ensures { option_copied result ≡ account_with key.now self.now.accounts }
+    {
+        find_account(&self.accounts, key)
+    }
+
+    /// A batch with the messages behind its own that tell a client of the menu (ADC-EXT, "UCMD"). They are shared and
+    /// not written again. Refused only where memory runs out; the batch is then lost.
+    pub fn menu(&self, batch: Batch) -> Result<Batch, AllocError>
+        ensures { IfOk result (λ all. all ≡ batch ++ map menu_line self.now.menu) }
+    {
+        with_menu(&self.menu, batch)
+    }
+}
+
+fn is_past_limit(options: &Options<'_>) -> bool
+    ensures { result ≡ is_past_limit options.now }
+{
+    options.accounts.len() > MOST_ACCOUNTS
+        || options.commands.len() > MOST_COMMANDS
+        || options.max_users == 0
+        || options.max_users > MOST_USERS
+}
+
+#[tactic(auto, unfolding(hub_rules::specs::Accounts::account_with))]
+fn find_account<'a>(accounts: &'a [Registered], key: &str) -> Option<&'a Registered>
+    ensures { option_copied result ≡ account_with key.entry.now accounts.entry.now }
+{
+    'accounts: for account in accounts {
+        if account.key() == key {
+            return Some(account);
+        }
+    }
+    None
+}
