@@ -1,5 +1,5 @@
 -- What was decided of a line, carried out, makes of a hub that stands at a history one that stands at the next.
-use Rattle.std.proofs.Common.{◌≡◌, ◌∙◌, sym, ap, ap₂, refl, subst, ℕ, ◌≤◌, Bool, true, false, ◌||◌, ◌==◌, eqb, List, [], ◌∷◌, map, length, get_or, slice_set, Option, Some, None, cond}
+use Rattle.std.proofs.Common.{◌≡◌, ◌∙◌, sym, ap, ap₂, refl, subst, ℕ, Bool, true, false, ◌||◌, ◌==◌, eqb, List, [], ◌∷◌, map, length, get_or, slice_set, Some}
 use Rattle.std.specs.Prelude.{if◌then◌else◌}
 use Rattle.std.proofs.lemmas.Bool.{false≢true, eqb-true, eq-eqb}
 use Rattle.inf_fields.specs.Field.{Field}
@@ -8,13 +8,12 @@ use Rattle.login_state.specs.declared.stage.Stage.TheVariants as stages
 use Rattle.operator_acts.specs.declared.ban.Ban.{Ban}
 use Rattle.user_table.specs.Listed.{Listed}
 use Rattle.user_table.specs.Tables.{first_who, has_sid, user_by_sid}
-use Rattle.hub_core.specs.declared.seat.Phase.{Phase}
 use Rattle.hub_core.specs.declared.seat.Phase.TheVariants as phases
 use Rattle.hub_core.specs.declared.seat.Seat.{Seat}
 use Rattle.hub_core.specs.CoreState.{CoreState}
 use Rattle.hub_core.specs.Decided.{Decided, DecidedBy}
-use Rattle.hub_core.specs.Phases.{phase_at, phase_of}
-use Rattle.hub_core.specs.Seats.{at_seat, phase_in, removed_of, seat_of, seat_share, seat_with, settled_all, sid_in, turned_seat}
+use Rattle.hub_core.specs.Phases.{phase_at}
+use Rattle.hub_core.specs.Seats.{at_seat, removed_of, seat_of, seat_share, settled_all, turned_seat}
 use Rattle.hub_core.specs.State.{carried_out, core_of, users_after}
 use Rattle.hub_rules.specs.declared.effect.Effect.{Effect}
 use Rattle.hub_rules.specs.Configured.{Configured}

@@ -6,9 +6,8 @@ use Rattle.std.proofs.lemmas.List.{length-drop}
 use Rattle.outboxes.specs.Backlogs.{Backlog, with_lines}
 use Rattle.hub_core.specs.declared.seat.Phase.{Phase}
 use Rattle.hub_core.specs.declared.seat.Seat.{Seat}
-use Rattle.hub_core.specs.Leaving.{has_ended, lines_in}
+use Rattle.hub_core.specs.Leaving.{has_ended}
 use Rattle.hub_core.specs.Phases.{stage_in}
-use Rattle.hub_core.specs.Seats.{outbox_in, phase_in}
 use Rattle.hub_core.proofs.Places.{StandsFirst, outbox-at, phase-at}
 use Rattle.hub_rules.specs.Effects.{is_over}
 

@@ -1,11 +1,11 @@
 -- The seats of a hub are those of the connections that are open, in the order of their joins.
-use Rattle.std.proofs.Common.{◌≡◌, ◌∙◌, sym, ap, ap₂, refl, subst, ℕ, Bool, true, false, cond, not, ◌&&◌, ◌||◌, List, [], ◌∷◌, ◌++◌, map, filter}
+use Rattle.std.proofs.Common.{◌≡◌, ◌∙◌, sym, ap, ap₂, refl, ℕ, Bool, true, false, cond, not, ◌||◌, List, [], ◌∷◌, map, filter}
 use Rattle.std.specs.Prelude.{◌==◌}
 use Rattle.std.specs.List.{list_any}
 use Rattle.std.proofs.lemmas.Bool.{false≢true, eqb-true, eq-eqb}
 use Rattle.hub_core.specs.declared.seat.Removal.{Removal}
 use Rattle.hub_core.specs.declared.seat.Seat.{Seat}
-use Rattle.hub_core.specs.Seats.{at_seat, in_seat, seat_of, seat_with, settled, settled_all}
+use Rattle.hub_core.specs.Seats.{at_seat, in_seat, seat_of, settled, settled_all}
 use Rattle.hub_rules.specs.Shares.{About, chosen}
 use Rattle.hub_rules.proofs.Members.{apart, both, has, or-parts}
 

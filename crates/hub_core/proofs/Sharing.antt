@@ -1,7 +1,6 @@
 -- What an effect makes of the seat of one connection.
-use Rattle.std.proofs.Common.{◌≡◌, ◌∙◌, sym, ap, ap₂, refl, subst, ℕ, ◌≤◌, Bool, true, false, not, ◌&&◌, List, [], ◌∷◌, ◌++◌, length, drop, Option, Some, None}
+use Rattle.std.proofs.Common.{◌≡◌, ◌∙◌, sym, ap, ap₂, refl, ℕ, ◌≤◌, Bool, true, false, not, ◌&&◌, List, ◌++◌, length}
 use Rattle.std.specs.Prelude.{◌==◌}
-use Rattle.std.proofs.lemmas.Bool.{false≢true}
 use Rattle.feature_route.specs.Matching.{feature_set}
 use Rattle.login_state.specs.declared.stage.Stage.{Stage}
 use Rattle.login_state.specs.declared.stage.Stage.TheVariants as stages
@@ -25,7 +24,7 @@ use Rattle.hub_rules.specs.Identities.{listed, su_in}
 use Rattle.hub_rules.specs.Sights.{Own}
 use Rattle.inf_fields.specs.Field.{Field}
 use Rattle.std.specs.Prelude.{if◌then◌else◌}
-use Rattle.hub_rules.specs.Shares.{About, affected, backlog_of, chosen, given_share, has_room, hears, hears_those, is_removed, owes, removed_if, stage_after, turned, waiting, with_share}
+use Rattle.hub_rules.specs.Shares.{About, affected, backlog_of, chosen, given_share, has_room, hears_those, is_removed, owes, removed_if, stage_after, turned, waiting, with_share}
 use Rattle.hub_rules.proofs.Suits.{Routed, Suited, Suits, is_same}
 use Rattle.hub_rules.proofs.Tidy.{waiting-more, with-own}
 

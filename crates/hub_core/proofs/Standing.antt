@@ -1,8 +1,8 @@
 -- A hub that stands at a history stands at the next one after each call.
-use Rattle.std.proofs.Common.{◌≡◌, ◌∙◌, sym, ap, ap₂, refl, subst, ℕ, ◌+◌, ◌<◌, ◌≤◌, Bool, true, false, not, ◌&&◌, ◌||◌, ◌==◌, eqb, List, [], ◌∷◌, ◌++◌, length, map, take, drop, filter, arith, append-nil}
+use Rattle.std.proofs.Common.{◌≡◌, ◌∙◌, sym, ap, ap₂, refl, subst, ℕ, ◌+◌, ◌<◌, ◌≤◌, Bool, true, false, not, ◌&&◌, ◌||◌, ◌==◌, List, [], ◌∷◌, ◌++◌, length, map, take, arith, append-nil}
 use Rattle.std.specs.Prelude.{nat_le}
 use Rattle.std.specs.List.{concat, list_any}
-use Rattle.std.proofs.lemmas.Bool.{false≢true, eqb-true, eq-eqb, leb-false}
+use Rattle.std.proofs.lemmas.Bool.{false≢true, eqb-true, eq-eqb}
 use Rattle.std.proofs.lemmas.List.{map-append, length-map}
 use Rattle.adc_base32.specs.Turns.{next_free}
 use Rattle.outboxes.specs.Backlogs.{Backlog, empty_backlog, fits, size_of, with_lines}
@@ -21,24 +21,23 @@ use Rattle.hub_core.specs.CoreState.{CoreState}
 use Rattle.hub_core.specs.Decided.{Decided}
 use Rattle.hub_core.specs.Leaving.{has_ended, left_core, lightened, lightened_core, lines_in, others_of, told, told_all_if, told_if}
 use Rattle.hub_core.specs.Moves.{LineMoves, Moves, StandsAt}
-use Rattle.hub_core.specs.Phases.{phase_at, phase_of, stage_in}
+use Rattle.hub_core.specs.Phases.{phase_at, stage_in}
 use Rattle.hub_core.specs.Seats.{at_seat, in_seat, new_seat, outbox_in, phase_in, seat_of, seat_with, sid_in}
-use Rattle.hub_core.specs.State.{HasSeat, IsSeated, Stands, carried_out, core_of, has_seat}
+use Rattle.hub_core.specs.State.{HasSeat, IsSeated, Stands, carried_out, core_of}
 use Rattle.hub_rules.specs.declared.effect.Effect.{Effect}
-use Rattle.hub_rules.specs.declared.history.Call.TheVariants.{Join, Line, Quit, Take}
+use Rattle.hub_rules.specs.declared.history.Call.TheVariants.{Join, Quit, Take}
 use Rattle.hub_rules.specs.declared.history.Entry.{Entry}
 use Rattle.hub_rules.specs.declared.history.Reply.TheVariants.{Joined, Full, JoinsSpent, Said, Left, Took}
 use Rattle.hub_rules.specs.declared.history.Verdict.{Verdict}
 use Rattle.hub_rules.specs.Configured.{Configured}
 use Rattle.hub_rules.specs.Effects.{departure, farewell, given_if, is_over, is_present, line_effect}
-use Rattle.hub_rules.specs.Facts.{Facts, about_after, after, closed, effect_of_line, facts, given, happens, has_joins, has_place, joined, max_joins, newcomer, next_sid, own_of, present_after, sight_of, user_of, with_one}
+use Rattle.hub_rules.specs.Facts.{Facts, about_after, after, closed, effect_of_line, facts, given, happens, has_joins, has_place, joined, max_joins, newcomer, next_sid, own_of, sight_of, user_of, with_one}
 use Rattle.hub_rules.specs.Identities.{listed}
 use Rattle.hub_rules.proofs.Entries.{not-over}
 use Rattle.hub_rules.specs.Legal.{Legal, is_open, join_reply, reply, take_reply, verdict_of}
 use Rattle.hub_rules.specs.Shares.{About, affected, backlog_of, chosen, given_share, has_room, max_bytes, max_lines, removed_if, waiting, with_share}
 use Rattle.hub_rules.specs.Sights.{PreparedLine}
-use Rattle.hub_rules.specs.Prepared.{prepared}
-use Rattle.hub_rules.proofs.Calls.{absent-newcomer, not-open, sound_of}
+use Rattle.hub_rules.proofs.Calls.{not-open, sound_of}
 use Rattle.hub_rules.proofs.Members.{has}
 use Rattle.hub_rules.proofs.Sids.{Numbered, numbered_of}
 use Rattle.hub_rules.proofs.Sound.{Sound, or-true}

@@ -1,14 +1,12 @@
 -- What an effect makes of the list of users who are present.
-use Rattle.std.proofs.Common.{◌≡◌, ◌∙◌, sym, ap, ap₂, refl, subst, ℕ, ◌≤◌, Bool, true, false, cond, not, ◌&&◌, ◌||◌, ◌==◌, eqb, List, [], ◌∷◌, ◌++◌, map, filter, append-nil, Option}
+use Rattle.std.proofs.Common.{◌≡◌, ◌∙◌, sym, ap, ap₂, refl, ℕ, Bool, true, false, cond, not, ◌&&◌, ◌||◌, ◌==◌, eqb, List, [], ◌∷◌, ◌++◌, map, filter, append-nil, Option}
 use Rattle.std.proofs.lemmas.Bool.{false≢true, eqb-true, eq-eqb}
 use Rattle.std.proofs.lemmas.List.{map-append}
 use Rattle.inf_fields.specs.Field.{Field}
 use Rattle.login_state.specs.declared.stage.Stage.{Stage}
-use Rattle.login_state.specs.declared.stage.Stage.TheVariants as stages
 use Rattle.user_table.specs.Changes.{given_key}
 use Rattle.user_table.specs.Listed.{Listed}
 use Rattle.user_table.specs.Tables.{has_sid, updated, updated_if, with_update, without_sid}
-use Rattle.hub_core.specs.declared.seat.Phase.{Phase}
 use Rattle.hub_core.specs.Phases.{awaited, phase_at, phase_of}
 use Rattle.hub_core.specs.State.{users_after, users_turned}
 use Rattle.hub_rules.specs.declared.effect.Effect.{Effect}
@@ -18,7 +16,7 @@ use Rattle.hub_rules.specs.declared.effect.Turn.TheVariants as turns
 use Rattle.hub_rules.specs.declared.effect.World.{World}
 use Rattle.hub_rules.specs.declared.effect.World.TheVariants as worlds
 use Rattle.hub_rules.specs.Configured.{Configured}
-use Rattle.hub_rules.specs.Effects.{entrant, is_over, is_present}
+use Rattle.hub_rules.specs.Effects.{is_present}
 use Rattle.hub_rules.specs.Facts.{Facts, about_after, enters, newcomer_if, own_of, present_after, user_of}
 use Rattle.hub_rules.specs.Identities.{listed}
 use Rattle.hub_rules.specs.Shares.{About, chosen, fields_after, is_removed, stage_after}

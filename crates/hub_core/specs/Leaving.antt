@@ -1,9 +1,8 @@
 -- What a connection leaves behind, and what a take leaves.
-use Rattle.std.specs.Prelude.{ℕ, ◌==◌, ◌&&◌, ◌||◌, not, Bool, true, false, List, [], ◌∷◌, drop, filter, length, map, nat_le, take}
-use Rattle.outboxes.specs.Backlogs.{Backlog, with_lines}
+use Rattle.std.specs.Prelude.{ℕ, ◌==◌, ◌&&◌, ◌||◌, not, Bool, true, false, List, [], ◌∷◌, drop, filter, length, map, nat_le}
+use Rattle.outboxes.specs.Backlogs.{with_lines}
 use Rattle.outboxes.specs.Quits.{quit_line}
 use Rattle.user_table.specs.Tables.{without_sid}
-use Rattle.hub_core.specs.declared.seat.Phase.{Phase}
 use Rattle.hub_core.specs.declared.seat.Seat.{Seat}
 use Rattle.hub_core.specs.CoreState.{CoreState}
 use Rattle.hub_core.specs.Phases.{stage_in}

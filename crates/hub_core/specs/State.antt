@@ -1,5 +1,5 @@
 -- What a hub keeps, what an effect makes of it, and when it stands at a history.
-use Rattle.std.specs.Prelude.{◌≡◌, ℕ, ◌==◌, Bool, true, List, [], ◌∷◌, ◌++◌, map, Option, Some, None}
+use Rattle.std.specs.Prelude.{◌≡◌, ℕ, ◌==◌, Bool, true, List, [], ◌∷◌, ◌++◌, map}
 use Rattle.std.specs.List.{list_any}
 use Rattle.user_table.specs.Changes.{given_key}
 use Rattle.user_table.specs.Listed.{Listed}

@@ -25,7 +25,12 @@ pub struct Commons {
 
 impl Commons {
     /// Changes what all connections share, and takes the turn of the connection that sent the line, whole or not at all.
-    pub(crate) fn change(&mut self, seat: &mut Seat, turn: Turn, world: World) -> Result<(), AllocError>
+    pub(crate) fn change(
+        &mut self,
+        seat: &mut Seat,
+        turn: Turn,
+        world: World,
+    ) -> Result<(), AllocError>
         ensures users { OnOk result (self.new.users ≡ users_after world turn seat.old.sid seat.old.phase self.old.users) }
         ensures bans { OnOk result (self.new.bans ≡ bans_after world self.old.bans) }
         ensures topic { OnOk result (self.new.topic ≡ topic_after world self.old.topic) }

@@ -33,7 +33,15 @@ pub(crate) fn decide_at<'a>(
             ask(alloc, setup, commons, seat, progress, line, now)
         }
         Phase::Normal(_) => match commons.users.by_sid(seat.sid) {
-            Some(user) => ask(alloc, setup, commons, seat, Progress::Normal(user), line, now),
+            Some(user) => ask(
+                alloc,
+                setup,
+                commons,
+                seat,
+                Progress::Normal(user),
+                line,
+                now,
+            ),
             None => Ok(nothing(alloc)),
         },
         Phase::Gone => Ok(nothing(alloc)),

@@ -13,12 +13,12 @@ mod share;
 
 pub use connection::Connection as Conn;
 pub use hub::Core;
-pub use look::Look;
 pub use hub_rules::Verdict;
 pub use hub_setup::{
     Account, LineRefused, MenuEntry, MenuItem, Options, Prepared, Setup, SetupRefused, prepare,
 };
 pub use login_state::Stage;
+pub use look::Look;
 pub use outboxes::{TakeRefused, Taken};
 pub use refused::{JoinRefused, OpenRefused};
 pub use user_table::Totals;

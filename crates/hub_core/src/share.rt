@@ -26,12 +26,7 @@ pub(crate) fn shares(
     Ok(shares)
 }
 
-fn share(
-    alloc: Global,
-    seat: &Seat,
-    number: u64,
-    effect: &Effect<'_>,
-) -> Result<Batch, AllocError>
+fn share(alloc: Global, seat: &Seat, number: u64, effect: &Effect<'_>) -> Result<Batch, AllocError>
     ensures { IfOk result (λ share. share ≡ seat_share number effect.now seat.now) }
 {
     let is_caller = seat.number == number;

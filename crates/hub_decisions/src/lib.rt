@@ -23,5 +23,3 @@ pub use decision::decide;
 pub use own::{Own, Progress};
 pub use sight::Sight;
 
-#[cfg(test)]
-mod tests;

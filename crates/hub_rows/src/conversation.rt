@@ -16,10 +16,19 @@ pub(crate) enum Step<'a> {
     IsRefused(JoinRefused),
     /// It sends a line, without line feed; the hub keeps it or ends it.
     Says(usize, &'a [u8], Verdict),
+    /// The same, at a moment in seconds.
+    SaysAt(usize, u64, &'a [u8], Verdict),
+    /// The next connection joins, sends `HSUP ADBASE ADTIGR` and then this login line; afterwards
+    /// all take what waits for them.
+    Enters(&'a [u8]),
+    /// All take what waits for them.
+    Clears,
     /// It gets this line next.
     Hears(usize, &'a str),
     /// A take of 256 lines gives this line alone, and says that nothing will follow.
     HearsLast(usize, &'a str),
+    /// A take of 256 lines gives so many, and tells whether nothing will follow.
+    Takes(usize, u64, bool),
     /// Nothing waits for it, and more may come.
     Waits(usize),
     /// Nothing waits for it, and nothing will.
@@ -61,21 +70,19 @@ pub(crate) use again;
 /// Every peer is 127.0.0.1, every challenge 24 zero bytes, every moment 0.
 pub(crate) fn play(rt: &impl Abort, alloc: Global, options: &Options<'_>, steps: &[Step<'_>]) {
     let mut hub = Played::open(rt, alloc, options);
-    for (place, step) in steps.iter().enumerate() {
-        hub.make(rt, alloc, place, *step);
-    }
+    hub.play(rt, alloc, steps);
 }
 
 /// A hub, and those who joined it.
 #[derive(Drop)]
-struct Played {
+pub(crate) struct Played {
     setup: Arc<Setup>,
     core: Core,
     joined: Vec<Conn>,
 }
 
 impl Played {
-    fn open(rt: &impl Abort, alloc: Global, options: &Options<'_>) -> Played {
+    pub(crate) fn open(rt: &impl Abort, alloc: Global, options: &Options<'_>) -> Played {
         let setup = again!(rt; Setup::new(alloc, options));
         let setup = match Arc::new(alloc, setup) {
             Ok(setup) => setup,
@@ -92,17 +99,25 @@ impl Played {
         }
     }
 
+    /// Goes on with a conversation.
+    pub(crate) fn play(&mut self, rt: &impl Abort, alloc: Global, steps: &[Step<'_>]) {
+        for (place, step) in steps.iter().enumerate() {
+            self.make(rt, alloc, place, *step);
+        }
+    }
+
     fn make(&mut self, rt: &impl Abort, alloc: Global, place: usize, step: Step<'_>) {
         match step {
-            Step::Joins => {
-                let joined = again!(rt; self.core.join(alloc, [127, 0, 0, 1], [0; 24], 0));
-                again!(rt; self.joined.push(joined));
-            }
+            Step::Joins => self.joins(rt, alloc),
             Step::IsRefused(why) => self.refuses(rt, alloc, place, why),
             Step::Says(number, line, verdict) => {
-                let said = self.says(rt, alloc, number, line);
-                assert!(rt; said == verdict, "step {place}: {said:?}, not {verdict:?}");
+                self.says(rt, alloc, place, number, 0, line, verdict);
             }
+            Step::SaysAt(number, now, line, verdict) => {
+                self.says(rt, alloc, place, number, now, line, verdict);
+            }
+            Step::Enters(line) => self.enters(rt, alloc, place, line),
+            Step::Clears => self.clear(rt, alloc),
             Step::Hears(number, line) => {
                 self.hears(rt, alloc, place, number, line, 1);
             }
@@ -110,6 +125,7 @@ impl Played {
                 let ended = self.hears(rt, alloc, place, number, line, 256);
                 assert!(rt; ended, "step {place}: more may come");
             }
+            Step::Takes(number, lines, ended) => self.takes(rt, alloc, place, number, lines, ended),
             Step::Waits(number) => self.has_nothing(rt, alloc, place, number, false),
             Step::Over(number) => self.has_nothing(rt, alloc, place, number, true),
             Step::Quits(number) => {
@@ -132,10 +148,74 @@ impl Played {
         connection
     }
 
-    fn says(&mut self, rt: &impl Abort, alloc: Global, number: usize, line: &[u8]) -> Verdict {
+    fn joins(&mut self, rt: &impl Abort, alloc: Global) {
+        let joined = again!(rt; self.core.join(alloc, [127, 0, 0, 1], [0; 24], 0));
+        again!(rt; self.joined.push(joined));
+    }
+
+    fn says(
+        &mut self,
+        rt: &impl Abort,
+        alloc: Global,
+        place: usize,
+        number: usize,
+        now: u64,
+        line: &[u8],
+        verdict: Verdict,
+    ) {
         let connection = self.connection(rt, number);
         let line = again!(rt; prepare(alloc, &self.setup, &First24, [0; 24], line));
-        again!(rt; self.core.line(alloc, connection, &line, 0))
+        let said = again!(rt; self.core.line(alloc, connection, &line, now));
+        assert!(rt; said == verdict, "step {place}: {said:?}, not {verdict:?}");
+    }
+
+    fn enters(&mut self, rt: &impl Abort, alloc: Global, place: usize, line: &[u8]) {
+        self.joins(rt, alloc);
+        let number = self.joined.len();
+        self.says(
+            rt,
+            alloc,
+            place,
+            number,
+            0,
+            b"HSUP ADBASE ADTIGR",
+            Verdict::Kept,
+        );
+        self.says(rt, alloc, place, number, 0, line, Verdict::Kept);
+        self.clear(rt, alloc);
+    }
+
+    fn clear(&mut self, rt: &impl Abort, alloc: Global) {
+        for place in 0..self.joined.len() {
+            self.leave_unread(rt, alloc, place);
+        }
+    }
+
+    /// Takes up to 256 lines of a connection, unless it has quit.
+    fn leave_unread(&mut self, rt: &impl Abort, alloc: Global, place: usize) {
+        assert!(rt; place < self.joined.len(), "nobody has this place");
+        let connection = self.joined[place];
+        if !self.core.is_open(connection) {
+            return;
+        }
+        let mut unread = Vec::new(alloc);
+        again!(rt; self.core.take(connection, 256, &mut unread));
+    }
+
+    fn takes(
+        &mut self,
+        rt: &impl Abort,
+        alloc: Global,
+        place: usize,
+        number: usize,
+        lines: u64,
+        ended: bool,
+    ) {
+        let connection = self.connection(rt, number);
+        let mut heard = Vec::new(alloc);
+        let taken = again!(rt; self.core.take(connection, 256, &mut heard));
+        assert!(rt; taken.lines == lines, "step {place}: {} lines", taken.lines);
+        assert!(rt; taken.ended == ended, "step {place}: ended {}", taken.ended);
     }
 
     fn refuses(&mut self, rt: &impl Abort, alloc: Global, place: usize, why: JoinRefused) {
@@ -160,7 +240,7 @@ impl Played {
     {
         let connection = self.connection(rt, number);
         let mut heard = Vec::new(alloc);
-        let taken = again!(rt; self.core.take(alloc, connection, count, &mut heard));
+        let taken = again!(rt; self.core.take(connection, count, &mut heard));
         assert!(rt;
             taken.lines == 1,
             "step {place}: {} lines, not {line}",
@@ -184,7 +264,7 @@ impl Played {
     ) {
         let connection = self.connection(rt, number);
         let mut heard = Vec::new(alloc);
-        let taken = again!(rt; self.core.take(alloc, connection, 256, &mut heard));
+        let taken = again!(rt; self.core.take(connection, 256, &mut heard));
         assert!(rt;
             taken.lines == 0 && heard.is_empty(),
             "step {place}: {heard:?}"

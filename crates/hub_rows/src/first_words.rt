@@ -1,7 +1,7 @@
 use crate::conversation::{Step, plain, play};
 use Step::{Hears, HearsLast, IsRefused, Joins, Over, Quits, Says, Waits};
 use Verdict::{Ended, Kept};
-use hub_core::{JoinRefused, Options, Setup, SetupRefused, Verdict};
+use hub_core::{JoinRefused, Options, Verdict};
 
 #[test]
 fn a_client_is_greeted(rt: HostRuntime) {

@@ -2,8 +2,28 @@
 #![tactic(auto)]
 
 #[cfg(test)]
+mod chat;
+#[cfg(test)]
 mod conversation;
+#[cfg(test)]
+mod crowds;
+#[cfg(test)]
+mod field_limits;
 #[cfg(test)]
 mod first_words;
 #[cfg(test)]
 mod limits;
+#[cfg(test)]
+mod lines;
+#[cfg(test)]
+mod login;
+#[cfg(test)]
+mod operators;
+#[cfg(test)]
+mod passwords;
+#[cfg(test)]
+mod routing;
+#[cfg(test)]
+mod searches;
+#[cfg(test)]
+mod updates;

@@ -1,17 +1,10 @@
 use crate::conversation::{Step, again, plain, play};
+use crate::lines::filled;
 use Step::{Hears, Joins, Says, Waits};
 use Verdict::Kept;
-use hub_core::{Account, MenuEntry, MenuItem, Options, Setup, SetupRefused, Verdict};
+use hub_core::{Options, Setup, SetupRefused, Verdict};
 use std::alloc::Global;
 use std::process::Abort;
-
-/// A front, and then a byte as often as it takes to reach a length.
-fn filled(rt: &impl Abort, alloc: Global, front: &[u8], length: usize) -> Vec<u8> {
-    let mut line = again!(rt; Vec::with_capacity(alloc, length));
-    again!(rt; line.extend_from_slice(front));
-    again!(rt; line.resize(length, b'x'));
-    line
-}
 
 #[test]
 fn a_line_has_65_536_bytes_at_most(rt: HostRuntime) {
@@ -64,72 +57,29 @@ fn a_client_has_64_features_at_most(rt: HostRuntime) {
 }
 
 #[test]
-fn what_cannot_be_had_is_refused(rt: HostRuntime) {
-    let accounts = [Account {
-        nick: "op",
-        password: "secret",
-        operator: true,
-    }];
-    let commands = [MenuEntry {
-        name: "Help",
-        context: 1,
-        item: MenuItem::Text("HMSG !help\n"),
-    }];
-    for (options, why) in [
-        (
-            Options {
-                accounts: &accounts,
-                ..plain()
-            },
-            SetupRefused::Limit,
-        ),
-        (
-            Options {
-                commands: &commands,
-                ..plain()
-            },
-            SetupRefused::Limit,
-        ),
-        (
-            Options {
-                registered_only: true,
-                ..plain()
-            },
-            SetupRefused::Limit,
-        ),
-        (
-            Options {
-                search_interval: 1,
-                ..plain()
-            },
-            SetupRefused::Limit,
-        ),
-        (
-            Options {
-                max_users: 0,
-                ..plain()
-            },
-            SetupRefused::Limit,
-        ),
-        (
-            Options {
-                max_users: 513,
-                name: "",
-                ..plain()
-            },
-            SetupRefused::Limit,
-        ),
-        (
-            Options {
-                name: "",
-                ..plain()
-            },
-            SetupRefused::Name,
-        ),
+fn a_hub_without_a_place_or_a_name_is_refused(rt: HostRuntime) {
+    for (max_users, name, why) in [
+        (0, "Hub", SetupRefused::Limit),
+        (901, "Hub", SetupRefused::Limit),
+        (901, "", SetupRefused::Limit),
+        (900, "", SetupRefused::Name),
     ] {
-        match Setup::new(rt.alloc(), &options) {
-            Ok(_) => panic!(rt; "accepted {options:?}"),
-            Err(refused) => assert!(rt; refused == why, "{refused:?} for {options:?}"),
-        }
+        let options = Options {
+            max_users,
+            name,
+            ..plain()
+        };
+        is_refused(&rt, rt.alloc(), &options, why);
+    }
+}
+
+fn is_refused(rt: &impl Abort, alloc: Global, options: &Options<'_>, why: SetupRefused) {
+    let refused = match Setup::new(alloc, options) {
+        Err(SetupRefused::Memory) => Setup::new(alloc, options),
+        answer => answer,
+    };
+    match refused {
+        Ok(_) => panic!(rt; "accepted {options:?}"),
+        Err(refused) => assert!(rt; refused == why, "{refused:?} for {options:?}"),
     }
 }

@@ -23,27 +23,51 @@ fn has_room_for_1_to_900_users(rt: HostRuntime) {
     }
 }
 
+/// An account for each nick.
+fn operators<'a>(alloc: Global, nicks: &[&'a str]) -> Result<Vec<Account<'a>>, Fail> {
+    let mut accounts = Vec::new(alloc);
+    for nick in nicks {
+        if accounts.push(operator(nick, "secret")).is_err() {
+            accounts.push(operator(nick, "secret"))?;
+        }
+    }
+    Ok(accounts)
+}
+
+/// So many lines between menu entries.
+fn separators<'a>(alloc: Global, count: usize) -> Result<Vec<MenuEntry<'a>>, Fail> {
+    let mut commands = Vec::new(alloc);
+    for _ in 0..count {
+        if commands.push(separator()).is_err() {
+            commands.push(separator())?;
+        }
+    }
+    Ok(commands)
+}
+
+fn separator<'a>() -> MenuEntry<'a> {
+    MenuEntry {
+        name: "Help",
+        context: 1,
+        item: MenuItem::Separator,
+    }
+}
+
 #[test]
-fn takes_32_accounts_and_64_commands(rt: HostRuntime) {
+fn takes_32_accounts_and_64_commands(rt: HostRuntime) -> Result<(), Fail> {
     let alloc = rt.alloc();
-    let mut accounts = [operator("a", "secret"); 33];
     let nicks = [
         "a", "b", "c", "d", "e", "f", "g", "h", "i", "j", "k", "l", "m", "n", "o", "p", "q", "r",
         "s", "t", "u", "v", "w", "x", "y", "z", "A", "B", "C", "D", "E", "F", "G",
     ];
-    for i in 0..33 {
-        accounts[i].nick = nicks[i];
-    }
-    let command = MenuEntry {
-        name: "Help",
-        context: 1,
-        item: MenuItem::Separator,
-    };
-    let commands = [command; 65];
+    let few = operators(alloc, &nicks[..32])?;
+    let many = operators(alloc, &nicks)?;
+    let short = separators(alloc, 64)?;
+    let long = separators(alloc, 65)?;
     for (accounts, commands, refused) in [
-        (&accounts[..32], &commands[..64], None),
-        (&accounts[..], &commands[..64], Some(SetupRefused::Limit)),
-        (&accounts[..32], &commands[..], Some(SetupRefused::Limit)),
+        (&few, &short, None),
+        (&many, &short, Some(SetupRefused::Limit)),
+        (&few, &long, Some(SetupRefused::Limit)),
     ] {
         let options = Options {
             accounts,
@@ -57,6 +81,7 @@ fn takes_32_accounts_and_64_commands(rt: HostRuntime) {
             commands.len()
         );
     }
+    Ok(())
 }
 
 #[test]

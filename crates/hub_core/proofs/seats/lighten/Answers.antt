@@ -1,9 +1,7 @@
-use Rattle.std.proofs.Common.{◌≡◌, ◌∙◌, sym, ap, ◌++◌, length, take}
+use Rattle.std.proofs.Common.{◌∙◌, sym, ap, ◌++◌, length, take}
 use Rattle.std.specs.List.{concat}
-use Rattle.outboxes.specs.Backlogs.{Backlog, empty_backlog, with_lines}
-use Rattle.hub_core.specs.declared.seat.Seat.{Seat}
-use Rattle.hub_core.specs.Leaving.{lightened, lines_in}
-use Rattle.hub_core.specs.Seats.{outbox_in}
+use Rattle.outboxes.specs.Backlogs.{Backlog}
+use Rattle.hub_core.specs.Leaving.{lightened}
 use Rattle.hub_core.proofs.Places.{StandsFirst, found, outbox-at, set-read}
 use Rattle.hub_core.proofs.Ended.{ended-at}
 use Rattle.hub_core.proofs.seats.lighten.Goals as goal

@@ -1,8 +1,7 @@
-use Rattle.std.proofs.Common.{◌≡◌, ◌∙◌, ap, ap₂, length, map, slice_set}
+use Rattle.std.proofs.Common.{◌∙◌, ap, ap₂, length, map, slice_set}
 use Rattle.std.specs.Arc.{arc_value}
 use Rattle.std.specs.Vec.{with_item}
 use Rattle.std.proofs.lemmas.List.{with_items_is}
-use Rattle.hub_core.specs.CoreState.{CoreState}
 use Rattle.hub_core.specs.Seats.{removed_of, seat_share, searched_seat, settled_all}
 use Rattle.hub_core.specs.State.{carried_out}
 use Rattle.hub_core.proofs.Carried.{carried-as}

@@ -1,4 +1,4 @@
-use Rattle.std.proofs.Common.{◌≡◌, ◌∙◌, ap, ap₂, refl, List, ◌+◌, ◌<◌, length, arith, ◌++◌, ◌∷◌, []}
+use Rattle.std.proofs.Common.{◌≡◌, ◌∙◌, ap, ap₂, refl, List, ◌+◌, length, arith, ◌++◌, ◌∷◌, []}
 use Rattle.std.specs.Arc.{arc_value}
 use Rattle.adc_base32.specs.Turns.{next_free}
 use Rattle.outboxes.specs.Backlogs.{Backlog}

@@ -1,4 +1,4 @@
-use Rattle.std.proofs.Common.{◌≡◌, ◌∙◌, sym, ap, ap₂, ◌≤◌, length, subst}
+use Rattle.std.proofs.Common.{◌∙◌, sym, ap, ap₂, ◌≤◌, length, subst}
 use Rattle.std.specs.Arc.{arc_value}
 use Rattle.std.proofs.lemmas.List.{with_items_is}
 use Rattle.user_table.specs.Tables.{without_sid}

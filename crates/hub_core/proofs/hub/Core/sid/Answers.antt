@@ -1,4 +1,4 @@
-use Rattle.std.proofs.Common.{◌∙◌, sym, ap}
+use Rattle.std.proofs.Common.{sym, ap}
 use Rattle.hub_core.specs.CoreState.{CoreState}
 use Rattle.hub_core.proofs.Places.{at-core, sid-at}
 use Rattle.hub_core.proofs.Standing.{sid-told}

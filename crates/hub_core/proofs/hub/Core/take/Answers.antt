@@ -3,8 +3,6 @@ use Rattle.std.specs.Arc.{arc_value}
 use Rattle.std.specs.List.{concat}
 use Rattle.hub_core.specs.CoreState.{CoreState}
 use Rattle.hub_core.specs.Leaving.{has_ended, lightened_core, lines_in}
-use Rattle.hub_core.specs.Seats.{at_seat}
-use Rattle.hub_core.specs.Leaving.{lightened}
 use Rattle.hub_core.proofs.Standing.{take-moves}
 use Rattle.hub_core.proofs.hub.Core.take.Goals as goal
 
