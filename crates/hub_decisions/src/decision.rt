@@ -20,7 +20,8 @@ use std::alloc::{AllocError, Global};
 use user_table::Users;
 
 /// What a line leads to at the moment `now`, in seconds (ADC 1.0, "States", "Actions"; ADC-EXT, "PING",
-/// "UCMD"). It changes nothing. Refused only where memory runs out.
+/// "UCMD"). It changes nothing. Refused only where memory runs out, or where a login names an account that the
+/// setup for which the line was prepared did not have.
 ///
 /// An empty line leads to nothing. Of another line the first of these denials holds, and its connection
 /// is told so: it is no message (140); the rules for every line; the rules of what it asks for. A

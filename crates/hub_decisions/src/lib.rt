@@ -22,4 +22,3 @@ mod words;
 pub use decision::decide;
 pub use own::{Own, Progress};
 pub use sight::Sight;
-
