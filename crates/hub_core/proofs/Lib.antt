@@ -1,6 +1,7 @@
 pub mod Carried
 pub mod Ended
 pub mod Places
+pub mod Running
 pub mod Seating
 pub mod Settling
 pub mod Sharing

@@ -4,5 +4,6 @@ pub mod Leaving
 pub mod Moves
 pub mod Phases
 pub mod Promises
+pub mod Runs
 pub mod Seats
 pub mod State

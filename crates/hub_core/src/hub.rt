@@ -17,6 +17,7 @@ use crate::look::Look;
 use crate::seat::Seat;
 use crate::seats::{forget, has_seat, lighten, place, sids, tell_if};
 use crate::share::{removal, settle, shares};
+use crate::touched::{Touched, touched_by, touched_by_quit};
 use crate::{JoinRefused, OpenRefused};
 use adc_base32::Sid;
 use hub_rules::{Effect, Topic, Verdict};
@@ -43,6 +44,8 @@ pub struct Core {
     last: u32,
     seats: Vec<Seat>,
     commons: Commons,
+    /// Whom the last call concerned: a hint, which is not part of what is kept of the hub.
+    touched: Touched,
 }
 
 impl Model for Core {
@@ -78,6 +81,7 @@ impl Core {
                 bans: Bans::new(alloc),
                 topic,
             },
+            touched: Touched::Nobody,
         })
     }
 
@@ -86,6 +90,20 @@ impl Core {
     /// Refused, by the first that applies: `Full` where as many connections are open as the setup
     /// admits, `JoinsSpent` after 18,446,744,073,709,551,615 joins; then `Memory`.
     pub fn join(
+        &mut self,
+        alloc: Global,
+        peer: [u8; 4],
+        challenge: [u8; 24],
+        now: u64,
+    ) -> Result<Connection, JoinRefused>
+        ensures { JoinMoves result self.old (Join peer challenge now) self.new }
+    {
+        let joined = self.admit(alloc, peer, challenge, now);
+        self.note(Touched::Nobody);
+        joined
+    }
+
+    fn admit(
         &mut self,
         alloc: Global,
         peer: [u8; 4],
@@ -150,7 +168,9 @@ impl Core {
         requires seated { IsSeated connection self.old }
         ensures { Moves self.old (Quit connection) Left self.new }
     {
+        let touched = self.touched_by_quit(connection.number);
         self.leave(connection.number);
+        self.note(touched);
     }
 
     /// Removes the first `count` lines that wait for an open connection, or all if fewer wait, and
@@ -170,7 +190,14 @@ impl Core {
         ensures err { OnErr result ((self.new ≡ self.old) × (out.new.items ≡ out.old.items)) }
     {
         let taken = lighten(&mut self.seats, connection.number, count, out)?;
+        self.touched = Touched::Nobody;
         Ok(taken)
+    }
+
+    /// Whom the last call that changed something concerned: whose connections it gave lines to, or shut out. A hint
+    /// that takes no memory; after a take or a join it names nobody.
+    pub fn touched(&self) -> Touched {
+        self.touched
     }
 
     /// What one look at an open connection shows. It takes no memory.
@@ -213,7 +240,9 @@ impl Core {
         ensures err { OnErr result (self.new ≡ self.old) }
     {
         let effect = self.decide(alloc, number, line, now)?;
+        let touched = self.touched_by(number, &effect);
         self.carry_out(alloc, number, effect)?;
+        self.note(touched);
         let verdict = self.verdict(number);
         Ok(verdict)
     }
@@ -232,6 +261,27 @@ impl Core {
         let seat = &self.seats[place(&self.seats, number)];
         let effect = decide_at(alloc, &self.setup, &self.commons, seat, line, now)?;
         Ok(effect)
+    }
+
+    /// Whom the effect of a line of a connection concerns.
+    fn touched_by(&self, number: u64, effect: &Effect<'_>) -> Touched
+        requires { IsSeated number self.now }
+    {
+        touched_by(self.seats[place(&self.seats, number)].sid, effect)
+    }
+
+    /// Whom it concerns that a connection leaves.
+    fn touched_by_quit(&self, number: u64) -> Touched
+        requires { IsSeated number self.now }
+    {
+        touched_by_quit(&self.seats[place(&self.seats, number)].phase)
+    }
+
+    /// Keeps whom a call concerned.
+    fn note(&mut self, touched: Touched)
+        ensures { self.new ≡ self.old }
+    {
+        self.touched = touched;
     }
 
     fn verdict(&self, number: u64) -> Verdict

@@ -1,6 +1,7 @@
 //! The hub for one thread: one call after another, each answered as the calls before it demand.
 #![tactic(auto)]
 
+mod calls;
 mod change;
 mod connection;
 mod decision;
@@ -10,7 +11,9 @@ mod refused;
 mod seat;
 mod seats;
 mod share;
+mod touched;
 
+pub use calls::{Answer, Ask, Asked, run_calls};
 pub use connection::Connection as Conn;
 pub use hub::Core;
 pub use hub_rules::Verdict;
@@ -21,4 +24,5 @@ pub use login_state::Stage;
 pub use look::Look;
 pub use outboxes::{TakeRefused, Taken};
 pub use refused::{JoinRefused, OpenRefused};
+pub use touched::Touched;
 pub use user_table::Totals;

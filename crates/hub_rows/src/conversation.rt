@@ -1,7 +1,7 @@
 ghost use Rattle.std.specs.Prelude.{◌≤◌};
 ghost use Rattle.hub_core.specs.State.{IsSeated};
 
-use hub_core::{Conn, Core, JoinRefused, Options, Setup, Verdict, prepare};
+use hub_core::{Conn, Core, JoinRefused, Options, Setup, Touched, Verdict, prepare};
 use session_hash::First24;
 use std::alloc::Global;
 use std::process::Abort;
@@ -35,6 +35,14 @@ pub(crate) enum Step<'a> {
     Over(usize),
     /// It leaves.
     Quits(usize),
+    /// The hub hints that the last call concerned nobody.
+    ConcernsNobody,
+    /// That it concerned this connection alone.
+    Concerns(usize),
+    /// That it concerned these two.
+    ConcernsBoth(usize, usize),
+    /// That it concerned everybody.
+    ConcernsAll,
 }
 
 /// What a hub is set up with unless a conversation says otherwise.
@@ -132,7 +140,23 @@ impl Played {
                 let connection = self.connection(rt, number);
                 self.core.quit(connection);
             }
+            Step::ConcernsNobody => self.concerns(rt, place, Touched::Nobody),
+            Step::Concerns(number) => {
+                let one = self.core.sid(self.connection(rt, number));
+                self.concerns(rt, place, Touched::One(one));
+            }
+            Step::ConcernsBoth(number, other) => {
+                let one = self.core.sid(self.connection(rt, number));
+                let other = self.core.sid(self.connection(rt, other));
+                self.concerns(rt, place, Touched::Two(one, other));
+            }
+            Step::ConcernsAll => self.concerns(rt, place, Touched::Everybody),
         }
+    }
+
+    fn concerns(&self, rt: &impl Abort, place: usize, whom: Touched) {
+        let touched = self.core.touched();
+        assert!(rt; touched == whom, "step {place}: {touched:?}, not {whom:?}");
     }
 
     /// The connection of a number, which is open.

@@ -4,6 +4,8 @@
 #[cfg(test)]
 mod chat;
 #[cfg(test)]
+mod concerned;
+#[cfg(test)]
 mod conversation;
 #[cfg(test)]
 mod crowds;
@@ -15,6 +17,8 @@ mod first_words;
 mod limits;
 #[cfg(test)]
 mod lines;
+#[cfg(test)]
+mod lists;
 #[cfg(test)]
 mod login;
 #[cfg(test)]

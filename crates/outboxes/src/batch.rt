@@ -1,4 +1,4 @@
-ghost use Rattle.std.specs.Prelude.{◌≡◌, [], ◌∷◌, ◌++◌, length, map, take, OnOk, OnErr};
+ghost use Rattle.std.specs.Prelude.{◌≡◌, ◌↔◌, [], ◌∷◌, ◌++◌, length, map, take, IsTrue, OnOk, OnErr};
 
 use crate::refused::PushRefused;
 use bytes::Bytes;
@@ -50,6 +50,13 @@ impl Batch {
     {
         push_copies(&mut self.lines, &other.lines)?;
         Ok(())
+    }
+
+    /// Whether it has no line.
+    pub fn is_empty(&self) -> bool
+        ensures { IsTrue result ↔ self.now ≡ [] }
+    {
+        self.lines.is_empty()
     }
 
     /// The lines, in order.

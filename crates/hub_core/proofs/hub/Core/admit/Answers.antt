@@ -6,7 +6,7 @@ use Rattle.hub_core.specs.declared.seat.Seat.{Seat}
 use Rattle.hub_core.specs.CoreState.{CoreState}
 use Rattle.hub_core.specs.Seats.{new_seat}
 use Rattle.hub_core.proofs.Standing.{full-moves, join-moves, joined_core, sids_in, spent-moves}
-use Rattle.hub_core.proofs.hub.Core.join.Goals as goal
+use Rattle.hub_core.proofs.hub.Core.admit.Goals as goal
 
 pub returns-then-len-max_users : goal.returns-then-len-max_users
 returns-then-len-max_users c =

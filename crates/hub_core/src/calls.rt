@@ -1,0 +1,145 @@
+ghost use Rattle.std.specs.Prelude.{ℕ, List, [], IfOk};
+ghost use Rattle.std.specs.Arc.{arc_value};
+ghost use Rattle.hub_core.specs.Runs.{Answers, RunsTo};
+ghost use Rattle.hub_core.specs.declared.calls.Ask.TheVariants.{Join, Line, Quit, Take};
+
+use crate::connection::Connection;
+use crate::hub::Core;
+use crate::refused::{JoinRefused, OpenRefused};
+use hub_rules::Verdict;
+use hub_setup::{Prepared, Setup};
+use outboxes::Taken;
+use std::alloc::Global;
+use std::sync::Arc;
+
+/// What is asked of a hub. A connection is named by the number of its join, from 1 on; moments are seconds.
+#[derive(Debug, Drop)]
+pub enum Ask<'a> {
+    /// To be admitted: the peer's address, the challenge, the moment.
+    Join([u8; 4], [u8; 24], u64),
+    /// To handle a line of a connection: the connection, the line, the moment.
+    Line(u64, &'a Prepared, u64),
+    /// To let a connection go.
+    Quit(u64),
+    /// To hand over lines that wait for a connection: the connection, how many at most, 1 to 256.
+    Take(u64, usize),
+}
+
+/// A call of a hub, with who makes it.
+#[derive(Debug, Drop)]
+pub struct Asked<'a> {
+    /// The number of the caller.
+    pub caller: u64,
+    /// What is asked.
+    pub ask: Ask<'a>,
+}
+
+/// What was answered to a call.
+#[derive(Debug, Drop)]
+pub enum Answer {
+    /// The join was accepted, as this connection.
+    Joined(Connection),
+    /// As many connections are open as the hub admits.
+    Full,
+    /// As many joins were accepted as can be counted.
+    JoinsSpent,
+    /// What the line did to its connection.
+    Said(Verdict),
+    /// The connection left.
+    Left,
+    /// These bytes were taken.
+    Took(Vec<u8>, Taken),
+    /// Memory ran out, and the call changed nothing.
+    Memory,
+    /// The call was not made: it names a connection that is not open, or asks for no line or for too many.
+    Skipped,
+}
+
+/// Makes each call in turn on a new hub, and answers each at its place.
+///
+/// Where each call names a connection that is open at its turn and that its caller joined, with a line that was
+/// made ready for it, none is skipped: the answers are those of one legal history, and the hub stands at it. A call
+/// for which memory runs out is answered with `Memory` and changes nothing; the calls behind it are made.
+///
+/// Refused: `Memory`, where no hub can be opened or there is no room for the answers; then no call was made.
+pub fn run_calls(
+    alloc: Global,
+    setup: Arc<Setup>,
+    calls: Vec<Asked<'_>>,
+) -> Result<(Core, Vec<Answer>), OpenRefused>
+    ensures { IfOk result (λ run. (hash : List ℕ → List ℕ) → RunsTo (arc_value setup) hash [] calls.entry.items run.1.items run.0) }
+{
+    let mut core = Core::open(alloc, setup)?;
+    let mut answers = Vec::with_capacity(alloc, calls.len())?;
+    for asked in calls {
+        let answer = make(alloc, &mut core, asked);
+        answers.push(answer).unwrap();
+    }
+    Ok((core, answers))
+}
+
+fn make(alloc: Global, core: &mut Core, asked: Asked<'_>) -> Answer
+    ensures { Answers asked.entry.caller asked.entry.ask result core.old core.new }
+{
+    match asked.ask {
+        Ask::Join(peer, challenge, now) => join(alloc, core, peer, challenge, now),
+        Ask::Line(number, line, now) => say(alloc, core, number, line, now),
+        Ask::Quit(number) => quit(core, number),
+        Ask::Take(number, count) => take(alloc, core, number, count),
+    }
+}
+
+fn join(alloc: Global, core: &mut Core, peer: [u8; 4], challenge: [u8; 24], now: u64) -> Answer
+    ensures { (caller : ℕ) → Answers caller (Join peer challenge now) result core.old core.new }
+{
+    match core.join(alloc, peer, challenge, now) {
+        Ok(connection) => Answer::Joined(connection),
+        Err(JoinRefused::Full) => Answer::Full,
+        Err(JoinRefused::JoinsSpent) => Answer::JoinsSpent,
+        Err(JoinRefused::Memory) => Answer::Memory,
+    }
+}
+
+fn say(alloc: Global, core: &mut Core, number: u64, line: &Prepared, now: u64) -> Answer
+    ensures { (caller : ℕ) → Answers caller (Line number line.entry now) result core.old core.new }
+{
+    let connection = Connection { number };
+    if !core.is_open(connection) {
+        return Answer::Skipped;
+    }
+    match core.line(alloc, connection, line, now) {
+        Ok(verdict) => Answer::Said(verdict),
+        Err(_) => Answer::Memory,
+    }
+}
+
+fn quit(core: &mut Core, number: u64) -> Answer
+    ensures { (caller : ℕ) → Answers caller (Quit number) result core.old core.new }
+{
+    let connection = Connection { number };
+    if !core.is_open(connection) {
+        return Answer::Skipped;
+    }
+    core.quit(connection);
+    Answer::Left
+}
+
+fn take(alloc: Global, core: &mut Core, number: u64, count: usize) -> Answer
+    ensures { (caller : ℕ) → Answers caller (Take number count) result core.old core.new }
+{
+    let connection = Connection { number };
+    if !core.is_open(connection) {
+        return Answer::Skipped;
+    }
+    if count == 0 {
+        return Answer::Skipped;
+    }
+    if count > 256 {
+        return Answer::Skipped;
+    }
+    let mut bytes = Vec::new(alloc);
+    match core.take(connection, count, &mut bytes) {
+        Ok(taken) => Answer::Took(bytes, taken),
+        Err(_) => Answer::Memory,
+    }
+}
