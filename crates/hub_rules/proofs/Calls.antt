@@ -28,7 +28,7 @@ pub over-unless : (f : Facts) → Sound f → (d : ℕ) → has d f.opened ≡ f
 over-unless f sound d none true is = refl
 over-unless f sound d none false is = absurd (false≢true (sym none ∙ sound.are_open d is))
 
-present-over : (stage : Stage) → is_over stage ≡ true → is_present stage ≡ false
+pub present-over : (stage : Stage) → is_over stage ≡ true → is_present stage ≡ false
 present-over stages.Gone over = refl
 present-over stages.Protocol over = absurd (false≢true over)
 present-over stages.Identify over = absurd (false≢true over)

@@ -6,11 +6,13 @@ pub mod Distinct
 pub mod Entries
 pub mod Fits
 pub mod Kept
+pub mod Lagging
 pub mod Lines
 pub mod Members
 pub mod Merges
 pub mod Open
 pub mod Saying
+pub mod Searching
 pub mod Sids
 pub mod Sound
 pub mod Stages

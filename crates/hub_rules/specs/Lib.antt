@@ -12,6 +12,7 @@ pub mod Denied
 pub mod Effects
 pub mod Shares
 pub mod Facts
+pub mod Lagging
 pub mod Legal
 pub mod History
 pub mod Promises
@@ -19,5 +20,6 @@ pub mod Entering
 pub mod Differing
 pub mod Opening
 pub mod Said
+pub mod Searched
 pub mod World
 pub mod Stepping

@@ -3,9 +3,11 @@
 ghost use Rattle.hub_rules.specs.Promises.{FewAreOpen, OthersAreOut, PresentAreUsers, SidsAreGiven, SidsDiffer, TakenIsTheSum, UsersAreOpen};
 ghost use Rattle.hub_rules.specs.Differing.{CidsDiffer, NicksDiffer};
 ghost use Rattle.hub_rules.specs.Entering.{PresentInOrder};
+ghost use Rattle.hub_rules.specs.Lagging.{LagIsTheFirst, OwedAreShares};
 ghost use Rattle.hub_rules.specs.Opening.{OpenAreThoseThatStayed};
 ghost use Rattle.hub_rules.specs.Stepping.{StageIsLastMade};
 ghost use Rattle.hub_rules.specs.Said.{FeaturesAreLastAdded, InfoIsMerged};
+ghost use Rattle.hub_rules.specs.Searched.{SearchIsTheLast, TotalsAreSums};
 ghost use Rattle.hub_rules.specs.World.{BanIsTheLastAct, TopicIsTheLast};
 
 /// Who is present: exactly those whose connections are at the stage NORMAL, all of them open; who never joined, or quit, is shut out
@@ -27,9 +29,12 @@ pub fn identifier_laws()
     ensures few { FewAreOpen }
 {}
 
-/// Takes: in a legal history what a connection took is the sum over the replies to its takes.
+/// Takes: in a legal history what a connection took is the sum over the replies to its takes. It is owed the shares of all calls in
+/// order, up to the first that did not fit with what then waited, by lines or by bytes; from that one on it lags.
 pub fn take_laws()
-    ensures { TakenIsTheSum }
+    ensures taken { TakenIsTheSum }
+    ensures owed { OwedAreShares }
+    ensures lag { LagIsTheFirst }
 {}
 
 /// What operators left: of a ban what the last act on its client identifier leaves, and the topic that was set last.
@@ -46,4 +51,11 @@ pub fn knowledge_laws()
     ensures info { InfoIsMerged }
     ensures nicks { NicksDiffer }
     ensures identifiers { CidsDiffer }
+{}
+
+/// Searches and totals: the interval between searches is counted from the last accepted one (ADC 1.0, "SCH"); the totals are how many users
+/// are present, and the sums of what their fields SS and SF say (ADC-EXT, "PING").
+pub fn counting_laws()
+    ensures search { SearchIsTheLast }
+    ensures totals { TotalsAreSums }
 {}

@@ -8,5 +8,7 @@ mod request;
 
 pub use effect::{Banned, Change, Effect, Entrant, Hearers, Topic, Turn, World};
 pub use history::{Call, Entry, Reply, Verdict};
-pub use laws::{identifier_laws, knowledge_laws, operator_laws, presence_laws, take_laws};
+pub use laws::{
+    counting_laws, identifier_laws, knowledge_laws, operator_laws, presence_laws, take_laws,
+};
 pub use request::Request;
