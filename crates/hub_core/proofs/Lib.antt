@@ -1,5 +1,6 @@
 pub mod Carried
 pub mod Ended
+pub mod Numbers
 pub mod Places
 pub mod Running
 pub mod Seating

@@ -11,3 +11,6 @@ false-le a b h = grind (arith, nat_tests)
 
 pub lt-true : (a b : ℕ) → a < b → nat_lt a b ≡ true
 lt-true a b h = grind (arith, nat_tests)
+
+pub false-lt : (a b : ℕ) → b ≤ a → nat_lt a b ≡ false
+false-lt a b h = grind (arith, nat_tests)

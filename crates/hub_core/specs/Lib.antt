@@ -2,6 +2,7 @@ pub mod CoreState
 pub mod Decided
 pub mod Leaving
 pub mod Moves
+pub mod Numbers
 pub mod Phases
 pub mod Promises
 pub mod Runs

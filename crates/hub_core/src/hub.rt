@@ -57,7 +57,9 @@ impl Model for Core {
 
     ghost view = { λ c. record { setup = arc_value c.setup; joins = c.joins; last = c.last; seats = c.seats.items; users = c.commons.users; bans = c.commons.bans; topic = c.commons.topic } };
 
-    ghost invariant = { λ c. ((arc_value c.setup).max_users ≤ 900) × (c.last < 1_048_576) };
+    ghost use Rattle.hub_core.specs.Numbers.{Ordered};
+
+    ghost invariant = { λ c. ((arc_value c.setup).max_users ≤ 900) × (c.last < 1_048_576) × Ordered c.joins c.seats.items };
 }
 
 impl Core {

@@ -2,6 +2,7 @@ ghost use Rattle.std.specs.Prelude.{◌≡◌, ◌≤◌, ◌==◌, ◌++◌, le
 ghost use Rattle.std.specs.List.{concat};
 ghost use Rattle.hub_core.specs.declared.seat.Seat.{Seat};
 ghost use Rattle.hub_core.specs.Leaving.{has_ended, lightened, lines_in, others_of, told, told_all_if};
+ghost use Rattle.hub_core.specs.Numbers.{Rising, numbers};
 ghost use Rattle.hub_core.specs.Seats.{at_seat};
 ghost use Rattle.hub_core.specs.State.{has_seat, HasSeat};
 
@@ -10,9 +11,10 @@ use adc_base32::Sid;
 use outboxes::{TakeRefused, Taken};
 use std::alloc::{AllocError, Global};
 
-/// The place of a connection's seat.
+/// The place of a connection's seat. Seats stand in the order of their joins, so it is found without a walk.
 pub(crate) fn place(seats: &[Seat], number: u64) -> usize
-    requires { HasSeat number seats.now }
+    requires seated { HasSeat number seats.now }
+    requires rising { Rising (numbers seats.now) }
     ensures { position (λ (seat : Seat). seat.number == number) seats.now ≡ Some result }
 {
     match find(seats, number) {
@@ -22,16 +24,21 @@ pub(crate) fn place(seats: &[Seat], number: u64) -> usize
 }
 
 fn find(seats: &[Seat], number: u64) -> Option<usize>
+    requires { Rising (numbers seats.now) }
     ensures { result ≡ position (λ (seat : Seat). seat.number == number) seats.now }
 {
-    seats.iter().position(|seat| seat.number == number)
+    match seats.binary_search_by_key(&number, |seat| seat.number) {
+        Ok(place) => Some(place),
+        Err(_) => None,
+    }
 }
 
 /// Whether a connection has a seat.
 pub(crate) fn has_seat(seats: &[Seat], number: u64) -> bool
+    requires { Rising (numbers seats.now) }
     ensures { result ≡ has_seat number seats.now }
 {
-    seats.iter().any(|seat| seat.number == number)
+    find(seats, number).is_some()
 }
 
 /// Removes a connection's seat.
@@ -77,6 +84,7 @@ pub(crate) fn lighten(
     out: &mut Vec<u8>,
 ) -> Result<Taken, TakeRefused>
     requires seated { HasSeat number seats.old.items }
+    requires rising { Rising (numbers seats.old.items) }
     requires some { 1 ≤ count }
     requires few { count ≤ 256 }
     ensures ok { OnOk result (seats.new.items ≡ at_seat number (lightened count) seats.old.items) }

@@ -25,4 +25,4 @@ returns c =
     let rest = into_iter_items c.loop-asked.asked-iterator in
     let none = none-left rest (sym c.loop-asked.asked-iterator.rest.ok.0 ∙ c.in-None.ensures.steps.0) in
     λ hash. run-end (arc_value c.args.setup) hash c.args.calls.items c.loop-asked.answers.items c.loop-asked.core
-        (subst (AreUnderWay (arc_value c.args.setup) hash c.args.calls.items c.loop-asked.answers.items c.loop-asked.core) none (c.loop-asked.invariant.0 hash))
+    (subst (AreUnderWay (arc_value c.args.setup) hash c.args.calls.items c.loop-asked.answers.items c.loop-asked.core) none (c.loop-asked.invariant.0 hash))

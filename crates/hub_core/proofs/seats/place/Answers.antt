@@ -5,4 +5,4 @@ use Rattle.hub_core.proofs.Places.{none_passes}
 use Rattle.hub_core.proofs.seats.place.Goals as goal
 
 pub unreachable-requires : goal.unreachable-requires
-unreachable-requires c = none_passes (λ (seat : Seat). seat.number == c.args.number) c.args.seats.now c.requires (sym c.in-None.ensures)
+unreachable-requires c = none_passes (λ (seat : Seat). seat.number == c.args.number) c.args.seats.now c.requires.seated (sym c.in-None.ensures)

@@ -6,6 +6,9 @@ use Rattle.hub_core.specs.declared.seat.Seat.{Seat}
 use Rattle.hub_core.specs.CoreState.{CoreState}
 use Rattle.hub_core.specs.Seats.{new_seat}
 use Rattle.hub_core.proofs.Standing.{full-moves, join-moves, joined_core, sids_in, spent-moves}
+use Rattle.std.proofs.Common.{rules, sym, subst}
+use Rattle.hub_core.specs.Numbers.{Ordered}
+use Rattle.hub_core.proofs.Numbers.{ordered-push}
 use Rattle.hub_core.proofs.hub.Core.admit.Goals as goal
 
 pub returns-then-len-max_users : goal.returns-then-len-max_users
@@ -41,3 +44,11 @@ returns c =
     ∙ ap (λ n. record { setup = arc_value c.self.inside.setup; joins = c.self.inside.joins + 1; last = n; seats = c.self.inside.seats.items ++ new_seat (c.self.inside.joins + 1) c.next_free-sid.result c.args.peer c.args.challenge ∷ []; users = c.self.inside.commons.users; bans = c.self.inside.commons.bans; topic = c.self.inside.commons.topic })
     c.number-self-inside.ensures.exact
     ∙ ap (joined_core c.next_free-sid.result c.args.peer c.args.challenge) c.self.view_is)
+
+pub invariant_of-self-2 : goal.invariant_of-self-2
+invariant_of-self-2 c = (
+  c.self.invariant.0,
+  search rules,
+  subst (Ordered (c.self.inside.joins + 1)) (sym c.in_ok-push.ensures.items)
+      (ordered-push c.self.inside.joins c.self.inside.seats.items c.new-2.result (ap (λ (seat : Seat). seat.number) c.new-2.ensures) c.self.invariant.2),
+)

@@ -7,6 +7,10 @@ use Rattle.hub_core.specs.State.{carried_out}
 use Rattle.hub_core.proofs.Carried.{carried-as}
 use Rattle.hub_core.proofs.Places.{StandsFirst, found}
 use Rattle.hub_core.proofs.Settling.{length-settled}
+use Rattle.hub_core.specs.Numbers.{numbers}
+use Rattle.hub_core.specs.Seats.{turned_seat}
+use Rattle.hub_core.proofs.Numbers.{numbers-changed, numbers-settled, ordered-same}
+use Rattle.hub_core.proofs.Places.{set-read}
 use Rattle.hub_core.proofs.hub.Core.carry_out.Goals as goal
 
 pub returns-clause-ok : goal.returns-clause-ok
@@ -25,3 +29,19 @@ returns-clause-ok c =
     ∙ ap (settled_all (removed_of c.args.effect.world) (slice_set c.self.inside.seats.items c.place-place.result c.note_search.new.self)) (c.in_ok-shares.ensures ∙ ap (map (seat_share c.args.number c.args.effect)) c.deref.ensures.value))
     c.in_ok-change.ensures.users c.in_ok-change.ensures.bans c.in_ok-change.ensures.topic
     ∙ ap (carried_out c.args.number c.args.effect) c.self.view_is
+
+pub invariant_of-self-2 : goal.invariant_of-self-2
+invariant_of-self-2 c =
+    let at : StandsFirst c.args.number c.self.inside.seats.items c.place-place.result =
+    found c.args.number c.self.inside.seats.items c.deref-2.result.now c.place-place.result c.deref-2.ensures.value c.place-place.ensures in (
+      c.self.invariant.0,
+      c.self.invariant.1,
+      ordered-same c.self.inside.joins c.self.inside.seats.items _
+          (ap numbers (with_items_is (with_item c.self.inside.seats c.place-place.result c.note_search.new.self) c.settle.new.seats
+          (ap length c.settle.ensures ∙ length-settled c.removal-removal.result c.deref_mut.result.now c.in_ok-shares.shares.items ∙ c.deref_mut.ensures.len))
+          ∙ ap numbers c.settle.ensures ∙ numbers-settled c.removal-removal.result c.deref_mut.result.now c.in_ok-shares.shares.items
+          ∙ ap numbers (c.deref_mut.ensures.value
+          ∙ set-read c.args.number (turned_seat c.args.effect) c.self.inside.seats.items c.place-place.result c.index_mut-seat.result.now c.note_search.new.self at c.index_mut-seat.ensures.value
+          (c.note_search.ensures ∙ ap (searched_seat c.args.effect.searched) c.in_ok-change.ensures.seat))
+          ∙ numbers-changed c.args.number (turned_seat c.args.effect) (λ seat i. seat.number) c.self.inside.seats.items) c.self.invariant.2,
+    )

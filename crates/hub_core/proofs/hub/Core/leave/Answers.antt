@@ -9,6 +9,8 @@ use Rattle.hub_core.proofs.Carried.{same-core}
 use Rattle.hub_core.proofs.Places.{StandsFirst, found, phase-at, sid-at}
 use Rattle.hub_core.proofs.Settling.{length-told}
 use Rattle.hub_rules.specs.Effects.{is_present}
+use Rattle.hub_core.specs.Numbers.{numbers}
+use Rattle.hub_core.proofs.Numbers.{numbers-told, ordered-but, ordered-same}
 use Rattle.hub_core.proofs.hub.Core.leave.Goals as goal
 
 pub returns : goal.returns
@@ -28,3 +30,15 @@ returns c =
           ∙ ap (left_core c.args.number) c.self.view_is;
       few = subst (λ (s : CoreState). s.setup.max_users ≤ 900) c.self.view_is c.self.invariant.0;
     }
+
+pub invariant_of-self : goal.invariant_of-self
+invariant_of-self c = (
+  c.self.invariant.0,
+  c.self.invariant.1,
+  ordered-same c.self.inside.joins (others_of c.args.number c.self.inside.seats.items) _
+      (ap numbers (with_items_is c.forget.new.seats c.tell_if.new.seats
+      (ap length c.tell_if.ensures ∙ length-told c.is_present-was_present.result c.index-seat.result.now.sid c.deref_mut.result.now ∙ c.deref_mut.ensures.len))
+      ∙ ap numbers c.tell_if.ensures ∙ numbers-told c.is_present-was_present.result c.index-seat.result.now.sid c.deref_mut.result.now
+      ∙ ap numbers (c.deref_mut.ensures.value ∙ c.forget.ensures))
+      (ordered-but c.self.inside.joins c.args.number c.self.inside.seats.items c.self.invariant.2),
+)

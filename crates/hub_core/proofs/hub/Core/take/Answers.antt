@@ -4,6 +4,9 @@ use Rattle.std.specs.List.{concat}
 use Rattle.hub_core.specs.CoreState.{CoreState}
 use Rattle.hub_core.specs.Leaving.{has_ended, lightened_core, lines_in}
 use Rattle.hub_core.proofs.Standing.{take-moves}
+use Rattle.hub_core.specs.Numbers.{numbers}
+use Rattle.hub_core.specs.Leaving.{lightened}
+use Rattle.hub_core.proofs.Numbers.{numbers-changed, ordered-same}
 use Rattle.hub_core.proofs.hub.Core.take.Goals as goal
 
 pub returns : goal.returns
@@ -25,3 +28,11 @@ returns c =
       );
       err = tt;
     }
+
+pub invariant_of-self-2 : goal.invariant_of-self-2
+invariant_of-self-2 c = (
+  c.self.invariant.0,
+  c.self.invariant.1,
+  ordered-same c.self.inside.joins c.self.inside.seats.items c.lighten.new.seats.items
+      (ap numbers c.in_ok-taken.ensures.ok ∙ numbers-changed c.connection.inside.number (lightened c.args.count) (λ seat i. seat.number) c.self.inside.seats.items) c.self.invariant.2,
+)
