@@ -1,64 +1,61 @@
 -- Lines that are handed over keep a run under way.
-use Rattle.std.proofs.Common.{◌≡◌, ◌∙◌, sym, ap, subst, ℕ, List, [], ◌∷◌, ◌++◌, append_assoc}
+use Rattle.std.proofs.Common.{◌≡◌, ◌∙◌, sym, ap, subst, ℕ, Bool, List, [], ◌∷◌, ◌++◌, append_assoc}
 use Rattle.std.specs.Prelude.{Option}
 use Rattle.std.specs.Io.KnownBytes.{Appends}
 use Rattle.std.proofs.lemmas.List.{map_push}
-use Rattle.greeting_hub.specs.declared.history.Call.TheVariants.{Line}
-use Rattle.greeting_hub.specs.declared.history.Entry.{Entry}
-use Rattle.greeting_hub.specs.declared.history.Reply.TheVariants.{Said}
-use Rattle.greeting_hub.specs.declared.stage.Verdict.{Verdict}
-use Rattle.greeting_hub.specs.Configured.{Configured}
-use Rattle.greeting_hub.specs.CoreState.{CoreState}
-use Rattle.greeting_hub.specs.Moves.{Moves}
-use Rattle.greeting_hub.specs.State.{IsSeated}
-use Rattle.adc_hub.specs.Runs.{first, join, says}
-use Rattle.adc_hub.specs.Serving.{Run, IsUnderWay, IsRunning, IsReady, IsCutOff, continued, CatchesUp, FallsShort, GoesOn, BreaksOff}
-use Rattle.adc_hub.proofs.Steps.{said, line_alone, line_written, line_gone}
-use Rattle.adc_hub.proofs.Takes.{running_seated, cut_off}
+use Rattle.hub_core.specs.CoreState.{CoreState}
+use Rattle.hub_core.specs.Moves.{LineMoves}
+use Rattle.hub_core.specs.State.{IsSeated}
+use Rattle.hub_rules.specs.declared.history.Entry.{Entry}
+use Rattle.hub_rules.specs.declared.history.Verdict.{Verdict}
+use Rattle.hub_rules.specs.Configured.{Configured}
+use Rattle.hub_rules.specs.Prepared.{prepared}
+use Rattle.hub_rules.specs.Sights.{PreparedLine}
+use Rattle.adc_hub.specs.Runs.{first, join, says, zeros}
+use Rattle.adc_hub.specs.Serving.{Run, IsUnderWay, IsReady, IsCutOff, continued, CatchesUp, FallsShort, GoesOn, BreaksOff}
+use Rattle.adc_hub.proofs.Steps.{said, line_alone, line_written}
+use Rattle.adc_hub.proofs.Takes.{SomeRuns, running_seated, cut_off}
 
--- a run that was cut off was so before further lines
-pub cut_before : (setup : Configured) (held : Option (List ℕ)) (due more : List (List ℕ)) (h : List Entry) (holds : Option (List ℕ))
-    → IsCutOff setup held due h holds → IsCutOff setup held (due ++ more) h holds
-cut_before setup held due more h holds cut = record {
-  history = cut.history;
-  calls = (cut.calls.0, cut.calls.1 ++ more, ap (λ xs. xs ++ more) cut.calls.2 ∙ append_assoc cut.calls.0 cut.calls.1 more, cut.calls.3);
-  written = cut.written;
-}
-
--- nothing was handed over
-pub breaks_at_once : (core : CoreState) (holds : Option (List ℕ)) (more : List (List ℕ)) → BreaksOff more core holds holds
-breaks_at_once core holds more run way ready =
-    (run.history, cut_before run.setup run.held run.sent more run.history holds (cut_off run core holds way))
-
--- the connection has a seat
-pub ready_seated : (core : CoreState) (holds : Option (List ℕ)) (connection : ℕ) → connection ≡ first → IsReady core holds → IsSeated connection core
-ready_seated core holds connection is_first ready = running_seated core holds connection is_first (ready.0, ready.1)
-
--- a line of connection c, whichever its number is, whose bytes are those of this line
-module _ (old mid : CoreState) (holds : Option (List ℕ)) (connection : ℕ) (bytes line : List ℕ) (verdict : Verdict)
-    (is_first : connection ≡ first) (same : bytes ≡ line) (moves : Moves old (Line connection bytes 0) (Said verdict) mid) where
-  heard : Moves old (says line) (Said verdict) mid
-  heard =
-      subst (λ (xs : List ℕ). Moves old (Line first xs 0) (Said verdict) mid) same
-      (subst (λ (c : ℕ). Moves old (Line c bytes 0) (Said verdict) mid) is_first moves)
-
-  -- the run goes on, and has not caught up
-  said_way : (run : Run) → IsUnderWay run old holds → IsUnderWay (continued run (line ∷ []) (said line verdict ∷ run.history)) mid holds
-  said_way run way = record {
-    alone = line_alone run.setup run.history old mid way.alone line verdict heard;
-    calls = ap (λ calls. calls ++ says line ∷ []) way.calls ∙ ap (λ calls. join ∷ calls) (sym (map_push says run.sent line));
-    written = subst (λ (xs : List ℕ). Appends run.held holds xs) (sym (line_written run.setup run.history old mid way.alone line verdict heard)) way.written;
+module _ (setup : Configured) (hash : List ℕ → List ℕ) where
+  -- a run that was cut off was so before further lines
+  pub cut_before : (held : Option (List ℕ)) (due more : List (List ℕ)) (h : List Entry) (holds : Option (List ℕ))
+      → IsCutOff setup hash held due h holds → IsCutOff setup hash held (due ++ more) h holds
+  cut_before held due more h holds cut = record {
+    history = cut.history;
+    calls = (cut.calls.0, cut.calls.1 ++ more, ap (λ xs. xs ++ more) cut.calls.2 ∙ append_assoc cut.calls.0 cut.calls.1 more, cut.calls.3);
+    written = cut.written;
   }
 
-  pub said_running : IsReady old holds → IsRunning mid holds
-  said_running ready = (continued ready.0 (line ∷ []) (said line verdict ∷ ready.0.history), said_way ready.0 ready.1)
+  -- nothing was handed over
+  pub breaks_at_once : (core : CoreState) (holds : Option (List ℕ)) (more : List (List ℕ)) → BreaksOff setup hash more core holds holds
+  breaks_at_once core holds more run way ready =
+      (run.history, cut_before run.held run.sent more run.history holds (cut_off setup hash run core holds way))
 
-  module _ (new : CoreState) (now : Option (List ℕ)) where
-    -- what the line was owed was written
-    pub said_whole : CatchesUp mid new holds now → GoesOn (line ∷ []) verdict old new holds now
-    said_whole catches run way ready =
-        let next = catches (continued run (line ∷ []) (said line verdict ∷ run.history)) (said_way run way) in
-        (next.0, next.1, next.2, λ ended. next.3 (line_gone run.setup run.history old mid way.alone line verdict heard ended))
+  -- the connection has a seat
+  pub ready_seated : (core : CoreState) (holds : Option (List ℕ)) (connection : ℕ) → connection ≡ first → IsReady setup hash core holds → IsSeated connection core
+  ready_seated core holds connection is_first ready = running_seated core holds connection is_first (setup, hash, (ready.0, ready.1))
 
-    pub said_short : FallsShort mid holds now → BreaksOff (line ∷ []) old holds now
-    said_short short run way ready = short (continued run (line ∷ []) (said line verdict ∷ run.history)) (said_way run way)
+  -- a line of connection c, whichever its number is, that was made ready for it
+  module _ (old mid : CoreState) (holds : Option (List ℕ)) (connection : ℕ) (bytes : List ℕ) (line : PreparedLine) (verdict : Verdict)
+      (is_first : connection ≡ first) (is_ready : line ≡ prepared setup hash zeros bytes) (moves : LineMoves old connection line 0 verdict mid) where
+    heard : LineMoves old first line 0 verdict mid
+    heard = subst (λ (c : ℕ). LineMoves old c line 0 verdict mid) is_first moves
+
+    -- the run goes on, and has not caught up
+    said_way : (run : Run) → IsUnderWay setup hash run old holds → IsUnderWay setup hash (continued run (bytes ∷ []) (said bytes verdict ∷ run.history)) mid holds
+    said_way run way = record {
+      alone = line_alone setup hash run.history old mid way.alone bytes line verdict is_ready heard;
+      calls = ap (λ calls. calls ++ says bytes ∷ []) way.calls ∙ ap (λ calls. join ∷ calls) (sym (map_push says run.sent bytes));
+      written = subst (λ (xs : List ℕ). Appends run.held holds xs) (sym (line_written setup hash run.history old mid way.alone bytes line verdict is_ready heard)) way.written;
+    }
+
+    pub said_running : IsReady setup hash old holds → SomeRuns mid holds
+    said_running ready = (setup, hash, (continued ready.0 (bytes ∷ []) (said bytes verdict ∷ ready.0.history), said_way ready.0 ready.1))
+
+    module _ (new : CoreState) (now : Option (List ℕ)) where
+      -- what the line was owed was written
+      pub said_whole : (ended : Bool) → CatchesUp setup hash ended mid new holds now → GoesOn setup hash (bytes ∷ []) ended old new holds now
+      said_whole ended catches run way ready = catches (continued run (bytes ∷ []) (said bytes verdict ∷ run.history)) (said_way run way)
+
+      pub said_short : FallsShort setup hash mid holds now → BreaksOff setup hash (bytes ∷ []) old holds now
+      said_short short run way ready = short (continued run (bytes ∷ []) (said bytes verdict ∷ run.history)) (said_way run way)

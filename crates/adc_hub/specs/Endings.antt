@@ -1,7 +1,8 @@
 -- How the program ends.
-use Rattle.std.specs.Prelude.{◌≡◌, ℕ, List, [], ◌∷◌, ◌++◌, codes, Option}
+use Rattle.std.specs.Prelude.{◌≡◌, ℕ, false, List, [], ◌∷◌, ◌++◌, codes, Option}
 use Rattle.std.specs.Io.KnownBytes.{Keeps}
-use Rattle.greeting_hub.specs.Configured.{Configured}
+use Rattle.hub_rules.specs.Configured.{Configured}
+use Rattle.session_hash.specs.First24.{first_24}
 use Rattle.adc_hub.specs.declared.ending.Ending.{Ending}
 use Rattle.adc_hub.specs.declared.ending.Ending.TheVariants as endings
 use Rattle.adc_hub.specs.declared.run_fault.RunFault.{RunFault}
@@ -37,17 +38,26 @@ ending_of faults.Turns = endings.Transfer
 abbrev pub AsksForStdin : List (List ℕ) → Type 0
 AsksForStdin words = words ≡ codes "stdin" ∷ []
 
--- the hub of a connection on standard input: named Hub, no topic, 512 users, opened at moment 0
+-- the hub of a connection on standard input: named Hub, with nothing that settings may add, for 512 users, opened at moment 0
 abbrev pub stdin_setup : Configured
-stdin_setup = record { name = codes "Hub"; topic = []; max_users = 512; opening = 0 }
+stdin_setup = record {
+  name = codes "Hub";
+  topic = [];
+  accounts = [];
+  menu = [];
+  registered_only = false;
+  search_interval = 0;
+  max_users = 512;
+  opening = 0;
+}
 
 -- what an ending says of the input and the output
 abbrev pub EndsBy : Ending → List (List ℕ) → Option (List ℕ) → Option (List ℕ) → Option (List ℕ) → Option (List ℕ) → Type 0
-EndsBy endings.Served words unread left held holds = AsksForStdin words × IsServed stdin_setup unread left held holds
+EndsBy endings.Served words unread left held holds = AsksForStdin words × IsServed stdin_setup first_24 unread left held holds
 EndsBy endings.Usage words unread left held holds = (AsksForStdin words → ⊥) × Keeps unread left × Keeps held holds
-EndsBy endings.Memory words unread left held holds = AsksForStdin words × StopsBy faults.Memory stdin_setup unread left held holds
+EndsBy endings.Memory words unread left held holds = AsksForStdin words × StopsBy faults.Memory stdin_setup first_24 unread left held holds
 EndsBy endings.Transfer words unread left held holds =
-    AsksForStdin words × ((fault : RunFault) × (ending_of fault ≡ endings.Transfer) × StopsBy fault stdin_setup unread left held holds)
+    AsksForStdin words × ((fault : RunFault) × (ending_of fault ≡ endings.Transfer) × StopsBy fault stdin_setup first_24 unread left held holds)
 
 -- the status is that of an ending that the words, the input and the output bear out
 abbrev pub Ends : ℕ → List (List ℕ) → Option (List ℕ) → Option (List ℕ) → Option (List ℕ) → Option (List ℕ) → Type 0

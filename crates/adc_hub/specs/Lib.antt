@@ -3,3 +3,4 @@ pub mod Faults
 pub mod Parts
 pub mod Serving
 pub mod Endings
+pub mod Dealing

@@ -1,6 +1,7 @@
 //! An ADC hub: one connection over standard input and output.
 #![tactic(auto)]
 
+pub mod challenges;
 mod ending;
 mod program;
 mod run_fault;

@@ -1,13 +1,14 @@
-ghost use Rattle.std.specs.Prelude.{◌≡◌, ◌↔◌, IsTrue, IfErr, IfOk, map};
+ghost use Rattle.std.specs.Prelude.{◌≡◌, ◌↔◌, IsTrue, IfErr, IfOk, Ok, map};
 ghost use Rattle.std.specs.Arc.{arc_value};
 ghost use Rattle.std.specs.String.{string_bytes};
+ghost use Rattle.hub_setup.specs.Settings.{configured};
 ghost use Rattle.adc_hub.specs.Endings.{AsksForStdin, stdin_setup, EndsBy, Ends, Tells};
 
 use crate::ending::Ending;
 use crate::run_fault::RunFault;
 use crate::run_one::run_one;
 use crate::writing::write_on;
-use greeting_hub::{Options, Setup, SetupRefused};
+use hub_core::{Options, Setup, SetupRefused};
 use session_hash::First24;
 use std::alloc::Global;
 use std::io::{Read, Write};
@@ -64,11 +65,26 @@ fn serve_stdin<I: Read, O: Write>(alloc: Global, input: &mut I, output: &mut O) 
 }
 
 /// The default settings.
-pub(crate) fn stdin_setup(alloc: Global) -> Result<Arc<Setup>, RunFault>
+fn stdin_setup(alloc: Global) -> Result<Arc<Setup>, RunFault>
     ensures ok { IfOk result (λ setup. arc_value setup ≡ stdin_setup) }
     ensures fault { IfErr result (λ fault. fault ≡ RunFault.Memory) }
 {
-    let options = Options {
+    let options = stdin_options();
+    match Setup::new(alloc, &options) {
+        Ok(setup) => Ok(Arc::new(alloc, setup)?),
+        Err(SetupRefused::Memory) => Err(RunFault::Memory),
+        Err(SetupRefused::Limit) => unreachable!(),
+        Err(SetupRefused::Name) => unreachable!(),
+        Err(SetupRefused::Account) => unreachable!(),
+        Err(SetupRefused::Command) => unreachable!(),
+    }
+}
+
+/// What these are: a hub named `Hub` for 512 users, with nothing that settings may add.
+pub(crate) fn stdin_options() -> Options<'static>
+    ensures { configured result ≡ Ok stdin_setup }
+{
+    Options {
         name: "Hub",
         topic: "",
         accounts: &[],
@@ -77,11 +93,5 @@ pub(crate) fn stdin_setup(alloc: Global) -> Result<Arc<Setup>, RunFault>
         search_interval: 0,
         max_users: 512,
         opening: 0,
-    };
-    match Setup::new(alloc, &options) {
-        Ok(setup) => Ok(Arc::new(alloc, setup)?),
-        Err(SetupRefused::Memory) => Err(RunFault::Memory),
-        Err(SetupRefused::Limit) => unreachable!(),
-        Err(SetupRefused::Name) => unreachable!(),
     }
 }

@@ -1,5 +1,5 @@
 use adc_line::FrameFault;
-use greeting_hub::{LineRefused, OpenRefused, TakeRefused};
+use hub_core::{LineRefused, OpenRefused, TakeRefused};
 use std::alloc::{AllocError, AllocFailed};
 use thiserror::Error;
 

@@ -5,7 +5,7 @@ ghost use Rattle.adc_hub.specs.Runs.{IsServed};
 
 use crate::run_fault::RunFault;
 use crate::visit::Visit;
-use greeting_hub::{Setup, Verdict};
+use hub_core::Setup;
 use session_hash::SessionHash;
 use std::alloc::Global;
 use std::io::{Read, Write};
@@ -21,8 +21,9 @@ const MOST_READS: u32 = 1_048_576;
 /// from 127.0.0.1, with a challenge of 24 zero bytes, each call at moment 0.
 ///
 /// The answer to a line is written and flushed before the next line is handled. The run ends well at
-/// the end of the input, or once the connection is shut out, with all that it is owed written; then
-/// what the reader has left is not read.
+/// the end of the input, or once nothing more will come from the hub, as the connection was shut out or was
+/// owed more at once than may wait, with all that it is owed written; then what the reader has left is not
+/// read.
 ///
 /// Refused: `Memory`; `Read`; `Write`; `TooLong` where a line has over 65,536 bytes, once those before
 /// it were answered (ADC 1.0, "Message syntax"); `Turns` after 1,048,576 reads.
@@ -33,18 +34,19 @@ pub fn run_one<H: SessionHash, R: Read, W: Write>(
     reader: &mut R,
     writer: &mut W,
 ) -> Result<(), RunFault>
-    ensures ok { OnOk result (IsServed (arc_value setup) (R.remaining reader.old) (R.remaining reader.new) (W.contents writer.old) (W.contents writer.new)) }
-    ensures fault { IfErr result (λ fault. StopsBy fault (arc_value setup) (R.remaining reader.old) (R.remaining reader.new) (W.contents writer.old) (W.contents writer.new)) }
+    ensures ok { OnOk result (IsServed (arc_value setup) (H.digest_of hash.now) (R.remaining reader.old) (R.remaining reader.new) (W.contents writer.old) (W.contents writer.new)) }
+    ensures fault { IfErr result (λ fault. StopsBy fault (arc_value setup) (H.digest_of hash.now) (R.remaining reader.old) (R.remaining reader.new) (W.contents writer.old) (W.contents writer.new)) }
 {
-    let mut visit = Visit::open(alloc, setup)?;
+    let mut visit = Visit::open(alloc, &setup)?;
     let mut buffer = [0; READ_LENGTH];
     for _turn in 0..MOST_READS {
         match reader.read(&mut buffer) {
             Ok(0) => return Ok(()),
-            Ok(count) => match visit.hear(alloc, hash, &buffer[..count], writer)? {
-                Verdict::Kept => {}
-                Verdict::Ended => return Ok(()),
-            },
+            Ok(count) => {
+                if visit.hear(alloc, &setup, hash, &buffer[..count], writer)? {
+                    return Ok(());
+                }
+            }
             Err(_) => return Err(RunFault::Read),
         }
     }

@@ -1,16 +1,27 @@
 mod fakes;
 
-use crate::program::{program, stdin_setup};
+use crate::challenges::Challenges;
+use crate::program::{program, stdin_options};
 use crate::run_fault::RunFault;
 use crate::run_one::run_one;
 use crate::tests::fakes::{LineFeeds, Long, Pieces, Taker};
+use hub_core::{MenuEntry, MenuItem, Options, Setup};
 use session_hash::First24;
 use std::alloc::{AllocError, Global};
 use std::io::Read;
 use std::process::Abort;
+use std::sync::Arc;
 
 const GREETING: &[u8] =
     b"ISUP ADBASE ADTIGR ADPING ADUCMD\nISID AAAB\nIINF CT32 NIHub VEadc-hub\\s1.0\n";
+
+/// The identifiers of a client are 39 letters A each, which are 24 zero bytes.
+const LOGIN: &[u8] = b"HSUP ADBASE ADTIGR\nBINF AAAB IDAAAAAAAAAAAAAAAAAAAAAAAAAAAAAAAAAAAAAAA \
+PDAAAAAAAAAAAAAAAAAAAAAAAAAAAAAAAAAAAAAAA NIana SS10 SF2 I40.0.0.0 SUTCP4,SEGA\n";
+
+const ENTERED: &[u8] =
+    b"ISUP ADBASE ADTIGR ADPING ADUCMD\nISID AAAB\nIINF CT32 NIHub VEadc-hub\\s1.0\n\
+BINF AAAB IDAAAAAAAAAAAAAAAAAAAAAAAAAAAAAAAAAAAAAAA NIana SS10 SF2 I4127.0.0.1 SUTCP4,SEGA\n";
 
 /// What a run answered, and what it left of its reader and its writer.
 #[derive(Drop)]
@@ -20,15 +31,28 @@ struct Ran<R> {
     output: Taker,
 }
 
-/// A run of this reader, with a writer that takes `most` bytes a write and fails at call `bad`.
+/// A hub with this menu, and else as the program's.
+fn hub_with(alloc: Global, menu: &[MenuEntry<'_>]) -> Result<Arc<Setup>, RunFault> {
+    let options = Options {
+        commands: menu,
+        ..stdin_options()
+    };
+    match Setup::new(alloc, &options) {
+        Ok(setup) => Ok(Arc::new(alloc, setup)?),
+        Err(_) => Err(RunFault::Memory),
+    }
+}
+
+/// A run of a hub with this menu, of this reader, with a writer that takes `most` bytes a write and fails at call `bad`.
 fn attempt<R: Read + Copy>(
     alloc: Global,
+    menu: &[MenuEntry<'_>],
     mut input: R,
     most: usize,
     bad: usize,
 ) -> Result<Ran<R>, AllocError> {
     let mut output = Taker::new(alloc, most, bad)?;
-    let answer = match stdin_setup(alloc) {
+    let answer = match hub_with(alloc, menu) {
         Ok(setup) => run_one(alloc, setup, &First24, &mut input, &mut output),
         Err(fault) => Err(fault),
     };
@@ -41,6 +65,28 @@ fn attempt<R: Read + Copy>(
 
 /// The same, where memory is refused once at most: a run that met that wrote the front of `whole`,
 /// and another one is made.
+fn run_with<R: Read + Copy + Drop>(
+    rt: &impl Abort,
+    alloc: Global,
+    menu: &[MenuEntry<'_>],
+    input: R,
+    most: usize,
+    bad: usize,
+    whole: &[u8],
+) -> Ran<R> {
+    if let Ok(ran) = attempt(alloc, menu, input, most, bad) {
+        if ran.answer != Err(RunFault::Memory) {
+            return ran;
+        }
+        assert!(rt; whole.starts_with(&ran.output.got));
+    }
+    match attempt(alloc, menu, input, most, bad) {
+        Ok(ran) => ran,
+        Err(_) => panic!(rt; "refused twice"),
+    }
+}
+
+/// The same of the program's hub.
 fn run<R: Read + Copy + Drop>(
     rt: &impl Abort,
     alloc: Global,
@@ -49,23 +95,15 @@ fn run<R: Read + Copy + Drop>(
     bad: usize,
     whole: &[u8],
 ) -> Ran<R> {
-    if let Ok(ran) = attempt(alloc, input, most, bad) {
-        if ran.answer != Err(RunFault::Memory) {
-            return ran;
-        }
-        assert!(rt; whole.starts_with(&ran.output.got));
-    }
-    match attempt(alloc, input, most, bad) {
-        Ok(ran) => ran,
-        Err(_) => panic!(rt; "refused twice"),
-    }
+    run_with(rt, alloc, &[], input, most, bad, whole)
 }
 
 #[test]
 fn answers_the_lines_that_it_reads(rt: HostRuntime) {
     let denied: &[u8] = b"ISTA 140 Protocol\\serror\n";
-    let rows: [(&[u8], &[u8]); 7] = [
+    let rows: [(&[u8], &[u8]); 8] = [
         (b"HSUP ADBASE ADTIGR\n", GREETING),
+        (LOGIN, ENTERED),
         (b"\n\nHSUP ADBASE ADTIGR\n", GREETING),
         (b"x\n", denied),
         (b"x\nx", denied),
@@ -108,6 +146,29 @@ fn ends_once_the_connection_is_shut_out(rt: HostRuntime) {
     };
     let ran = run(&rt, rt.alloc(), long, 4096, 0, wanted);
     assert!(rt; ran.answer == Ok(()) && ran.output.got.as_slice() == wanted);
+}
+
+#[test]
+fn ends_once_the_connection_is_owed_too_much(rt: HostRuntime) {
+    // Who enters is owed its own line and 64 commands at once, of over 20,000 bytes each: over 1,048,576 bytes together.
+    let text = [b'x'; 20_000];
+    let Ok(text) = std::str::from_utf8(&text) else {
+        panic!(rt; "no text");
+    };
+    let entry = MenuEntry {
+        name: "Long",
+        context: 1,
+        item: MenuItem::Text(text),
+    };
+    let menu = [entry; 64];
+    let first = b"HSUP ADBASE ADTIGR ADUCM0\nBINF AAAB IDAAAAAAAAAAAAAAAAAAAAAAAAAAAAAAAAAAAAAAA \
+PDAAAAAAAAAAAAAAAAAAAAAAAAAAAAAAAAAAAAAAA NIana\nBMSG AAAB hi\n";
+    // What comes behind the line that is owed too much is not read.
+    let input = Pieces::of(first, 1);
+    let ran = run_with(&rt, rt.alloc(), &menu, input, 4096, 0, GREETING);
+    assert!(rt; ran.answer == Ok(()), "{:?}", ran.answer);
+    assert!(rt; ran.output.got.as_slice() == GREETING);
+    assert!(rt; ran.input.rest == b"BMSG AAAB hi\n".as_slice());
 }
 
 #[test]
@@ -183,6 +244,26 @@ fn stops_at_a_read_that_fails(rt: HostRuntime) {
 fn reads_so_often_and_no_more(rt: HostRuntime) {
     let ran = run(&rt, rt.alloc(), LineFeeds, 4096, 0, b"");
     assert!(rt; ran.answer == Err(RunFault::Turns), "{:?}", ran.answer);
+}
+
+#[test]
+fn deals_the_published_key_stream(rt: HostRuntime) {
+    // RFC 8439, appendix A.1, vectors 1 and 2: the first 72 bytes of ChaCha20's stream for a key of zeros.
+    let stream: [u8; 72] = [
+        0x76, 0xb8, 0xe0, 0xad, 0xa0, 0xf1, 0x3d, 0x90, 0x40, 0x5d, 0x6a, 0xe5, 0x53, 0x86, 0xbd,
+        0x28, 0xbd, 0xd2, 0x19, 0xb8, 0xa0, 0x8d, 0xed, 0x1a, 0xa8, 0x36, 0xef, 0xcc, 0x8b, 0x77,
+        0x0d, 0xc7, 0xda, 0x41, 0x59, 0x7c, 0x51, 0x57, 0x48, 0x8d, 0x77, 0x24, 0xe0, 0x3f, 0xb8,
+        0xd8, 0x4a, 0x37, 0x6a, 0x43, 0xb8, 0xf4, 0x15, 0x18, 0xa1, 0x1c, 0xc3, 0x87, 0xb6, 0x69,
+        0xb2, 0xee, 0x65, 0x86, 0x9f, 0x07, 0xe7, 0xbe, 0x55, 0x51, 0x38, 0x7a,
+    ];
+    let mut challenges = Challenges::from_seed([0; 32]);
+    for wanted in stream.chunks_exact(24) {
+        assert!(rt; challenges.next().as_slice() == wanted);
+    }
+    // A seed with one byte more than zero makes another stream.
+    let mut seed = [0; 32];
+    seed[31] = 1;
+    assert!(rt; Challenges::from_seed(seed).next().as_slice() != &stream[..24]);
 }
 
 /// These words, each a string of its own.

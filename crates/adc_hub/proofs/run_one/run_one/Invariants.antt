@@ -6,7 +6,7 @@ use Rattle.adc_hub.proofs.run_one.run_one.Given as goal
 
 abbrev pub invariant-loop-turn : goal.invariant-loop-turn
 invariant-loop-turn g l = record {
-  heard : IsHeard (arc_value l.fn.setup) (g.R.Read.remaining l.fn.reader) (g.R.Read.remaining l.reader) (g.W.Write.contents l.fn.writer) (g.W.Write.contents l.writer)
+  heard : IsHeard (arc_value l.fn.setup) (g.H.SessionHash.digest_of l.fn.hash) (g.R.Read.remaining l.fn.reader) (g.R.Read.remaining l.reader) (g.W.Write.contents l.fn.writer) (g.W.Write.contents l.writer)
       l.visit.core l.visit.framer l._turn;
   short : IsLine l.visit.framer;
   room : length l.buffer ≡ 4096;

@@ -1,10 +1,11 @@
 use Rattle.std.proofs.Common.{◌++◌, length}
+use Rattle.std.specs.Arc.{arc_value}
 use Rattle.adc_hub.proofs.Hearing.{HearsOn}
 use Rattle.adc_hub.proofs.visit.Visit.hear.Given as goal
 
 abbrev pub invariant-loop-self : goal.invariant-loop-self
 invariant-loop-self g l =
-    HearsOn (l.fn.self.framer ++ l.fn.piece) l.self.framer l.verdict l.fn.self.core l.self.core (g.W.Write.contents l.fn.writer) (g.W.Write.contents l.writer)
+    HearsOn (arc_value l.fn.setup) (g.H.SessionHash.digest_of l.fn.hash) (l.fn.self.framer ++ l.fn.piece) l.self.framer l.ended l.fn.self.core l.self.core (g.W.Write.contents l.fn.writer) (g.W.Write.contents l.writer)
 
 -- each line takes bytes from the framer
 abbrev pub decreases-loop-self : goal.decreases-loop-self

@@ -1,0 +1,8 @@
+-- What connections are challenged with.
+use Rattle.std.specs.Prelude.{ℕ, List}
+use Rattle.rand_core.specs.Steps.{fill_via_u32}
+use Rattle.rand_chacha.specs.ChaCha.{ChaCha, next_word}
+
+-- a challenge and the stream behind it: 24 bytes are the next six words of the ChaCha20 stream, each with its lowest byte first
+abbrev pub dealt : ChaCha → List ℕ × ChaCha
+dealt stream = fill_via_u32 (next_word 10) 24 stream

@@ -1,0 +1,59 @@
+-- What holds of a session as a whole, from its making to its end.
+use Rattle.std.specs.Prelude.{◌≡◌, ◌<◌, ◌++◌, ◌+◌, ℕ, Bool, true, false, List, length, take, None, IsSomeAnd, ⊤}
+use Rattle.adc_line.specs.Frames.{max_line, HasNoLf}
+use Rattle.adc_line.specs.Stream.{lines, joined}
+use Rattle.adc_sessions.specs.declared.ending.End.{End}
+use Rattle.adc_sessions.specs.declared.ending.End.TheVariants as ends
+use Rattle.adc_sessions.specs.Events.{StreamCall, PortCall, Event, on_stream, read_failed, write_failed, Happen, all_read, all_written, all_handed, all_taken, after, met_by, told_by, FallsSilent, TakesWhenWritten, StopsAtFault, EndsWith}
+
+-- a session that ends this way has handed over all lines that came
+abbrev pub handed_all : End → Bool
+handed_all ends.Closed = true
+handed_all ends.Ended = false
+handed_all ends.ReadFailed = true
+handed_all ends.WriteFailed = false
+handed_all ends.TooLong = true
+handed_all ends.Memory = false
+
+-- a session that ends this way has written all that it took
+abbrev pub wrote_all : End → Bool
+wrote_all ends.Closed = true
+wrote_all ends.Ended = true
+wrote_all ends.ReadFailed = false
+wrote_all ends.WriteFailed = false
+wrote_all ends.TooLong = false
+wrote_all ends.Memory = false
+
+-- behind the lines that were handed over, the first 65,537 bytes hold no line feed
+abbrev pub IsTooLong : List Event → Type 0
+IsTooLong events = (rest : List ℕ) × (all_read events ≡ joined (all_handed events) ++ rest) × (max_line < length rest) × HasNoLf (take (max_line + 1) rest)
+
+-- why a session ended
+abbrev pub Cause : End → List Event → Type 0
+Cause ends.Closed events = (after met_by false events ≡ true) × IsSomeAnd (after told_by None events) (λ taken. taken.lines ≡ 0)
+Cause ends.Ended events = IsSomeAnd (after told_by None events) (λ taken. taken.ended ≡ true)
+Cause ends.ReadFailed events = EndsWith (on_stream read_failed) events
+Cause ends.WriteFailed events = EndsWith (on_stream write_failed) events
+Cause ends.TooLong events = IsTooLong events
+Cause ends.Memory events = ⊤
+
+-- what a session that was made of this stream and this port ends with: its end, the stream and what its port left
+pub record Served {S P Left : Type 0} (told : S → StreamCall → S → Type 0) (calls : P → PortCall → P → Type 0) (leaves : P → Left → Type 0) (stream : S) (port : P) (end : End) (stream' : S) (left : Left) : Type 0 where
+  pub events : List Event
+  pub port' : P
+  -- all calls of the stream and the port, in order; then the port was left
+  pub happened : Happen told calls stream port events stream' port'
+  pub quit : leaves port' left
+  -- the lines handed over are the first lines of the bytes read
+  pub first_lines : (more : List (List ℕ)) × (lines (all_read events) ≡ all_handed events ++ more)
+  pub all_lines : handed_all end ≡ true → lines (all_read events) ≡ all_handed events
+  -- the bytes written are the first of the bytes taken
+  pub first_bytes : (more : List ℕ) × (all_taken events ≡ all_written events ++ more)
+  pub all_bytes : wrote_all end ≡ true → all_taken events ≡ all_written events
+  -- a take is made only once all that was taken before is written
+  pub takes : TakesWhenWritten 0 events
+  -- nothing comes after a call that failed or was refused
+  pub stops : StopsAtFault events
+  -- once the port said that it hears nothing more, nothing is read and no line is handed over
+  pub silent : FallsSilent false events
+  pub cause : Cause end events

@@ -1,0 +1,113 @@
+ghost use Rattle.std.specs.Prelude.{◌≡◌, ◌+◌, ◌≤◌, Some, IfSome};
+ghost use Rattle.futures.specs.Task.{IsArmed, Keeps};
+ghost use Rattle.futures.specs.Poll.{IfReady, OnPending};
+
+use crate::incoming::{Incoming, Starter};
+use futures::Future;
+use futures::task::{Context, Poll};
+
+/// How many turns one poll makes.
+const TURNS: u8 = 16;
+
+/// After so many faults in a row no more streams are waited for.
+const MOST_FAULTS: u8 = 64;
+
+/// Why no more streams are accepted.
+#[derive(Clone, Copy, Debug, PartialEq, Eq)]
+pub enum AcceptEnd {
+    /// The set number of streams was accepted.
+    Stopped,
+    /// 64 times in a row no stream could be accepted.
+    AcceptFailed,
+}
+
+/// What a turn led to.
+#[derive(Clone, Copy, Debug, PartialEq, Eq)]
+pub(crate) enum Attempt {
+    /// Another may follow at once.
+    Again,
+    /// No stream is there before the task is woken.
+    Rest,
+    /// No more are accepted.
+    Over(AcceptEnd),
+}
+
+/// Accepts streams, and has each of them started.
+#[derive(Drop)]
+pub struct Accept<I, T> {
+    incoming: I,
+    pub(crate) starter: T,
+    left: Option<u64>,
+    faults: u8,
+    ghost few: { faults ≤ 64 },
+}
+
+impl<I: Incoming, T: Starter<I::Stream>> Accept<I, T> {
+    ghost use Rattle.adc_sessions.specs.Accepting.{starter_of, left_of, faults_of, AcceptsIn, OverBy};
+
+    /// Accepts so many streams, or without end where no number is given.
+    pub fn new(incoming: I, starter: T, stop_after: Option<u64>) -> Accept<I, T>
+        ensures starter { starter_of result ≡ starter }
+        ensures left { left_of result ≡ stop_after }
+        ensures faults { faults_of result ≡ 0 }
+    {
+        Accept {
+            incoming,
+            starter,
+            left: stop_after,
+            faults: 0,
+        }
+    }
+
+    fn turn(&mut self, cx: &mut Context<'_>) -> Attempt
+        ensures accepts { AcceptsIn T.starts 1 self.old self.new }
+        ensures over { (end : AcceptEnd) → result ≡ Attempt.Over end → OverBy end self.new }
+        ensures registered { result ≡ Attempt.Rest → IsArmed cx.new }
+        ensures kept { Keeps cx.old cx.new }
+    {
+        let left = match self.left {
+            Some(0) => return Attempt::Over(AcceptEnd::Stopped),
+            Some(left) => Some(left - 1),
+            None => None,
+        };
+        if self.faults == MOST_FAULTS {
+            return Attempt::Over(AcceptEnd::AcceptFailed);
+        }
+        match self.incoming.poll_incoming(cx) {
+            Poll::Ready(Ok((stream, peer))) => {
+                self.faults = 0;
+                self.left = left;
+                self.starter.start(stream, peer);
+                Attempt::Again
+            }
+            Poll::Ready(Err(_)) => {
+                self.faults += 1;
+                Attempt::Again
+            }
+            Poll::Pending => Attempt::Rest,
+        }
+    }
+}
+
+impl<I: Incoming, T: Starter<I::Stream>> Future for Accept<I, T> {
+    ghost use Rattle.adc_sessions.specs.Accepting.{AcceptsIn, OverBy};
+
+    type Output = AcceptEnd;
+
+    /// Accepts at most 16 streams. Where it is over, further polls say so again.
+    fn poll(&mut self, cx: &mut Context<'_>) -> Poll<AcceptEnd>
+        ensures accepts { AcceptsIn T.starts 16 self.old self.new }
+        ensures over { IfReady result (λ end. OverBy end self.new) }
+        ensures registered { OnPending result (IsArmed cx.new) }
+        ensures kept { Keeps cx.old cx.new }
+    {
+        for turn in 0..TURNS {
+            match self.turn(cx) {
+                Attempt::Again => {}
+                Attempt::Rest => return Poll::Pending,
+                Attempt::Over(end) => return Poll::Ready(end),
+            }
+        }
+        cx.yield_now()
+    }
+}

@@ -1,0 +1,17 @@
+ghost use Rattle.std.specs.Prelude.{◌≡◌, false};
+ghost use Rattle.futures.specs.Task.{IsArmed, Keeps};
+
+use futures::task::Context;
+
+/// What tells a session that lines may wait for it. What a bell is told by whom is its own affair: no
+/// promise of a session rests on it.
+pub trait Bell: Drop {
+    /// Tells whoever waits.
+    fn ring(&self);
+
+    /// Whether it was rung since the last `true`. Where it was not, it has left the task's waker behind, and
+    /// the next ring wakes the task.
+    fn wait(&mut self, cx: &mut Context<'_>) -> bool
+        ensures registered { result ≡ false → IsArmed cx.new }
+        ensures kept { Keeps cx.old cx.new };
+}

@@ -1,0 +1,38 @@
+ghost use Rattle.std.specs.Prelude.{◌+◌, ℕ};
+ghost use Rattle.futures.specs.Task.{IsArmed, Keeps};
+ghost use Rattle.futures.specs.Poll.{OnPending};
+
+use futures::task::{Context, Poll};
+use std::io;
+
+/// Where a stream comes from: an IPv4 address.
+#[derive(Clone, Copy, Debug, PartialEq, Eq)]
+pub struct Peer {
+    /// Its four bytes, most significant first.
+    pub address: [u8; 4],
+}
+
+/// What brings streams, such as a listening socket.
+pub trait Incoming: Drop {
+    /// What it brings.
+    type Stream: Drop;
+
+    /// The next stream, and where it comes from.
+    fn poll_incoming(&mut self, cx: &mut Context<'_>) -> Poll<io::Result<(Self::Stream, Peer)>>
+        ensures registered { OnPending result (IsArmed cx.new) }
+        ensures kept { Keeps cx.old cx.new };
+}
+
+/// What makes a session of a stream and has it run.
+pub trait Starter<S>: Drop {
+    /// From the first state on it was given so many streams, and left the second.
+    ghost starts: { Self → ℕ → Self → Type 0 };
+
+    /// Takes a stream. Where it can make no session of it, it drops the stream: nothing is told to whom calls.
+    fn start(&mut self, stream: S, peer: Peer)
+        ensures { starts self.old 1 self.new };
+
+    ghost starts_nothing: { (a : Self) → starts a 0 a };
+
+    ghost starts_in_order: { (a : Self) (n : ℕ) (b : Self) (m : ℕ) (c : Self) → starts a n b → starts b m c → starts a (n + m) c };
+}

@@ -1,0 +1,320 @@
+ghost use Rattle.std.specs.Prelude.{◌≡◌, ◌≢◌, ◌<◌, ◌≤◌, true, false, length, IsSomeAnd};
+ghost use Rattle.futures.specs.Task.{IsArmed, Keeps};
+ghost use Rattle.futures.specs.Poll.{OnPending};
+ghost use Rattle.adc_line.specs.Frames.{HasNoLf};
+ghost use Rattle.adc_line.specs.Stream.{IsLine};
+ghost use Rattle.adc_sessions.specs.Events.{StreamStep};
+
+use crate::bell::Bell;
+use crate::ending::End;
+use crate::port::Port;
+use adc_line::{Framer, Next};
+use futures::task::{Context, Poll};
+use hub_rules::Verdict;
+use outboxes::Taken;
+use std::alloc::Global;
+use tokio::io::{AsyncRead, AsyncWrite};
+
+/// How many lines one take asks for.
+const BATCH: usize = 256;
+
+/// How many turns one poll makes.
+const TURNS: u8 = 64;
+
+/// What a turn led to.
+#[derive(Clone, Copy, Debug, PartialEq, Eq)]
+pub(crate) enum Turn {
+    /// Another may follow at once.
+    Again,
+    /// Nothing can be done before the task is woken.
+    Rest,
+    /// The session is over.
+    Over(End),
+}
+
+/// A session that runs.
+#[derive(Drop)]
+pub(crate) struct Live<S, P, B> {
+    alloc: Global,
+    stream: S,
+    port: P,
+    bell: B,
+    framer: Framer,
+    line: Vec<u8>,
+    input: Vec<u8>,
+    // The bytes from `written` on were taken and are not written yet.
+    output: Vec<u8>,
+    written: usize,
+    has_met_end: bool,
+    // The port said that it hears nothing more.
+    is_over: bool,
+    taken: Option<Taken>,
+    // The poll began, and made no take yet.
+    is_fresh: bool,
+    // Lines may wait, whatever the bell says.
+    owes_take: bool,
+    // The last call but writes was a take, so that a read is next.
+    reads_next: bool,
+    // The bell was not rung when it was last heard, so that it wakes the task.
+    is_listening: bool,
+    ghost in_range: { written ≤ length output.items },
+    ghost has_room: { 0 < length input.items },
+}
+
+impl<S: AsyncRead + AsyncWrite, P: Port, B: Bell> Live<S, P, B> {
+    ghost use Rattle.adc_sessions.specs.State.{state_of, fresh, with_line, Turned, Polled};
+
+    /// A session of which nothing was read, taken or written, with room for one read.
+    pub(crate) fn new(alloc: Global, stream: S, port: P, bell: B, input: Vec<u8>) -> Live<S, P, B>
+        requires { 0 < length input.items }
+        ensures { state_of result ≡ fresh stream port }
+    {
+        Live {
+            alloc,
+            stream,
+            port,
+            bell,
+            framer: Framer::new(alloc),
+            line: Vec::new(alloc),
+            input,
+            output: Vec::new(alloc),
+            written: 0,
+            has_met_end: false,
+            is_over: false,
+            taken: None,
+            is_fresh: true,
+            owes_take: true,
+            reads_next: false,
+            is_listening: false,
+        }
+    }
+
+    /// Up to 64 turns, each of which makes at most one call of the stream or the port.
+    pub(crate) fn run(&mut self, cx: &mut Context<'_>) -> Poll<End>
+        ensures polled { Polled (StreamStep S.reads S.is_at_end S.AsyncRead.fails S.writes S.is_full S.AsyncWrite.fails) P.step 64 (state_of self.old) result (state_of self.new) }
+        ensures registered { OnPending result (IsArmed cx.new) }
+        ensures kept { Keeps cx.old cx.new }
+    {
+        self.is_fresh = true;
+        for turn in 0..TURNS {
+            match self.turn(cx) {
+                Turn::Again => {}
+                Turn::Rest => return Poll::Pending,
+                Turn::Over(end) => return Poll::Ready(end),
+            }
+        }
+        cx.yield_now()
+    }
+
+    /// Quits, and gives the stream back.
+    pub(crate) fn leave(self) -> (S, P::Left)
+        ensures stream { result.0 ≡ self.stream }
+        ensures left { P.leaves self.port result.1 }
+    {
+        (self.stream, self.port.quit())
+    }
+
+    /// What waits to be written goes first; then the take that each poll makes; then lines.
+    fn turn(&mut self, cx: &mut Context<'_>) -> Turn
+        ensures turned { Turned (StreamStep S.reads S.is_at_end S.AsyncRead.fails S.writes S.is_full S.AsyncWrite.fails) P.step (state_of self.old) result (state_of self.new) }
+        ensures registered { result ≡ Turn.Rest → IsArmed cx.new }
+        ensures kept { Keeps cx.old cx.new }
+    {
+        if self.written < self.output.len() {
+            return self.write(cx);
+        }
+        if has_ended(&self.taken) {
+            return Turn::Over(End::Ended);
+        }
+        if self.is_fresh {
+            self.listen(cx);
+            return self.take();
+        }
+        if self.is_over {
+            return self.wait_for_end(cx);
+        }
+        match self.framer.next(&mut self.line) {
+            Ok(Next::Line) => self.hand(),
+            Ok(Next::More) => self.seek(cx),
+            Ok(Next::TooLong) => Turn::Over(End::TooLong),
+            Err(_) => Turn::Over(End::Memory),
+        }
+    }
+
+    /// Hears the bell.
+    fn listen(&mut self, cx: &mut Context<'_>)
+        ensures rest { self.new ≡ record self.old { bell = self.new.bell; is_listening = self.new.is_listening } }
+        ensures registered { self.new.is_listening ≡ true → IsArmed cx.new }
+        ensures kept { Keeps cx.old cx.new }
+    {
+        self.is_listening = !self.bell.wait(cx);
+    }
+
+    /// Takes what waits, once all that was taken before is written: so the output holds what one take gave
+    /// and no more.
+    fn take(&mut self) -> Turn
+        requires { length self.old.output.items ≤ self.old.written }
+        ensures turned { Turned (StreamStep S.reads S.is_at_end S.AsyncRead.fails S.writes S.is_full S.AsyncWrite.fails) P.step (state_of self.old) result (state_of self.new) }
+        ensures goes_on { result ≢ Turn.Rest }
+    {
+        self.output.clear();
+        self.written = 0;
+        self.is_fresh = false;
+        self.reads_next = true;
+        match self.port.take(BATCH, &mut self.output) {
+            Ok(taken) => {
+                self.owes_take = taken.lines >= BATCH as u64;
+                self.taken = Some(taken);
+                Turn::Again
+            }
+            Err(_) => Turn::Over(End::Memory),
+        }
+    }
+
+    /// Hands over the line that came out of the framer.
+    fn hand(&mut self) -> Turn
+        requires is_line { IsLine self.old.line.items }
+        requires heard { self.old.is_over ≡ false }
+        ensures turned { Turned (StreamStep S.reads S.is_at_end S.AsyncRead.fails S.writes S.is_full S.AsyncWrite.fails) P.step (with_line self.old.line.items (state_of self.old)) result (state_of self.new) }
+        ensures goes_on { result ≢ Turn.Rest }
+    {
+        self.owes_take = true;
+        match self.port.line(self.alloc, &self.line) {
+            Ok(Verdict::Kept) => Turn::Again,
+            Ok(Verdict::Ended) => {
+                self.is_over = true;
+                Turn::Again
+            }
+            Err(_) => Turn::Over(End::Memory),
+        }
+    }
+
+    /// The port hears nothing more: what it still gives is written until it says that it was all.
+    fn wait_for_end(&mut self, cx: &mut Context<'_>) -> Turn
+        requires { length self.old.output.items ≤ self.old.written }
+        ensures turned { Turned (StreamStep S.reads S.is_at_end S.AsyncRead.fails S.writes S.is_full S.AsyncWrite.fails) P.step (state_of self.old) result (state_of self.new) }
+        ensures registered { result ≡ Turn.Rest → IsArmed cx.new }
+        ensures kept { Keeps cx.old cx.new }
+    {
+        self.listen(cx);
+        if self.owes_take {
+            return self.take();
+        }
+        if !self.is_listening {
+            return self.take();
+        }
+        Turn::Rest
+    }
+
+    /// No whole line is there: takes and reads alternate, so that neither a bell that is always rung nor an
+    /// input without end keeps the other side waiting.
+    fn seek(&mut self, cx: &mut Context<'_>) -> Turn
+        requires written { length self.old.output.items ≤ self.old.written }
+        requires no_line { HasNoLf self.old.framer }
+        requires heard { self.old.is_over ≡ false }
+        ensures turned { Turned (StreamStep S.reads S.is_at_end S.AsyncRead.fails S.writes S.is_full S.AsyncWrite.fails) P.step (state_of self.old) result (state_of self.new) }
+        ensures registered { result ≡ Turn.Rest → IsArmed cx.new }
+        ensures kept { Keeps cx.old cx.new }
+    {
+        if self.has_met_end {
+            return self.drain();
+        }
+        if self.reads_next {
+            return self.read(cx);
+        }
+        self.listen(cx);
+        if self.owes_take {
+            return self.take();
+        }
+        if !self.is_listening {
+            return self.take();
+        }
+        self.read(cx)
+    }
+
+    /// The input is over: takes until nothing comes.
+    fn drain(&mut self) -> Turn
+        requires written { length self.old.output.items ≤ self.old.written }
+        requires no_line { HasNoLf self.old.framer }
+        requires met { self.old.has_met_end ≡ true }
+        ensures turned { Turned (StreamStep S.reads S.is_at_end S.AsyncRead.fails S.writes S.is_full S.AsyncWrite.fails) P.step (state_of self.old) result (state_of self.new) }
+        ensures goes_on { result ≢ Turn.Rest }
+    {
+        if self.owes_take {
+            return self.take();
+        }
+        if has_given_nothing(&self.taken) {
+            return Turn::Over(End::Closed);
+        }
+        self.take()
+    }
+
+    /// One read of at most 4,096 bytes.
+    fn read(&mut self, cx: &mut Context<'_>) -> Turn
+        requires no_line { HasNoLf self.old.framer }
+        requires heard { self.old.is_over ≡ false }
+        ensures turned { Turned (StreamStep S.reads S.is_at_end S.AsyncRead.fails S.writes S.is_full S.AsyncWrite.fails) P.step (state_of self.old) result (state_of self.new) }
+        ensures registered { result ≡ Turn.Rest → IsArmed cx.new }
+        ensures kept { Keeps cx.old cx.new }
+    {
+        self.reads_next = false;
+        match self.stream.poll_read(cx, self.input.as_mut_slice()) {
+            Poll::Ready(Ok(0)) => {
+                self.has_met_end = true;
+                self.owes_take = true;
+                Turn::Again
+            }
+            Poll::Ready(Ok(count)) => match self.framer.feed(&self.input[..count]) {
+                Ok(()) => Turn::Again,
+                Err(_) => Turn::Over(End::Memory),
+            },
+            Poll::Ready(Err(_)) => Turn::Over(End::ReadFailed),
+            Poll::Pending => {
+                // In this poll the bell has woken nobody: it has to be heard before the task may rest.
+                if self.is_listening {
+                    Turn::Rest
+                } else {
+                    Turn::Again
+                }
+            }
+        }
+    }
+
+    /// One write of all that waits.
+    fn write(&mut self, cx: &mut Context<'_>) -> Turn
+        requires { self.old.written < length self.old.output.items }
+        ensures turned { Turned (StreamStep S.reads S.is_at_end S.AsyncRead.fails S.writes S.is_full S.AsyncWrite.fails) P.step (state_of self.old) result (state_of self.new) }
+        ensures registered { result ≡ Turn.Rest → IsArmed cx.new }
+        ensures kept { Keeps cx.old cx.new }
+    {
+        match self.stream.poll_write(cx, &self.output[self.written..]) {
+            Poll::Ready(Ok(0)) => Turn::Over(End::WriteFailed),
+            Poll::Ready(Ok(count)) => {
+                self.written += count;
+                Turn::Again
+            }
+            Poll::Ready(Err(_)) => Turn::Over(End::WriteFailed),
+            Poll::Pending => Turn::Rest,
+        }
+    }
+}
+
+/// Whether the last take said that nothing will follow.
+fn has_ended(taken: &Option<Taken>) -> bool
+    ensures { result ≡ true → IsSomeAnd taken.now (λ taken. taken.ended ≡ true) }
+{
+    match taken {
+        Some(taken) => taken.ended,
+        None => false,
+    }
+}
+
+/// Whether the last take gave no line.
+fn has_given_nothing(taken: &Option<Taken>) -> bool
+    ensures { result ≡ true → IsSomeAnd taken.now (λ taken. taken.lines ≡ 0) }
+{
+    match taken {
+        Some(taken) => taken.lines == 0,
+        None => false,
+    }
+}

@@ -1,0 +1,98 @@
+ghost use Rattle.std.specs.Prelude.{◌≡◌, length, IfOk, IfErr};
+ghost use Rattle.futures.specs.Task.{IsArmed, Covers, Keeps};
+ghost use Rattle.futures.specs.Poll.{IfReady, OnPending};
+ghost use Rattle.adc_sessions.specs.declared.ending.End.{End};
+ghost use Rattle.adc_sessions.specs.Events.{StreamStep};
+ghost use Rattle.adc_sessions.specs.Served.{Served};
+
+use crate::bell::Bell;
+use crate::ending::{End, SessionRefused};
+use crate::live::Live;
+use crate::port::Port;
+use futures::Future;
+use futures::task::{Context, Poll};
+use std::alloc::{AllocError, Global};
+use tokio::io::{AsyncRead, AsyncWrite};
+
+/// How many bytes one read may give.
+const ROOM: usize = 4_096;
+
+/// One connection: a future that hands the lines of a stream to a port, and writes what the port gives.
+///
+/// Its output is how it ended, the stream, and what the port left; `quit` is called once, last. What holds
+/// of them is said at [`Session::new`] (`serves`; definitions in `specs/Served`): the lines handed over are
+/// the first lines of the bytes read, and all of them at `Closed`, `ReadFailed` and `TooLong`; the bytes
+/// written are the first of the bytes taken, and all of them at `Closed` and `Ended`; each end comes only
+/// where its cause is there; nothing follows a call that failed or was refused; once the port has answered
+/// a line by `Ended`, nothing is read and no line is handed over.
+///
+/// Reads and takes alternate, and each poll takes once before it reads, unless bytes still wait to be
+/// written: so a client that sends without pause, and reads, gets what is meant for it. A take is made only
+/// once all that was taken before is written, and one write is offered everything a take gave: so a client that
+/// does not read lags at the hub. A session holds what one take of at most 256 lines gave, and of its
+/// input at most 65,536 bytes without a line feed and one read of 4,096 bytes.
+#[derive(Drop)]
+pub struct Session<S, P, B> {
+    live: Option<Live<S, P, B>>,
+}
+
+impl<S: AsyncRead + AsyncWrite, P: Port, B: Bell> Session<S, P, B> {
+    /// A session over a stream and a port, as they are.
+    ///
+    /// Refused: `Memory`; then all three are given back.
+    pub fn new(
+        alloc: Global,
+        stream: S,
+        port: P,
+        bell: B,
+    ) -> Result<Session<S, P, B>, (SessionRefused, S, P, B)>
+        ensures serves { IfOk result (λ session. (end : End) (stream' : S) (left : P.Left) → ⟦<Session<S, P, B> as Future>⟧.gives session (end, stream', left) → Served (StreamStep S.reads S.is_at_end S.AsyncRead.fails S.writes S.is_full S.AsyncWrite.fails) P.step P.leaves stream port end stream' left) }
+        ensures back { IfErr result (λ back. (back.1 ≡ stream) × (back.2 ≡ port) × (back.3 ≡ bell)) }
+    {
+        let Ok(input) = input(alloc) else {
+            return Err((SessionRefused::Memory, stream, port, bell));
+        };
+        let live = Live::new(alloc, stream, port, bell, input);
+        Ok(Session { live: Some(live) })
+    }
+}
+
+/// Room for one read.
+fn input(alloc: Global) -> Result<Vec<u8>, AllocError>
+    ensures { IfOk result (λ input. length input.items ≡ 4_096) }
+{
+    vec![in alloc; 0; ROOM]
+}
+
+impl<S: AsyncRead + AsyncWrite, P: Port, B: Bell> Future for Session<S, P, B> {
+    ghost use Rattle.adc_sessions.specs.Outcome.{SessionGives, EndsIn, GoesOnIn};
+
+    type Output = (End, S, P::Left);
+
+    ghost gives = { λ session out. SessionGives (StreamStep S.reads S.is_at_end S.AsyncRead.fails S.writes S.is_full S.AsyncWrite.fails) P.step P.leaves session out };
+
+    /// Makes at most 64 calls of the stream and the port together: so it hands over at most 64 lines and writes
+    /// at most 64 times. After the end it does nothing but ask to be polled again.
+    fn poll(&mut self, cx: &mut Context<'_>) -> Poll<Self::Output>
+        ensures value { IfReady result (λ out. SessionGives (StreamStep S.reads S.is_at_end S.AsyncRead.fails S.writes S.is_full S.AsyncWrite.fails) P.step P.leaves self.old out) }
+        ensures same { OnPending result ((out : _) → SessionGives (StreamStep S.reads S.is_at_end S.AsyncRead.fails S.writes S.is_full S.AsyncWrite.fails) P.step P.leaves self.new out → SessionGives (StreamStep S.reads S.is_at_end S.AsyncRead.fails S.writes S.is_full S.AsyncWrite.fails) P.step P.leaves self.old out) }
+        ensures ends_in_few { IfReady result (λ out. EndsIn (StreamStep S.reads S.is_at_end S.AsyncRead.fails S.writes S.is_full S.AsyncWrite.fails) P.step P.leaves 64 self.old out) }
+        ensures goes_on_in_few { OnPending result (GoesOnIn (StreamStep S.reads S.is_at_end S.AsyncRead.fails S.writes S.is_full S.AsyncWrite.fails) P.step 64 self.old self.new) }
+        ensures registered { OnPending result (IsArmed cx.new) }
+        ensures kept { Keeps cx.old cx.new }
+    {
+        let Some(live) = &mut self.live else {
+            return cx.yield_now();
+        };
+        match live.run(cx) {
+            Poll::Pending => Poll::Pending,
+            Poll::Ready(end) => match self.live.take() {
+                Some(live) => {
+                    let (stream, left) = live.leave();
+                    Poll::Ready((end, stream, left))
+                }
+                None => unreachable!(),
+            },
+        }
+    }
+}

@@ -1,0 +1,27 @@
+use crate::Bell;
+use futures::task::{Context, Poll};
+
+/// A bell that is always rung.
+#[derive(Drop)]
+pub(crate) struct AlwaysRung;
+
+impl Bell for AlwaysRung {
+    fn ring(&self) {}
+
+    fn wait(&mut self, _cx: &mut Context<'_>) -> bool {
+        true
+    }
+}
+
+/// A bell that never is.
+#[derive(Drop)]
+pub(crate) struct NeverRung;
+
+impl Bell for NeverRung {
+    fn ring(&self) {}
+
+    fn wait(&mut self, cx: &mut Context<'_>) -> bool {
+        let _: Poll<()> = cx.yield_now();
+        false
+    }
+}

@@ -1,0 +1,137 @@
+ghost use Rattle.std.specs.Prelude.{⊤};
+
+use futures::task::{Context, Poll};
+use std::alloc::Global;
+use std::io;
+use std::process::Abort;
+use tokio::io::{AsyncRead, AsyncWrite};
+
+/// Which call of a stream goes wrong, counted from 1.
+#[derive(Clone, Copy, Debug, PartialEq, Eq)]
+pub(crate) enum Trouble {
+    Nowhere,
+    /// This read fails.
+    Read(u32),
+    /// This write fails.
+    Write(u32),
+    /// This write takes no byte.
+    Full(u32),
+}
+
+/// A stream in memory: what a client sends, and what it was sent.
+#[derive(Drop)]
+pub(crate) struct Wire {
+    input: Vec<u8>,
+    at: usize,
+    // How many bytes one call moves at most.
+    room: usize,
+    trouble: Trouble,
+    // Every second read has to wait.
+    is_slow: bool,
+    reads: u32,
+    writes: u32,
+    written: Vec<u8>,
+}
+
+impl Wire {
+    pub(crate) fn new(rt: &impl Abort, alloc: Global, input: &[u8], room: usize) -> Wire {
+        let mut copy = Vec::new(alloc);
+        if copy.extend_from_slice(input).is_err() && copy.extend_from_slice(input).is_err() {
+            panic!(rt; "refused twice");
+        }
+        Wire {
+            input: copy,
+            at: 0,
+            room,
+            trouble: Trouble::Nowhere,
+            is_slow: false,
+            reads: 0,
+            writes: 0,
+            written: Vec::new(alloc),
+        }
+    }
+
+    pub(crate) fn troubled(mut self, trouble: Trouble) -> Wire {
+        self.trouble = trouble;
+        self
+    }
+
+    pub(crate) fn slow(mut self) -> Wire {
+        self.is_slow = true;
+        self
+    }
+
+    /// What the client was sent.
+    pub(crate) fn written(&self) -> &[u8] {
+        &self.written
+    }
+
+    /// How many bytes the client has sent and nobody read.
+    pub(crate) fn unread(&self) -> usize {
+        self.input.len().saturating_sub(self.at)
+    }
+
+    /// How many times it was written to.
+    pub(crate) fn writes(&self) -> u32 {
+        self.writes
+    }
+}
+
+impl AsyncRead for Wire {
+    ghost reads = { λ _ _ _. ⊤ };
+
+    ghost is_at_end = { λ _. ⊤ };
+
+    ghost reads_nothing = { λ _. tt };
+
+    ghost reads_in_order = { λ _ _ _ _ _ _ _. tt };
+
+    fn poll_read(&mut self, cx: &mut Context<'_>, buf: &mut [u8]) -> Poll<io::Result<usize>> {
+        self.reads = self.reads.saturating_add(1);
+        if self.trouble == Trouble::Read(self.reads) {
+            return Poll::Ready(Err(io::ErrorKind::ConnectionReset.into()));
+        }
+        if self.is_slow && self.reads % 2 == 1 {
+            return cx.yield_now();
+        }
+        let rest = &self.input[self.at.min(self.input.len())..];
+        let count = self.room.min(rest.len()).min(buf.len());
+        buf[..count].copy_from_slice(&rest[..count]);
+        self.at = self.at.saturating_add(count);
+        Poll::Ready(Ok(count))
+    }
+}
+
+impl AsyncWrite for Wire {
+    ghost writes = { λ _ _ _. ⊤ };
+
+    ghost writes_nothing = { λ _. tt };
+
+    ghost writes_in_order = { λ _ _ _ _ _ _ _. tt };
+
+    fn poll_write(&mut self, _cx: &mut Context<'_>, buf: &[u8]) -> Poll<io::Result<usize>> {
+        self.writes = self.writes.saturating_add(1);
+        if self.trouble == Trouble::Write(self.writes) {
+            return Poll::Ready(Err(io::ErrorKind::ConnectionReset.into()));
+        }
+        if self.trouble == Trouble::Full(self.writes) {
+            return Poll::Ready(Ok(0));
+        }
+        let count = self.room.min(buf.len());
+        let taken = &buf[..count];
+        if self.written.extend_from_slice(taken).is_err() {
+            if let Err(refused) = self.written.extend_from_slice(taken) {
+                return Poll::Ready(Err(refused.into()));
+            }
+        }
+        Poll::Ready(Ok(count))
+    }
+
+    fn poll_flush(&mut self, _cx: &mut Context<'_>) -> Poll<io::Result<()>> {
+        Poll::Ready(Ok(()))
+    }
+
+    fn poll_shutdown(&mut self, _cx: &mut Context<'_>) -> Poll<io::Result<()>> {
+        Poll::Ready(Ok(()))
+    }
+}

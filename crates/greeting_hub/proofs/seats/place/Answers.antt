@@ -1,8 +1,0 @@
-use Rattle.std.proofs.Common.{sym}
-use Rattle.std.specs.Prelude.{◌==◌}
-use Rattle.greeting_hub.specs.declared.seat.Seat.{Seat}
-use Rattle.greeting_hub.proofs.Seating.{none_passes}
-use Rattle.greeting_hub.proofs.seats.place.Goals as goal
-
-pub unreachable-requires : goal.unreachable-requires
-unreachable-requires c = none_passes (λ (seat : Seat). seat.number == c.args.number) c.args.seats.now c.requires (sym c.in-None.ensures)

@@ -1,0 +1,11 @@
+pub mod Keys
+pub mod Values
+pub mod Lists
+pub mod Written
+pub mod Program
+pub mod Fronts
+pub mod Chains
+pub mod Hubs
+pub mod Judged
+pub mod Told
+pub mod Reading

@@ -1,0 +1,22 @@
+//! What an operator's settings file says.
+#![tactic(auto)]
+
+mod account_list;
+mod command_list;
+mod fault;
+mod front;
+mod hash_name;
+mod hub_setting;
+mod keys;
+mod limits;
+mod parts;
+mod reading;
+mod settings;
+#[cfg(test)]
+mod tests;
+mod values;
+
+pub use fault::{KeyName, SettingsFault};
+pub use hash_name::HashName;
+pub use reading::read_settings;
+pub use settings::Settings;

@@ -1,0 +1,104 @@
+ghost use Rattle.std.specs.Prelude.{◌≡◌, IfOk};
+ghost use Rattle.std.specs.Arc.{arc_value};
+ghost use Rattle.hub_settings.specs.Fronts.{front_of, limits_of};
+ghost use Rattle.hub_settings.specs.Told.{told_of};
+
+use crate::hash_name::HashName;
+use crate::parts::{FrontText, LimitsText};
+use hub_setup::Setup;
+use std::alloc::{AllocError, Global};
+use std::marker::Model;
+use std::net::SocketAddrV4;
+use std::sync::Arc;
+
+/// What a settings file says.
+#[derive(Debug, Drop)]
+pub struct Settings {
+    setup: Arc<Setup>,
+    listen: SocketAddrV4,
+    hash: HashName,
+    tables: String,
+    threads: u32,
+    stop_after: u32,
+    seed_file: String,
+}
+
+impl Model for Settings {
+    ghost use Rattle.std.specs.Arc.{arc_value};
+    ghost use Rattle.std.specs.String.{string_bytes};
+    ghost use Rattle.hub_settings.specs.Told.{Told};
+
+    ghost Value = { Told };
+
+    ghost view = { λ s. record { hub = arc_value s.setup; listen = s.listen; hash = s.hash; tables = string_bytes s.tables; threads = s.threads; stop_after = s.stop_after; seed_file = string_bytes s.seed_file } };
+}
+
+impl Settings {
+    pub(crate) fn new(
+        alloc: Global,
+        setup: Setup,
+        front: &FrontText<'_>,
+        limits: &LimitsText<'_>,
+    ) -> Result<Settings, AllocError>
+        ensures { IfOk result (λ s. s ≡ told_of (front_of front.now) (limits_of limits.now) setup) }
+    {
+        Ok(Settings {
+            setup: Arc::new(alloc, setup).map_err(|_| AllocError)?,
+            listen: front.listen,
+            hash: front.hash,
+            tables: String::from_str(alloc, front.tables)?,
+            threads: limits.threads,
+            stop_after: limits.stop_after,
+            seed_file: String::from_str(alloc, limits.seed_file)?,
+        })
+    }
+
+    /// The hub's setup.
+    pub fn setup(&self) -> &Arc<Setup>
+        ensures { arc_value result.now ≡ self.now.hub }
+    {
+        &self.setup
+    }
+
+    /// Where the hub listens: by default 127.0.0.1, port 4111.
+    pub fn listen(&self) -> SocketAddrV4
+        ensures { result ≡ self.now.listen }
+    {
+        self.listen
+    }
+
+    /// The session hash: by default Tiger.
+    pub fn hash(&self) -> HashName
+        ensures { result ≡ self.now.hash }
+    {
+        self.hash
+    }
+
+    /// The file of Tiger's tables: by default `tiger.bin`.
+    pub fn tables(&self) -> &str
+        ensures { result.now ≡ self.now.tables }
+    {
+        self.tables.as_str()
+    }
+
+    /// How many threads serve, 1 to 64: by default 2.
+    pub fn threads(&self) -> u32
+        ensures { result ≡ self.now.threads }
+    {
+        self.threads
+    }
+
+    /// After how many accepted connections the hub closes, at most 65,536; by default 0, which is never.
+    pub fn stop_after(&self) -> u32
+        ensures { result ≡ self.now.stop_after }
+    {
+        self.stop_after
+    }
+
+    /// The file whose first 32 bytes seed the challenges: by default `/dev/urandom`.
+    pub fn seed_file(&self) -> &str
+        ensures { result.now ≡ self.now.seed_file }
+    {
+        self.seed_file.as_str()
+    }
+}

@@ -1,0 +1,79 @@
+-- What contracts see of a hub, of its host, and of those who call it.
+use Rattle.std.specs.Prelude.{◌≡◌, ℕ, ◌==◌, true, false, List, []}
+use Rattle.one_history.specs.States.{Home, HostState as HostSeat, LockState, SeatState, home_of}
+use Rattle.hub_rules.specs.declared.history.Entry.{Entry}
+use Rattle.hub_rules.specs.Configured.{Configured}
+use Rattle.hub_shared.specs.declared.about.About.{About}
+use Rattle.hub_shared.specs.Connections.{challenge_in, has_stayed}
+
+-- a caller: its number, the beginning of the history that it has seen, and its own entries
+pub record Caller : Type 0 where
+  pub number : ℕ
+  pub seen : List Entry
+  pub mine : List Entry
+
+-- a hub: which one it is, its setup, and the value of its hash
+pub record HubState (H : Type 0) : Type 0 where
+  pub home : Home (About H)
+  pub setup : Configured
+  pub hash : H
+
+-- the host of a hub: how many visitors it has admitted
+pub record HostState (H : Type 0) : Type 0 where
+  pub home : Home (About H)
+  pub admitted : ℕ
+
+-- a caller without a connection
+pub record VisitorState (H : Type 0) : Type 0 where
+  pub home : Home (About H)
+  pub caller : Caller
+
+-- a caller with its connection, and the challenge that came with the join
+pub record PassState (H : Type 0) : Type 0 where
+  pub home : Home (About H)
+  pub caller : Caller
+  pub connection : ℕ
+  pub challenge : List ℕ
+
+-- a caller that has seen nothing and made nothing
+abbrev pub new_caller : ℕ → Caller
+new_caller number = record { number = number; seen = []; mine = [] }
+
+module _ {H : Type 0} where
+  -- ---- how they show
+
+  abbrev pub hub_of : LockState (About H) → HubState H
+  hub_of lock = record { home = home_of lock; setup = lock.about.setup.value; hash = lock.about.hash.value }
+
+  abbrev pub caller_of : SeatState Entry (About H) → Caller
+  caller_of seat = record { number = seat.number; seen = seat.seen; mine = seat.mine }
+
+  abbrev pub visitor_of : SeatState Entry (About H) → VisitorState H
+  visitor_of seat = record { home = seat.home; caller = caller_of seat }
+
+  abbrev pub pass_of : SeatState Entry (About H) → ℕ → PassState H
+  pass_of seat connection = record { home = seat.home; caller = caller_of seat; connection = connection; challenge = challenge_in connection seat.mine }
+
+  abbrev pub host_of : HostSeat Entry (About H) → HostState H
+  host_of seat = record { home = seat.home; admitted = seat.admitted }
+
+  -- the seat of a visitor
+  abbrev pub seat_of : VisitorState H → SeatState Entry (About H)
+  seat_of visitor = record { home = visitor.home; number = visitor.caller.number; seen = visitor.caller.seen; mine = visitor.caller.mine; holds = false }
+
+  -- ---- what always holds of them
+
+  -- a visitor has quit each connection that it joined
+  pub record IsVisitor (seat : SeatState Entry (About H)) : Type 0 where
+    pub idle : seat.holds ≡ false
+    pub quits : (d : ℕ) → has_stayed d seat.mine ≡ false
+
+  -- a pass has quit each connection that it joined but its own
+  pub record IsPass (seat : SeatState Entry (About H)) (connection : ℕ) : Type 0 where
+    pub idle : seat.holds ≡ false
+    pub own : has_stayed connection seat.mine ≡ true
+    pub others : (d : ℕ) → (d == connection) ≡ false → has_stayed d seat.mine ≡ false
+
+  -- the host has nobody's seat
+  abbrev pub IsAlone : HostSeat Entry (About H) → Type 0
+  IsAlone seat = seat.gathered ≡ []

@@ -1,0 +1,4 @@
+pub mod Connections
+pub mod Callers
+pub mod Calls
+pub mod Closing

@@ -1,0 +1,59 @@
+ghost use Rattle.std.specs.Prelude.{◌≡◌};
+ghost use Rattle.hub_shared.specs.Callers.{visitor_of, IsVisitor};
+
+use crate::about::{About, HubSeat};
+use hub_core::{Core, Touched};
+use hub_rules::Entry;
+use one_history::{Seat, Seated};
+use std::marker::Model;
+
+/// A caller of a hub without a connection. Contracts see the caller's number, the beginning of the history that it has
+/// seen, and its own entries in it.
+pub struct Visitor<H> {
+    pub(crate) seat: HubSeat<H>,
+    pub(crate) touched: Touched,
+}
+
+impl<H> Model for Visitor<H> {
+    ghost use Rattle.hub_shared.specs.Callers.{VisitorState, visitor_of, IsVisitor};
+
+    ghost Value = { VisitorState H };
+
+    ghost view = { λ v. visitor_of v.seat };
+
+    ghost invariant = { λ v. IsVisitor v.seat };
+}
+
+impl<H> Visitor<H> {
+    /// Whom the visitor's last call concerned, which was the quit of its connection or a join that was refused. A hint, as
+    /// that of a pass.
+    pub fn touched(&self) -> Touched {
+        self.touched
+    }
+
+    pub(crate) fn into_idle(self) -> HubSeat<H>
+        ensures shown { visitor_of result ≡ self }
+        ensures visitor { IsVisitor result }
+    {
+        let Visitor { seat, touched: _ } = self;
+        seat
+    }
+}
+
+impl<H> Seated<Core, Entry, About<H>> for Visitor<H> {
+    ghost use Rattle.hub_shared.specs.Callers.{seat_of};
+
+    ghost seat = { seat_of };
+
+    fn into_seat(self) -> Seat<Core, Entry, About<H>> {
+        let Visitor { seat, touched: _ } = self;
+        seat
+    }
+}
+
+impl<H> Drop for Visitor<H> {
+    fn drop(self) {
+        let Visitor { seat, touched: _ } = self;
+        drop(seat);
+    }
+}
