@@ -113,110 +113,114 @@ fn a_text_that_is_no_toml(rt: HostRuntime) {
     }
 }
 
+/// Texts, and the key that is at fault.
+const KEY_FAULTS: [(&str, &str); 31] = [
+    ("name = \"\"", "name"),
+    ("name = 1", "name"),
+    ("topic = []", "topic"),
+    ("listen = \"127.0.0.1\"", "listen"),
+    ("listen = \"localhost:4111\"", "listen"),
+    ("listen = \"127.0.0.1:65536\"", "listen"),
+    ("listen = \"256.0.0.1:4111\"", "listen"),
+    ("listen = \"[::1]:4111\"", "listen"),
+    ("listen = 4111", "listen"),
+    ("hash = \"md5\"", "hash"),
+    ("hash = \"Tiger\"", "hash"),
+    ("hash = true", "hash"),
+    ("tables = 1", "tables"),
+    ("registered_only = \"yes\"", "registered_only"),
+    ("registered_only = 1", "registered_only"),
+    ("search_interval = -1", "search_interval"),
+    ("search_interval = 4294967296", "search_interval"),
+    ("search_interval = \"10\"", "search_interval"),
+    ("max_users = 0", "max_users"),
+    ("max_users = 901", "max_users"),
+    ("max_users = 1.0", "max_users"),
+    ("threads = 0", "threads"),
+    ("threads = 65", "threads"),
+    ("stop_after = -1", "stop_after"),
+    ("stop_after = 65537", "stop_after"),
+    ("seed_file = 1", "seed_file"),
+    ("nam = \"x\"", "nam"),
+    ("b = 1\na = 1\nB = 1", "B"),
+    ("max_users = 901\nthreads = 65\nname = \"\"", "name"),
+    ("stop_after = -1\nhash = 1\na = 1", "hash"),
+    ("a = 1\nseed_file = 1", "seed_file"),
+];
+
 #[test]
 fn each_fault_is_named_by_its_key(rt: HostRuntime) {
-    let rows: [(&str, &str); 31] = [
-        ("name = \"\"", "name"),
-        ("name = 1", "name"),
-        ("topic = []", "topic"),
-        ("listen = \"127.0.0.1\"", "listen"),
-        ("listen = \"localhost:4111\"", "listen"),
-        ("listen = \"127.0.0.1:65536\"", "listen"),
-        ("listen = \"256.0.0.1:4111\"", "listen"),
-        ("listen = \"[::1]:4111\"", "listen"),
-        ("listen = 4111", "listen"),
-        ("hash = \"md5\"", "hash"),
-        ("hash = \"Tiger\"", "hash"),
-        ("hash = true", "hash"),
-        ("tables = 1", "tables"),
-        ("registered_only = \"yes\"", "registered_only"),
-        ("registered_only = 1", "registered_only"),
-        ("search_interval = -1", "search_interval"),
-        ("search_interval = 4294967296", "search_interval"),
-        ("search_interval = \"10\"", "search_interval"),
-        ("max_users = 0", "max_users"),
-        ("max_users = 901", "max_users"),
-        ("max_users = 1.0", "max_users"),
-        ("threads = 0", "threads"),
-        ("threads = 65", "threads"),
-        ("stop_after = -1", "stop_after"),
-        ("stop_after = 65537", "stop_after"),
-        ("seed_file = 1", "seed_file"),
-        ("nam = \"x\"", "nam"),
-        ("b = 1\na = 1\nB = 1", "B"),
-        ("max_users = 901\nthreads = 65\nname = \"\"", "name"),
-        ("stop_after = -1\nhash = 1\na = 1", "hash"),
-        ("a = 1\nseed_file = 1", "seed_file"),
-    ];
-    for (text, wanted) in rows {
+    for (text, wanted) in KEY_FAULTS {
         is_refused(&rt, rt.alloc(), text, wanted);
     }
 }
 
+/// Texts with lists, and the key that is at fault.
+const LIST_FAULTS: [(&str, &str); 26] = [
+    ("account = 1", "account"),
+    ("account = [1]", "account"),
+    ("[account]\nnick = \"a\"\npassword = \"p\"", "account"),
+    ("[[account]]\nnick = \"a\"", "account"),
+    ("[[account]]\npassword = \"p\"", "account"),
+    ("[[account]]\nnick = \"a\"\npassword = \"\"", "account"),
+    ("[[account]]\nnick = \"\"\npassword = \"p\"", "account"),
+    ("[[account]]\nnick = \"a b\"\npassword = \"p\"", "account"),
+    ("[[account]]\nnick = \"a\"\npassword = 1", "account"),
+    (
+        "[[account]]\nnick = \"a\"\npassword = \"p\"\noperator = 1",
+        "account",
+    ),
+    (
+        "[[account]]\nnick = \"a\"\npassword = \"p\"\nclass = 1",
+        "account",
+    ),
+    (
+        "[[account]]\nnick = \"op\"\npassword = \"p\"\n[[account]]\nnick = \"op\"\npassword = \"q\"",
+        "account",
+    ),
+    ("command = \"x\"", "command"),
+    ("command = [\"x\"]", "command"),
+    ("[[command]]\ncontext = 1\ntext = \"t\"", "command"),
+    (
+        "[[command]]\nname = \"\"\ncontext = 1\ntext = \"t\"",
+        "command",
+    ),
+    ("[[command]]\nname = \"n\"\ntext = \"t\"", "command"),
+    (
+        "[[command]]\nname = \"n\"\ncontext = 0\ntext = \"t\"",
+        "command",
+    ),
+    (
+        "[[command]]\nname = \"n\"\ncontext = 16\ntext = \"t\"",
+        "command",
+    ),
+    ("[[command]]\nname = \"n\"\ncontext = 1", "command"),
+    (
+        "[[command]]\nname = \"n\"\ncontext = 1\nseparator = false",
+        "command",
+    ),
+    (
+        "[[command]]\nname = \"n\"\ncontext = 1\ntext = \"t\"\nseparator = true",
+        "command",
+    ),
+    (
+        "[[command]]\nname = \"n\"\ncontext = 1\ntext = 1",
+        "command",
+    ),
+    (
+        "[[command]]\nname = \"n\"\ncontext = 1\ntext = \"t\"\nkey = 1",
+        "command",
+    ),
+    (
+        "command = 1\n[[account]]\nnick = \"a b\"\npassword = \"p\"",
+        "account",
+    ),
+    ("a = 1\ncommand = 1", "command"),
+];
+
 #[test]
 fn each_fault_of_a_list_is_named_by_its_key(rt: HostRuntime) {
-    let rows: [(&str, &str); 26] = [
-        ("account = 1", "account"),
-        ("account = [1]", "account"),
-        ("[account]\nnick = \"a\"\npassword = \"p\"", "account"),
-        ("[[account]]\nnick = \"a\"", "account"),
-        ("[[account]]\npassword = \"p\"", "account"),
-        ("[[account]]\nnick = \"a\"\npassword = \"\"", "account"),
-        ("[[account]]\nnick = \"\"\npassword = \"p\"", "account"),
-        ("[[account]]\nnick = \"a b\"\npassword = \"p\"", "account"),
-        ("[[account]]\nnick = \"a\"\npassword = 1", "account"),
-        (
-            "[[account]]\nnick = \"a\"\npassword = \"p\"\noperator = 1",
-            "account",
-        ),
-        (
-            "[[account]]\nnick = \"a\"\npassword = \"p\"\nclass = 1",
-            "account",
-        ),
-        (
-            "[[account]]\nnick = \"op\"\npassword = \"p\"\n[[account]]\nnick = \"op\"\npassword = \"q\"",
-            "account",
-        ),
-        ("command = \"x\"", "command"),
-        ("command = [\"x\"]", "command"),
-        ("[[command]]\ncontext = 1\ntext = \"t\"", "command"),
-        (
-            "[[command]]\nname = \"\"\ncontext = 1\ntext = \"t\"",
-            "command",
-        ),
-        ("[[command]]\nname = \"n\"\ntext = \"t\"", "command"),
-        (
-            "[[command]]\nname = \"n\"\ncontext = 0\ntext = \"t\"",
-            "command",
-        ),
-        (
-            "[[command]]\nname = \"n\"\ncontext = 16\ntext = \"t\"",
-            "command",
-        ),
-        ("[[command]]\nname = \"n\"\ncontext = 1", "command"),
-        (
-            "[[command]]\nname = \"n\"\ncontext = 1\nseparator = false",
-            "command",
-        ),
-        (
-            "[[command]]\nname = \"n\"\ncontext = 1\ntext = \"t\"\nseparator = true",
-            "command",
-        ),
-        (
-            "[[command]]\nname = \"n\"\ncontext = 1\ntext = 1",
-            "command",
-        ),
-        (
-            "[[command]]\nname = \"n\"\ncontext = 1\ntext = \"t\"\nkey = 1",
-            "command",
-        ),
-        (
-            "command = 1\n[[account]]\nnick = \"a b\"\npassword = \"p\"",
-            "account",
-        ),
-        ("a = 1\ncommand = 1", "command"),
-    ];
-    for (text, wanted) in rows {
+    for (text, wanted) in LIST_FAULTS {
         is_refused(&rt, rt.alloc(), text, wanted);
     }
 }
