@@ -14,6 +14,8 @@ use Rattle.adc_hub.specs.Runs.{IsServed}
 abbrev pub status_of : Ending → ℕ
 status_of endings.Served = 0
 status_of endings.Usage = 1
+status_of endings.Tables = 2
+status_of endings.Address = 3
 status_of endings.Memory = 4
 status_of endings.Transfer = 5
 
@@ -24,6 +26,8 @@ said_line text = text ++ 10 ∷ []
 unfoldable pub message_of : Ending → List ℕ
 message_of endings.Served = []
 message_of endings.Usage = said_line (codes "adc_hub: usage: adc_hub stdin | adc_hub serve SETTINGS")
+message_of endings.Tables = said_line (codes "adc_hub: tables")
+message_of endings.Address = said_line (codes "adc_hub: address")
 message_of endings.Memory = said_line (codes "adc_hub: memory")
 message_of endings.Transfer = said_line (codes "adc_hub: input or output")
 
@@ -37,6 +41,10 @@ ending_of faults.Turns = endings.Transfer
 -- the one word after the program's name
 abbrev pub AsksForStdin : List (List ℕ) → Type 0
 AsksForStdin words = words ≡ codes "stdin" ∷ []
+
+-- the word serve, and the path of a settings file
+abbrev pub AsksToServe : List (List ℕ) → Type 0
+AsksToServe words = (path : List ℕ) × (words ≡ codes "serve" ∷ path ∷ [])
 
 -- the hub of a connection on standard input: named Hub, with nothing that settings may add, for 512 users, opened at moment 0
 abbrev pub stdin_setup : Configured
@@ -55,6 +63,8 @@ stdin_setup = record {
 abbrev pub EndsBy : Ending → List (List ℕ) → Option (List ℕ) → Option (List ℕ) → Option (List ℕ) → Option (List ℕ) → Type 0
 EndsBy endings.Served words unread left held holds = AsksForStdin words × IsServed stdin_setup first_24 unread left held holds
 EndsBy endings.Usage words unread left held holds = (AsksForStdin words → ⊥) × Keeps unread left × Keeps held holds
+EndsBy endings.Tables words unread left held holds = ⊥
+EndsBy endings.Address words unread left held holds = ⊥
 EndsBy endings.Memory words unread left held holds = AsksForStdin words × StopsBy faults.Memory stdin_setup first_24 unread left held holds
 EndsBy endings.Transfer words unread left held holds =
     AsksForStdin words × ((fault : RunFault) × (ending_of fault ≡ endings.Transfer) × StopsBy fault stdin_setup first_24 unread left held holds)

@@ -2,6 +2,7 @@ ghost use Rattle.std.specs.Prelude.{◌≡◌};
 ghost use Rattle.adc_hub.specs.Endings.{status_of, message_of, ending_of};
 
 use crate::run_fault::RunFault;
+use std::alloc::{AllocError, AllocFailed};
 
 /// How the program ends.
 #[derive(Clone, Copy, Debug, PartialEq, Eq)]
@@ -10,6 +11,10 @@ pub(crate) enum Ending {
     Served,
     /// The arguments are not those that the program knows.
     Usage,
+    /// The file of Tiger's tables cannot be had.
+    Tables,
+    /// The address cannot be had, or accepting failed.
+    Address,
     /// Memory ran out.
     Memory,
     /// The input or the output failed, a line was too long, or there were too many reads.
@@ -24,6 +29,8 @@ impl Ending {
         match self {
             Ending::Served => 0,
             Ending::Usage => 1,
+            Ending::Tables => 2,
+            Ending::Address => 3,
             Ending::Memory => 4,
             Ending::Transfer => 5,
         }
@@ -37,6 +44,8 @@ impl Ending {
         match self {
             Ending::Served => "",
             Ending::Usage => "adc_hub: usage: adc_hub stdin | adc_hub serve SETTINGS\n",
+            Ending::Tables => "adc_hub: tables\n",
+            Ending::Address => "adc_hub: address\n",
             Ending::Memory => "adc_hub: memory\n",
             Ending::Transfer => "adc_hub: input or output\n",
         }
@@ -52,5 +61,27 @@ impl Ending {
                 Ending::Transfer
             }
         }
+    }
+}
+
+impl From<AllocError> for Ending {
+    ghost use Rattle.std.specs.Prelude.{◌≡◌};
+    ghost use Rattle.adc_hub.specs.declared.ending.Ending.TheVariants.{Memory};
+
+    ghost from_gives = { λ _ ending. ending ≡ Memory };
+
+    fn from(_: AllocError) -> Ending {
+        Ending::Memory
+    }
+}
+
+impl<T: Drop> From<AllocFailed<T>> for Ending {
+    ghost use Rattle.std.specs.Prelude.{◌≡◌};
+    ghost use Rattle.adc_hub.specs.declared.ending.Ending.TheVariants.{Memory};
+
+    ghost from_gives = { λ _ ending. ending ≡ Memory };
+
+    fn from(_: AllocFailed<T>) -> Ending {
+        Ending::Memory
     }
 }

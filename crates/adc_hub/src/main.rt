@@ -1,11 +1,20 @@
-//! An ADC hub: one connection over standard input and output.
+//! An ADC hub: a server, or one connection over standard input and output.
 #![tactic(auto)]
 
+mod bell;
+mod board;
 pub mod challenges;
+mod door;
 mod ending;
+mod guest;
+mod hall;
+mod port;
 mod program;
 mod run_fault;
 mod run_one;
+mod server;
+mod start;
+mod task;
 #[cfg(test)]
 mod tests;
 mod visit;

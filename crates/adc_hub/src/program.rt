@@ -1,36 +1,52 @@
-ghost use Rattle.std.specs.Prelude.{◌≡◌, ◌↔◌, IsTrue, IfErr, IfOk, Ok, map};
+ghost use Rattle.std.specs.Prelude.{◌≡◌, ◌↔◌, IsTrue, IfErr, IfOk, IfSome, Ok, map};
 ghost use Rattle.std.specs.Arc.{arc_value};
 ghost use Rattle.std.specs.String.{string_bytes};
 ghost use Rattle.hub_setup.specs.Settings.{configured};
-ghost use Rattle.adc_hub.specs.Endings.{AsksForStdin, stdin_setup, EndsBy, Ends, Tells};
+ghost use Rattle.adc_hub.specs.Endings.{AsksForStdin, AsksToServe, stdin_setup, EndsBy, Ends, Tells};
 
 use crate::ending::Ending;
 use crate::run_fault::RunFault;
 use crate::run_one::run_one;
+use crate::start::serve_file;
 use crate::writing::write_on;
 use hub_core::{Options, Setup, SetupRefused};
 use session_hash::First24;
-use std::alloc::Global;
+use std::alloc::{AllocGlobal, Global};
+use std::fs::Files;
 use std::io::{Read, Write};
-use std::sync::Arc;
+use std::net::Net;
+use std::random::RandomSource;
+use std::sync::{Arc, Wait};
+use std::thread::Threads;
+use std::time::Clock;
 
 /// Does what the words after the program's name ask for, and gives the exit status.
 ///
 /// `stdin` runs a hub for one connection, whose lines are `input` and whose answers go to `output`:
 /// the status is 0, or 4 where memory ran out, or 5 where the input or the output failed, a line was
-/// too long or there were too many reads. With other words the status is 1, and neither is used.
+/// too long or there were too many reads. `serve` and the path of a settings file run a server: the status is
+/// 1 where the settings or the seed file are at fault, 2 where the file of Tiger's tables is, and else as
+/// [`serve_on`](crate::server::serve_on) says. With other words the status is 1, and neither is used.
 ///
 /// What went wrong is one line on `errors`; that it cannot be written changes nothing.
-pub fn program<R: AllocGlobal, I: Read, O: Write, E: Write>(
+pub fn program<R, I, O, E>(
     rt: &R,
     words: &[String],
     input: &mut I,
     output: &mut O,
     errors: &mut E,
 ) -> u8
-    ensures ends { Ends result (map string_bytes words.now) (I.remaining input.old) (I.remaining input.new) (O.contents output.old) (O.contents output.new) }
-    ensures tells { Tells result (E.contents errors.old) (E.contents errors.new) }
+where
+    R: Wait + Threads + Clock + Net + RandomSource + AllocGlobal + Files + Sync,
+    I: Read,
+    O: Write,
+    E: Write + Send,
+    ensures ends { (AsksToServe (map string_bytes words.now) → ⊥) → Ends result (map string_bytes words.now) (I.remaining input.old) (I.remaining input.new) (O.contents output.old) (O.contents output.new) }
+    ensures tells { (AsksToServe (map string_bytes words.now) → ⊥) → Tells result (E.contents errors.old) (E.contents errors.new) }
 {
+    if let Some(path) = settings_path(words) {
+        return serve_file(rt, path, output, errors);
+    }
     let ending = if asks_for_stdin(words) {
         serve_stdin(rt.alloc(), input, output)
     } else {
@@ -47,6 +63,16 @@ fn asks_for_stdin(words: &[String]) -> bool
     match words {
         [word] => word.as_str() == "stdin",
         _ => false,
+    }
+}
+
+/// The settings file of a server that is asked for.
+fn settings_path(words: &[String]) -> Option<&str>
+    ensures { IfSome result (λ _. AsksToServe (map string_bytes words.now)) }
+{
+    match words {
+        [word, path] if word.as_str() == "serve" => Some(path.as_str()),
+        _ => None,
     }
 }
 

@@ -1,4 +1,9 @@
+mod boards;
+mod clients;
 mod fakes;
+mod scenes;
+mod serving;
+mod starting;
 
 use crate::challenges::Challenges;
 use crate::program::{program, stdin_options};
@@ -7,10 +12,15 @@ use crate::run_one::run_one;
 use crate::tests::fakes::{LineFeeds, Long, Pieces, Taker};
 use hub_core::{MenuEntry, MenuItem, Options, Setup};
 use session_hash::First24;
-use std::alloc::{AllocError, Global};
+use std::alloc::{AllocError, AllocGlobal, Global};
+use std::fs::Files;
 use std::io::Read;
+use std::net::Net;
 use std::process::Abort;
-use std::sync::Arc;
+use std::random::RandomSource;
+use std::sync::{Arc, Wait};
+use std::thread::Threads;
+use std::time::Clock;
 
 const GREETING: &[u8] =
     b"ISUP ADBASE ADTIGR ADPING ADUCMD\nISID AAAB\nIINF CT32 NIHub VEadc-hub\\s1.0\n";
@@ -277,13 +287,13 @@ fn strings(alloc: Global, words: &[&str]) -> Result<Vec<String>, AllocError> {
 
 /// What the program left: its status, standard output, standard error.
 #[derive(Drop)]
-struct Left {
-    status: u8,
-    output: Taker,
-    errors: Taker,
+pub(crate) struct Left {
+    pub(crate) status: u8,
+    pub(crate) output: Taker,
+    pub(crate) errors: Taker,
 }
 
-fn tried<T: AllocGlobal>(
+fn tried<T: Wait + Threads + Clock + Net + RandomSource + AllocGlobal + Files + Sync>(
     rt: &T,
     words: &[&str],
     mut input: Pieces<'_>,
@@ -302,13 +312,9 @@ fn tried<T: AllocGlobal>(
 }
 
 /// Runs the program, and once more where memory was refused, as it then says.
-fn asked<T: AllocGlobal + Abort>(
-    rt: &T,
-    words: &[&str],
-    input: Pieces<'_>,
-    bad_output: usize,
-    bad_errors: usize,
-) -> Left {
+pub(crate) fn asked<
+    T: Wait + Threads + Clock + Net + RandomSource + AllocGlobal + Files + Sync + Abort,
+>(rt: &T, words: &[&str], input: Pieces<'_>, bad_output: usize, bad_errors: usize) -> Left {
     if let Ok(left) = tried(rt, words, input, bad_output, bad_errors) {
         if left.status != 4 {
             return left;
@@ -323,6 +329,13 @@ fn asked<T: AllocGlobal + Abort>(
     }
 }
 
+/// Runs the program with no input, where nothing of it fails.
+pub(crate) fn asked_with<
+    T: Wait + Threads + Clock + Net + RandomSource + AllocGlobal + Files + Sync + Abort,
+>(rt: &T, words: &[&str]) -> Left {
+    asked(rt, words, Pieces::of(b"", 4096), 0, 0)
+}
+
 const USAGE: &[u8] = b"adc_hub: usage: adc_hub stdin | adc_hub serve SETTINGS\n";
 
 #[test]
@@ -335,7 +348,7 @@ fn says_how_it_ended(rt: HostRuntime) {
         (&["stdin", "stdin"], 1, b"", USAGE),
         (&[""], 1, b"", USAGE),
         (&["serve"], 1, b"", USAGE),
-        (&["serve", "hub.toml"], 1, b"", USAGE),
+        (&["serve", "hub.toml", "hub.toml"], 1, b"", USAGE),
     ];
     for (row, (words, status, output, errors)) in rows.into_iter().enumerate() {
         let left = asked(&rt, words, input, 0, 0);

@@ -270,14 +270,21 @@ impl<S: AsyncRead + AsyncWrite, P: Port, B: Bell> Live<S, P, B> {
             },
             Poll::Ready(Err(_)) => Turn::Over(End::ReadFailed),
             Poll::Pending => {
-                // In this poll the bell has woken nobody: it has to be heard before the task may rest.
-                if self.is_listening {
+                // It rests only where the bell wakes it, and where no more waits than one take gave: nobody
+                // may ring for the rest.
+                if self.may_rest() {
                     Turn::Rest
                 } else {
                     Turn::Again
                 }
             }
         }
+    }
+
+    fn may_rest(&self) -> bool
+        ensures { result ≡ true → self.now.is_listening ≡ true }
+    {
+        self.is_listening & !self.owes_take
     }
 
     /// One write of all that waits.

@@ -27,10 +27,10 @@ returns-in-Ready-Err-clause-turned g c =
     let failed = rw c.in-Ready-Err.field-0-is at c.in-Ready-Err.ensures.failed in
     ends_after _ _ ends.ReadFailed _ left _ (did_fail_to_read _ _ _ left (rw c.in-Ready-Err.field-0-is at c.in-Ready-Err.ensures.bytes, (c.in-Ready-Err.field-0-0, failed)) refl refl refl refl refl refl c.requires.heard) (c.requires.no_line, ([], refl))
 
-pub returns-then-self-clause-turned : goal.returns-then-self-clause-turned
-returns-then-self-clause-turned g c =
+pub returns-then-may_rest-clause-turned : goal.returns-then-may_rest-clause-turned
+returns-then-may_rest-clause-turned g c =
     one_call _ _ _ _ _ (did_read _ _ _ _ [] c.in-Pending.ensures.bytes refl (sym (append-nil _)) refl refl refl refl c.requires.heard) (λ fault. fault)
 
-pub returns-else-self-clause-turned : goal.returns-else-self-clause-turned
-returns-else-self-clause-turned g c =
+pub returns-else-may_rest-clause-turned : goal.returns-else-may_rest-clause-turned
+returns-else-may_rest-clause-turned g c =
     one_call _ _ _ _ _ (did_read _ _ _ _ [] c.in-Pending.ensures.bytes refl (sym (append-nil _)) refl refl refl refl c.requires.heard) (λ fault. fault)
