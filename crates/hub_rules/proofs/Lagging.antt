@@ -19,9 +19,9 @@ use Rattle.hub_rules.specs.Prepared.{prepared}
 use Rattle.hub_rules.specs.Quiet.{nothing}
 use Rattle.hub_rules.specs.Shares.{About, chosen, given_share, has_room, hears_those, is_removed, max_bytes, max_lines, owes, removed_if, turned, waiting, with_share}
 use Rattle.hub_rules.specs.Sights.{Own, PreparedLine, Sight}
-use Rattle.hub_rules.proofs.Calls.{above, over-unless, present-over, sound_of}
+use Rattle.hub_rules.proofs.Calls.{present-over, sound_of}
 use Rattle.hub_rules.proofs.Kept.{joins-grow}
-use Rattle.hub_rules.proofs.Members.{has}
+use Rattle.hub_rules.proofs.Saying.{over-beyond}
 use Rattle.hub_rules.proofs.Sound.{Sound}
 use Rattle.hub_rules.proofs.Tidy.{Tidy, tidy_of}
 
@@ -129,9 +129,6 @@ record Unowed (a : About) : Type 0 where
 
 not-heard : (same : Bool) (effect : Effect) (a : About) → is_present a.stage ≡ false → given_if same effect.own ≡ [] → owes same effect a ≡ []
 not-heard same effect a absent none = ap₂ (λ p own. given_if (p && hears_those same effect.hearers a) effect.others ++ own) absent none
-
-over-beyond : (f : Facts) → Sound f → (d : ℕ) → f.joins < d → is_over (f.about d).stage ≡ true
-over-beyond f sound d beyond = over-unless f sound d (above f sound d beyond (has d f.opened) refl) (is_over (f.about d).stage) refl
 
 line-silent : (hub : Sight) (own : Own) (line : PreparedLine) (now : ℕ) → is_over own.stage ≡ true → (line_effect hub own line now).own ≡ []
 unfolding line_effect

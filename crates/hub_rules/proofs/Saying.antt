@@ -293,7 +293,7 @@ pub record Untouched (a : About) : Type 0 where
   pub no_features : a.features ≡ []
   pub no_fields : a.fields ≡ []
 
-unheard : (hub : Sight) (own : Own) (line : PreparedLine) (now : ℕ) → is_over own.stage ≡ true → accepted_line hub own line now ≡ None
+pub unheard : (hub : Sight) (own : Own) (line : PreparedLine) (now : ℕ) → is_over own.stage ≡ true → accepted_line hub own line now ≡ None
 unfolding accepted_line
 unheard hub own line now over = ap (λ b. if b then None else (if length line.bytes == 0 then None else unless_refused hub own line now (lines.reading line.bytes))) over
 
@@ -315,7 +315,7 @@ quiet-one setup hash f d c bytes now true is over =
     (quiet-turn (sight_of setup f) (own_of (f.about d)) (prepared setup hash (f.about d).challenge bytes) now over)
 quiet-one setup hash f d c bytes now false is over = (refl, refl)
 
-over-beyond : (f : Facts) → Sound f → (d : ℕ) → f.joins < d → is_over (f.about d).stage ≡ true
+pub over-beyond : (f : Facts) → Sound f → (d : ℕ) → f.joins < d → is_over (f.about d).stage ≡ true
 over-beyond f sound d beyond = over-unless f sound d (above f sound d beyond (has d f.opened) refl) (is_over (f.about d).stage) refl
 
 untouched-same : (a b : About) → b.features ≡ a.features → b.fields ≡ a.fields → Untouched a → Untouched b

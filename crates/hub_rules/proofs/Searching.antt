@@ -41,9 +41,9 @@ use Rattle.hub_rules.specs.Said.{accepted_line, kept_unless, unless_refused}
 use Rattle.hub_rules.specs.Searched.{SearchIsTheLast, TotalsAreSums, is_search, last_search, moment_if, search_in, searches}
 use Rattle.hub_rules.specs.Shares.{About, chosen, given_share, has_room, owes, removed_if, searched_after, turned, with_share}
 use Rattle.hub_rules.specs.Sights.{Own, PreparedLine, Sight, is_account, user_after}
-use Rattle.hub_rules.proofs.Calls.{above, over-unless, sound_of}
+use Rattle.hub_rules.proofs.Calls.{sound_of}
 use Rattle.hub_rules.proofs.Kept.{joins-grow}
-use Rattle.hub_rules.proofs.Members.{has}
+use Rattle.hub_rules.proofs.Saying.{over-beyond, unheard}
 use Rattle.hub_rules.proofs.Sound.{Sound}
 
 -- ---- one line
@@ -177,10 +177,6 @@ line-searched setup hash f c d bytes now =
 
 -- ---- a connection that has not joined yet never searched
 
-unheard : (hub : Sight) (own : Own) (line : PreparedLine) (now : ℕ) → is_over own.stage ≡ true → accepted_line hub own line now ≡ None
-unfolding accepted_line
-unheard hub own line now over = ap (λ b. if b then None else (if length line.bytes == 0 then None else unless_refused hub own line now (lines.reading line.bytes))) over
-
 quiet-one : (setup : Configured) (hash : List ℕ → List ℕ) (f : Facts) (c d : ℕ) (bytes : List ℕ) (now : ℕ) (same : Bool) → (c == d) ≡ same → is_over (f.about c).stage ≡ true
     → moment_if (same && searches (own_of (f.about d)) (accepted_line (sight_of setup f) (own_of (f.about d)) (prepared setup hash (f.about d).challenge bytes) now)) now ≡ None
 quiet-one setup hash f c d bytes now true is over =
@@ -188,9 +184,6 @@ quiet-one setup hash f c d bytes now true is over =
     ap (λ said. moment_if (searches (own_of (f.about d)) said) now)
     (unheard (sight_of setup f) (own_of (f.about d)) (prepared setup hash (f.about d).challenge bytes) now (subst (λ x. is_over (f.about x).stage ≡ true) e over))
 quiet-one setup hash f c d bytes now false is over = refl
-
-over-beyond : (f : Facts) → Sound f → (d : ℕ) → f.joins < d → is_over (f.about d).stage ≡ true
-over-beyond f sound d beyond = over-unless f sound d (above f sound d beyond (has d f.opened) refl) (is_over (f.about d).stage) refl
 
 newcomer-searched : (f : Facts) (owner : ℕ) (peer challenge : List ℕ) (c : ℕ) (same : Bool) → (c == (f.joins + 1)) ≡ same → (f.joins < c → (f.about c).searched ≡ None)
     → (chosen same (newcomer owner (next_sid f) peer challenge) (f.about c)).searched ≡ (f.about c).searched
