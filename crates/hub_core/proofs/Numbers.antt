@@ -16,8 +16,9 @@ use Rattle.hub_core.specs.declared.seat.Seat.{Seat}
 use Rattle.hub_core.specs.Leaving.{others_of, told, told_all_if, told_if}
 use Rattle.hub_core.specs.Numbers.{Above, Ordered, Rising, UpTo, numbers}
 use Rattle.hub_core.specs.Phases.{stage_in}
-use Rattle.hub_core.specs.Seats.{at_seat, given_seat, gone_if, new_seat, settled_all}
+use Rattle.hub_core.specs.Seats.{at_seat, given_seat, new_seat, settled_all}
 use Rattle.hub_core.proofs.Places.{none_passes}
+use Rattle.hub_core.proofs.Settling.{number-gone}
 use Rattle.hub_core.proofs.Tests.{false-lt, lt-true}
 use Rattle.hub_rules.specs.Effects.{is_present}
 use Rattle.hub_rules.proofs.Sound.{or-true}
@@ -51,10 +52,6 @@ ordered-push joins seats seat is ordered =
 
 pub ordered-same : (joins : ℕ) (before after : List Seat) → numbers after ≡ numbers before → Ordered joins before → Ordered joins after
 ordered-same joins before after same ordered = (subst Rising (sym same) ordered.0, subst (UpTo joins) (sym same) ordered.1)
-
-number-gone : (gone : Bool) (seat : Seat) → (gone_if gone seat).number ≡ seat.number
-number-gone true seat = refl
-number-gone false seat = refl
 
 pub numbers-settled : (removal : Removal) (seats : List Seat) (shares : List (List (List ℕ))) → numbers (settled_all removal seats shares) ≡ numbers seats
 unfolding settled_all

@@ -77,7 +77,7 @@ length-told false sid seats = refl
 
 -- ---- each connection keeps its seat
 
-number-gone : (gone : Bool) (seat : Seat) → (gone_if gone seat).number ≡ seat.number
+pub number-gone : (gone : Bool) (seat : Seat) → (gone_if gone seat).number ≡ seat.number
 number-gone true seat = refl
 number-gone false seat = refl
 
