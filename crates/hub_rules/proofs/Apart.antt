@@ -1,5 +1,5 @@
 -- After every history, no two users who are present have the same nick or the same client identifier.
-use Rattle.std.proofs.Common.{◌≡◌, ◌∙◌, sym, ap, ap₂, refl, subst, ℕ, ◌+◌, ◌<◌, ◌≤◌, Bool, true, false, not, ◌&&◌, ◌||◌, ◌==◌, ◌⊎◌, inl, inr, eqb, List, [], ◌∷◌, map, arith}
+use Rattle.std.proofs.Common.{◌≡◌, ◌∙◌, sym, ap, ap₂, refl, ℕ, ◌+◌, ◌≤◌, Bool, true, false, not, ◌&&◌, ◌||◌, ◌==◌, inl, inr, eqb, List, [], ◌∷◌, map}
 use Rattle.std.specs.List.{list_any}
 use Rattle.std.specs.Str.{bytes_eq}
 use Rattle.std.proofs.lemmas.Bool.{false≢true, eqb-true, eq-eqb}
@@ -14,15 +14,15 @@ use Rattle.hub_rules.specs.declared.history.Call.{Call}
 use Rattle.hub_rules.specs.declared.history.Call.TheVariants.{Join, Line, Quit, Take}
 use Rattle.hub_rules.specs.declared.history.Entry.{Entry}
 use Rattle.hub_rules.specs.Configured.{Configured}
-use Rattle.hub_rules.specs.Differing.{CidsDiffer, DifferIn, NicksDiffer}
-use Rattle.hub_rules.specs.Effects.{departure, is_over, is_present}
-use Rattle.hub_rules.specs.Facts.{Facts, facts, about_after, after, closed, effect_of_line, given, happens, has_joins, has_place, joined, newcomer, next_sid, own_of, sight_of, user_of, with_one}
+use Rattle.hub_rules.specs.Differing.{CidsDiffer, NicksDiffer}
+use Rattle.hub_rules.specs.Effects.{departure, is_present}
+use Rattle.hub_rules.specs.Facts.{Facts, facts, about_after, after, closed, effect_of_line, given, happens, has_joins, has_place, joined, newcomer, next_sid, own_of, sight_of, user_of}
 use Rattle.hub_rules.specs.Identities.{cid_in, key_in, listed}
 use Rattle.hub_rules.specs.Prepared.{prepared}
 use Rattle.hub_rules.specs.Said.{infs}
 use Rattle.hub_rules.specs.Shares.{About, chosen, fields_after, stage_after}
-use Rattle.hub_rules.proofs.Calls.{absent-newcomer, after-sound, sound_of}
-use Rattle.hub_rules.proofs.Clearing.{IsClear, another, clear-line, listed-cid, listed-key}
+use Rattle.hub_rules.proofs.Calls.{absent-newcomer, sound_of}
+use Rattle.hub_rules.proofs.Clearing.{IsClear, clear-line, listed-cid, listed-key}
 use Rattle.hub_rules.proofs.Distinct.{Clears, Differ, happens-differ}
 use Rattle.hub_rules.proofs.Entries.{not-over}
 use Rattle.hub_rules.proofs.Fits.{Fits, fits-departure}
@@ -31,7 +31,7 @@ use Rattle.hub_rules.proofs.Lines.{fits-line}
 use Rattle.hub_rules.proofs.Members.{has, or-parts}
 use Rattle.hub_rules.proofs.Saying.{told_of}
 use Rattle.hub_rules.proofs.Sids.{Numbered, numbered_of}
-use Rattle.hub_rules.proofs.Sound.{Sound, about-stage, happens-open, happens-sound, or-true, removed_by, stage_next}
+use Rattle.hub_rules.proofs.Sound.{Sound, about-stage, happens-open, happens-sound, removed_by, stage_next}
 
 -- a user has what it is known by
 abbrev Knows : (List Field → List ℕ) → (List ℕ → Listed → Bool) → Type 0

@@ -1,5 +1,5 @@
 -- What a line leaves of its connection is no other present user's nick or identifier.
-use Rattle.std.proofs.Common.{◌≡◌, ◌∙◌, sym, ap, ap₂, refl, subst, ℕ, ◌≤◌, Bool, true, false, not, ◌&&◌, ◌||◌, ◌==◌, ◌⊎◌, inl, inr, eqb, List, [], ◌∷◌, map, length, Option, Some, None, Result, Ok, Err, unwrap_or}
+use Rattle.std.proofs.Common.{◌≡◌, ◌∙◌, sym, ap, ap₂, refl, ℕ, Bool, true, false, not, ◌&&◌, ◌||◌, ◌==◌, ◌⊎◌, inl, inr, List, [], ◌∷◌, length, Option, Some, None, Result, Ok, Err, unwrap_or}
 use Rattle.std.specs.Prelude.{if◌then◌else◌}
 use Rattle.std.specs.List.{list_any}
 use Rattle.std.proofs.lemmas.Bool.{false≢true}
@@ -19,7 +19,7 @@ use Rattle.login_state.specs.declared.findings.Identity.TheVariants as identitie
 use Rattle.login_state.specs.declared.stage.Stage.{Stage}
 use Rattle.login_state.specs.Checks.{first_denial}
 use Rattle.login_state.specs.Denials.{is_fatal}
-use Rattle.login_state.specs.Orders.{entry_rules, inf_rules, pass_rules, update_rules}
+use Rattle.login_state.specs.Orders.{pass_rules}
 use Rattle.login_state.specs.SupportAnswers.{applied}
 use Rattle.operator_acts.specs.Acts.{act_at}
 use Rattle.operator_acts.specs.declared.act.Act.{Act}
@@ -27,7 +27,6 @@ use Rattle.operator_acts.specs.declared.act.Act.TheVariants as acts
 use Rattle.user_table.specs.Listed.{Listed}
 use Rattle.user_table.specs.Tables.{has_cid, has_key, has_sid}
 use Rattle.hub_rules.specs.declared.effect.Effect.{Effect}
-use Rattle.hub_rules.specs.declared.effect.Turn.{Turn}
 use Rattle.hub_rules.specs.declared.effect.Turn.TheVariants as turns
 use Rattle.hub_rules.specs.declared.request.Request.{Request}
 use Rattle.hub_rules.specs.declared.request.Request.TheVariants as requests

@@ -1,11 +1,9 @@
 -- A connection lags from the first share on that does not fit, and is owed the shares before it.
-use Rattle.std.proofs.Common.{◌≡◌, ◌∙◌, sym, ap, ap₂, refl, subst, ℕ, ◌+◌, ◌<◌, ◌≤◌, Bool, true, false, not, ◌&&◌, ◌==◌, List, [], ◌∷◌, ◌++◌, length, drop, append-nil, arith}
+use Rattle.std.proofs.Common.{◌≡◌, ◌∙◌, sym, ap, ap₂, refl, subst, ℕ, ◌+◌, ◌<◌, ◌≤◌, Bool, true, false, not, ◌&&◌, ◌==◌, List, [], ◌∷◌, ◌++◌, length, append-nil, arith}
 use Rattle.std.specs.Prelude.{if◌then◌else◌, nat_le}
 use Rattle.std.proofs.lemmas.Bool.{eqb-true}
 use Rattle.std.proofs.lemmas.Bool.Decides.{nat_tests}
 use Rattle.adc_line.specs.Lines as lines
-use Rattle.login_state.specs.declared.stage.Stage.{Stage}
-use Rattle.login_state.specs.declared.stage.Stage.TheVariants as stages
 use Rattle.outboxes.specs.Backlogs.{size_of}
 use Rattle.hub_rules.specs.declared.effect.Effect.{Effect}
 use Rattle.hub_rules.specs.declared.history.Call.{Call}
@@ -17,7 +15,7 @@ use Rattle.hub_rules.specs.Facts.{Facts, facts, about_after, after, closed, effe
 use Rattle.hub_rules.specs.Lagging.{LagIsTheFirst, OwedAreShares, all_fit, has_room_for, share, shares_that_fit}
 use Rattle.hub_rules.specs.Prepared.{prepared}
 use Rattle.hub_rules.specs.Quiet.{nothing}
-use Rattle.hub_rules.specs.Shares.{About, chosen, given_share, has_room, hears_those, is_removed, max_bytes, max_lines, owes, removed_if, turned, waiting, with_share}
+use Rattle.hub_rules.specs.Shares.{About, chosen, given_share, hears_those, max_bytes, max_lines, owes, removed_if, turned, waiting, with_share}
 use Rattle.hub_rules.specs.Sights.{Own, PreparedLine, Sight}
 use Rattle.hub_rules.proofs.Calls.{present-over, sound_of}
 use Rattle.hub_rules.proofs.Kept.{joins-grow}

@@ -1,6 +1,9 @@
 pub mod Apart
 pub mod Calls
 pub mod Claims
+pub mod Conversations
+pub mod Heard
+pub mod Scenes
 pub mod Clearing
 pub mod Distinct
 pub mod Entries

@@ -11,7 +11,6 @@ use Rattle.adc_line.specs.Lines as lines
 use Rattle.adc_line.specs.Lines.{Reading}
 use Rattle.feature_route.specs.Audiences.{audience, both, both_if, by_kind, direct, echoed, featured, holds, holds_words}
 use Rattle.feature_route.specs.Matching.{feature_set}
-use Rattle.feature_route.specs.declared.hearers.Audience.{Audience}
 use Rattle.feature_route.specs.declared.hearers.Audience.TheVariants as audiences
 use Rattle.feature_route.proofs.Parts.{meets-feature_set}
 use Rattle.inf_fields.specs.Cleaning.{clean}
@@ -44,13 +43,12 @@ use Rattle.hub_rules.specs.declared.request.Request.{Request}
 use Rattle.hub_rules.specs.declared.request.Request.TheVariants as requests
 use Rattle.hub_rules.specs.Acts.{act_effect, asked_effect, ban_effect, is_command, kick_effect, text_in, user_called}
 use Rattle.hub_rules.specs.Denied.{denied, request_denied, update_denied}
-use Rattle.hub_rules.specs.Effects.{accepted, admits, denial, enters, entrant, fall_if, greets, heard, is_over, is_target_here, learns, line_effect, logs_in, nick_points, passes_on, unless_denied, update_effect, updates_user}
+use Rattle.hub_rules.specs.Effects.{accepted, admits, denial, entrant, fall_if, greets, heard, is_over, is_target_here, learns, line_effect, logs_in, nick_points, passes_on, unless_denied, updates_user}
 use Rattle.hub_rules.specs.Identities.{cid_in, given, key_in, key_of, listed, meaning, su_in}
 use Rattle.hub_rules.specs.Quiet.{nothing}
 use Rattle.hub_rules.specs.Requests.{refused, request_of, to_users}
 use Rattle.hub_rules.specs.Sights.{Own, PreparedLine, Sight, is_account, user_after}
-use Rattle.hub_rules.specs.Asks.{own_if_given, update_ask}
-use Rattle.login_state.specs.declared.findings.Identity.TheVariants as identities
+use Rattle.hub_rules.specs.Asks.{update_ask}
 use Rattle.hub_rules.proofs.Claims.{go, update-free}
 use Rattle.hub_rules.proofs.Clearing.{ask-identity, ask-update, later-none, same-cid}
 use Rattle.hub_rules.proofs.Merges.{given-after}

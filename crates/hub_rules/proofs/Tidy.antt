@@ -1,5 +1,5 @@
 -- What is known of a connection by its stage, and that what waits for it is within its limits, after every history.
-use Rattle.std.proofs.Common.{◌≡◌, ◌∙◌, sym, ap, ap₂, refl, subst, ℕ, ◌+◌, ◌≤◌, Bool, true, false, ◌&&◌, ◌==◌, nat_le, List, [], ◌∷◌, ◌++◌, length, take, drop, arith, length-append, length-take, length-drop}
+use Rattle.std.proofs.Common.{◌≡◌, ◌∙◌, sym, ap, refl, subst, ℕ, ◌+◌, ◌≤◌, Bool, true, false, ◌&&◌, ◌==◌, List, [], ◌∷◌, ◌++◌, length, take, drop, arith, length-append, length-take, length-drop}
 use Rattle.std.proofs.lemmas.Bool.{false≢true, eqb-true, leb-true}
 use Rattle.std.proofs.lemmas.List.{drop-append-le, drop-drop, drop_min}
 use Rattle.std.proofs.lemmas.List.Sums.{sum_by-append, sum_by-take-drop}
@@ -14,12 +14,11 @@ use Rattle.hub_rules.specs.declared.history.Call.TheVariants.{Join, Line, Quit, 
 use Rattle.hub_rules.specs.declared.history.Entry.{Entry}
 use Rattle.hub_rules.specs.Configured.{Configured}
 use Rattle.hub_rules.specs.Effects.{departure}
-use Rattle.hub_rules.specs.Facts.{Facts, facts, about_after, after, closed, effect_of_line, given, happens, has_joins, has_place, joined, newcomer, next_sid, nobody, own_of, sight_of, with_one}
+use Rattle.hub_rules.specs.Facts.{Facts, facts, after, closed, effect_of_line, given, happens, has_joins, has_place, joined, newcomer, next_sid, nobody, own_of, sight_of}
 use Rattle.hub_rules.specs.Prepared.{prepared}
 use Rattle.hub_rules.specs.Said.{infs}
 use Rattle.hub_rules.specs.Shares.{About, affected, backlog_of, chosen, expected_after, fields_after, given_share, has_room, max_bytes, max_lines, owes, removed_if, stage_after, turned, waiting, with_share}
 use Rattle.hub_rules.proofs.Calls.{sound_of}
-use Rattle.hub_rules.proofs.Members.{and-false}
 use Rattle.hub_rules.proofs.Saying.{told_of}
 use Rattle.hub_rules.proofs.Sound.{Sound, and-left, removed_by}
 use Rattle.hub_rules.proofs.Suits.{Suits, Suited, suits-line}

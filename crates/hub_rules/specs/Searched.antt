@@ -5,7 +5,6 @@ use Rattle.std.specs.Option.{option_or}
 use Rattle.adc_line.specs.Lines.{Reading}
 use Rattle.inf_fields.specs.FieldNames.{share_size_name, shared_files_name}
 use Rattle.user_table.specs.Tables.{amount}
-use Rattle.user_table.specs.declared.totals.Totals.{Totals}
 use Rattle.hub_rules.specs.declared.history.Call.{Call}
 use Rattle.hub_rules.specs.declared.history.Call.TheVariants.{Line}
 use Rattle.hub_rules.specs.declared.history.Entry.{Entry}
