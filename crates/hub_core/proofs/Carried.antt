@@ -44,20 +44,20 @@ pub same-core : (setup : Configured) (joins last : ℕ) {s t : List Seat} {us vs
 same-core setup joins last {s} {t} {us} {vs} {bans} {topic} seats users =
     ap₂ (λ (x : List Seat) (y : List Listed). record { setup = setup; joins = joins; last = last; seats = x; users = y; bans = bans; topic = topic }) seats users
 
-seats-carried : (setup : Configured) (c : ℕ) (effect : Effect) (f : Facts) → Sound f → Suits (own_of (f.about c)) effect
+seats-carried : (setup : Configured) (c : ℕ) (effect : Effect) (f : Facts) → Sound f → ((d : ℕ) → Tidy (f.about d)) → Suits (own_of (f.about c)) effect
     → settled_all (removed_of effect.world) (at_seat c (turned_seat effect) (map (seat_of f.about) f.opened)) (map (seat_share c effect) (map (seat_of f.about) f.opened))
     ≡ map (seat_of (about_after c effect f.about)) f.opened
-seats-carried setup c effect f sound suits =
+seats-carried setup c effect f sound tidy suits =
     ap₂ (settled_all (removed_of effect.world)) (at-one c (turned_seat effect) f.about f.opened sound.open_once) (map-seats (seat_share c effect) (seat_of f.about) f.opened)
     ∙ settled-map (removed_of effect.world) (seat_one c (turned_seat effect) f.about) (λ d. seat_share c effect (seat_of f.about d)) f.opened
     ∙ seats-same _ (seat_of (about_after c effect f.about)) f.opened
-    (λ d. settles c effect d (f.about d) suits.routed (sound.taken d) (λ is. subst (λ x. Suits (own_of (f.about x)) effect) (sym (eqb-true d c is)) suits))
+    (λ d. settles c effect d (f.about d) suits.routed (sound.taken d) (tidy d).lines (tidy d).bytes (λ is. subst (λ x. Suits (own_of (f.about x)) effect) (sym (eqb-true d c is)) suits))
 
-pub carried-out : (setup : Configured) (c : ℕ) (effect : Effect) (f : Facts) → Sound f → Numbered setup f → has c f.opened ≡ true → Suits (own_of (f.about c)) effect
+pub carried-out : (setup : Configured) (c : ℕ) (effect : Effect) (f : Facts) → Sound f → Numbered setup f → ((d : ℕ) → Tidy (f.about d)) → has c f.opened ≡ true → Suits (own_of (f.about c)) effect
     → carried_out c effect (core_of setup f) ≡ core_of setup (happens c effect f)
 unfolding carried_out happens
-carried-out setup c effect f sound n open_c suits =
-    same-core setup f.joins f.last (seats-carried setup c effect f sound suits)
+carried-out setup c effect f sound n tidy open_c suits =
+    same-core setup f.joins f.last (seats-carried setup c effect f sound tidy suits)
     (ap₂ (λ sid phase. users_after effect.world effect.turn sid phase (map (user_of f.about) f.present))
     (in-open c (λ seat. seat.sid) 0 f.about f.opened open_c) (in-open c (λ seat. seat.phase) phases.Gone f.about f.opened open_c)
     ∙ users-carried setup f c effect sound n open_c suits)

@@ -1,6 +1,7 @@
 pub mod Carried
 pub mod Ended
 pub mod Numbers
+pub mod Owed
 pub mod Places
 pub mod Running
 pub mod Seating

@@ -18,7 +18,7 @@ use Rattle.hub_core.specs.Numbers.{Above, Ordered, Rising, UpTo, numbers}
 use Rattle.hub_core.specs.Phases.{stage_in}
 use Rattle.hub_core.specs.Seats.{at_seat, given_seat, new_seat, settled_all}
 use Rattle.hub_core.proofs.Places.{none_passes}
-use Rattle.hub_core.proofs.Settling.{number-gone}
+use Rattle.hub_core.proofs.Settling.{number-given, number-gone}
 use Rattle.hub_core.proofs.Tests.{false-lt, lt-true}
 use Rattle.hub_rules.specs.Effects.{is_present}
 use Rattle.hub_rules.proofs.Sound.{or-true}
@@ -57,7 +57,7 @@ pub numbers-settled : (removal : Removal) (seats : List Seat) (shares : List (Li
 unfolding settled_all
 numbers-settled removal [] shares = refl
 numbers-settled removal (seat ∷ seats) [] = refl
-numbers-settled removal (seat ∷ seats) (share ∷ shares) = ap₂ ◌∷◌ (number-gone _ (given_seat share seat)) (numbers-settled removal seats shares)
+numbers-settled removal (seat ∷ seats) (share ∷ shares) = ap₂ ◌∷◌ (number-gone _ (given_seat share seat) ∙ number-given share seat) (numbers-settled removal seats shares)
 
 changed-one : (change : Seat → Seat) (seat : Seat) (seats rest : List Seat) (same : Bool) → (change seat).number ≡ seat.number → numbers rest ≡ numbers seats
     → numbers (cond same (change seat ∷ seats) (seat ∷ rest)) ≡ seat.number ∷ numbers seats

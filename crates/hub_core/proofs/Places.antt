@@ -21,7 +21,7 @@ stands_first c seats i e = record {
   before = λ k d h. (position-Some (λ (seat : Seat). seat.number == c) seats i d e).2 k h;
 }
 
-rest_first : (c : ℕ) (seat : Seat) (seats : List Seat) (i : ℕ) → StandsFirst c (seat ∷ seats) (suc i) → StandsFirst c seats i
+pub rest_first : (c : ℕ) (seat : Seat) (seats : List Seat) (i : ℕ) → StandsFirst c (seat ∷ seats) (suc i) → StandsFirst c seats i
 rest_first c seat seats i at = record {
   within = omega (arith, at.within);
   here = at.here;

@@ -1,10 +1,10 @@
 -- What an effect makes of the seat of one connection.
-use Rattle.std.proofs.Common.{◌≡◌, ◌∙◌, sym, ap, ap₂, refl, ℕ, ◌≤◌, Bool, true, false, not, ◌&&◌, List, ◌++◌, length}
+use Rattle.std.proofs.Common.{◌≡◌, ◌∙◌, sym, ap, ap₂, refl, ℕ, ◌≤◌, Bool, true, false, not, ◌&&◌, ◌+◌, List, [], ◌∷◌, ◌++◌, length, arith, append-nil}
 use Rattle.std.specs.Prelude.{◌==◌}
 use Rattle.feature_route.specs.Matching.{feature_set}
 use Rattle.login_state.specs.declared.stage.Stage.{Stage}
 use Rattle.login_state.specs.declared.stage.Stage.TheVariants as stages
-use Rattle.outboxes.specs.Backlogs.{Backlog, fits, given as given_backlog, marked, with_lines}
+use Rattle.outboxes.specs.Backlogs.{Backlog, fits, given as given_backlog, marked, size_of, with_lines}
 use Rattle.hub_core.specs.declared.seat.Phase.{Phase}
 use Rattle.hub_core.specs.declared.seat.Phase.TheVariants as phases
 use Rattle.hub_core.specs.declared.seat.Seat.{Seat}
@@ -24,9 +24,11 @@ use Rattle.hub_rules.specs.Identities.{listed, su_in}
 use Rattle.hub_rules.specs.Sights.{Own}
 use Rattle.inf_fields.specs.Field.{Field}
 use Rattle.std.specs.Prelude.{if◌then◌else◌}
-use Rattle.hub_rules.specs.Shares.{About, affected, backlog_of, chosen, given_share, has_room, hears_those, is_removed, owes, removed_if, stage_after, turned, waiting, with_share}
+use Rattle.hub_rules.specs.Shares.{About, affected, backlog_of, chosen, given_share, has_room, hears_those, is_removed, max_bytes, max_lines, owes, removed_if, stage_after, turned, waiting, with_share}
 use Rattle.hub_rules.proofs.Suits.{Routed, Suited, Suits, is_same}
 use Rattle.hub_rules.proofs.Tidy.{waiting-more, with-own}
+use Rattle.hub_core.proofs.Tests.{true-le}
+use Rattle.std.proofs.lemmas.Bool.{false≢true}
 
 -- ---- who hears
 
@@ -80,8 +82,29 @@ with-seat : (d : ℕ) (a : About) (share : List (List ℕ)) → record (seat_wit
 unfolding with_share
 with-seat d a share = share-seat (has_room a share) d a share
 
-pub gives : (d : ℕ) (a : About) (share : List (List ℕ)) → a.taken ≤ length a.owed → given_seat share (seat_with d a) ≡ seat_with d (with_share a share)
-gives d a share few = ap (λ (o : Backlog). record (seat_with d a) { outbox = o }) (backlog-given a share few) ∙ with-seat d a share
+-- what waits is within the limits, so that it is as before where nothing is added
+nothing-more : (room : Bool) (a : About) → has_room a [] ≡ room → (room ≡ false → a.lags ≡ true) → given_share room a [] ≡ a
+nothing-more true a is lag = ap (λ ls. record a { owed = ls }) (append-nil a.owed)
+nothing-more false a is lag = ap (λ b. record a { lags = b }) (sym (lag refl))
+
+no-room : (lags fit : Bool) → fit ≡ true → (not lags && fit) ≡ false → lags ≡ true
+no-room true fit is none = refl
+no-room false fit is none = absurd (false≢true (sym none ∙ is))
+
+fits-nothing : (a : About) → length (waiting a) ≤ max_lines → size_of (waiting a) ≤ max_bytes → fits (backlog_of a) [] ≡ true
+fits-nothing a lines bytes =
+    ap₂ ◌&&◌ (true-le (length (waiting a) + 0) max_lines (omega (arith, lines))) (true-le (size_of (waiting a) + 0) max_bytes (omega (arith, bytes)))
+
+-- a connection that is owed nothing is as before
+pub with-nothing : (a : About) → length (waiting a) ≤ max_lines → size_of (waiting a) ≤ max_bytes → with_share a [] ≡ a
+unfolding with_share
+with-nothing a lines bytes = nothing-more (has_room a []) a refl (no-room a.lags (fits (backlog_of a) []) (fits-nothing a lines bytes))
+
+pub gives : (d : ℕ) (a : About) (share : List (List ℕ)) → a.taken ≤ length a.owed → length (waiting a) ≤ max_lines → size_of (waiting a) ≤ max_bytes
+    → given_seat share (seat_with d a) ≡ seat_with d (with_share a share)
+gives d a [] few lines bytes = ap (seat_with d) (sym (with-nothing a lines bytes))
+gives d a (line ∷ share) few lines bytes =
+    ap (λ (o : Backlog). record (seat_with d a) { outbox = o }) (backlog-given a (line ∷ share) few) ∙ with-seat d a (line ∷ share)
 
 -- ---- a turn
 
@@ -190,24 +213,24 @@ with-removed : (a : About) (share : List (List ℕ)) (world : World)
     → (is_present (with_share a share).stage && is_removed world (with_share a share).sid) ≡ (is_present a.stage && is_removed world a.sid)
 with-removed a share world = ap₂ (λ s n. is_present s && is_removed world n) (ap (λ (o : Own). o.stage) (with-own a share)) (ap (λ (o : Own). o.sid) (with-own a share))
 
-settles-by : (is_caller : Bool) (effect : Effect) (d : ℕ) (a : About) (share : List (List ℕ)) → a.taken ≤ length a.owed → (is_caller ≡ true → Suits (own_of a) effect)
+settles-by : (is_caller : Bool) (effect : Effect) (d : ℕ) (a : About) (share : List (List ℕ)) → a.taken ≤ length a.owed → length (waiting a) ≤ max_lines → size_of (waiting a) ≤ max_bytes → (is_caller ≡ true → Suits (own_of a) effect)
     → settled (removed_of effect.world) (chosen is_caller (turned_seat effect (seat_with d a)) (seat_with d a)) share
     ≡ seat_with d (removed_if (is_present a.stage && is_removed effect.world a.sid) (chosen is_caller (turned effect (with_share a share)) (with_share a share)))
-settles-by true effect d a share few suits =
+settles-by true effect d a share few lines bytes suits =
     let suit : Suits (own_of a) effect = suits refl in
     ap (λ (s : Seat). removed_seat (removed_of effect.world) (given_seat share s)) (turns-seat d effect a suit)
-    ∙ ap (removed_seat (removed_of effect.world)) (gives d (turned effect a) share few)
+    ∙ ap (removed_seat (removed_of effect.world)) (gives d (turned effect a) share few lines bytes)
     ∙ ap (λ b. removed_seat (removed_of effect.world) (seat_with d b)) (with-turned effect a share)
     ∙ removes effect.world d (turned effect (with_share a share))
     ∙ ap (λ b. seat_with d (removed_if b (turned effect (with_share a share))))
     (unmoved effect.world effect.turn (with_share a share).stage (with_share a share).sid suit.lone ∙ with-removed a share effect.world)
-settles-by false effect d a share few suits =
-    ap (removed_seat (removed_of effect.world)) (gives d a share few)
+settles-by false effect d a share few lines bytes suits =
+    ap (removed_seat (removed_of effect.world)) (gives d a share few lines bytes)
     ∙ removes effect.world d (with_share a share)
     ∙ ap (λ b. seat_with d (removed_if b (with_share a share))) (with-removed a share effect.world)
 
-pub settles : (c : ℕ) (effect : Effect) (d : ℕ) (a : About) → Routed effect.hearers → a.taken ≤ length a.owed → ((d == c) ≡ true → Suits (own_of a) effect)
+pub settles : (c : ℕ) (effect : Effect) (d : ℕ) (a : About) → Routed effect.hearers → a.taken ≤ length a.owed → length (waiting a) ≤ max_lines → size_of (waiting a) ≤ max_bytes → ((d == c) ≡ true → Suits (own_of a) effect)
     → seat_next c effect d a ≡ seat_with d (affected (d == c) effect a)
-settles c effect d a routed few suits =
+settles c effect d a routed few lines bytes suits =
     ap (settled (removed_of effect.world) (chosen (d == c) (turned_seat effect (seat_with d a)) (seat_with d a))) (share-same c d effect a routed)
-    ∙ settles-by (d == c) effect d a (owes (d == c) effect a) few suits
+    ∙ settles-by (d == c) effect d a (owes (d == c) effect a) few lines bytes suits

@@ -1,11 +1,11 @@
 -- A hub that stands at a history stands at the next one after each call.
-use Rattle.std.proofs.Common.{◌≡◌, ◌∙◌, sym, ap, ap₂, refl, subst, ℕ, ◌+◌, ◌<◌, ◌≤◌, Bool, true, false, not, ◌&&◌, ◌||◌, ◌==◌, List, [], ◌∷◌, ◌++◌, length, map, take, arith, append-nil}
+use Rattle.std.proofs.Common.{◌≡◌, ◌∙◌, sym, ap, ap₂, refl, subst, ℕ, ◌+◌, ◌<◌, ◌≤◌, Bool, true, false, not, ◌&&◌, ◌||◌, ◌==◌, List, [], ◌∷◌, ◌++◌, length, map, take}
 use Rattle.std.specs.Prelude.{nat_le}
 use Rattle.std.specs.List.{concat, list_any}
 use Rattle.std.proofs.lemmas.Bool.{false≢true, eqb-true, eq-eqb}
 use Rattle.std.proofs.lemmas.List.{map-append, length-map}
 use Rattle.adc_base32.specs.Turns.{next_free}
-use Rattle.outboxes.specs.Backlogs.{Backlog, empty_backlog, fits, size_of, with_lines}
+use Rattle.outboxes.specs.Backlogs.{Backlog, empty_backlog, with_lines}
 use Rattle.operator_acts.specs.declared.ban.Ban.{Ban}
 use Rattle.outboxes.specs.Quits.{quit_line}
 use Rattle.user_table.specs.Listed.{Listed}
@@ -35,7 +35,7 @@ use Rattle.hub_rules.specs.Facts.{Facts, about_after, after, closed, effect_of_l
 use Rattle.hub_rules.specs.Identities.{listed}
 use Rattle.hub_rules.proofs.Entries.{not-over}
 use Rattle.hub_rules.specs.Legal.{Legal, is_open, join_reply, reply, take_reply, verdict_of}
-use Rattle.hub_rules.specs.Shares.{About, affected, backlog_of, chosen, given_share, has_room, max_bytes, max_lines, removed_if, waiting, with_share}
+use Rattle.hub_rules.specs.Shares.{About, affected, backlog_of, chosen, max_bytes, max_lines, removed_if, waiting, with_share}
 use Rattle.hub_rules.specs.Sights.{PreparedLine}
 use Rattle.hub_rules.proofs.Calls.{not-open, sound_of}
 use Rattle.hub_rules.proofs.Members.{has}
@@ -45,7 +45,7 @@ use Rattle.hub_rules.proofs.Suits.{Suits}
 use Rattle.hub_rules.proofs.Tidy.{Tidy, suits_of, tidy_of, waiting-given}
 use Rattle.hub_core.proofs.Carried.{carried-out, decided-is, same-core}
 use Rattle.hub_core.proofs.Seating.{at-one, in-open, map-seats, others-seats, others_of as numbers_but, seat_one, seated-open, seats-left, seats-same}
-use Rattle.hub_core.proofs.Sharing.{gives, stage-kept}
+use Rattle.hub_core.proofs.Sharing.{gives, stage-kept, with-nothing}
 use Rattle.hub_core.proofs.Tests.{false-le, true-le}
 use Rattle.hub_core.proofs.Users.{users-carried}
 
@@ -79,7 +79,7 @@ line-moves old new c line now seat effect verdict small is_seat decided is_new i
     ∙ ap (λ l. line_effect (sight_of setup f) (own_of (f.about c)) l now) is_line in
     let stands : new ≡ core_of setup (happens c (effect_of_line setup hash f c line.bytes now) f) =
     is_new ∙ ap₂ (carried_out c) is_effect at.stands
-    ∙ carried-out setup c (effect_of_line setup hash f c line.bytes now) f sound n may.0 (suits_of setup hash h c line.bytes now) in
+    ∙ carried-out setup c (effect_of_line setup hash f c line.bytes now) f sound n (tidy_of setup hash h) may.0 (suits_of setup hash h c line.bytes now) in
     let stage : stage_in (phase_in c new.seats) ≡ ((happens c (effect_of_line setup hash f c line.bytes now) f).about c).stage =
     ap (λ (s : CoreState). stage_in (phase_in c s.seats)) stands ∙ phase-open setup c (effect_of_line setup hash f c line.bytes now) f may.0 in
     record { legal = (at.legal, may, ap Said (is_verdict ∙ ap verdict_of stage)); stands = stands }
@@ -150,32 +150,15 @@ take-moves old new c count lines bytes over is_new is_bytes is_lines is_ended se
 
 -- ---- quits
 
-nothing-more : (room : Bool) (a : About) → has_room a [] ≡ room → (room ≡ false → a.lags ≡ true) → given_share room a [] ≡ a
-nothing-more true a is lag = ap (λ ls. record a { owed = ls }) (append-nil a.owed)
-nothing-more false a is lag = ap (λ b. record a { lags = b }) (sym (lag refl))
-
-no-room : (lags fit : Bool) → fit ≡ true → (not lags && fit) ≡ false → lags ≡ true
-no-room true fit is none = refl
-no-room false fit is none = absurd (false≢true (sym none ∙ is))
-
-fits-nothing : (a : About) → Tidy a → fits (backlog_of a) [] ≡ true
-fits-nothing a tidy =
-    ap₂ ◌&&◌ (true-le (length (waiting a) + 0) max_lines (omega (arith, tidy.lines))) (true-le (size_of (waiting a) + 0) max_bytes (omega (arith, tidy.bytes)))
-
--- a connection that is owed nothing is as before
-pub with-nothing : (a : About) → Tidy a → with_share a [] ≡ a
-unfolding with_share
-with-nothing a tidy = nothing-more (has_room a []) a refl (no-room a.lags (fits (backlog_of a) []) (fits-nothing a tidy))
-
 abbrev leaves : About → Effect
 leaves a = departure a.stage a.sid
 
 told-one : (here there : Bool) (sid d : ℕ) (a : About) → a.taken ≤ length a.owed → Tidy a
     → chosen here (told_if there sid (seat_with d a)) (seat_with d a) ≡ seat_with d (with_share a (given_if (there && true) (given_if here (quit_line sid ∷ [])) ++ []))
-told-one true true sid d a few tidy = gives d a (quit_line sid ∷ []) few
-told-one true false sid d a few tidy = ap (seat_with d) (sym (with-nothing a tidy))
-told-one false true sid d a few tidy = ap (seat_with d) (sym (with-nothing a tidy))
-told-one false false sid d a few tidy = ap (seat_with d) (sym (with-nothing a tidy))
+told-one true true sid d a few tidy = gives d a (quit_line sid ∷ []) few tidy.lines tidy.bytes
+told-one true false sid d a few tidy = ap (seat_with d) (sym (with-nothing a tidy.lines tidy.bytes))
+told-one false true sid d a few tidy = ap (seat_with d) (sym (with-nothing a tidy.lines tidy.bytes))
+told-one false false sid d a few tidy = ap (seat_with d) (sym (with-nothing a tidy.lines tidy.bytes))
 
 -- nobody is shut out by a departure
 none-removed : (b : Bool) (a : About) → removed_if (b && false) a ≡ a

@@ -3,6 +3,7 @@ pub mod Decided
 pub mod Leaving
 pub mod Moves
 pub mod Numbers
+pub mod Owed
 pub mod Phases
 pub mod Promises
 pub mod Runs

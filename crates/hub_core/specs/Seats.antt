@@ -1,5 +1,5 @@
 -- What is kept of the connections, and what an effect makes of it.
-use Rattle.std.specs.Prelude.{ℕ, ◌==◌, ◌&&◌, Bool, true, false, List, [], ◌∷◌, ◌++◌, Option, Some, None, if◌then◌else◌}
+use Rattle.std.specs.Prelude.{ℕ, ◌==◌, ◌&&◌, Bool, true, false, List, [], ◌∷◌, ◌++◌, Option, None, if◌then◌else◌}
 use Rattle.outboxes.specs.Backlogs.{Backlog, empty_backlog, given}
 use Rattle.hub_core.specs.declared.seat.Phase.{Phase}
 use Rattle.hub_core.specs.declared.seat.Phase.TheVariants as phases
@@ -51,8 +51,10 @@ abbrev pub seat_share : ℕ → Effect → Seat → List (List ℕ)
 seat_share c effect seat =
     given_if (phase_hears seat.phase (seat.number == c) effect.hearers seat.sid) effect.others ++ given_if (seat.number == c) effect.own
 
+-- a connection that hears nothing is as before
 abbrev pub given_seat : List (List ℕ) → Seat → Seat
-given_seat share seat = record seat { outbox = given seat.outbox share }
+given_seat [] seat = seat
+given_seat (line ∷ lines) seat = record seat { outbox = given seat.outbox (line ∷ lines) }
 
 -- the user whom an operator shuts out
 abbrev pub removed_of : World → Removal
@@ -74,10 +76,6 @@ removed_seat removed seat = gone_if (is_present (stage_in seat.phase) && is_name
 -- a share is given, and the user shut out where it is the one
 abbrev pub settled : Removal → Seat → List (List ℕ) → Seat
 settled removed seat share = removed_seat removed (given_seat share seat)
-
-abbrev pub settled_by : Removal → Seat → Option (List (List ℕ)) → Seat
-settled_by removed seat None = seat
-settled_by removed seat (Some share) = settled removed seat share
 
 -- each seat has its share
 unfoldable pub settled_all : Removal → List Seat → List (List (List ℕ)) → List Seat

@@ -1,7 +1,8 @@
 ghost use Rattle.std.specs.Prelude.{◌≡◌};
+ghost use Rattle.hub_core.specs.declared.seat.Removal.TheVariants.{User};
 ghost use Rattle.hub_core.specs.Leaving.{told};
 ghost use Rattle.hub_core.specs.Phases.{stage_in};
-ghost use Rattle.hub_core.specs.Seats.{is_named, new_seat, searched_seat, settled_by};
+ghost use Rattle.hub_core.specs.Seats.{given_seat, new_seat, removed_seat, searched_seat};
 ghost use Rattle.hub_rules.specs.Effects.{is_over, is_present};
 ghost use Rattle.hub_rules.specs.Legal.{verdict_of};
 
@@ -121,15 +122,20 @@ impl Seat {
         }
     }
 
-    /// Gives the connection its share, if there is one, and shuts its user out where an operator named it.
-    pub(crate) fn settle(&mut self, share: Option<Batch>, removal: &Removal)
-        ensures { self.new ≡ settled_by removal.now self.old share }
+    /// Gives the connection lines. Of none nothing happens.
+    pub(crate) fn hear(&mut self, lines: Batch)
+        ensures { self.new ≡ given_seat lines self.old }
     {
-        let Some(share) = share else {
-            return;
-        };
-        self.outbox.give(share);
-        if self.phase.is_present() && removal.names(self.sid) {
+        if !lines.is_empty() {
+            self.outbox.give(lines);
+        }
+    }
+
+    /// Shuts the user out where it is present and has this session identifier.
+    pub(crate) fn leave_if_named(&mut self, sid: Sid)
+        ensures { self.new ≡ removed_seat (User sid) self.old }
+    {
+        if self.phase.is_present() && self.sid == sid {
             self.phase = Phase::Gone;
         }
     }
@@ -149,17 +155,6 @@ impl Seat {
     {
         if self.phase.is_present() {
             self.outbox.give_quit(sid);
-        }
-    }
-}
-
-impl Removal {
-    fn names(&self, own: Sid) -> bool
-        ensures { result ≡ is_named self.now own }
-    {
-        match self {
-            Removal::User(sid) => own == *sid,
-            Removal::Nobody => false,
         }
     }
 }

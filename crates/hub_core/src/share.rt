@@ -1,32 +1,118 @@
-ghost use Rattle.std.specs.Prelude.{◌≡◌, ◌==◌, map, IfOk};
+ghost use Rattle.std.specs.Prelude.{◌≡◌, ◌==◌, ◌++◌, map, IfOk, IsTrue, OnOk};
+ghost use Rattle.hub_core.specs.Numbers.{Rising, numbers};
+ghost use Rattle.hub_core.specs.Owed.{HeardByNone, given_all, share_at, shares_from};
 ghost use Rattle.hub_core.specs.Phases.{is_among, phase_hears};
-ghost use Rattle.hub_core.specs.Seats.{removed_of, seat_share, settled_all};
+ghost use Rattle.hub_core.specs.Seats.{removed_of, removed_seat, seat_share};
+ghost use Rattle.hub_core.specs.State.{HasSeat};
+ghost use Rattle.hub_core.specs.declared.seat.Removal.TheVariants.{User};
+ghost use Rattle.hub_rules.specs.declared.effect.Hearers.TheVariants.{Those};
+ghost use Rattle.feature_route.specs.declared.hearers.Audience.TheVariants.{Nobody};
 
 use crate::seat::{Phase, Removal, Seat};
+use crate::seats::place;
 use adc_base32::Sid;
-use feature_route::FeatureSet;
+use feature_route::{Audience, FeatureSet};
 use hub_rules::{Effect, Hearers, World};
 use outboxes::Batch;
 use std::alloc::{AllocError, Global};
 
-/// What an effect of a connection owes to each connection, seat by seat. All of it is made before any is given.
+/// What one call owes to one connection.
+#[derive(Debug, Drop)]
+pub struct Share {
+    /// The place of its seat.
+    pub(crate) place: usize,
+    /// The lines.
+    pub(crate) lines: Batch,
+}
+
+/// What an effect of a connection owes to those connections that hear something. All of it is made before any is given.
+/// Where nobody but the connection itself can hear anything, the other seats are not looked at.
 pub(crate) fn shares(
     alloc: Global,
     seats: &[Seat],
     number: u64,
     effect: &Effect<'_>,
-) -> Result<Vec<Batch>, AllocError>
-    ensures { IfOk result (λ shares. shares.items ≡ map (seat_share number effect.now) seats.now) }
+) -> Result<Vec<Share>, AllocError>
+    requires seated { HasSeat number seats.now }
+    requires rising { Rising (numbers seats.now) }
+    ensures { IfOk result (λ shares. shares.items ≡ shares_from 0 (seat_share number effect.now) seats.now) }
 {
-    let mut shares = Vec::with_capacity(alloc, seats.len())?;
-    for seat in seats {
-        let share = share(alloc, seat, number, effect)?;
-        shares.push(share)?;
+    if is_heard_by_none(effect) {
+        own_share(alloc, seats, number, effect)
+    } else {
+        all_shares(alloc, seats, number, effect)
+    }
+}
+
+/// Whether nothing is said to users, or to none of them.
+fn is_heard_by_none(effect: &Effect<'_>) -> bool
+    ensures { IsTrue result → HeardByNone effect.now }
+{
+    effect.others.is_empty() || are_none(&effect.hearers)
+}
+
+fn are_none(hearers: &Hearers<'_>) -> bool
+    ensures { IsTrue result → hearers.now ≡ Those Nobody }
+{
+    match hearers {
+        Hearers::Those(Audience::Nobody) => true,
+        Hearers::Those(_) | Hearers::Others => false,
+    }
+}
+
+fn own_share(
+    alloc: Global,
+    seats: &[Seat],
+    number: u64,
+    effect: &Effect<'_>,
+) -> Result<Vec<Share>, AllocError>
+    requires seated { HasSeat number seats.now }
+    requires rising { Rising (numbers seats.now) }
+    requires none { HeardByNone effect.now }
+    ensures { IfOk result (λ shares. shares.items ≡ shares_from 0 (seat_share number effect.now) seats.now) }
+{
+    let place = place(seats, number);
+    let lines = owed(alloc, &seats[place], number, effect)?;
+    let mut shares = Vec::new(alloc);
+    push_share(&mut shares, place, lines)?;
+    Ok(shares)
+}
+
+fn all_shares(
+    alloc: Global,
+    seats: &[Seat],
+    number: u64,
+    effect: &Effect<'_>,
+) -> Result<Vec<Share>, AllocError>
+    ensures { IfOk result (λ shares. shares.items ≡ shares_from 0 (seat_share number effect.now) seats.now) }
+{
+    let mut shares = Vec::with_capacity(alloc, expected(seats, &effect.hearers))?;
+    for (place, seat) in seats.iter().enumerate() {
+        let lines = owed(alloc, seat, number, effect)?;
+        push_share(&mut shares, place, lines)?;
     }
     Ok(shares)
 }
 
-fn share(alloc: Global, seat: &Seat, number: u64, effect: &Effect<'_>) -> Result<Batch, AllocError>
+/// How many shares there will be, about.
+fn expected(seats: &[Seat], hearers: &Hearers<'_>) -> usize {
+    match hearers {
+        Hearers::Others | Hearers::Those(Audience::All) => seats.len(),
+        Hearers::Those(_) => 0,
+    }
+}
+
+/// Adds the share of a seat, where it has lines.
+fn push_share(shares: &mut Vec<Share>, place: usize, lines: Batch) -> Result<(), AllocError>
+    ensures { OnOk result (shares.new.items ≡ shares.old.items ++ share_at place lines) }
+{
+    if !lines.is_empty() {
+        shares.push(Share { place, lines })?;
+    }
+    Ok(())
+}
+
+fn owed(alloc: Global, seat: &Seat, number: u64, effect: &Effect<'_>) -> Result<Batch, AllocError>
     ensures { IfOk result (λ share. share ≡ seat_share number effect.now seat.now) }
 {
     let is_caller = seat.number == number;
@@ -61,13 +147,32 @@ fn is_among(is_caller: bool, hearers: &Hearers<'_>, sid: Sid, support: &FeatureS
     }
 }
 
-/// Gives each seat its share, and shuts out the user that an operator names. It takes no memory.
-pub(crate) fn settle(seats: &mut [Seat], shares: Vec<Batch>, removal: &Removal)
-    ensures { seats.new ≡ settled_all removal.now seats.old shares.items }
+/// Gives each share to its seat, and shuts out the user that an operator names. It takes no memory.
+pub(crate) fn settle(seats: &mut [Seat], shares: Vec<Share>, removal: &Removal)
+    ensures { seats.new ≡ map (removed_seat removal.now) (given_all shares.items seats.old) }
 {
-    let mut shares = shares.into_iter();
+    give(seats, shares);
+    match removal {
+        Removal::Nobody => {}
+        Removal::User(sid) => shut_out(seats, *sid),
+    }
+}
+
+fn give(seats: &mut [Seat], shares: Vec<Share>)
+    ensures { seats.new ≡ given_all shares.items seats.old }
+{
+    for share in shares {
+        if share.place < seats.len() {
+            seats[share.place].hear(share.lines);
+        }
+    }
+}
+
+fn shut_out(seats: &mut [Seat], sid: Sid)
+    ensures { seats.new ≡ map (removed_seat (User sid)) seats.old }
+{
     for seat in seats.iter_mut() {
-        seat.settle(shares.next(), removal);
+        seat.leave_if_named(sid);
     }
 }
 

@@ -1,4 +1,4 @@
-use Rattle.std.proofs.Common.{rules, sym, Result, Ok, Err}
+use Rattle.std.proofs.Common.{rules, sym, Ok, Err}
 use Rattle.std.proofs.lemmas.List.Sorted.{answers_always}
 use Rattle.hub_core.specs.declared.seat.Seat.{Seat}
 use Rattle.hub_core.proofs.Numbers.{searched}

@@ -1,10 +1,11 @@
-use Rattle.std.proofs.Common.{◌∙◌, ap, ap₂, length, map, slice_set}
+use Rattle.std.proofs.Common.{◌≡◌, ◌∙◌, sym, ap, ap₂, length, map}
 use Rattle.std.specs.Arc.{arc_value}
 use Rattle.std.specs.Vec.{with_item}
-use Rattle.std.proofs.lemmas.List.{with_items_is}
-use Rattle.hub_core.specs.Seats.{removed_of, seat_share, searched_seat, settled_all}
+use Rattle.std.proofs.lemmas.List.{length-set, with_items_is}
+use Rattle.hub_core.specs.Seats.{seat_share, searched_seat, settled_all}
 use Rattle.hub_core.specs.State.{carried_out}
 use Rattle.hub_core.proofs.Carried.{carried-as}
+use Rattle.hub_core.proofs.Owed.{settled-owed}
 use Rattle.hub_core.proofs.Places.{StandsFirst, found}
 use Rattle.hub_core.proofs.Settling.{length-settled}
 use Rattle.hub_core.specs.Numbers.{numbers}
@@ -17,29 +18,35 @@ pub returns-clause-ok : goal.returns-clause-ok
 returns-clause-ok c =
     let at : StandsFirst c.args.number c.self.inside.seats.items c.place-place.result =
     found c.args.number c.self.inside.seats.items c.deref-2.result.now c.place-place.result c.deref-2.ensures.value c.place-place.ensures in
+    let given : c.settle.new.seats ≡ settled_all c.removal-removal.result c.deref_mut.result.now (map (seat_share c.args.number c.args.effect) c.self.inside.seats.items) =
+    settled-owed c.removal-removal.result (seat_share c.args.number c.args.effect) c.self.inside.seats.items c.deref.result.now c.deref_mut.result.now c.settle.new.seats c.in_ok-shares.shares.items
+    c.settle.ensures c.in_ok-shares.ensures c.deref.ensures.value
+    (sym (ap length c.deref_mut.ensures.value ∙ length-set c.self.inside.seats.items c.place-place.result c.note_search.new.self)) in
     ap (λ seats. record { setup = arc_value c.self.inside.setup; joins = c.self.inside.joins; last = c.self.inside.last; seats = seats; users = c.change.new.self.users; bans = c.change.new.self.bans; topic = c.change.new.self.topic })
     (with_items_is (with_item c.self.inside.seats c.place-place.result c.note_search.new.self) c.settle.new.seats
-    (ap length c.settle.ensures ∙ length-settled c.removal-removal.result c.deref_mut.result.now c.in_ok-shares.shares.items ∙ c.deref_mut.ensures.len))
+    (ap length given ∙ length-settled c.removal-removal.result c.deref_mut.result.now (map (seat_share c.args.number c.args.effect) c.self.inside.seats.items) ∙ c.deref_mut.ensures.len))
     ∙ carried-as (record { setup = arc_value c.self.inside.setup; joins = c.self.inside.joins; last = c.self.inside.last; seats = c.self.inside.seats.items; users = c.self.inside.commons.users; bans = c.self.inside.commons.bans; topic = c.self.inside.commons.topic })
     c.args.number c.args.effect c.place-place.result c.index_mut-seat.result.now c.note_search.new.self c.settle.new.seats c.change.new.self.users c.change.new.self.bans c.change.new.self.topic
     at c.index_mut-seat.ensures.value
     (c.note_search.ensures ∙ ap (searched_seat c.args.effect.searched) c.in_ok-change.ensures.seat)
-    (c.settle.ensures
-    ∙ ap₂ (λ r ss. settled_all r ss c.in_ok-shares.shares.items) c.removal-removal.ensures c.deref_mut.ensures.value
-    ∙ ap (settled_all (removed_of c.args.effect.world) (slice_set c.self.inside.seats.items c.place-place.result c.note_search.new.self)) (c.in_ok-shares.ensures ∙ ap (map (seat_share c.args.number c.args.effect)) c.deref.ensures.value))
+    (given ∙ ap₂ (λ r ss. settled_all r ss (map (seat_share c.args.number c.args.effect) c.self.inside.seats.items)) c.removal-removal.ensures c.deref_mut.ensures.value)
     c.in_ok-change.ensures.users c.in_ok-change.ensures.bans c.in_ok-change.ensures.topic
     ∙ ap (carried_out c.args.number c.args.effect) c.self.view_is
 
 pub invariant_of-self-2 : goal.invariant_of-self-2
 invariant_of-self-2 c =
     let at : StandsFirst c.args.number c.self.inside.seats.items c.place-place.result =
-    found c.args.number c.self.inside.seats.items c.deref-2.result.now c.place-place.result c.deref-2.ensures.value c.place-place.ensures in (
+    found c.args.number c.self.inside.seats.items c.deref-2.result.now c.place-place.result c.deref-2.ensures.value c.place-place.ensures in
+    let given : c.settle.new.seats ≡ settled_all c.removal-removal.result c.deref_mut.result.now (map (seat_share c.args.number c.args.effect) c.self.inside.seats.items) =
+    settled-owed c.removal-removal.result (seat_share c.args.number c.args.effect) c.self.inside.seats.items c.deref.result.now c.deref_mut.result.now c.settle.new.seats c.in_ok-shares.shares.items
+    c.settle.ensures c.in_ok-shares.ensures c.deref.ensures.value
+    (sym (ap length c.deref_mut.ensures.value ∙ length-set c.self.inside.seats.items c.place-place.result c.note_search.new.self)) in (
       c.self.invariant.0,
       c.self.invariant.1,
       ordered-same c.self.inside.joins c.self.inside.seats.items _
           (ap numbers (with_items_is (with_item c.self.inside.seats c.place-place.result c.note_search.new.self) c.settle.new.seats
-          (ap length c.settle.ensures ∙ length-settled c.removal-removal.result c.deref_mut.result.now c.in_ok-shares.shares.items ∙ c.deref_mut.ensures.len))
-          ∙ ap numbers c.settle.ensures ∙ numbers-settled c.removal-removal.result c.deref_mut.result.now c.in_ok-shares.shares.items
+          (ap length given ∙ length-settled c.removal-removal.result c.deref_mut.result.now (map (seat_share c.args.number c.args.effect) c.self.inside.seats.items) ∙ c.deref_mut.ensures.len))
+          ∙ ap numbers given ∙ numbers-settled c.removal-removal.result c.deref_mut.result.now (map (seat_share c.args.number c.args.effect) c.self.inside.seats.items)
           ∙ ap numbers (c.deref_mut.ensures.value
           ∙ set-read c.args.number (turned_seat c.args.effect) c.self.inside.seats.items c.place-place.result c.index_mut-seat.result.now c.note_search.new.self at c.index_mut-seat.ensures.value
           (c.note_search.ensures ∙ ap (searched_seat c.args.effect.searched) c.in_ok-change.ensures.seat))

@@ -3,7 +3,6 @@ use Rattle.std.specs.Arc.{arc_value}
 use Rattle.hub_rules.specs.Configured.{Configured}
 use Rattle.hub_core.proofs.Standing.{open-stands-as}
 use Rattle.std.proofs.Common.{arith, rules, sym, subst}
-use Rattle.hub_core.specs.declared.seat.Seat.{Seat}
 use Rattle.hub_core.specs.Numbers.{Ordered, Rising, UpTo}
 use Rattle.hub_core.proofs.hub.Core.open.Goals as goal
 

@@ -1,0 +1,211 @@
+-- Shares of those that hear something, given seat by seat, are the shares of all.
+use Rattle.std.proofs.Common.{◌≡◌, ◌∙◌, sym, ap, ap₂, refl, subst, ℕ, zero, suc, ◌+◌, ◌<◌, ◌≤◌, Bool, true, false, ◌&&◌, List, [], ◌∷◌, ◌++◌, length, map, get_or, drop, set, arith}
+use Rattle.std.specs.Prelude.{◌==◌}
+use Rattle.std.proofs.lemmas.Bool.{eqb-true}
+use Rattle.std.proofs.lemmas.List.{append-nil, append_assoc, at_drop_more, at_drop_all}
+use Rattle.outboxes.specs.Backlogs.{given}
+use Rattle.feature_route.specs.Audiences.{holds_words}
+use Rattle.feature_route.specs.declared.hearers.Audience.TheVariants as audiences
+use Rattle.hub_core.specs.declared.seat.Phase.{Phase}
+use Rattle.hub_core.specs.declared.seat.Phase.TheVariants as phases
+use Rattle.hub_core.specs.declared.seat.Removal.{Removal}
+use Rattle.hub_core.specs.declared.seat.Removal.TheVariants.{Nobody}
+use Rattle.hub_core.specs.declared.seat.Seat.{Seat}
+use Rattle.hub_core.specs.declared.share.Share.{Share}
+use Rattle.hub_core.specs.Numbers.{Above, Rising, numbers}
+use Rattle.hub_core.specs.Owed.{HeardByNone, given_all, given_at, share_at, shares_from}
+use Rattle.hub_core.specs.Phases.{phase_hears, stage_in}
+use Rattle.hub_core.specs.Seats.{given_seat, gone_if, removed_seat, seat_share, settled, settled_all}
+use Rattle.hub_core.proofs.Places.{StandsFirst, rest_first}
+use Rattle.hub_rules.specs.declared.effect.Effect.{Effect}
+use Rattle.hub_rules.specs.declared.effect.Hearers.TheVariants.{Those}
+use Rattle.hub_rules.specs.Effects.{given_if, is_present}
+
+abbrev Lines : Type 0
+Lines = List (List ℕ)
+
+-- ---- one more seat
+
+first-share : (place : ℕ) (owed : Seat → Lines) (seat : Seat) (seats : List Seat) → shares_from place owed (seat ∷ seats) ≡ share_at place (owed seat) ++ shares_from (place + 1) owed seats
+unfolding shares_from
+first-share place owed seat seats = refl
+
+no-share : (place : ℕ) (owed : Seat → Lines) → shares_from place owed [] ≡ []
+unfolding shares_from
+no-share place owed = refl
+
+pub shares-more : (owed : Seat → Lines) (seats : List Seat) (i : ℕ) (seat : Seat) (old new all : List Share) → i < length seats → seat ≡ get_or seats i seat
+    → new ≡ old ++ share_at i (owed seat) → old ++ shares_from i owed (drop i seats) ≡ all → new ++ shares_from (i + 1) owed (drop (i + 1) seats) ≡ all
+shares-more owed seats i seat old new all within is_seat is_new done =
+    ap (λ ss. ss ++ shares_from (i + 1) owed (drop (i + 1) seats)) is_new
+    ∙ append_assoc old (share_at i (owed seat)) (shares_from (i + 1) owed (drop (i + 1) seats))
+    ∙ ap (λ (s : Seat). old ++ (share_at i (owed s) ++ shares_from (i + 1) owed (drop (i + 1) seats))) is_seat
+    ∙ sym (ap (λ ss. old ++ ss) (at_drop_more (λ xs. shares_from i owed xs) seats i seat within ∙ first-share i owed (get_or seats i seat) (drop (i + 1) seats))) ∙ done
+
+pub shares-end : (owed : Seat → Lines) (seats : List Seat) (i : ℕ) (old all : List Share) → length seats ≤ i
+    → old ++ shares_from i owed (drop i seats) ≡ all → old ≡ all
+shares-end owed seats i old all over done =
+    sym (ap (λ ss. old ++ ss) (at_drop_all (λ xs. shares_from i owed xs) seats i over ∙ no-share i owed) ∙ append-nil old) ∙ done
+
+-- ---- one connection alone
+
+abbrev Quiet : ℕ → (Seat → Lines) → Type 0
+Quiet c owed = (seat : Seat) → (seat.number == c) ≡ false → owed seat ≡ []
+
+later : (n c : ℕ) (same : Bool) → (n == c) ≡ same → c < n → same ≡ false
+later n c true is less = absurd (omega (arith, eqb-true n c is, less))
+later n c false is less = refl
+
+none-later : (c place : ℕ) (owed : Seat → Lines) (seats : List Seat) → Quiet c owed → Above c (numbers seats) → shares_from place owed seats ≡ []
+unfolding shares_from Above
+none-later c place owed [] quiet above = refl
+none-later c place owed (seat ∷ seats) quiet above =
+    ap (λ ls. share_at place ls ++ shares_from (place + 1) owed seats) (quiet seat (later seat.number c (seat.number == c) refl above.0))
+    ∙ none-later c (place + 1) owed seats quiet above.1
+
+above-same : (n c : ℕ) (ns : List ℕ) → n ≡ c → Above n ns → Above c ns
+above-same n c ns is above = subst (λ m. Above m ns) is above
+
+one-share : (c place : ℕ) (owed : Seat → Lines) (seats : List Seat) (i : ℕ) (d : Seat) → Quiet c owed → Rising (numbers seats) → StandsFirst c seats i
+    → shares_from place owed seats ≡ share_at (place + i) (owed (get_or seats i d))
+unfolding shares_from Rising
+one-share c place owed [] i d quiet rising at = absurd (omega (arith, at.within))
+one-share c place owed (seat ∷ seats) zero d quiet rising at =
+    ap (λ ss. share_at place (owed seat) ++ ss)
+    (none-later c (place + 1) owed seats quiet (above-same seat.number c (numbers seats) (eqb-true seat.number c (at.here d)) rising.0))
+    ∙ append-nil (share_at place (owed seat))
+    ∙ ap (λ n. share_at n (owed seat)) (omega arith)
+one-share c place owed (seat ∷ seats) (suc i) d quiet rising at =
+    ap (λ ls. share_at place ls ++ shares_from (place + 1) owed seats) (quiet seat (at.before zero d (omega arith)))
+    ∙ one-share c (place + 1) owed seats i d quiet rising.1 (rest_first c seat seats i at)
+    ∙ ap (λ n. share_at n (owed (get_or seats i d))) (omega arith)
+
+pub alone : (c : ℕ) (owed : Seat → Lines) (seats : List Seat) (i : ℕ) (d : Seat) → Quiet c owed → Rising (numbers seats) → StandsFirst c seats i
+    → shares_from 0 owed seats ≡ share_at i (owed (get_or seats i d))
+alone c owed seats i d quiet rising at = one-share c 0 owed seats i d quiet rising at ∙ ap (λ n. share_at n (owed (get_or seats i d))) (omega arith)
+
+-- where no user hears anything, only the sender of the line has a share
+pub quiet-others : (c : ℕ) (effect : Effect) → HeardByNone effect → (seat : Seat) → (seat.number == c) ≡ false → seat_share c effect seat ≡ []
+quiet-others c effect none seat other = ap₂ ◌++◌ (none seat (seat.number == c)) (ap (λ b. given_if b effect.own) other)
+
+given-none : (hears : Bool) → given_if {A = List ℕ} hears [] ≡ []
+given-none true = refl
+given-none false = refl
+
+pub none-said : (effect : Effect) → effect.others ≡ [] → HeardByNone effect
+none-said effect is seat is_caller =
+    ap (given_if (phase_hears seat.phase is_caller effect.hearers seat.sid)) is ∙ given-none (phase_hears seat.phase is_caller effect.hearers seat.sid)
+
+nobody-hears : (phase : Phase) (is_caller : Bool) (sid : ℕ) → phase_hears phase is_caller (Those audiences.Nobody) sid ≡ false
+unfolding holds_words
+nobody-hears phases.Protocol is_caller sid = refl
+nobody-hears phases.Identify is_caller sid = refl
+nobody-hears (phases.Verify newcomer expected) is_caller sid = refl
+nobody-hears (phases.Normal support) is_caller sid = refl
+nobody-hears phases.Gone is_caller sid = refl
+
+pub none-hear : (effect : Effect) → effect.hearers ≡ Those audiences.Nobody → HeardByNone effect
+none-hear effect is seat is_caller =
+    ap (λ h. given_if (phase_hears seat.phase is_caller h seat.sid) effect.others) is
+    ∙ ap (λ b. given_if b effect.others) (nobody-hears seat.phase is_caller seat.sid)
+
+-- ---- a share is given
+
+pub given-within : (i : ℕ) (lines : Lines) (seats : List Seat) (d : Seat) → i < length seats → set seats i (given_seat lines (get_or seats i d)) ≡ given_at i lines seats
+unfolding given_at
+given-within i lines [] d within = absurd (omega (arith, within))
+given-within zero lines (seat ∷ seats) d within = refl
+given-within (suc i) lines (seat ∷ seats) d within = ap (λ ss. seat ∷ ss) (given-within i lines seats d (omega (arith, within)))
+
+pub given-past : (i : ℕ) (lines : Lines) (seats : List Seat) → length seats ≤ i → given_at i lines seats ≡ seats
+unfolding given_at
+given-past i lines [] past = refl
+given-past zero lines (seat ∷ seats) past = absurd (omega (arith, past))
+given-past (suc i) lines (seat ∷ seats) past = ap (λ ss. seat ∷ ss) (given-past i lines seats (omega (arith, past)))
+
+pub given-some : (lines : Lines) (seat : Seat) → (lines ≡ [] → ⊥) → given_seat lines seat ≡ record seat { outbox = given seat.outbox lines }
+given-some [] seat some = absurd (some refl)
+given-some (line ∷ lines) seat some = refl
+
+first-given : (share : Share) (shares : List Share) (seats : List Seat) → given_all (share ∷ shares) seats ≡ given_all shares (given_at share.place share.lines seats)
+unfolding given_all
+first-given share shares seats = refl
+
+pub share-given : (old rest : List Share) (share : Share) (seats all : List Seat) (d now : Seat) → all ≡ given_all old seats → old ≡ share ∷ rest → share.place < length seats
+    → now ≡ given_seat share.lines (get_or seats share.place d) → all ≡ given_all rest (set seats share.place now)
+share-given old rest share seats all d now done is within is_now =
+    done ∙ ap (λ ss. given_all ss seats) is ∙ first-given share rest seats
+    ∙ ap (λ ss. given_all rest ss) (sym (ap (set seats share.place) is_now ∙ given-within share.place share.lines seats d within))
+
+pub share-past : (old rest : List Share) (share : Share) (seats all : List Seat) → all ≡ given_all old seats → old ≡ share ∷ rest → length seats ≤ share.place
+    → all ≡ given_all rest seats
+share-past old rest share seats all done is past =
+    done ∙ ap (λ ss. given_all ss seats) is ∙ first-given share rest seats ∙ ap (λ ss. given_all rest ss) (given-past share.place share.lines seats past)
+
+no-items : {A : Type 0} (xs : List A) → length xs ≡ 0 → xs ≡ []
+no-items [] e = refl
+no-items (x ∷ xs) e = absurd (omega (arith, e))
+
+none-given : (seats : List Seat) → given_all [] seats ≡ seats
+unfolding given_all
+none-given seats = refl
+
+pub shares-given : (old : List Share) (seats all : List Seat) → all ≡ given_all old seats → length old ≡ 0 → seats ≡ all
+shares-given old seats all done none = sym (done ∙ ap (λ ss. given_all ss seats) (no-items old none) ∙ none-given seats)
+
+-- ---- all shares are given
+
+given-next : (place : ℕ) (lines : Lines) (seat : Seat) (seats : List Seat) → given_at (place + 1) lines (seat ∷ seats) ≡ seat ∷ given_at place lines seats
+unfolding given_at
+given-next place lines seat seats =
+    let next : place + 1 ≡ suc place = omega arith in ap (λ n. given_at n lines (seat ∷ seats)) next
+
+later-by : (place : ℕ) (owed : Seat → Lines) (lines : Lines) (xs : List Seat) (seat : Seat) (seats : List Seat)
+    → ((seat : Seat) (seats : List Seat) → given_all (shares_from (place + 1 + 1) owed xs) (seat ∷ seats) ≡ seat ∷ given_all (shares_from (place + 1) owed xs) seats)
+    → given_all (share_at (place + 1) lines ++ shares_from (place + 1 + 1) owed xs) (seat ∷ seats) ≡ seat ∷ given_all (share_at place lines ++ shares_from (place + 1) owed xs) seats
+unfolding given_all
+later-by place owed [] xs seat seats rest = rest seat seats
+later-by place owed (line ∷ lines) xs seat seats rest =
+    ap (given_all (shares_from (place + 1 + 1) owed xs)) (given-next place (line ∷ lines) seat seats) ∙ rest seat (given_at place (line ∷ lines) seats)
+
+-- the shares of the seats behind the first leave it as it is
+later-given : (place : ℕ) (owed : Seat → Lines) (xs : List Seat) (seat : Seat) (seats : List Seat)
+    → given_all (shares_from (place + 1) owed xs) (seat ∷ seats) ≡ seat ∷ given_all (shares_from place owed xs) seats
+unfolding shares_from given_all
+later-given place owed [] seat seats = refl
+later-given place owed (x ∷ xs) seat seats = later-by place owed (owed x) xs seat seats (later-given (place + 1) owed xs)
+
+first-settled : (removal : Removal) (owed : Seat → Lines) (lines : Lines) (xs : List Seat) (seat : Seat) (seats : List Seat)
+    → map (removed_seat removal) (given_all (shares_from 0 owed xs) seats) ≡ settled_all removal seats (map owed xs)
+    → map (removed_seat removal) (given_all (share_at 0 lines ++ shares_from 1 owed xs) (seat ∷ seats)) ≡ settled removal seat lines ∷ settled_all removal seats (map owed xs)
+unfolding given_all given_at
+first-settled removal owed [] xs seat seats rest =
+    ap (map (removed_seat removal)) (later-given 0 owed xs seat seats) ∙ ap (λ (ss : List Seat). removed_seat removal seat ∷ ss) rest
+first-settled removal owed (line ∷ lines) xs seat seats rest =
+    ap (map (removed_seat removal)) (later-given 0 owed xs (given_seat (line ∷ lines) seat) seats)
+    ∙ ap (λ (ss : List Seat). removed_seat removal (given_seat (line ∷ lines) seat) ∷ ss) rest
+
+-- shares of those that hear something are the shares of all
+pub settled-given : (removal : Removal) (owed : Seat → Lines) (xs seats : List Seat) → length xs ≡ length seats
+    → map (removed_seat removal) (given_all (shares_from 0 owed xs) seats) ≡ settled_all removal seats (map owed xs)
+unfolding shares_from given_all settled_all
+settled-given removal owed [] [] same = refl
+settled-given removal owed [] (seat ∷ seats) same = absurd (omega (arith, same))
+settled-given removal owed (x ∷ xs) [] same = absurd (omega (arith, same))
+settled-given removal owed (x ∷ xs) (seat ∷ seats) same = first-settled removal owed (owed x) xs seat seats (settled-given removal owed xs seats (omega (arith, same)))
+
+-- ---- where nobody is shut out
+
+kept-seat : (here : Bool) (seat : Seat) → gone_if (here && false) seat ≡ seat
+kept-seat true seat = refl
+kept-seat false seat = refl
+
+pub none-removed : (seats : List Seat) → map (removed_seat Nobody) seats ≡ seats
+none-removed [] = refl
+none-removed (seat ∷ seats) = ap₂ (λ (s : Seat) (ss : List Seat). s ∷ ss) (kept-seat (is_present (stage_in seat.phase)) seat) (none-removed seats)
+
+-- what the code gives
+pub settled-owed : (removal : Removal) (owed : Seat → Lines) (seats same old new : List Seat) (shares : List Share) → new ≡ map (removed_seat removal) (given_all shares old)
+    → shares ≡ shares_from 0 owed same → same ≡ seats → length seats ≡ length old → new ≡ settled_all removal old (map owed seats)
+settled-owed removal owed seats same old new shares is_new is_shares is_same len =
+    is_new ∙ ap (λ ss. map (removed_seat removal) (given_all ss old)) (is_shares ∙ ap (shares_from 0 owed) is_same) ∙ settled-given removal owed seats old len
