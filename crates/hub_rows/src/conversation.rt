@@ -114,6 +114,18 @@ impl Played {
         }
     }
 
+    /// So many join, each of whom leaves at once.
+    pub(crate) fn pass(&mut self, rt: &impl Abort, alloc: Global, count: usize) {
+        for _ in 0..count {
+            let connection = again!(rt; self.core.join(alloc, [127, 0, 0, 1], [0; 24], 0));
+            assert!(rt;
+                self.core.is_open(connection),
+                "who has joined is not there"
+            );
+            self.core.quit(connection);
+        }
+    }
+
     fn make(&mut self, rt: &impl Abort, alloc: Global, place: usize, step: Step<'_>) {
         match step {
             Step::Joins => self.joins(rt, alloc),

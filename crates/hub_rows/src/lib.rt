@@ -22,6 +22,8 @@ mod lists;
 #[cfg(test)]
 mod login;
 #[cfg(test)]
+mod many;
+#[cfg(test)]
 mod operators;
 #[cfg(test)]
 mod passwords;

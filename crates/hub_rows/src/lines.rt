@@ -49,3 +49,17 @@ pub(crate) fn login(
     again!(rt; line.extend_from_slice(nick));
     line
 }
+
+/// The login line of a join, by its number, with the identity of this number and a description that fills the line up to a length.
+pub(crate) fn with_description(
+    rt: &impl Abort,
+    alloc: Global,
+    number: usize,
+    length: usize,
+) -> Vec<u8> {
+    let nick = digits(number);
+    let mut line = login(rt, alloc, number, number, &nick);
+    again!(rt; line.extend_from_slice(b" DE"));
+    again!(rt; line.resize(length, b'x'));
+    line
+}

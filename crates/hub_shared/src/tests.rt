@@ -1,5 +1,6 @@
 mod chatting;
 mod guests;
+mod refused;
 
 ghost use Rattle.std.specs.Prelude.{◌≡◌};
 
@@ -7,6 +8,7 @@ use crate::tests::chatting::{chats_of_two, is_one_chat, speaks_apart};
 use crate::tests::guests::{
     Guest, Hall, both, entered, gone, hears, joined, looks, met, only, opened, says,
 };
+use crate::tests::refused::{hears_it_once, is_said, is_told_nothing};
 use crate::{CloseRefused, Report};
 use hub_core::{JoinRefused, Stage, Touched, Verdict};
 
@@ -15,6 +17,12 @@ const ANA: &[u8] =
 
 const BOB: &[u8] =
     b"BINF AAAC IDAAAAAAAAAAAAAAAAAAAAAAAAAAAAAAAAAAAAAAI PDAAAAAAAAAAAAAAAAAAAAAAAAAAAAAAAAAAAAAAI NIbob";
+
+const CY: &[u8] =
+    b"BINF AAAD IDAAAAAAAAAAAAAAAAAAAAAAAAAAAAAAAAAAAAAAQ PDAAAAAAAAAAAAAAAAAAAAAAAAAAAAAAAAAAAAAAQ NIcy";
+
+const DAN: &[u8] =
+    b"BINF AAAE IDAAAAAAAAAAAAAAAAAAAAAAAAAAAAAAAAAAAAAAY PDAAAAAAAAAAAAAAAAAAAAAAAAAAAAAAAAAAAAAAY NIdan";
 
 #[test]
 fn what_one_thread_says_another_hears(rt: HostRuntime) {
@@ -126,4 +134,31 @@ fn all_hear_one_conversation(rt: HostRuntime) {
                 present: 0
             })
     );
+}
+
+/// Also where memory is refused to the line itself, all hear it once or nobody does.
+#[test]
+fn a_line_is_heard_by_all_or_by_nobody(rt: HostRuntime) {
+    let (hall, mut host) = opened(&rt, rt.alloc(), 512);
+    let mut ana = entered(&rt, rt.alloc(), &hall, host.admit(&hall.hub), ANA);
+    let mut bob = entered(&rt, rt.alloc(), &hall, host.admit(&hall.hub), BOB);
+    let mut cy = entered(&rt, rt.alloc(), &hall, host.admit(&hall.hub), CY);
+    let mut dan = entered(&rt, rt.alloc(), &hall, host.admit(&hall.hub), DAN);
+    // The lines of the logins.
+    hears(&rt, rt.alloc(), &hall, &mut ana);
+    hears(&rt, rt.alloc(), &hall, &mut bob);
+    hears(&rt, rt.alloc(), &hall, &mut cy);
+    hears(&rt, rt.alloc(), &hall, &mut dan);
+    if !is_said(&rt, rt.alloc(), &hall, &mut ana) {
+        is_told_nothing(&rt, &hall, &mut ana);
+        is_told_nothing(&rt, &hall, &mut bob);
+        is_told_nothing(&rt, &hall, &mut cy);
+        is_told_nothing(&rt, &hall, &mut dan);
+        let is_said = is_said(&rt, rt.alloc(), &hall, &mut ana);
+        assert!(rt; is_said, "refused twice");
+    }
+    hears_it_once(&rt, rt.alloc(), &hall, &mut ana);
+    hears_it_once(&rt, rt.alloc(), &hall, &mut bob);
+    hears_it_once(&rt, rt.alloc(), &hall, &mut cy);
+    hears_it_once(&rt, rt.alloc(), &hall, &mut dan);
 }

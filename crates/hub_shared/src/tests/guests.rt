@@ -108,7 +108,7 @@ pub(crate) fn joined<R: Wait + Abort>(
 }
 
 #[tactic(auto, unfolding(hub_rules::specs::Prepared::prepared))]
-fn ready(
+pub(crate) fn ready(
     rt: &impl Abort,
     alloc: Global,
     setup: &Setup,
