@@ -6,5 +6,6 @@ mod conversations;
 mod faults;
 mod hub_port;
 mod lines;
+mod resting;
 mod running;
 mod wire;

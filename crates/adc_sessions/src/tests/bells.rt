@@ -1,5 +1,5 @@
 use crate::Bell;
-use futures::task::{Context, Poll};
+use futures::task::{Context, Poll, Source, Waker};
 
 /// A bell that is always rung.
 #[derive(Drop)]
@@ -22,6 +22,31 @@ impl Bell for NeverRung {
 
     fn wait(&mut self, cx: &mut Context<'_>) -> bool {
         let _: Poll<()> = cx.yield_now();
+        false
+    }
+}
+
+/// A bell that never is, and that wakes nobody.
+#[derive(Drop)]
+pub(crate) struct Silent {
+    source: Source,
+    waker: Option<Waker>,
+}
+
+impl Silent {
+    pub(crate) fn new() -> Silent {
+        Silent {
+            source: Source::new(),
+            waker: None,
+        }
+    }
+}
+
+impl Bell for Silent {
+    fn ring(&self) {}
+
+    fn wait(&mut self, cx: &mut Context<'_>) -> bool {
+        let _: Poll<()> = cx.register(&self.source, &mut self.waker);
         false
     }
 }
