@@ -20,6 +20,8 @@ pub(crate) struct HubPort<'a, B: Names<H>, H: SessionHash, R> {
     challenge: [u8; 24],
     place: usize,
     is_named: bool,
+    // A line was for everybody, and nobody was rung for yet.
+    owes_ring: bool,
     ghost here: { pass.home ≡ hall.now.hub.now.home },
     ghost challenged: { pass.challenge ≡ challenge },
 }
@@ -42,6 +44,7 @@ impl<'a, B: Names<H>, H: SessionHash, R: Wait + Clock> HubPort<'a, B, H, R> {
             challenge,
             place,
             is_named: false,
+            owes_ring: false,
         }
     }
 
@@ -50,7 +53,8 @@ impl<'a, B: Names<H>, H: SessionHash, R: Wait + Clock> HubPort<'a, B, H, R> {
         SeatBell::new(&self.hall.board, self.place)
     }
 
-    /// Rings for those whom the last line concerned.
+    /// Rings for those whom the last line concerned. A client's lines often come together, so where one is for
+    /// everybody, they are woken once for all, by the take that follows.
     fn tell(&mut self) {
         let touched = self.pass.touched();
         // Before it has a session identifier, a connection's lines concern nobody but itself.
@@ -60,7 +64,19 @@ impl<'a, B: Names<H>, H: SessionHash, R: Wait + Clock> HubPort<'a, B, H, R> {
             self.hall.board.name(self.place, sid);
             self.is_named = true;
         }
-        self.hall.board.ring(touched, self.place);
+        if let Touched::Everybody = touched {
+            self.owes_ring = true;
+        } else {
+            self.hall.board.ring(touched, self.place);
+        }
+    }
+
+    /// Rings for everybody, where that is owed.
+    fn ring_all(&mut self) {
+        if self.owes_ring {
+            self.owes_ring = false;
+            self.hall.board.ring(Touched::Everybody, self.place);
+        }
     }
 }
 
@@ -90,6 +106,7 @@ impl<B: Names<H>, H: SessionHash, R: Wait + Clock> Port for HubPort<'_, B, H, R>
     fn line(&mut self, alloc: Global, line: &[u8]) -> Result<Verdict, LineRefused> {
         // Their digests may take long.
         if line.starts_with(b"BINF") || line.starts_with(b"HPAS") {
+            self.ring_all();
             self.hall.board.call_for_help(self.place);
         }
         let hall = self.hall;
@@ -103,16 +120,19 @@ impl<B: Names<H>, H: SessionHash, R: Wait + Clock> Port for HubPort<'_, B, H, R>
     }
 
     fn take(&mut self, count: usize, out: &mut Vec<u8>) -> Result<Taken, TakeRefused> {
+        self.ring_all();
         self.hall.hub.take(self.hall.rt, &mut self.pass, count, out)
     }
 
-    fn quit(self) -> Guest<B, H> {
+    fn quit(mut self) -> Guest<B, H> {
+        self.ring_all();
         let HubPort {
             hall,
             pass,
             challenge: _,
             place,
             is_named: _,
+            owes_ring: _,
         } = self;
         let visitor = hall.hub.quit(hall.rt, pass);
         hall.board.ring(visitor.touched(), place);

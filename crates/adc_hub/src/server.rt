@@ -22,13 +22,26 @@ use std::alloc::{AllocGlobal, Global};
 use std::io;
 use std::io::Write;
 use std::marker::Brand;
-use std::net::{Net, SocketAddr};
+use std::net::{Net, SocketAddr, SocketAddrV4};
 use std::random::RandomSource;
 use std::sync::{Arc, Wait};
 use std::thread::Threads;
 use std::time::Clock;
 use tokio::net::TcpListener;
+use tokio::reactor::Handle;
 use tokio::runtime::Runtime;
+
+/// Where a server's connections come from.
+pub(crate) trait Entrance: Drop {
+    /// What listens there. It fails where the system does not give it.
+    fn opens<R: Net>(self, rt: &R, handle: &Handle) -> io::Result<TcpListener>;
+}
+
+impl Entrance for SocketAddrV4 {
+    fn opens<R: Net>(self, rt: &R, handle: &Handle) -> io::Result<TcpListener> {
+        TcpListener::bind(rt, SocketAddr::V4(self), handle)
+    }
+}
 
 /// Serves a hub with these settings, this hash, and challenges of this seed, and gives the exit status.
 ///
@@ -53,7 +66,28 @@ where
     W: Write,
     E: Write + Send,
 {
-    let ending = match serve(rt, settings, &*hash, seed, output, errors) {
+    let entrance = settings.listen();
+    serve_at(rt, settings, hash, seed, entrance, output, errors)
+}
+
+/// The same at this entrance, wherever the settings say to listen.
+pub(crate) fn serve_at<H, R, A, W, E>(
+    rt: &R,
+    settings: &Settings,
+    hash: Arc<H>,
+    seed: [u8; 32],
+    entrance: A,
+    output: &mut W,
+    errors: &mut E,
+) -> u8
+where
+    H: SessionHash + Send + Sync + Drop,
+    R: Wait + Threads + Clock + Net + RandomSource + AllocGlobal + Sync,
+    A: Entrance,
+    W: Write,
+    E: Write + Send,
+{
+    let ending = match serve(rt, settings, &*hash, seed, entrance, output, errors) {
         Ok(()) => Ending::Served,
         Err(ending) => ending,
     };
@@ -62,26 +96,27 @@ where
     ending.status()
 }
 
-fn serve<H, R, W, E>(
+fn serve<H, R, A, W, E>(
     rt: &R,
     settings: &Settings,
     hash: &H,
     seed: [u8; 32],
+    entrance: A,
     output: &mut W,
     errors: &mut E,
 ) -> Result<(), Ending>
 where
     H: SessionHash + Send + Sync,
     R: Wait + Threads + Clock + Net + RandomSource + AllocGlobal + Sync,
+    A: Entrance,
     W: Write,
     E: Write + Send,
 {
-    let setup = settings.setup().clone().map_err(|_| Ending::Memory)?;
-    let (hub, host) = Hub::open(rt.alloc(), setup, hash).map_err(|_| Ending::Memory)?;
+    let (hub, host) = open(rt.alloc(), settings, hash)?;
     // Settings ask for one at least.
     let threads = settings.threads().max(1) as usize;
     let mut runtime = Runtime::with_worker_threads(rt, threads).map_err(|error| ending_of(&error))?;
-    let (host, visitors) = run::<Brand, H, R, W, E>(
+    let (host, visitors) = run::<Brand, H, R, A, W, E>(
         rt,
         &mut runtime,
         settings,
@@ -89,6 +124,7 @@ where
         &hub,
         host,
         seed,
+        entrance,
         output,
         errors,
     )?;
@@ -98,8 +134,22 @@ where
     }
 }
 
+/// The hub of these settings, and who admits visitors to it.
+fn open<H: SessionHash>(
+    alloc: Global,
+    settings: &Settings,
+    hash: &H,
+) -> Result<(Hub<H>, Host<H>), Ending>
+    ensures set { IfOk result (λ r. r.0.setup ≡ settings.now.hub) }
+    ensures hashed { IfOk result (λ r. r.0.hash ≡ hash.now) }
+    ensures host { IfOk result (λ r. r.1 ≡ record { home = r.0.home; admitted = 0 }) }
+{
+    let setup = settings.setup().clone().map_err(|_| Ending::Memory)?;
+    Hub::open(alloc, setup, hash).map_err(|_| Ending::Memory)
+}
+
 /// Runs the server, and gives the host back with all visitors of the hub, or those that are left where memory ran out.
-fn run<B, H, R, W, E>(
+fn run<B, H, R, A, W, E>(
     rt: &R,
     runtime: &mut Runtime,
     settings: &Settings,
@@ -107,6 +157,7 @@ fn run<B, H, R, W, E>(
     hub: &Hub<H>,
     host: Host<H>,
     seed: [u8; 32],
+    entrance: A,
     output: &mut W,
     errors: &mut E,
 ) -> Result<(Host<H>, Vec<Visitor<H>>), Ending>
@@ -114,6 +165,7 @@ where
     B: Names<H> + Send + Sync,
     H: SessionHash + Send + Sync,
     R: Wait + Threads + Clock + Net + RandomSource + AllocGlobal + Sync,
+    A: Entrance,
     W: Write,
     E: Write + Send,
     requires here { B.home ≡ Some hub.now.home }
@@ -130,7 +182,7 @@ where
     let visitors = Vec::with_capacity(alloc, count)?;
     let board = Board::new(alloc, count)?;
     let hall = Hall::new(rt, hub, hash, settings.setup(), board, guests);
-    let listener = listen(rt, runtime, settings, output)?;
+    let listener = listen(rt, runtime, entrance, output)?;
     let log = Logged::new((), Level::Warn, Locked::new(rt, errors));
     serve_all(
         runtime,
@@ -208,17 +260,17 @@ fn leave<B: Names<H>, H>(guests: Vec<Guest<B, H>>, visitors: Vec<Visitor<H>>) ->
     visitors
 }
 
-/// Listens where the settings say, and says where that is.
-fn listen<R: Net, W: Write>(
+/// Listens at the entrance, and says where that is.
+fn listen<R: Net, A: Entrance, W: Write>(
     rt: &R,
     runtime: &Runtime,
-    settings: &Settings,
+    entrance: A,
     output: &mut W,
 ) -> Result<TcpListener, Ending> {
-    let address = SocketAddr::V4(settings.listen());
-    let listener = TcpListener::bind(rt, address, runtime.handle().reactor()).map_err(
-        |error| ending_of(&error),
-    )?;
+    let listener = match entrance.opens(rt, runtime.handle().reactor()) {
+        Ok(listener) => listener,
+        Err(error) => return Err(ending_of(&error)),
+    };
     let address = listener.local_addr().map_err(|error| ending_of(&error))?;
     match writeln!(output, "listening {address}") {
         Ok(()) => flush(output)?,

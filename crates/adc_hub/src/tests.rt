@@ -1,9 +1,27 @@
+/// Tries a call once more where memory was refused: all is as before then, so it has to succeed.
+macro_rules! again {
+    ($rt:expr; $call:expr) => {
+        match $call {
+            Ok(value) => value,
+            Err(_) => match $call {
+                Ok(value) => value,
+                Err(_) => panic!($rt; "refused twice"),
+            },
+        }
+    };
+}
+
+pub(crate) use again;
+
 mod boards;
 mod clients;
 mod fakes;
+mod operators;
+mod over_memory;
 mod scenes;
 mod serving;
 mod starting;
+mod troubles;
 
 use crate::challenges::Challenges;
 use crate::program::{program, stdin_options};

@@ -1,7 +1,7 @@
 // Clients on loopback sockets, and the server that they talk to. What goes wrong is an answer of these calls and never a
 // panic in a thread: so memory may be refused to a run, which is then made once more.
 use crate::server::serve_on;
-use crate::tests::scenes::{GateHash, Scene};
+use crate::tests::scenes::{GREETED, GateHash, HUB, Scene};
 use futures::spin::lock;
 use hub_settings::{Settings, read_settings};
 use std::alloc::{AllocError, AllocGlobal, Global};
@@ -18,6 +18,11 @@ const PATIENCE: u64 = 30;
 
 /// How often a thread looks for what another does, a millisecond apart.
 const LOOKS: u32 = 30_000;
+
+/// How many letters a long line has, and in how many it is sent.
+pub const LONG: usize = 57_344;
+
+const PIECE: usize = 4_096;
 
 /// What the server has written, for its clients to see.
 #[derive(Drop)]
@@ -148,6 +153,63 @@ impl<S: Read + Write + OpenStream + Drop> Client<S> {
         self.stream.write_all(b"\n").ok()
     }
 
+    /// Sends this and a line feed, each byte by itself.
+    pub fn says_slowly(&mut self, line: &[u8]) -> Option<()> {
+        self.stream.set_nodelay(true).ok()?;
+        for place in 0..line.len() {
+            self.stream.write_all(line.get(place..=place)?).ok()?;
+        }
+        self.stream.write_all(b"\n").ok()
+    }
+
+    /// Says something in `LONG` letters, under this header.
+    pub fn says_long(&mut self, header: &[u8]) -> Option<()> {
+        self.stream.write_all(header).ok()?;
+        for _piece in 0..LONG / PIECE {
+            self.stream.write_all(&[b'x'; PIECE]).ok()?;
+        }
+        self.stream.write_all(b"\n").ok()
+    }
+
+    /// Hears just that.
+    pub fn hears_long(&mut self, header: &[u8]) -> Option<()> {
+        let mut bytes = [0; PIECE];
+        let front = bytes.get_mut(..header.len())?;
+        self.stream.read_exact(front).ok()?;
+        if *front != *header {
+            return None;
+        }
+        for _piece in 0..LONG / PIECE {
+            self.stream.read_exact(&mut bytes).ok()?;
+            if bytes != [b'x'; PIECE] {
+                return None;
+            }
+        }
+        self.hears(b"")
+    }
+
+    /// How many bytes come before the server closes.
+    pub fn counts_to_the_end(&mut self) -> Option<usize> {
+        let mut bytes = [0; PIECE];
+        let mut count: usize = 0;
+        for _read in 0..LOOKS {
+            match self.stream.read(&mut bytes) {
+                Ok(0) => return Some(count),
+                Ok(more) => count = count.checked_add(more)?,
+                Err(_) => return None,
+            }
+        }
+        None
+    }
+
+    /// Breaks off, once there is something that it has not read: so the other side is told that it was lost.
+    pub fn breaks_off(self) -> Option<()> {
+        match self.stream.peek(&mut [0]) {
+            Ok(1) => Some(()),
+            _ => None,
+        }
+    }
+
     /// Sends 65,537 bytes `x`, or as many as are taken.
     pub fn floods(&mut self) {
         let bytes = [b'x'; 4096];
@@ -168,6 +230,13 @@ impl<S: Read + Write + OpenStream + Drop> Client<S> {
             Some((b'\n', heard)) if *heard == *line => Some(()),
             _ => None,
         }
+    }
+
+    /// Reads the hub's greeting, with this line of its session identifier.
+    pub fn hears_greeting(&mut self, sid: &[u8]) -> Option<()> {
+        self.hears(GREETED)?;
+        self.hears(sid)?;
+        self.hears(HUB)
     }
 
     /// Reads to the end, and nothing more comes.
@@ -224,7 +293,7 @@ pub fn contains(bytes: &[u8], word: &[u8]) -> bool {
     false
 }
 
-fn settings(alloc: Global, text: &str) -> Result<Settings, AllocError> {
+pub fn settings(alloc: Global, text: &str) -> Result<Settings, AllocError> {
     match read_settings(alloc, text, 0) {
         Ok(settings) => Ok(settings),
         Err(_) => Err(AllocError),

@@ -1,32 +1,38 @@
 // What clients do.
 use crate::tests::clients::{Client, connect};
+use crate::tests::operators::{kick, menu};
+use crate::tests::troubles::{breaking, deaf, dripping};
 use session_hash::{First24, SessionHash};
 use std::net::{Net, SocketAddr};
 use std::sync::atomic::{AtomicBool, Ordering};
 use std::thread::yield_now;
 
-const GREETS: &[u8] = b"HSUP ADBASE ADTIGR";
+pub const GREETS: &[u8] = b"HSUP ADBASE ADTIGR";
 
-const GREETED: &[u8] = b"ISUP ADBASE ADTIGR ADPING ADUCMD";
+pub const GREETED: &[u8] = b"ISUP ADBASE ADTIGR ADPING ADUCMD";
 
-const HUB: &[u8] = b"IINF CT32 NIHub VEadc-hub\\s1.0";
+pub const HUB: &[u8] = b"IINF CT32 NIHub VEadc-hub\\s1.0";
 
 const ANA_LOGS_IN: &[u8] = b"BINF AAAB IDAAAAAAAAAAAAAAAAAAAAAAAAAAAAAAAAAAAAAAA \
 PDAAAAAAAAAAAAAAAAAAAAAAAAAAAAAAAAAAAAAAA NIana SS10 SF2 I40.0.0.0 SUTCP4,SEGA";
 
-const ANA: &[u8] =
+pub const ANA: &[u8] =
     b"BINF AAAB IDAAAAAAAAAAAAAAAAAAAAAAAAAAAAAAAAAAAAAAA NIana SS10 SF2 I4127.0.0.1 SUTCP4,SEGA";
 
-const BOB_LOGS_IN: &[u8] = b"BINF AAAC IDAAAAAAAAAAAAAAAAAAAAAAAAAAAAAAAAAAAAAAI \
+pub const BOB_LOGS_IN: &[u8] = b"BINF AAAC IDAAAAAAAAAAAAAAAAAAAAAAAAAAAAAAAAAAAAAAI \
 PDAAAAAAAAAAAAAAAAAAAAAAAAAAAAAAAAAAAAAAI NIbob SS5 SF1 SUTCP4";
 
-const BOB: &[u8] = b"BINF AAAC IDAAAAAAAAAAAAAAAAAAAAAAAAAAAAAAAAAAAAAAI NIbob SS5 SF1 SUTCP4";
+pub const BOB: &[u8] = b"BINF AAAC IDAAAAAAAAAAAAAAAAAAAAAAAAAAAAAAAAAAAAAAI NIbob SS5 SF1 SUTCP4";
 
 /// What happens on a server.
 #[derive(Clone, Copy)]
 pub enum Scene<'a> {
     /// One user says something, and both read it.
     Chat,
+    /// An entry reaches who is idle.
+    Entry,
+    /// What another says reaches who is idle.
+    Broadcast,
     /// An update reaches who is idle.
     Update,
     /// A direct line reaches who is idle.
@@ -35,6 +41,16 @@ pub enum Scene<'a> {
     Quit,
     /// A fatal denial reaches who is idle, and the one who is denied hears why before the connection is closed.
     Lie,
+    /// An operator gives the password and kicks a user, who hears why before the connection is closed.
+    Kick,
+    /// Who enters gets the menu.
+    Menu,
+    /// One never reads, and the other notices nothing.
+    Deaf,
+    /// One sends byte by byte, and the other notices nothing.
+    Dripping,
+    /// One breaks off, and the other notices nothing.
+    Breaking,
     /// One sends more than a line may have.
     Flood,
     /// A second user comes where there is room for one.
@@ -48,6 +64,13 @@ impl Scene<'_> {
     pub fn plays<R: Net>(self, rt: &R, address: SocketAddr) -> Option<()> {
         match self {
             Scene::Chat => chat(rt, address),
+            Scene::Entry => entry(rt, address),
+            Scene::Broadcast => broadcast(rt, address),
+            Scene::Kick => kick(rt, address),
+            Scene::Menu => menu(rt, address),
+            Scene::Deaf => deaf(rt, address),
+            Scene::Dripping => dripping(rt, address),
+            Scene::Breaking => breaking(rt, address),
             Scene::Update => update(rt, address),
             Scene::Whisper => whisper(rt, address),
             Scene::Quit => quit(rt, address),
@@ -59,34 +82,51 @@ impl Scene<'_> {
     }
 }
 
+/// A client connects, and is greeted with this session identifier.
+pub fn greeted<R: Net>(rt: &R, address: SocketAddr, sid: &[u8]) -> Option<Client<R::Stream>> {
+    let mut client = connect(rt, address)?;
+    client.says(GREETS)?;
+    client.hears_greeting(sid)?;
+    Some(client)
+}
+
 /// Ana connects, is greeted and logs in.
-fn ana<R: Net>(rt: &R, address: SocketAddr) -> Option<Client<R::Stream>> {
-    let mut ana = connect(rt, address)?;
-    ana.says(GREETS)?;
-    ana.hears(GREETED)?;
-    ana.hears(b"ISID AAAB")?;
-    ana.hears(HUB)?;
+pub fn ana<R: Net>(rt: &R, address: SocketAddr) -> Option<Client<R::Stream>> {
+    let mut ana = greeted(rt, address, b"ISID AAAB")?;
     ana.says(ANA_LOGS_IN)?;
     ana.hears(ANA)?;
     Some(ana)
 }
 
 /// Then Bob does, and Ana, who has sent nothing since, hears of it.
-fn ana_and_bob<R: Net>(
+pub fn ana_and_bob<R: Net>(
     rt: &R,
     address: SocketAddr,
 ) -> Option<(Client<R::Stream>, Client<R::Stream>)> {
     let mut ana = ana(rt, address)?;
-    let mut bob = connect(rt, address)?;
-    bob.says(GREETS)?;
-    bob.hears(GREETED)?;
-    bob.hears(b"ISID AAAC")?;
-    bob.hears(HUB)?;
+    let mut bob = greeted(rt, address, b"ISID AAAC")?;
     bob.says(BOB_LOGS_IN)?;
     bob.hears(ANA)?;
     bob.hears(BOB)?;
     ana.hears(BOB)?;
     Some((ana, bob))
+}
+
+fn entry<R: Net>(rt: &R, address: SocketAddr) -> Option<()> {
+    let (ana, bob) = ana_and_bob(rt, address)?;
+    ana.leaves();
+    bob.leaves();
+    Some(())
+}
+
+fn broadcast<R: Net>(rt: &R, address: SocketAddr) -> Option<()> {
+    let (mut ana, mut bob) = ana_and_bob(rt, address)?;
+    bob.says(b"BMSG AAAC hi")?;
+    ana.hears(b"BMSG AAAC hi")?;
+    bob.hears(b"BMSG AAAC hi")?;
+    ana.leaves();
+    bob.leaves();
+    Some(())
 }
 
 fn chat<R: Net>(rt: &R, address: SocketAddr) -> Option<()> {
@@ -163,11 +203,7 @@ fn second<R: Net>(rt: &R, address: SocketAddr, gate: &GateHash) -> Option<Client
 }
 
 fn gated<R: Net>(rt: &R, address: SocketAddr, gate: &GateHash) -> Option<()> {
-    let mut ana = connect(rt, address)?;
-    ana.says(GREETS)?;
-    ana.hears(GREETED)?;
-    ana.hears(b"ISID AAAB")?;
-    ana.hears(HUB)?;
+    let mut ana = greeted(rt, address, b"ISID AAAB")?;
     ana.says(ANA_LOGS_IN)?;
     let bob = second(rt, address, gate);
     gate.may_end.store(true, Ordering::SeqCst);

@@ -1,8 +1,14 @@
 // A server that is not started, and why.
 use crate::tests::fakes::Pieces;
-use crate::tests::{Left, asked, asked_with};
+use crate::tests::{Left, again, asked, asked_with};
+use std::alloc::AllocGlobal;
 use std::fs::{self, Files};
+use std::net::{Net, OpenListener, TcpListener};
 use std::process::Abort;
+use std::random::RandomSource;
+use std::sync::Wait;
+use std::thread::Threads;
+use std::time::Clock;
 
 /// Stops the test unless the program ends by this status, and says just this.
 fn ends<R: Abort>(rt: &R, left: &Left, status: u8, said: &[u8]) {
@@ -11,14 +17,50 @@ fn ends<R: Abort>(rt: &R, left: &Left, status: u8, said: &[u8]) {
     assert!(rt; left.errors.got.as_slice() == said);
 }
 
-/// Writes a file for this test.
-fn writes(rt: &(impl Files + Abort), path: &str, bytes: &[u8]) {
-    assert!(rt; fs::write(rt, path, bytes).is_ok());
+/// A file that no other run of these tests has.
+#[derive(Drop)]
+struct Scratch {
+    path: String,
 }
 
-/// Removes it.
-fn removes(rt: &(impl Files + Abort), path: &str) {
-    assert!(rt; fs::remove_file(rt, path).is_ok());
+impl Scratch {
+    /// A file whose name ends like this. It is not there yet.
+    fn new<R: RandomSource + AllocGlobal + Abort>(rt: &R, name: &str) -> Scratch {
+        let mut number = [0; 8];
+        assert!(rt; rt.fill_bytes(&mut number).is_ok());
+        let number = u64::from_ne_bytes(number);
+        let path = again!(rt; format!(in rt.alloc(); "/tmp/adc_hub_{number:016x}_{name}"));
+        Scratch { path }
+    }
+
+    /// A file that holds this.
+    fn of<R: RandomSource + AllocGlobal + Files + Abort>(
+        rt: &R,
+        name: &str,
+        bytes: &[u8],
+    ) -> Scratch {
+        let scratch = Scratch::new(rt, name);
+        scratch.holds(rt, bytes);
+        scratch
+    }
+
+    /// Writes this and nothing else to it.
+    fn holds(&self, rt: &(impl Files + Abort), bytes: &[u8]) {
+        assert!(rt; fs::write(rt, self.path.as_str(), bytes).is_ok());
+    }
+
+    /// Removes it.
+    fn ends(self, rt: &(impl Files + Abort)) {
+        assert!(rt; fs::remove_file(rt, self.path.as_str()).is_ok());
+    }
+
+    /// What the program leaves where it is to serve the hub of this file.
+    fn served<R: Wait + Threads + Clock + Net + RandomSource + AllocGlobal + Files + Sync + Abort>(
+        &self,
+        rt: &R,
+    ) -> Left {
+        asked_with(rt, &["serve", self.path.as_str()])
+    }
 }
 
 #[test]
@@ -35,71 +77,71 @@ fn settings_that_are_no_text(rt: HostRuntime) {
         (b"name = \"\"\n", b"adc_hub: settings: name\n"),
         (b"colour = 1\n", b"adc_hub: settings: colour\n"),
     ];
-    let path = "/tmp/adc_hub_test_settings.toml";
+    let file = Scratch::of(&rt, "hub.toml", b"");
     for (bytes, said) in rows {
-        writes(&rt, path, bytes);
-        let left = asked_with(&rt, &["serve", path]);
-        ends(&rt, &left, 1, said);
+        file.holds(&rt, bytes);
+        ends(&rt, &file.served(&rt), 1, said);
     }
-    removes(&rt, path);
+    file.ends(&rt);
 }
 
 #[test]
 fn a_seed_that_is_too_short(rt: HostRuntime) {
-    let path = "/tmp/adc_hub_test_seed.toml";
-    let seed = "/tmp/adc_hub_test_seed.bin";
-    writes(
-        &rt,
-        path,
-        b"seed_file = \"/tmp/adc_hub_test_seed.bin\"\ntables = \"/nowhere\"\n",
-    );
-    writes(&rt, seed, &[7; 31]);
-    let left = asked_with(&rt, &["serve", path]);
-    ends(&rt, &left, 1, b"adc_hub: settings: seed_file\n");
-    removes(&rt, path);
-    removes(&rt, seed);
+    let seed = Scratch::of(&rt, "seed.bin", &[7; 31]);
+    let path = seed.path.as_str();
+    let text =
+        again!(&rt; format!(in rt.alloc(); "seed_file = \"{path}\"\ntables = \"/nowhere\"\n"));
+    let file = Scratch::of(&rt, "hub.toml", text.as_bytes());
+    ends(&rt, &file.served(&rt), 1, b"adc_hub: settings: seed_file\n");
+    file.ends(&rt);
+    seed.ends(&rt);
 }
 
 #[test]
 fn tables_of_another_length(rt: HostRuntime) {
-    let path = "/tmp/adc_hub_test_tables.toml";
-    let tables = "/tmp/adc_hub_test_tables.bin";
-    writes(
-        &rt,
-        path,
-        b"tables = \"/tmp/adc_hub_test_tables.bin\"\nlisten = \"0.0.0.0:0\"\n",
-    );
+    let tables = Scratch::of(&rt, "tables.bin", b"");
+    let path = tables.path.as_str();
+    let text = again!(&rt; format!(in rt.alloc(); "tables = \"{path}\"\nlisten = \"0.0.0.0:0\"\n"));
+    let file = Scratch::of(&rt, "hub.toml", text.as_bytes());
     let bytes = [0; 8_193];
     for count in [0, 8_191, 8_193] {
-        writes(&rt, tables, &bytes[..count]);
-        let left = asked_with(&rt, &["serve", path]);
-        ends(&rt, &left, 2, b"adc_hub: tables\n");
+        tables.holds(&rt, &bytes[..count]);
+        ends(&rt, &file.served(&rt), 2, b"adc_hub: tables\n");
     }
-    removes(&rt, tables);
-    let left = asked_with(&rt, &["serve", path]);
-    ends(&rt, &left, 2, b"adc_hub: tables\n");
-    removes(&rt, path);
+    tables.ends(&rt);
+    ends(&rt, &file.served(&rt), 2, b"adc_hub: tables\n");
+    file.ends(&rt);
 }
 
 #[test]
 fn an_address_that_is_not_here(rt: HostRuntime) {
-    let path = "/tmp/adc_hub_test_address.toml";
     // An address that is kept for examples, so that no machine has it.
-    writes(
-        &rt,
-        path,
-        b"listen = \"203.0.113.1:4111\"\nhash = \"first24\"\n",
-    );
-    let left = asked_with(&rt, &["serve", path]);
-    ends(&rt, &left, 3, b"adc_hub: address\n");
-    removes(&rt, path);
+    let text = b"listen = \"203.0.113.1:4111\"\nhash = \"first24\"\n";
+    let file = Scratch::of(&rt, "hub.toml", text);
+    ends(&rt, &file.served(&rt), 3, b"adc_hub: address\n");
+    file.ends(&rt);
+}
+
+#[test]
+fn an_address_in_use(rt: HostRuntime) {
+    let Ok(other) = TcpListener::bind(&rt, "127.0.0.1:0") else {
+        panic!(&rt; "nothing to listen at");
+    };
+    let Ok(address) = other.local_addr() else {
+        panic!(&rt; "no address");
+    };
+    let text = again!(&rt; format!(in rt.alloc(); "listen = \"{address}\"\nhash = \"first24\"\n"));
+    let file = Scratch::of(&rt, "hub.toml", text.as_bytes());
+    ends(&rt, &file.served(&rt), 3, b"adc_hub: address\n");
+    file.ends(&rt);
 }
 
 #[test]
 fn an_output_that_fails(rt: HostRuntime) {
-    let path = "/tmp/adc_hub_test_output.toml";
-    writes(&rt, path, b"listen = \"127.0.0.1:0\"\nhash = \"first24\"\n");
-    let left = asked(&rt, &["serve", path], Pieces::of(b"", 4096), 1, 0);
+    let text = b"listen = \"127.0.0.1:0\"\nhash = \"first24\"\n";
+    let file = Scratch::of(&rt, "hub.toml", text);
+    let words = ["serve", file.path.as_str()];
+    let left = asked(&rt, &words, Pieces::of(b"", 4096), 1, 0);
     ends(&rt, &left, 5, b"adc_hub: input or output\n");
-    removes(&rt, path);
+    file.ends(&rt);
 }
