@@ -14,6 +14,3 @@ pub use encoding::{encode, encode24};
 pub use fault::B32;
 pub use laws::codec_laws;
 pub use sid::Sid;
-
-#[cfg(test)]
-mod tests;

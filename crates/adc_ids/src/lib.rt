@@ -8,6 +8,3 @@ mod private_id;
 pub use client_id::Cid;
 pub use nick::{Nick, NickFault};
 pub use private_id::Pid;
-
-#[cfg(test)]
-mod tests;

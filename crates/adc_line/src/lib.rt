@@ -20,6 +20,3 @@ pub use kind::Kind;
 pub use line::Line;
 pub use stream::stream_laws;
 pub use words::Words;
-
-#[cfg(test)]
-mod tests;

@@ -12,6 +12,3 @@ pub use feature_set::FeatureSet;
 pub use hearers::Audience;
 pub use routing::audience;
 pub use want::Want;
-
-#[cfg(test)]
-mod tests;

@@ -11,10 +11,7 @@ mod keys;
 mod limits;
 mod parts;
 mod reading;
-mod settings;
-#[cfg(test)]
-mod tests;
-mod values;
+mod settings;mod values;
 
 pub use fault::{KeyName, SettingsFault};
 pub use hash_name::HashName;

@@ -20,6 +20,3 @@ pub use texts::{
     support_line, topic_line,
 };
 pub use user_texts::{removal_line, update_line, user_line};
-
-#[cfg(test)]
-mod tests;

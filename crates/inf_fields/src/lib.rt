@@ -18,6 +18,3 @@ pub use fields::Fields;
 pub use laws::merging_laws;
 pub use name::FieldName;
 pub use update::Update;
-
-#[cfg(test)]
-mod tests;

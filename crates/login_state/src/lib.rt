@@ -21,6 +21,3 @@ pub use feature::Feature;
 pub use features::Features;
 pub use findings::{Account, Address, Admission, Ban, Claim, Identity, Required, Size, Validity};
 pub use stage::Stage;
-
-#[cfg(test)]
-mod tests;

@@ -17,6 +17,3 @@ pub use fault::{ActFault, BanRefused};
 pub use free_text::FreeText;
 pub use laws::ban_laws;
 pub use left::Left;
-
-#[cfg(test)]
-mod tests;

@@ -9,8 +9,6 @@ mod taken;
 
 pub use batch::Batch;
 pub use outbox::Outbox;
+pub use place::PLACE_BYTES;
 pub use refused::{OutboxRefused, PushRefused, TakeRefused};
 pub use taken::Taken;
-
-#[cfg(test)]
-mod tests;

@@ -20,6 +20,9 @@ pub enum Place {
     Quit(Sid),
 }
 
+/// How many bytes each place of an outbox takes, whether a line waits there or not.
+pub const PLACE_BYTES: usize = size_of::<Place>();
+
 /// The line by which a user's leaving is told.
 pub(crate) fn quit_text(sid: Sid) -> [u8; 10]
     ensures { result ≡ quit_line sid }

@@ -4,6 +4,3 @@
 mod interval;
 
 pub use interval::may_search;
-
-#[cfg(test)]
-mod tests;

@@ -13,6 +13,3 @@ pub use hash::SessionHash;
 pub use table_tiger::{TableTiger, TablesFault};
 pub use tiger::{Registers, TABLE_WORDS, compress};
 pub use words::block_words;
-
-#[cfg(test)]
-mod tests;

@@ -22,6 +22,3 @@ pub use run::{RunRefused, run_users};
 pub use totals::Totals;
 pub use user::User;
 pub use users::{Users, takes_update};
-
-#[cfg(test)]
-mod tests;
