@@ -15,20 +15,19 @@ take-requires-clause-seated g c =
 pub returns-in_err-taken-clause-err : goal.returns-in_err-taken-clause-err
 returns-in_err-taken-clause-err g c = at_refusal c.from_residual.result (takes_short _ _ _ _ c.loop-taken.invariant.takes)
 
-pub returns-in_err-write_on-clause-err : goal.returns-in_err-write_on-clause-err
-returns-in_err-write_on-clause-err g c =
+pub returns-in_default-clause-err : goal.returns-in_default-clause-err
+returns-in_default-clause-err g c =
     let m = c.in_ok-taken.ensures.moves in
     let same = only_appended c.clear.new.self.items c.take.new.out.items c.deref.result.now m.0 c.clear.ensures.items m.1 c.deref.ensures.value in
-    let wrote = subst (λ (xs : List ℕ). AppendsFront (g.W.Write.contents c.loop-taken.writer) (g.W.Write.contents c.write_on.new.writer) xs) same c.in_err-write_on.ensures.err in
-    at_refusal c.from_residual-in_err-write_on.result
-    (takes-part _ c.loop-taken.self.core c.take.new.self _ _ _ c.loop-taken.self.connection 256 m.0 c.in_ok-taken.taken.lines c.in_ok-taken.taken.ended
-    c.loop-taken.self.is_first c.loop-taken.invariant.takes m.2 wrote)
+    let wrote = subst (λ (xs : List ℕ). AppendsFront (g.W.Write.contents c.loop-taken.writer) (g.W.Write.contents c.write_and_flush.new.writer) xs) same c.in_default.ensures.err in
+    takes-part _ c.loop-taken.self.core c.take.new.self _ _ _ c.loop-taken.self.connection 256 m.0 c.in_ok-taken.taken.lines c.in_ok-taken.taken.ended
+    c.loop-taken.self.is_first c.loop-taken.invariant.takes m.2 wrote
 
 pub returns-then-taken-clause-ok : goal.returns-then-taken-clause-ok
 returns-then-taken-clause-ok g c =
     let m = c.in_ok-taken.ensures.moves in
     let same = only_appended c.clear.new.self.items c.take.new.out.items c.deref.result.now m.0 c.clear.ensures.items m.1 c.deref.ensures.value in
-    let wrote = subst (λ (xs : List ℕ). Appends (g.W.Write.contents c.loop-taken.writer) (g.W.Write.contents c.write_on.new.writer) xs) same c.in_ok-write_on.ensures.ok in
+    let wrote = subst (λ (xs : List ℕ). Appends (g.W.Write.contents c.loop-taken.writer) (g.W.Write.contents c.write_and_flush.new.writer) xs) same c.in-Ok.ensures.ok in
     takes-all _ c.loop-taken.self.core c.take.new.self _ _ _ c.loop-taken.self.connection 256 m.0 c.in_ok-taken.taken.lines c.in_ok-taken.taken.ended
     c.loop-taken.self.is_first c.loop-taken.invariant.takes m.2 wrote c.if-taken.true
 
@@ -43,7 +42,7 @@ pub loop-taken-preserved : goal.loop-taken-preserved
 loop-taken-preserved g c =
     let m = c.in_ok-taken.ensures.moves in
     let same = only_appended c.clear.new.self.items c.take.new.out.items c.deref.result.now m.0 c.clear.ensures.items m.1 c.deref.ensures.value in
-    let wrote = subst (λ (xs : List ℕ). Appends (g.W.Write.contents c.loop-taken.writer) (g.W.Write.contents c.write_on.new.writer) xs) same c.in_ok-write_on.ensures.ok in
+    let wrote = subst (λ (xs : List ℕ). Appends (g.W.Write.contents c.loop-taken.writer) (g.W.Write.contents c.write_and_flush.new.writer) xs) same c.in-Ok.ensures.ok in
     record {
       takes = takes-more _ c.loop-taken.self.core c.take.new.self _ _ _ c.loop-taken.self.connection 256 m.0 c.in_ok-taken.taken.lines c.in_ok-taken.taken.ended
           c.loop-taken.self.is_first c.loop-taken.invariant.takes m.2 wrote;
