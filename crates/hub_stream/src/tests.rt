@@ -167,9 +167,9 @@ fn stops_at_a_line_that_is_too_long(rt: HostRuntime) {
     // A line of 65,536 bytes may come to an end yet, and one of 65,537 is too long.
     let mut bytes = [b'x'; 65_556];
     bytes[..19].copy_from_slice(b"HSUP ADBASE ADTIGR\n");
-    for (count, answer) in [(65_555, Ok(())), (65_556, Err(RunFault::TooLong))] {
-        ends(&rt, Input::of(&bytes[..count], 4096), answer, GREETING);
-    }
+    ends(&rt, Input::of(&bytes[..65_555], 4096), Ok(()), GREETING);
+    let answer = Err(RunFault::TooLong);
+    ends(&rt, Input::of(&bytes, 4096), answer, GREETING);
 }
 
 #[test]
