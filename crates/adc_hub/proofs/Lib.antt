@@ -1,9 +1,1 @@
-pub mod Refusals
-pub mod Writes
-pub mod Steps
-pub mod Joins
-pub mod Takes
-pub mod Lines
-pub mod Hearing
-pub mod Heard
 pub mod Words

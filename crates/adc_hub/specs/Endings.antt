@@ -1,35 +1,16 @@
--- How the program ends.
-use Rattle.std.specs.Prelude.{◌≡◌, ℕ, false, List, [], ◌∷◌, ◌++◌, codes, Option}
+-- What the program is asked for, and how it ends.
+use Rattle.std.specs.Prelude.{◌≡◌, ℕ, false, List, [], ◌∷◌, codes, Option}
 use Rattle.std.specs.Io.KnownBytes.{Keeps}
 use Rattle.hub_rules.specs.Configured.{Configured}
 use Rattle.session_hash.specs.First24.{first_24}
-use Rattle.adc_hub.specs.declared.ending.Ending.{Ending}
-use Rattle.adc_hub.specs.declared.ending.Ending.TheVariants as endings
-use Rattle.adc_hub.specs.declared.run_fault.RunFault.{RunFault}
-use Rattle.adc_hub.specs.declared.run_fault.RunFault.TheVariants as faults
-use Rattle.adc_hub.specs.Faults.{StopsBy}
-use Rattle.adc_hub.specs.Parts.{AppendsFront}
-use Rattle.adc_hub.specs.Runs.{IsServed}
-
-abbrev pub status_of : Ending → ℕ
-status_of endings.Served = 0
-status_of endings.Usage = 1
-status_of endings.Tables = 2
-status_of endings.Address = 3
-status_of endings.Memory = 4
-status_of endings.Transfer = 5
-
--- a message is one line
-abbrev pub said_line : List ℕ → List ℕ
-said_line text = text ++ 10 ∷ []
-
-unfoldable pub message_of : Ending → List ℕ
-message_of endings.Served = []
-message_of endings.Usage = said_line (codes "adc_hub: usage: adc_hub stdin | adc_hub serve SETTINGS")
-message_of endings.Tables = said_line (codes "adc_hub: tables")
-message_of endings.Address = said_line (codes "adc_hub: address")
-message_of endings.Memory = said_line (codes "adc_hub: memory")
-message_of endings.Transfer = said_line (codes "adc_hub: input or output")
+use Rattle.hub_endings.specs.Endings.{status_of, message_of}
+use Rattle.hub_endings.specs.declared.ending.Ending.{Ending}
+use Rattle.hub_endings.specs.declared.ending.Ending.TheVariants as endings
+use Rattle.hub_stream.specs.declared.fault.RunFault.{RunFault}
+use Rattle.hub_stream.specs.declared.fault.RunFault.TheVariants as faults
+use Rattle.hub_stream.specs.Faults.{StopsBy}
+use Rattle.flushed_writes.specs.Parts.{AppendsFront}
+use Rattle.hub_stream.specs.Runs.{IsServed}
 
 abbrev pub ending_of : RunFault → Ending
 ending_of faults.Memory = endings.Memory

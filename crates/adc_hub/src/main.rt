@@ -1,25 +1,15 @@
 //! An ADC hub: a server, or one connection over standard input and output.
 #![tactic(auto)]
 
-mod bell;
-mod board;
-pub mod challenges;
-mod door;
-mod ending;
-mod guest;
-mod hall;
-mod port;
-mod program;
-mod run_fault;
-mod run_one;
-mod server;
+mod command_line;
 mod start;
-mod task;
 #[cfg(test)]
 mod tests;
-mod visit;
-mod writing;
 
+pub use command_line::program;
+pub use hub_challenges::Challenges;
+pub use hub_server::serve_on;
+pub use hub_stream::{RunFault, run_one};
 use std::alloc::Global;
 use std::process::ExitCode;
 use std::{env, io};
@@ -27,7 +17,7 @@ use std::{env, io};
 fn main(rt: HostRuntime) -> ExitCode {
     let words = arguments(&rt, rt.alloc());
     let mut input = rt.reader();
-    let status = program::program(
+    let status = program(
         &rt,
         &words,
         &mut input,

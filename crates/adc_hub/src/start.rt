@@ -1,9 +1,7 @@
 ghost use Rattle.std.specs.Prelude.{◌≡◌};
 
-use crate::ending::Ending;
-use crate::hall::moment;
-use crate::server::serve_on;
-use crate::writing::write_on;
+use hub_endings::Ending;
+use hub_server::{moment, serve_on};
 use hub_settings::{HashName, KeyName, Settings, SettingsFault, read_settings};
 use session_hash::{First24, TableTiger, TablesFault};
 use std::alloc::{AllocError, AllocFailed, AllocGlobal};
@@ -54,11 +52,7 @@ where
         Ok(status) => status,
         Err(StartFault::Settings(word)) => say_key(word, errors),
         Err(StartFault::Key(key)) => say_key(key.as_str(), errors),
-        Err(StartFault::Ended(ending)) => {
-            // Nobody is left to hear that the message could not be written.
-            let _ = write_on(errors, ending.message().as_bytes());
-            ending.status()
-        }
+        Err(StartFault::Ended(ending)) => ending.tell(errors),
     }
 }
 

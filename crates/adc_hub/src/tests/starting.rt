@@ -1,21 +1,14 @@
 // A server that is not started, and why.
-use crate::tests::fakes::Pieces;
-use crate::tests::{Left, again, asked, asked_with};
+use crate::tests::again;
+use crate::tests::asking::{Broken, asks};
 use std::alloc::AllocGlobal;
 use std::fs::{self, Files};
-use std::net::{Net, OpenListener, TcpListener};
+use std::net::Net;
 use std::process::Abort;
 use std::random::RandomSource;
 use std::sync::Wait;
 use std::thread::Threads;
 use std::time::Clock;
-
-/// Stops the test unless the program ends by this status, and says just this.
-fn ends<R: Abort>(rt: &R, left: &Left, status: u8, said: &[u8]) {
-    assert!(rt; left.status == status, "{}", left.status);
-    assert!(rt; left.output.got.is_empty());
-    assert!(rt; left.errors.got.as_slice() == said);
-}
 
 /// A file that no other run of these tests has.
 #[derive(Drop)]
@@ -54,19 +47,35 @@ impl Scratch {
         assert!(rt; fs::remove_file(rt, self.path.as_str()).is_ok());
     }
 
-    /// What the program leaves where it is to serve the hub of this file.
-    fn served<R: Wait + Threads + Clock + Net + RandomSource + AllocGlobal + Files + Sync + Abort>(
+    /// Stops the test unless the program, asked to serve the hub of this file, ends by this status, and says just this.
+    fn refuses<R: Wait + Threads + Clock + Net + RandomSource + AllocGlobal + Files + Sync + Abort>(
         &self,
         rt: &R,
-    ) -> Left {
-        asked_with(rt, &["serve", self.path.as_str()])
+        status: u8,
+        said: &[u8],
+    ) {
+        asks(
+            rt,
+            &["serve", self.path.as_str()],
+            Broken::Nothing,
+            status,
+            b"",
+            said,
+        );
     }
 }
 
 #[test]
 fn settings_that_are_not_there(rt: HostRuntime) {
-    let left = asked_with(&rt, &["serve", "/nowhere/hub.toml"]);
-    ends(&rt, &left, 1, b"adc_hub: settings: file\n");
+    let words = ["serve", "/nowhere/hub.toml"];
+    asks(
+        &rt,
+        &words,
+        Broken::Nothing,
+        1,
+        b"",
+        b"adc_hub: settings: file\n",
+    );
 }
 
 #[test]
@@ -80,7 +89,7 @@ fn settings_that_are_no_text(rt: HostRuntime) {
     let file = Scratch::of(&rt, "hub.toml", b"");
     for (bytes, said) in rows {
         file.holds(&rt, bytes);
-        ends(&rt, &file.served(&rt), 1, said);
+        file.refuses(&rt, 1, said);
     }
     file.ends(&rt);
 }
@@ -92,7 +101,7 @@ fn a_seed_that_is_too_short(rt: HostRuntime) {
     let text =
         again!(&rt; format!(in rt.alloc(); "seed_file = \"{path}\"\ntables = \"/nowhere\"\n"));
     let file = Scratch::of(&rt, "hub.toml", text.as_bytes());
-    ends(&rt, &file.served(&rt), 1, b"adc_hub: settings: seed_file\n");
+    file.refuses(&rt, 1, b"adc_hub: settings: seed_file\n");
     file.ends(&rt);
     seed.ends(&rt);
 }
@@ -106,10 +115,10 @@ fn tables_of_another_length(rt: HostRuntime) {
     let bytes = [0; 8_193];
     for count in [0, 8_191, 8_193] {
         tables.holds(&rt, &bytes[..count]);
-        ends(&rt, &file.served(&rt), 2, b"adc_hub: tables\n");
+        file.refuses(&rt, 2, b"adc_hub: tables\n");
     }
     tables.ends(&rt);
-    ends(&rt, &file.served(&rt), 2, b"adc_hub: tables\n");
+    file.refuses(&rt, 2, b"adc_hub: tables\n");
     file.ends(&rt);
 }
 
@@ -118,30 +127,6 @@ fn an_address_that_is_not_here(rt: HostRuntime) {
     // An address that is kept for examples, so that no machine has it.
     let text = b"listen = \"203.0.113.1:4111\"\nhash = \"first24\"\n";
     let file = Scratch::of(&rt, "hub.toml", text);
-    ends(&rt, &file.served(&rt), 3, b"adc_hub: address\n");
-    file.ends(&rt);
-}
-
-#[test]
-fn an_address_in_use(rt: HostRuntime) {
-    let Ok(other) = TcpListener::bind(&rt, "127.0.0.1:0") else {
-        panic!(&rt; "nothing to listen at");
-    };
-    let Ok(address) = other.local_addr() else {
-        panic!(&rt; "no address");
-    };
-    let text = again!(&rt; format!(in rt.alloc(); "listen = \"{address}\"\nhash = \"first24\"\n"));
-    let file = Scratch::of(&rt, "hub.toml", text.as_bytes());
-    ends(&rt, &file.served(&rt), 3, b"adc_hub: address\n");
-    file.ends(&rt);
-}
-
-#[test]
-fn an_output_that_fails(rt: HostRuntime) {
-    let text = b"listen = \"127.0.0.1:0\"\nhash = \"first24\"\n";
-    let file = Scratch::of(&rt, "hub.toml", text);
-    let words = ["serve", file.path.as_str()];
-    let left = asked(&rt, &words, Pieces::of(b"", 4096), 1, 0);
-    ends(&rt, &left, 5, b"adc_hub: input or output\n");
+    file.refuses(&rt, 3, b"adc_hub: address\n");
     file.ends(&rt);
 }

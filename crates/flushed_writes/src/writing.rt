@@ -1,0 +1,28 @@
+ghost use Rattle.std.specs.Prelude.{◌≡◌, [], IsOk, OnOk, OnErr};
+ghost use Rattle.std.specs.Io.KnownBytes.{Appends};
+ghost use Rattle.flushed_writes.specs.Parts.{AppendsFront};
+
+use std::io::{self, Write};
+
+/// Writes all bytes and flushes; nothing is done where there are none.
+///
+/// It fails where a write or the flush fails, with that error, and with `WriteZero` where a write takes no byte.
+/// Then the front of the bytes was written.
+pub fn write_and_flush<W: Write>(writer: &mut W, bytes: &[u8]) -> io::Result<()>
+    ensures ok { OnOk result (Appends (W.contents writer.old) (W.contents writer.new) bytes.now) }
+    ensures err { OnErr result (AppendsFront (W.contents writer.old) (W.contents writer.new) bytes.now) }
+    ensures nothing { bytes.now ≡ [] → IsOk result }
+{
+    if bytes.is_empty() {
+        return Ok(());
+    }
+    let mut written = 0;
+    while written < bytes.len() {
+        match writer.write(&bytes[written..]) {
+            Ok(0) => return Err(io::ErrorKind::WriteZero.into()),
+            Ok(count) => written += count,
+            Err(error) => return Err(error),
+        }
+    }
+    writer.flush()
+}

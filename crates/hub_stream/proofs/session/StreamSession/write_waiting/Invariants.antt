@@ -1,0 +1,12 @@
+use Rattle.std.proofs.Common.{◌≡◌}
+use Rattle.hub_stream.proofs.Takes.{TakesOn, first_waits}
+use Rattle.hub_stream.proofs.session.StreamSession.write_waiting.Given as goal
+
+abbrev pub invariant-loop-taken : goal.invariant-loop-taken
+invariant-loop-taken g l = record {
+  takes : TakesOn l.fn.self.core l.self.core (g.W.Write.contents l.fn.writer) (g.W.Write.contents l.writer);
+  framer : l.self.framer ≡ l.fn.self.framer;
+}
+
+abbrev pub decreases-loop-taken : goal.decreases-loop-taken
+decreases-loop-taken g l = first_waits l.self.core.seats

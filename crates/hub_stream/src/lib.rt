@@ -1,0 +1,11 @@
+//! A hub for one connection, whose lines a reader gives and whose answers a writer takes.
+#![tactic(auto)]
+
+mod fault;
+mod run;
+mod session;
+#[cfg(test)]
+mod tests;
+
+pub use fault::RunFault;
+pub use run::run_one;

@@ -1,0 +1,54 @@
+ghost use Rattle.std.specs.Prelude.{IfErr, OnOk};
+ghost use Rattle.std.specs.Arc.{arc_value};
+ghost use Rattle.hub_stream.specs.Faults.{StopsBy};
+ghost use Rattle.hub_stream.specs.Runs.{IsServed};
+
+use crate::fault::RunFault;
+use crate::session::StreamSession;
+use hub_core::Setup;
+use session_hash::SessionHash;
+use std::alloc::Global;
+use std::io::{Read, Write};
+use std::sync::Arc;
+
+/// How many bytes are read at once.
+const READ_LENGTH: usize = 4096;
+
+/// How often the input is read.
+const MOST_READS: u32 = 1_048_576;
+
+/// Runs a hub for one connection, which sends what the reader gives and gets what the writer takes:
+/// from 127.0.0.1, with a challenge of 24 zero bytes, each call at moment 0.
+///
+/// The answer to a line is written and flushed before the next line is handled. The run ends well at
+/// the end of the input, or once nothing more will come from the hub, as the connection was shut out or was
+/// owed more at once than may wait, with all that it is owed written; then what the reader has left is not
+/// read.
+///
+/// Refused: `Memory`; `Read`; `Write`; `TooLong` where a line has over 65,536 bytes, once those before
+/// it were answered (ADC 1.0, "Message syntax"); `Turns` after 1,048,576 reads.
+pub fn run_one<H: SessionHash, R: Read, W: Write>(
+    alloc: Global,
+    setup: Arc<Setup>,
+    hash: &H,
+    reader: &mut R,
+    writer: &mut W,
+) -> Result<(), RunFault>
+    ensures ok { OnOk result (IsServed (arc_value setup) (H.digest_of hash.now) (R.remaining reader.old) (R.remaining reader.new) (W.contents writer.old) (W.contents writer.new)) }
+    ensures fault { IfErr result (λ fault. StopsBy fault (arc_value setup) (H.digest_of hash.now) (R.remaining reader.old) (R.remaining reader.new) (W.contents writer.old) (W.contents writer.new)) }
+{
+    let mut session = StreamSession::open(alloc, &setup)?;
+    let mut buffer = [0; READ_LENGTH];
+    for _turn in 0..MOST_READS {
+        match reader.read(&mut buffer) {
+            Ok(0) => return Ok(()),
+            Ok(count) => {
+                if session.hear(alloc, &setup, hash, &buffer[..count], writer)? {
+                    return Ok(());
+                }
+            }
+            Err(_) => return Err(RunFault::Read),
+        }
+    }
+    Err(RunFault::Turns)
+}
