@@ -1,4 +1,5 @@
-use crate::conversation::{again, plain};
+use crate::refusal::again;
+use crate::settings::plain;
 use hub_core::{Answer, Ask, Asked, Core, Prepared, Setup, Verdict, prepare, run_calls};
 use session_hash::First24;
 use std::alloc::Global;
