@@ -2,7 +2,9 @@ use crate::conversation::{play, play_each};
 
 #[test]
 fn what_is_no_line_is_refused(rt: HostRuntime) {
-    play(&rt, r"
+    play(
+        &rt,
+        r"
         ana enters
         ana:
         ana hears nothing
@@ -13,36 +15,45 @@ fn what_is_no_line_is_refused(rt: HostRuntime) {
         ana: BMSG AAAB <xff>
         ana hears: ISTA 140 Protocol\serror
         ana hears nothing
-    ");
+    ",
+    );
 }
 
 #[test]
 fn who_writes_for_another_leaves(rt: HostRuntime) {
-    play(&rt, r"
+    play(
+        &rt,
+        r"
         ana enters
         bob enters
         ana is ended by: BMSG AAAC hi
         ana hears last: ISTA 240 Wrong\sSID
         bob hears: IQUI AAAB
         bob hears nothing
-    ");
+    ",
+    );
 }
 
 #[test]
 fn chat_before_the_login_is_refused(rt: HostRuntime) {
-    play(&rt, r"
+    play(
+        &rt,
+        r"
         ana joins
         ana: HSUP ADBASE ADTIGR
         all take
         ana: BMSG AAAB hi
         ana hears: ISTA 144 Invalid\sstate FCBMSG
         ana hears nothing
-    ");
+    ",
+    );
 }
 
 #[test]
 fn an_unknown_command_goes_to_all(rt: HostRuntime) {
-    play(&rt, r"
+    play(
+        &rt,
+        r"
         ana enters
         bob enters
         ana: DINF AAAB AAAC NIx
@@ -55,36 +66,43 @@ fn an_unknown_command_goes_to_all(rt: HostRuntime) {
         bob hears: BXYZ AAAB 1
         ana hears nothing
         bob hears nothing
-    ");
+    ",
+    );
 }
 
 #[test]
 fn a_malformed_line_reaches_nobody(rt: HostRuntime) {
-    play_each(&rt, r"
+    play_each(
+        &rt,
+        r"
         ana enters
         bob enters
         ana: <line>
         ana hears: <answer>
         ana hears nothing
         bob hears nothing
-    ", &[
-        (r"BMSG", r"ISTA 140 Protocol\serror"),
-        (r"BMSG AAA", r"ISTA 140 Protocol\serror"),
-        (r"BMSG AAAB<x20>", r"ISTA 140 Protocol\serror"),
-        (r"bMSG AAAB hi", r"ISTA 140 Protocol\serror"),
-        (r"BMSG aaab hi", r"ISTA 140 Protocol\serror"),
-        (r"FSCH AAAB ANx", r"ISTA 140 Protocol\serror"),
-        (r"FSCH AAAB +TCP ANx", r"ISTA 140 Protocol\serror"),
-        (r"DMSG AAAB", r"ISTA 140 Protocol\serror"),
-        (r"UMSG ABC hi", r"ISTA 140 Protocol\serror"),
-        (r"EMSG AAAB AAAC \", r"ISTA 140 Protocol\serror"),
-        (r"<x20>", r"ISTA 140 Protocol\serror"),
-    ]);
+    ",
+        &[
+            (r"BMSG", r"ISTA 140 Protocol\serror"),
+            (r"BMSG AAA", r"ISTA 140 Protocol\serror"),
+            (r"BMSG AAAB<x20>", r"ISTA 140 Protocol\serror"),
+            (r"bMSG AAAB hi", r"ISTA 140 Protocol\serror"),
+            (r"BMSG aaab hi", r"ISTA 140 Protocol\serror"),
+            (r"FSCH AAAB ANx", r"ISTA 140 Protocol\serror"),
+            (r"FSCH AAAB +TCP ANx", r"ISTA 140 Protocol\serror"),
+            (r"DMSG AAAB", r"ISTA 140 Protocol\serror"),
+            (r"UMSG ABC hi", r"ISTA 140 Protocol\serror"),
+            (r"EMSG AAAB AAAC \", r"ISTA 140 Protocol\serror"),
+            (r"<x20>", r"ISTA 140 Protocol\serror"),
+        ],
+    );
 }
 
 #[test]
 fn unusual_lines_go_out_unchanged(rt: HostRuntime) {
-    play(&rt, r"
+    play(
+        &rt,
+        r"
         ana enters
         bob enters
         ana: BMSG AAAB
@@ -98,24 +116,30 @@ fn unusual_lines_go_out_unchanged(rt: HostRuntime) {
         bob hears: BMSG AAAB hi<x0d>
         ana hears nothing
         bob hears nothing
-    ");
+    ",
+    );
 }
 
 #[test]
 fn a_needed_feature_cannot_be_given_up(rt: HostRuntime) {
-    play(&rt, r"
+    play(
+        &rt,
+        r"
         ana enters
         bob enters
         ana is ended by: HSUP RMTIGR
         ana hears last: ISTA 247 No\scommon\shash
         bob hears: IQUI AAAB
         bob hears nothing
-    ");
+    ",
+    );
 }
 
 #[test]
 fn words_to_the_hub_go_nowhere(rt: HostRuntime) {
-    play(&rt, r"
+    play(
+        &rt,
+        r"
         ana enters
         bob enters
         ana: HMSG hello
@@ -124,12 +148,15 @@ fn words_to_the_hub_go_nowhere(rt: HostRuntime) {
         ana: FMSG AAAB +SEGA-SEGA x
         ana hears nothing
         bob hears nothing
-    ");
+    ",
+    );
 }
 
 #[test]
 fn a_full_outbox_gets_no_more(rt: HostRuntime) {
-    play(&rt, r"
+    play(
+        &rt,
+        r"
         ana enters
         bob enters
         cy enters
@@ -145,12 +172,15 @@ fn a_full_outbox_gets_no_more(rt: HostRuntime) {
         bob quits
         ana hears: IQUI AAAC
         cy hears: IQUI AAAC
-    ");
+    ",
+    );
 }
 
 #[test]
 fn an_outbox_holds_1_024_lines(rt: HostRuntime) {
-    play(&rt, r"
+    play(
+        &rt,
+        r"
         ana enters
         bob enters
         for 1 to 1024:
@@ -162,5 +192,6 @@ fn an_outbox_holds_1_024_lines(rt: HostRuntime) {
         bob takes 256: BMSG AAAB x
         bob takes 256: BMSG AAAB x
         bob hears nothing
-    ");
+    ",
+    );
 }

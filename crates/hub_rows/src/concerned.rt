@@ -2,7 +2,9 @@ use crate::conversation::play;
 
 #[test]
 fn whom_messages_concern(rt: HostRuntime) {
-    play(&rt, r"
+    play(
+        &rt,
+        r"
         ana enters
         bob enters
         ana: BMSG AAAB hi
@@ -29,12 +31,15 @@ fn whom_messages_concern(rt: HostRuntime) {
         concerns nobody
         all take
         concerns nobody
-    ");
+    ",
+    );
 }
 
 #[test]
 fn whom_comings_and_goings_concern(rt: HostRuntime) {
-    play(&rt, r"
+    play(
+        &rt,
+        r"
         ana joins
         concerns nobody
         ana: HSUP ADBASE ADTIGR
@@ -55,12 +60,15 @@ fn whom_comings_and_goings_concern(rt: HostRuntime) {
         concerns nobody
         ana quits
         concerns all
-    ");
+    ",
+    );
 }
 
 #[test]
 fn whom_acts_concern(rt: HostRuntime) {
-    play(&rt, r"
+    play(
+        &rt,
+        r"
         with account op secret operator
         op joins
         op: HSUP ADBASE ADTIGR
@@ -75,5 +83,6 @@ fn whom_acts_concern(rt: HostRuntime) {
         concerns op
         op: HMSG !kick\sbob
         concerns all
-    ");
+    ",
+    );
 }

@@ -76,25 +76,28 @@ fn play_with(rt: &impl Abort, alloc: Global, text: &str, line: &str, answer: &st
 
 /// The only step has to be this refusal.
 fn is_refused(rt: &impl Abort, text: &str, refused: SetupRefused) {
-    let told = match refused {
-        SetupRefused::Limit => "no hub: Limit",
-        SetupRefused::Name => "no hub: Name",
-        _ => "",
-    };
-    let mut steps = 0;
+    match refused {
+        SetupRefused::Limit => is_only_step(rt, text, "no hub: Limit"),
+        SetupRefused::Name => is_only_step(rt, text, "no hub: Name"),
+        _ => panic!(rt; "no hub: {refused:?}"),
+    }
+}
+
+fn is_only_step(rt: &impl Abort, text: &str, told: &str) {
+    let mut is_told = false;
     for line in text.lines() {
         let line = line.trim();
         if line.is_empty() || line.starts_with("with ") {
             continue;
         }
-        assert!(rt; line == told, "{refused:?}, not {line}");
-        steps += 1;
+        assert!(rt; line == told && !is_told, "{told}, not {line}");
+        is_told = true;
     }
-    assert!(rt; steps == 1, "{refused:?}");
+    assert!(rt; is_told, "{told}");
 }
 
 /// A line of a conversation.
-#[derive(Clone, Copy, Debug)]
+#[derive(Clone, Copy)]
 struct Place<'t> {
     number: usize,
     text: &'t str,
@@ -120,7 +123,7 @@ struct Played<'t> {
     round: usize,
 }
 
-#[derive(Clone, Copy, Debug)]
+#[derive(Clone, Copy)]
 struct Joined<'t> {
     name: &'t str,
     connection: Conn,
@@ -168,13 +171,16 @@ impl<'t> Played<'t> {
 
     /// The rounds that `2 to 9:` begins.
     fn rounds(&self, rt: &impl Abort, told: &str) -> Rounds<'t> {
-        match told.strip_suffix(':').and_then(|told| told.split_once(" to ")) {
-            Some((first, last)) => Rounds {
-                first: self.number(rt, first),
-                last: self.number(rt, last),
-                steps: Vec::new(self.alloc),
-            },
-            None => self.unknown(rt),
+        let Some((first, rest)) = told.split_once(" to ") else {
+            self.unknown(rt)
+        };
+        let Some(last) = rest.strip_suffix(':') else {
+            self.unknown(rt)
+        };
+        Rounds {
+            first: self.number(rt, first),
+            last: self.number(rt, last),
+            steps: Vec::new(self.alloc),
         }
     }
 

@@ -2,7 +2,9 @@ use crate::conversation::play;
 
 #[test]
 fn an_outbox_holds_15_of_the_longest_lines(rt: HostRuntime) {
-    play(&rt, r"
+    play(
+        &rt,
+        r"
         ana enters: BINF AAAB ID<P0> PD<P0> NIana
         bob enters: BINF AAAC ID<P1> PD<P1> NIbob
         for 1 to 16:
@@ -10,12 +12,15 @@ fn an_outbox_holds_15_of_the_longest_lines(rt: HostRuntime) {
             ana hears: BMSG AAAB <65526*x>
         end
         bob takes last 15: BMSG AAAB <65526*x>
-    ");
+    ",
+    );
 }
 
 #[test]
 fn an_outbox_holds_1_048_576_bytes(rt: HostRuntime) {
-    play(&rt, r"
+    play(
+        &rt,
+        r"
         ana enters: BINF AAAB ID<P0> PD<P0> NIana
         bob enters: BINF AAAC ID<P1> PD<P1> NIbob
         for 1 to 1024:
@@ -26,23 +31,29 @@ fn an_outbox_holds_1_048_576_bytes(rt: HostRuntime) {
         bob takes 256: BMSG AAAB <1013*x>
         bob takes 256: BMSG AAAB <1013*x>
         bob takes 256: BMSG AAAB <1013*x>
-    ");
+    ",
+    );
 }
 
 #[test]
 fn a_hub_of_900_connections_is_full(rt: HostRuntime) {
-    play(&rt, r"
+    play(
+        &rt,
+        r"
         with max_users 900
         for 1 to 900:
             user joins
         end
         no join: Full
-    ");
+    ",
+    );
 }
 
 #[test]
 fn no_more_than_1_024_are_banned(rt: HostRuntime) {
-    play(&rt, r"
+    play(
+        &rt,
+        r"
         with account op secret operator
         op enters: BINF AAAB ID<P0> PD<P0> NIop
         op: HPAS <secret>
@@ -67,5 +78,6 @@ fn no_more_than_1_024_are_banned(rt: HostRuntime) {
         op hears: IQUI ABAD IDAAAB TL5
         op hears: ISTA 000 Done
         bob hears: IQUI ABAD IDAAAB TL5
-    ");
+    ",
+    );
 }

@@ -2,17 +2,22 @@ use crate::conversation::play;
 
 #[test]
 fn a_login_line_with_40_names_enters(rt: HostRuntime) {
-    play(&rt, r"
+    play(
+        &rt,
+        r"
         ana enters: BINF AAAB ID<P0> PD<P0> NIana K01 K11 K21 K31 K41 K51 K61 K71 K81 K91 L01 L11 L21 L31 L41 L51 L61 L71 L81 L91 M01 M11 M21 M31 M41 M51 M61 M71 M81 M91 N01 N11 N21 N31 N41 N51 N61
         ana: BMSG AAAB hi
         ana hears: BMSG AAAB hi
         ana hears nothing
-    ");
+    ",
+    );
 }
 
 #[test]
 fn a_login_line_with_41_names_is_refused(rt: HostRuntime) {
-    play(&rt, r"
+    play(
+        &rt,
+        r"
         ana joins
         ana: HSUP ADBASE ADTIGR
         all take
@@ -23,12 +28,15 @@ fn a_login_line_with_41_names_is_refused(rt: HostRuntime) {
         ana: BINF AAAB ID<P0> PD<P0> NIana
         ana hears: BINF AAAB ID<P0> NIana
         ana hears nothing
-    ");
+    ",
+    );
 }
 
 #[test]
 fn an_update_to_40_fields_is_accepted(rt: HostRuntime) {
-    play(&rt, r"
+    play(
+        &rt,
+        r"
         ana enters
         ana: BINF AAAB X01 X11 X21 X31 X41 X51 X61 X71 X81 X91 XA1 XB1 XC1 XD1 XE1 XF1 XG1 XH1 XI1 XJ1 XK1 XL1 XM1 XN1 XO1 XP1 XQ1 XR1 XS1 XT1 XU1 XV1 XW1 XX1
         ana hears: BINF AAAB X01 X11 X21 X31 X41 X51 X61 X71 X81 X91 XA1 XB1 XC1 XD1 XE1 XF1 XG1 XH1 XI1 XJ1 XK1 XL1 XM1 XN1 XO1 XP1 XQ1 XR1 XS1 XT1 XU1 XV1 XW1 XX1
@@ -42,12 +50,15 @@ fn an_update_to_40_fields_is_accepted(rt: HostRuntime) {
         bob hears: BINF AAAB ID<P0> NIana SS10 SF2 I4127.0.0.1 SUTCP4,SEGA X01 X11 X21 X31 X41 X51 X61 X71 X81 X91 XA1 XB1 XC1 XD1 XE1 XF1 XG1 XH1 XI1 XJ1 XK1 XL1 XM1 XN1 XO1 XP1 XQ1 XR1 XS1 XT1 XU1 XV1 XW1 XX1
         bob hears: BINF AAAC ID<P1> NIbob
         bob hears nothing
-    ");
+    ",
+    );
 }
 
 #[test]
 fn an_update_to_41_fields_changes_nothing(rt: HostRuntime) {
-    play(&rt, r"
+    play(
+        &rt,
+        r"
         ana enters
         ana: BINF AAAB X01 X11 X21 X31 X41 X51 X61 X71 X81 X91 XA1 XB1 XC1 XD1 XE1 XF1 XG1 XH1 XI1 XJ1 XK1 XL1 XM1 XN1 XO1 XP1 XQ1 XR1 XS1 XT1 XU1 XV1 XW1 XX1 XY1
         ana hears: ISTA 140 Protocol\serror
@@ -57,12 +68,15 @@ fn an_update_to_41_fields_changes_nothing(rt: HostRuntime) {
         all take
         bob: BINF AAAC ID<P1> PD<P1> NIbob
         bob hears: BINF AAAB ID<P0> NIana SS10 SF2 I4127.0.0.1 SUTCP4,SEGA
-    ");
+    ",
+    );
 }
 
 #[test]
 fn a_message_of_65_536_bytes_goes_out(rt: HostRuntime) {
-    play(&rt, r"
+    play(
+        &rt,
+        r"
         ana enters: BINF AAAB ID<P0> PD<P0> NIana
         bob enters: BINF AAAC ID<P1> PD<P1> NIbob
         ana: BMSG AAAB <65526*x>
@@ -70,17 +84,21 @@ fn a_message_of_65_536_bytes_goes_out(rt: HostRuntime) {
         bob hears: BMSG AAAB <65526*x>
         ana hears nothing
         bob hears nothing
-    ");
+    ",
+    );
 }
 
 #[test]
 fn a_message_of_65_537_bytes_is_refused(rt: HostRuntime) {
-    play(&rt, r"
+    play(
+        &rt,
+        r"
         ana enters: BINF AAAB ID<P0> PD<P0> NIana
         bob enters: BINF AAAC ID<P1> PD<P1> NIbob
         ana: BMSG AAAB <65527*x>
         ana hears: ISTA 140 Protocol\serror
         ana hears nothing
         bob hears nothing
-    ");
+    ",
+    );
 }

@@ -2,7 +2,9 @@ use crate::conversation::{play, play_each};
 
 #[test]
 fn a_client_is_greeted(rt: HostRuntime) {
-    play(&rt, r"
+    play(
+        &rt,
+        r"
         ana joins
         ana hears nothing
         ana: HSUP ADBASE ADTIGR
@@ -14,21 +16,27 @@ fn a_client_is_greeted(rt: HostRuntime) {
         ana hears: ISTA 144 Invalid\sstate FCHSUP
         ana: HSTA 000 ok
         ana hears nothing
-    ");
+    ",
+    );
 }
 
 #[test]
 fn early_names_of_features_count(rt: HostRuntime) {
-    play(&rt, r"
+    play(
+        &rt,
+        r"
         ana joins
         ana: HSUP RMBASE ADBAS0 ADUCM0 ADTIGR ADZLIF RMZLIF
         ana hears: ISUP ADBASE ADTIGR ADPING ADUCMD
-    ");
+    ",
+    );
 }
 
 #[test]
 fn name_and_topic_are_escaped(rt: HostRuntime) {
-    play(&rt, r"
+    play(
+        &rt,
+        r"
         with name A hub
         with topic one<x0a>two \
         ana joins
@@ -36,29 +44,36 @@ fn name_and_topic_are_escaped(rt: HostRuntime) {
         ana hears: ISUP ADBASE ADTIGR ADPING ADUCMD
         ana hears: ISID AAAB
         ana hears: IINF CT32 NIA\shub VEadc-hub\s1.0 DEone\ntwo\s\\
-    ");
+    ",
+    );
 }
 
 #[test]
 fn who_lacks_a_feature_is_shut_out(rt: HostRuntime) {
-    play_each(&rt, r"
+    play_each(
+        &rt,
+        r"
         ana joins
         ana is ended by: <line>
         ana hears last: <answer>
         ana is ended by: HSUP ADBASE ADTIGR
         ana hears no more
         ana quits
-    ", &[
-        (r"HSUP ADBASE", r"ISTA 247 No\scommon\shash"),
-        (r"HSUP ADTIGR", r"ISTA 245 Feature\smissing FCBASE"),
-        (r"HSUP", r"ISTA 245 Feature\smissing FCBASE"),
-        (r"HSUP ADBASE ADTIGR RMTIGR", r"ISTA 247 No\scommon\shash"),
-    ]);
+    ",
+        &[
+            (r"HSUP ADBASE", r"ISTA 247 No\scommon\shash"),
+            (r"HSUP ADTIGR", r"ISTA 245 Feature\smissing FCBASE"),
+            (r"HSUP", r"ISTA 245 Feature\smissing FCBASE"),
+            (r"HSUP ADBASE ADTIGR RMTIGR", r"ISTA 247 No\scommon\shash"),
+        ],
+    );
 }
 
 #[test]
 fn what_is_wrong_is_refused_and_loses_nothing(rt: HostRuntime) {
-    play_each(&rt, r"
+    play_each(
+        &rt,
+        r"
         ana joins
         bob enters
         ana:
@@ -69,30 +84,37 @@ fn what_is_wrong_is_refused_and_loses_nothing(rt: HostRuntime) {
         ana: HSUP ADBASE ADTIGR
         ana hears: ISUP ADBASE ADTIGR ADPING ADUCMD
         bob hears nothing
-    ", &[
-        (r"HSUP  ADBASE", r"ISTA 140 Protocol\serror"),
-        (r"HSUP ADBASE TIGR", r"ISTA 140 Protocol\serror"),
-        (r"HSUP ADBASE adTIGR", r"ISTA 140 Protocol\serror"),
-        (r"CSUP ADBASE ADTIGR", r"ISTA 140 Protocol\serror"),
-        (r"HSUP ADBASE <xff>", r"ISTA 140 Protocol\serror"),
-        (r"hsup ADBASE ADTIGR", r"ISTA 140 Protocol\serror"),
-        (r"HMSG hi", r"ISTA 144 Invalid\sstate FCHMSG"),
-        (r"BMSG AAAB hi", r"ISTA 144 Invalid\sstate FCBMSG"),
-    ]);
+    ",
+        &[
+            (r"HSUP  ADBASE", r"ISTA 140 Protocol\serror"),
+            (r"HSUP ADBASE TIGR", r"ISTA 140 Protocol\serror"),
+            (r"HSUP ADBASE adTIGR", r"ISTA 140 Protocol\serror"),
+            (r"CSUP ADBASE ADTIGR", r"ISTA 140 Protocol\serror"),
+            (r"HSUP ADBASE <xff>", r"ISTA 140 Protocol\serror"),
+            (r"hsup ADBASE ADTIGR", r"ISTA 140 Protocol\serror"),
+            (r"HMSG hi", r"ISTA 144 Invalid\sstate FCHMSG"),
+            (r"BMSG AAAB hi", r"ISTA 144 Invalid\sstate FCBMSG"),
+        ],
+    );
 }
 
 #[test]
 fn who_writes_for_another_is_shut_out(rt: HostRuntime) {
-    play(&rt, r"
+    play(
+        &rt,
+        r"
         ana joins
         ana is ended by: BMSG AAAC hi
         ana hears last: ISTA 240 Wrong\sSID
-    ");
+    ",
+    );
 }
 
 #[test]
 fn places_are_given_again(rt: HostRuntime) {
-    play(&rt, r"
+    play(
+        &rt,
+        r"
         with max_users 2
         ana joins
         bob joins
@@ -104,5 +126,6 @@ fn places_are_given_again(rt: HostRuntime) {
         cy hears: ISUP ADBASE ADTIGR ADPING ADUCMD
         cy hears: ISID AAAD
         bob hears nothing
-    ");
+    ",
+    );
 }

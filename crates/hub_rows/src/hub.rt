@@ -21,7 +21,7 @@ pub(crate) struct Hub {
 }
 
 /// What can be seen of a hub.
-#[derive(Clone, Copy, Debug, PartialEq)]
+#[derive(Clone, Copy, PartialEq)]
 struct Sight {
     totals: Totals,
     joins: u64,
@@ -29,7 +29,7 @@ struct Sight {
 }
 
 /// What can be seen of an open connection.
-#[derive(Clone, Copy, Debug, PartialEq)]
+#[derive(Clone, Copy, PartialEq)]
 struct Glance {
     stage: Stage,
     present: u64,
@@ -40,7 +40,7 @@ struct Glance {
 const MOST_LOOKED_AT: usize = 8;
 
 /// What a take gave.
-#[derive(Debug, Drop)]
+#[derive(Drop)]
 pub(crate) struct Heard {
     pub(crate) bytes: Vec<u8>,
     pub(crate) lines: u64,
@@ -163,8 +163,7 @@ impl Hub {
     }
 
     pub(crate) fn quit(&mut self, rt: &impl Abort, connection: Conn) {
-        assert!(rt; self.core.is_open(connection), "it has left");
-        self.core.quit(connection);
+        leave(rt, &mut self.core, connection);
     }
 
     pub(crate) fn is_open(&self, connection: Conn) -> bool {
@@ -182,8 +181,7 @@ impl Hub {
     }
 
     fn has_not_changed(&self, rt: &impl Abort, before: &Sight) {
-        let after = self.sight();
-        assert!(rt; after == *before, "a refused call left {after:?}, not {before:?}");
+        assert!(rt; self.sight() == *before, "a refused call changed the hub");
     }
 
     fn sight(&self) -> Sight {
@@ -209,6 +207,11 @@ impl Hub {
             waiting: look.waiting,
         })
     }
+}
+
+fn leave(rt: &impl Abort, core: &mut Core, connection: Conn) {
+    assert!(rt; core.is_open(connection), "it has left");
+    core.quit(connection);
 }
 
 fn set_up(rt: &impl Abort, alloc: Global, options: &Options<'_>) -> Result<Setup, SetupRefused> {

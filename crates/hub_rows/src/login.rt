@@ -2,7 +2,9 @@ use crate::conversation::{play, play_each};
 
 #[test]
 fn a_user_enters(rt: HostRuntime) {
-    play(&rt, r"
+    play(
+        &rt,
+        r"
         ana joins
         ana: HSUP ADBASE ADTIGR
         ana hears: ISUP ADBASE ADTIGR ADPING ADUCMD
@@ -11,12 +13,15 @@ fn a_user_enters(rt: HostRuntime) {
         ana: BINF AAAB ID<P0> PD<P0> NIana SS10 SF2 I40.0.0.0 SUTCP4,SEGA
         ana hears: BINF AAAB ID<P0> NIana SS10 SF2 I4127.0.0.1 SUTCP4,SEGA
         ana hears nothing
-    ");
+    ",
+    );
 }
 
 #[test]
 fn two_users_enter(rt: HostRuntime) {
-    play(&rt, r"
+    play(
+        &rt,
+        r"
         ana enters
         bob joins
         bob: HSUP ADBASE ADTIGR
@@ -29,41 +34,60 @@ fn two_users_enter(rt: HostRuntime) {
         bob hears nothing
         ana hears: BINF AAAC ID<P1> NIbob SS5 SF1 SUTCP4
         ana hears nothing
-    ");
+    ",
+    );
 }
 
 #[test]
 fn a_usual_client_enters(rt: HostRuntime) {
-    play(&rt, r"
+    play(
+        &rt,
+        r"
         ana joins
         ana: HSUP ADBASE ADTIGR
         all take
         ana: BINF AAAB ID<P0> PD<P0> NIana SL3 SS0 SF0 HN1 HR0 HO0 VEx\s1 US65536 I40.0.0.0 SUSEGA,ADC0,TCP4,UDP4 U41412
         ana hears: BINF AAAB ID<P0> NIana SL3 SS0 SF0 HN1 HR0 HO0 VEx\s1 US65536 I4127.0.0.1 SUSEGA,ADC0,TCP4,UDP4 U41412
         ana hears nothing
-    ");
+    ",
+    );
 }
 
 #[test]
 fn a_bad_login_is_refused(rt: HostRuntime) {
-    play_each(&rt, r"
+    play_each(
+        &rt,
+        r"
         ana joins
         ana: HSUP ADBASE ADTIGR
         all take
         ana is ended by: <line>
         ana hears last: <answer>
-    ", &[
-        (r"BINF AAAB ID<P1> PD<P0> NIa\sb", r"ISTA 227 Invalid\sPID"),
-        (r"BINF AAAB ID<P0> PD<P0> NIa\sb", r"ISTA 221 Invalid\snick"),
-        (r"BINF AAAB ID<P0> PD<P0>", r"ISTA 243 INF\sfield\smissing FMNI"),
-        (r"BINF AAAB ID<P0> PD<P0> NIana SSx", r"ISTA 243 INF\sfield\sbad FBSS"),
-        (r"BINF AAAB ID<P0> PD<P0> NIana I410.0.0.1", r"ISTA 246 Wrong\saddress I4127.0.0.1"),
-    ]);
+    ",
+        &[
+            (r"BINF AAAB ID<P1> PD<P0> NIa\sb", r"ISTA 227 Invalid\sPID"),
+            (r"BINF AAAB ID<P0> PD<P0> NIa\sb", r"ISTA 221 Invalid\snick"),
+            (
+                r"BINF AAAB ID<P0> PD<P0>",
+                r"ISTA 243 INF\sfield\smissing FMNI",
+            ),
+            (
+                r"BINF AAAB ID<P0> PD<P0> NIana SSx",
+                r"ISTA 243 INF\sfield\sbad FBSS",
+            ),
+            (
+                r"BINF AAAB ID<P0> PD<P0> NIana I410.0.0.1",
+                r"ISTA 246 Wrong\saddress I4127.0.0.1",
+            ),
+        ],
+    );
 }
 
 #[test]
 fn nicks_are_compared_in_normal_form(rt: HostRuntime) {
-    play(&rt, r"
+    play(
+        &rt,
+        r"
         ana enters: BINF AAAB ID<P0> PD<P0> NI<xc3><xa9>
         bob joins
         bob: HSUP ADBASE ADTIGR
@@ -71,12 +95,15 @@ fn nicks_are_compared_in_normal_form(rt: HostRuntime) {
         bob is ended by: BINF AAAC ID<P1> PD<P1> NIe<xcc><x81>
         bob hears last: ISTA 222 Nick\staken
         ana hears nothing
-    ");
+    ",
+    );
 }
 
 #[test]
 fn totals_are_told_to_who_asks(rt: HostRuntime) {
-    play(&rt, r"
+    play(
+        &rt,
+        r"
         ana enters
         bob joins
         at 90 bob: HSUP ADBASE ADTIGR ADPING
@@ -84,12 +111,15 @@ fn totals_are_told_to_who_asks(rt: HostRuntime) {
         bob hears: ISID AAAC
         bob hears: IINF CT32 NIHub VEadc-hub\s1.0 UC1 SS10 SF2 MC512 UP90
         bob hears nothing
-    ");
+    ",
+    );
 }
 
 #[test]
 fn a_text_of_the_menu_is_sent(rt: HostRuntime) {
-    play(&rt, r"
+    play(
+        &rt,
+        r"
         with menu Help 1 text HMSG !help<x0a>
         ana joins
         ana: HSUP ADBAS0 ADTIGR ADUCM0 ADZLIF
@@ -98,12 +128,15 @@ fn a_text_of_the_menu_is_sent(rt: HostRuntime) {
         ana hears: BINF AAAB ID<P0> NIana SS10 SF2 I4127.0.0.1 SUTCP4,SEGA
         ana hears: ICMD Help CT1 TTHMSG\s!help\n
         ana hears nothing
-    ");
+    ",
+    );
 }
 
 #[test]
 fn a_separator_of_the_menu_is_sent(rt: HostRuntime) {
-    play(&rt, r"
+    play(
+        &rt,
+        r"
         with menu Sep 2 separator
         ana joins
         ana: HSUP ADBAS0 ADTIGR ADUCM0 ADZLIF
@@ -112,12 +145,15 @@ fn a_separator_of_the_menu_is_sent(rt: HostRuntime) {
         ana hears: BINF AAAB ID<P0> NIana SS10 SF2 I4127.0.0.1 SUTCP4,SEGA
         ana hears: ICMD Sep CT2 SP1
         ana hears nothing
-    ");
+    ",
+    );
 }
 
 #[test]
 fn a_cid_that_is_taken_is_refused(rt: HostRuntime) {
-    play(&rt, r"
+    play(
+        &rt,
+        r"
         ana enters
         bob joins
         bob: HSUP ADBASE ADTIGR
@@ -125,5 +161,6 @@ fn a_cid_that_is_taken_is_refused(rt: HostRuntime) {
         bob is ended by: BINF AAAC ID<P0> PD<P0> NIbob
         bob hears last: ISTA 224 CID\staken
         ana hears nothing
-    ");
+    ",
+    );
 }

@@ -2,7 +2,9 @@ use crate::conversation::play;
 
 #[test]
 fn a_kick(rt: HostRuntime) {
-    play(&rt, r"
+    play(
+        &rt,
+        r"
         with account op secret operator
         op enters
         bob enters
@@ -22,12 +24,15 @@ fn a_kick(rt: HostRuntime) {
         bob hears no more
         bob quits
         op hears nothing
-    ");
+    ",
+    );
 }
 
 #[test]
 fn a_ban_runs_out(rt: HostRuntime) {
-    play(&rt, r"
+    play(
+        &rt,
+        r"
         with account op secret operator
         op enters
         bob enters
@@ -45,12 +50,15 @@ fn a_ban_runs_out(rt: HostRuntime) {
         at 160 bob3: BINF AAAE ID<P1> PD<P1> NIbob
         op hears: BINF AAAE ID<P1> NIbob
         op hears nothing
-    ");
+    ",
+    );
 }
 
 #[test]
 fn a_ban_for_good(rt: HostRuntime) {
-    play(&rt, r"
+    play(
+        &rt,
+        r"
         with account op secret operator
         op enters
         bob enters
@@ -62,22 +70,28 @@ fn a_ban_for_good(rt: HostRuntime) {
         all take
         at 160 bob2 is ended by: BINF AAAD ID<P1> PD<P1> NIbob
         bob2 hears last: ISTA 231 Banned
-    ");
+    ",
+    );
 }
 
 #[test]
 fn who_is_no_operator_has_no_command(rt: HostRuntime) {
-    play(&rt, r"
+    play(
+        &rt,
+        r"
         ana enters
         ana: HMSG !kick\sbob
         ana hears: ISTA 125 Access\sdenied FCHMSG
         ana hears nothing
-    ");
+    ",
+    );
 }
 
 #[test]
 fn a_command_that_cannot_be_done(rt: HostRuntime) {
-    play(&rt, r"
+    play(
+        &rt,
+        r"
         with account op secret operator
         op enters
         op: HMSG !kick\szoe
@@ -91,12 +105,15 @@ fn a_command_that_cannot_be_done(rt: HostRuntime) {
         op: HMSG !ban\sbob
         op hears: ISTA 100 Bad\scommand
         op hears nothing
-    ");
+    ",
+    );
 }
 
 #[test]
 fn a_new_topic(rt: HostRuntime) {
-    play(&rt, r"
+    play(
+        &rt,
+        r"
         with account op secret operator
         op enters
         bob enters
@@ -118,33 +135,42 @@ fn a_new_topic(rt: HostRuntime) {
         op hears nothing
         bob hears nothing
         cy hears nothing
-    ");
+    ",
+    );
 }
 
 #[test]
 fn an_operator_kicks_itself(rt: HostRuntime) {
-    play(&rt, r"
+    play(
+        &rt,
+        r"
         with account op secret operator
         op enters
         op is ended by: HMSG !kick\sop
         op takes last 2
-    ");
+    ",
+    );
 }
 
 #[test]
 fn the_lines_of_an_operator_that_kicks_itself(rt: HostRuntime) {
-    play(&rt, r"
+    play(
+        &rt,
+        r"
         with account op secret operator
         op enters
         op is ended by: HMSG !kick\sop
         op hears: IQUI AAAB IDAAAB
         op hears last: ISTA 000 Done
-    ");
+    ",
+    );
 }
 
 #[test]
 fn a_ban_holds_after_the_password(rt: HostRuntime) {
-    play(&rt, r"
+    play(
+        &rt,
+        r"
         with account op secret operator
         with account reg secret
         op enters
@@ -156,5 +182,6 @@ fn a_ban_holds_after_the_password(rt: HostRuntime) {
         op: HMSG !ban\sbob\s0
         reg is ended by: HPAS <secret>
         reg hears last: ISTA 231 Banned
-    ");
+    ",
+    );
 }

@@ -2,7 +2,9 @@ use crate::conversation::play;
 
 #[test]
 fn an_operator_enters(rt: HostRuntime) {
-    play(&rt, r"
+    play(
+        &rt,
+        r"
         with account op secret operator
         op joins
         op: HSUP ADBASE ADTIGR
@@ -13,12 +15,15 @@ fn an_operator_enters(rt: HostRuntime) {
         op: HPAS <secret>
         op hears: BINF AAAB ID<P0> NIop CT4
         op hears nothing
-    ");
+    ",
+    );
 }
 
 #[test]
 fn a_wrong_password_ends_it(rt: HostRuntime) {
-    play(&rt, r"
+    play(
+        &rt,
+        r"
         with account op secret operator
         op joins
         op: HSUP ADBASE ADTIGR
@@ -26,12 +31,15 @@ fn a_wrong_password_ends_it(rt: HostRuntime) {
         all take
         op is ended by: HPAS <39*A>
         op hears last: ISTA 223 Invalid\spassword
-    ");
+    ",
+    );
 }
 
 #[test]
 fn the_first_right_password_takes_the_nick(rt: HostRuntime) {
-    play(&rt, r"
+    play(
+        &rt,
+        r"
         with account op secret operator
         op joins
         op2 joins
@@ -47,12 +55,15 @@ fn the_first_right_password_takes_the_nick(rt: HostRuntime) {
         op2 is ended by: HPAS <secret>
         op2 hears last: ISTA 222 Nick\staken
         op hears nothing
-    ");
+    ",
+    );
 }
 
 #[test]
 fn only_registered_users_are_admitted(rt: HostRuntime) {
-    play(&rt, r"
+    play(
+        &rt,
+        r"
         with account op secret operator
         with registered_only
         ana joins
@@ -60,12 +71,15 @@ fn only_registered_users_are_admitted(rt: HostRuntime) {
         all take
         ana is ended by: BINF AAAB ID<P0> PD<P0> NIana
         ana hears last: ISTA 226 Registered\susers\sonly
-    ");
+    ",
+    );
 }
 
 #[test]
 fn a_registered_user_enters(rt: HostRuntime) {
-    play(&rt, r"
+    play(
+        &rt,
+        r"
         with account reg secret
         reg joins
         reg: HSUP ADBASE ADTIGR
@@ -75,23 +89,29 @@ fn a_registered_user_enters(rt: HostRuntime) {
         reg: HPAS <secret>
         reg hears: BINF AAAB ID<P0> NIreg CT2
         reg hears nothing
-    ");
+    ",
+    );
 }
 
 #[test]
 fn the_nick_of_an_account_is_not_to_be_had_later(rt: HostRuntime) {
-    play(&rt, r"
+    play(
+        &rt,
+        r"
         with account op secret operator
         ana enters
         ana: BINF AAAB NIop
         ana hears: ISTA 125 Access\sdenied FCBINF
         ana hears nothing
-    ");
+    ",
+    );
 }
 
 #[test]
 fn a_password_is_awaited_alone(rt: HostRuntime) {
-    play(&rt, r"
+    play(
+        &rt,
+        r"
         with account op secret operator
         op joins
         op: HSUP ADBASE ADTIGR
@@ -100,12 +120,15 @@ fn a_password_is_awaited_alone(rt: HostRuntime) {
         op: HSUP ADBASE
         op hears: ISTA 144 Invalid\sstate FCHSUP
         op hears nothing
-    ");
+    ",
+    );
 }
 
 #[test]
 fn a_cid_is_taken_before_the_password(rt: HostRuntime) {
-    play(&rt, r"
+    play(
+        &rt,
+        r"
         with account reg secret
         reg joins
         reg: HSUP ADBASE ADTIGR
@@ -115,12 +138,15 @@ fn a_cid_is_taken_before_the_password(rt: HostRuntime) {
         reg is ended by: HPAS <secret>
         reg hears last: ISTA 224 CID\staken
         bob hears nothing
-    ");
+    ",
+    );
 }
 
 #[test]
 fn a_nick_is_taken_before_the_password(rt: HostRuntime) {
-    play(&rt, r"
+    play(
+        &rt,
+        r"
         with account reg secret
         ana joins
         ana: HSUP ADBASE ADTIGR
@@ -134,12 +160,15 @@ fn a_nick_is_taken_before_the_password(rt: HostRuntime) {
         ana is ended by: HPAS <secret>
         ana hears last: ISTA 222 Nick\staken
         bob hears nothing
-    ");
+    ",
+    );
 }
 
 #[test]
 fn a_ban_for_a_time_holds_after_the_password(rt: HostRuntime) {
-    play(&rt, r"
+    play(
+        &rt,
+        r"
         with account op secret operator
         with account reg secret
         op enters
@@ -154,5 +183,6 @@ fn a_ban_for_a_time_holds_after_the_password(rt: HostRuntime) {
         at 130 reg is ended by: HPAS <secret>
         reg hears last: ISTA 232 Banned TL30
         op hears nothing
-    ");
+    ",
+    );
 }

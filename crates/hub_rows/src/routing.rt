@@ -2,7 +2,9 @@ use crate::conversation::play;
 
 #[test]
 fn an_echo_reaches_both(rt: HostRuntime) {
-    play(&rt, r"
+    play(
+        &rt,
+        r"
         ana enters
         bob enters
         ana: EMSG AAAB AAAB hi
@@ -18,24 +20,30 @@ fn an_echo_reaches_both(rt: HostRuntime) {
         bob hears: EMSG AAAB AAAC yo
         ana hears nothing
         bob hears nothing
-    ");
+    ",
+    );
 }
 
 #[test]
 fn a_direct_message_reaches_its_target(rt: HostRuntime) {
-    play(&rt, r"
+    play(
+        &rt,
+        r"
         ana enters
         bob enters
         ana: DMSG AAAB AAAC yo
         bob hears: DMSG AAAB AAAC yo
         ana hears nothing
         bob hears nothing
-    ");
+    ",
+    );
 }
 
 #[test]
 fn a_feature_search_reaches_who_has_it(rt: HostRuntime) {
-    play(&rt, r"
+    play(
+        &rt,
+        r"
         ana enters
         bob enters
         cy enters
@@ -50,12 +58,15 @@ fn a_feature_search_reaches_who_has_it(rt: HostRuntime) {
         ana hears nothing
         bob hears nothing
         cy hears nothing
-    ");
+    ",
+    );
 }
 
 #[test]
 fn a_feature_search_passes_over_who_lacks_it(rt: HostRuntime) {
-    play(&rt, r"
+    play(
+        &rt,
+        r"
         ana enters
         bob enters
         cy enters
@@ -69,12 +80,15 @@ fn a_feature_search_passes_over_who_lacks_it(rt: HostRuntime) {
         ana hears nothing
         bob hears nothing
         cy hears nothing
-    ");
+    ",
+    );
 }
 
 #[test]
 fn features_that_are_given_up_count_no_more(rt: HostRuntime) {
-    play(&rt, r"
+    play(
+        &rt,
+        r"
         ana enters
         bob enters
         cy enters
@@ -93,5 +107,6 @@ fn features_that_are_given_up_count_no_more(rt: HostRuntime) {
         dee: BINF AAAE ID<P3> PD<P3> NIdee
         dee hears: BINF AAAB ID<P0> NIana SS10 SF2 I4127.0.0.1 SUTCP4,SEGA
         dee hears: BINF AAAC ID<P1> NIbob SS5 SF1
-    ");
+    ",
+    );
 }

@@ -5,18 +5,15 @@ use hub_core::{Account, MenuEntry, MenuItem, Options, SetupRefused};
 use std::alloc::Global;
 use std::process::Abort;
 
-/// What a hub is set up with unless a conversation says otherwise.
-pub(crate) fn plain<'a>() -> Options<'a> {
-    Options {
-        name: "Hub",
-        topic: "",
-        accounts: &[],
-        commands: &[],
-        registered_only: false,
-        search_interval: 0,
-        max_users: 512,
-        opening: 0,
-    }
+/// What one line alone sets.
+#[derive(Clone, Copy)]
+struct Told<'a> {
+    name: &'a str,
+    topic: &'a str,
+    registered_only: bool,
+    interval: u32,
+    max_users: u32,
+    opening: u32,
 }
 
 /// Opens the hub that the first lines of a conversation describe, or tells why it is refused.
@@ -24,18 +21,32 @@ pub(crate) fn open(rt: &impl Abort, alloc: Global, text: &str) -> Result<Hub, Se
     let lines = setting_lines(rt, alloc, text);
     let mut accounts = Vec::new(alloc);
     let mut commands = Vec::new(alloc);
-    let mut options = plain();
+    let mut told = Told {
+        name: "Hub",
+        topic: "",
+        registered_only: false,
+        interval: 0,
+        max_users: 512,
+        opening: 0,
+    };
     for line in &lines {
-        let line = line.as_str();
-        match line.split_once(' ') {
-            Some(("account", told)) => keep(rt, &mut accounts, account(rt, told)),
-            Some(("menu", told)) => keep(rt, &mut commands, menu_entry(rt, told)),
-            Some((name, told)) => set(rt, &mut options, name, told),
-            None => set(rt, &mut options, line, ""),
+        match line.as_str().split_once(' ') {
+            Some(("account", rest)) => keep(rt, &mut accounts, account(rt, rest)),
+            Some(("menu", rest)) => keep(rt, &mut commands, menu_entry(rt, rest)),
+            Some((name, rest)) => told = set(rt, told, name, rest),
+            None => told = set(rt, told, line.as_str(), ""),
         }
     }
-    options.accounts = &accounts;
-    options.commands = &commands;
+    let options = Options {
+        name: told.name,
+        topic: told.topic,
+        accounts: accounts.as_slice(),
+        commands: commands.as_slice(),
+        registered_only: told.registered_only,
+        search_interval: told.interval,
+        max_users: told.max_users,
+        opening: u64::from(told.opening),
+    };
     Hub::open(rt, alloc, &options)
 }
 
@@ -62,16 +73,17 @@ fn told_text(rt: &impl Abort, alloc: Global, told: &str) -> String {
     }
 }
 
-fn set<'a>(rt: &impl Abort, options: &mut Options<'a>, name: &str, told: &'a str) {
+fn set<'a>(rt: &impl Abort, mut told: Told<'a>, name: &str, rest: &'a str) -> Told<'a> {
     match name {
-        "name" => options.name = told,
-        "topic" => options.topic = told,
-        "interval" => options.search_interval = number(rt, told),
-        "max_users" => options.max_users = number(rt, told),
-        "opening" => options.opening = u64::from(number(rt, told)),
-        "registered_only" => options.registered_only = true,
+        "name" => told.name = rest,
+        "topic" => told.topic = rest,
+        "interval" => told.interval = number(rt, rest),
+        "max_users" => told.max_users = number(rt, rest),
+        "opening" => told.opening = number(rt, rest),
+        "registered_only" => told.registered_only = true,
         _ => panic!(rt; "unknown setting {name}"),
     }
+    told
 }
 
 fn number(rt: &impl Abort, told: &str) -> u32 {

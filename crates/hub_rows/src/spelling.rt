@@ -75,11 +75,11 @@ fn repeat(rt: &impl Abort, bytes: &mut Vec<u8>, count: usize, byte: u8) {
 
 /// A number below 32,768 in base32.
 fn digits(rt: &impl Abort, number: usize) -> [u8; 3] {
-    match u32::try_from(number).ok().and_then(Sid::from_u32) {
-        Some(sid) => {
-            let [_, digits @ ..] = sid.text();
-            digits
-        }
-        None => panic!(rt; "{number} is too large"),
+    if number < 32_768
+        && let Some(sid) = Sid::from_u32(number as u32)
+    {
+        let [_, high, middle, low] = sid.text();
+        return [high, middle, low];
     }
+    panic!(rt; "{number} is too large")
 }

@@ -2,7 +2,9 @@ use crate::conversation::play;
 
 #[test]
 fn an_update_goes_to_all(rt: HostRuntime) {
-    play(&rt, r"
+    play(
+        &rt,
+        r"
         ana enters
         bob enters
         ana: BINF AAAB DEhi NIanna
@@ -15,12 +17,15 @@ fn an_update_goes_to_all(rt: HostRuntime) {
         all take
         cy: BINF AAAD ID<P2> PD<P2> NIcy
         cy hears: BINF AAAB ID<P0> NIanna SS10 SF2 I4127.0.0.1 SUTCP4,SEGA DEhi
-    ");
+    ",
+    );
 }
 
 #[test]
 fn a_field_that_returns_stands_last(rt: HostRuntime) {
-    play(&rt, r"
+    play(
+        &rt,
+        r"
         ana enters
         ana: BINF AAAB DEhi NIanna
         ana: BINF AAAB SF
@@ -31,12 +36,15 @@ fn a_field_that_returns_stands_last(rt: HostRuntime) {
         all take
         bob: BINF AAAC ID<P1> PD<P1> NIbob SS5 SF1 SUTCP4
         bob hears: BINF AAAB ID<P0> NIanna SS10 I4127.0.0.1 SUTCP4,SEGA DEhi SF7
-    ");
+    ",
+    );
 }
 
 #[test]
 fn a_bad_update_is_refused(rt: HostRuntime) {
-    play(&rt, r"
+    play(
+        &rt,
+        r"
         ana enters
         bob enters
         ana: BINF AAAB PD<P0>
@@ -48,12 +56,15 @@ fn a_bad_update_is_refused(rt: HostRuntime) {
         ana hears: ISTA 122 Nick\staken
         ana hears nothing
         bob hears nothing
-    ");
+    ",
+    );
 }
 
 #[test]
 fn a_bad_nick_or_address_is_refused(rt: HostRuntime) {
-    play(&rt, r"
+    play(
+        &rt,
+        r"
         ana enters
         bob enters
         ana: BINF AAAB NIa\sb
@@ -67,5 +78,6 @@ fn a_bad_nick_or_address_is_refused(rt: HostRuntime) {
         all take
         cy: BINF AAAD ID<P2> PD<P2> NIcy
         cy hears: BINF AAAB ID<P0> NIana SS10 SF2 I4127.0.0.1 SUTCP4,SEGA
-    ");
+    ",
+    );
 }
