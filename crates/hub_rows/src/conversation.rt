@@ -185,6 +185,7 @@ impl<'t> Played<'t> {
     }
 
     fn play_rounds(&mut self, rt: &impl Abort, rounds: &Rounds<'t>) {
+        assert!(rt; rounds.first <= rounds.last, "no rounds");
         for round in rounds.first..=rounds.last {
             self.round = round;
             for place in &rounds.steps {

@@ -80,7 +80,7 @@ fn set<'a>(rt: &impl Abort, mut told: Told<'a>, name: &str, rest: &'a str) -> To
         "interval" => told.interval = number(rt, rest),
         "max_users" => told.max_users = number(rt, rest),
         "opening" => told.opening = number(rt, rest),
-        "registered_only" => told.registered_only = true,
+        "registered_only" if rest.is_empty() => told.registered_only = true,
         _ => panic!(rt; "unknown setting {name}"),
     }
     told
