@@ -1,310 +1,436 @@
-ghost use Rattle.std.specs.Prelude.{◌≤◌};
-ghost use Rattle.hub_core.specs.State.{IsSeated};
+//! Conversations with a hub, told as text and played line by line. Blank lines, and blanks around a line, say nothing;
+//! a line that is none of the following stops the test, as does each step that goes otherwise.
+//!
+//! First come settings: `with max_users 900`, `with interval 10` and `with opening 5` (seconds), `with registered_only`,
+//! `with name Hub`, `with topic TEXT`, `with account op secret operator`, `with account reg secret`,
+//! `with menu Help 1 text TEXT`, `with menu Sep 2 separator`. Where they are refused, `no hub: Limit` is all that follows.
+//!
+//! Then come steps. Connections have names; a name that is taken again means the last who took it. `#450` is the 450th
+//! who joined, but for those who `come and go`.
+//!
+//!     ana joins                 the next connection joins, and is called ana
+//!     no join: Full             a connection asks to join, and is refused for this
+//!     ana enters                it joins, sends `HSUP ADBASE ADTIGR` and its login line; then all take what waits. The
+//!                               login lines of ana, bob, cy and op are in `login_line`; op sends its password too
+//!     ana enters: BINF ..       the same with this login line
+//!     ana: BMSG AAAB hi         it sends this line, which keeps it
+//!     ana is ended by: BMSG ..  it sends this line, which ends it
+//!     at 100 ana: BMSG ..       the same at a moment in seconds; else that is 0
+//!     ana hears: BMSG AAAB hi   it gets this line next, and more may come
+//!     ana hears last: ISTA ..   it gets this line alone, and nothing will follow
+//!     ana hears nothing         nothing waits for it, and more may come
+//!     ana hears no more         nothing waits for it, and nothing will
+//!     ana takes 3: BMSG ..      256 lines are asked for; it gets so many, each of which is this, and more may come
+//!     ana takes last 3: BMSG .. the same, and nothing will follow
+//!     ana takes 3               as with a line, but whichever they are; `ana takes last 3` likewise
+//!     all take                  all who are there take what waits for them, up to 256 lines each
+//!     ana quits                 it leaves
+//!     concerns ana              the last call concerned ana alone; or `nobody`, `all`, `bob and ana`
+//!     1000 come and go          so many join, each of whom leaves at once
+//!     for 2 to 9:               the steps up to the line `end` are played in rounds numbered 2 to 9
+//!
+//! `spell` tells what may stand for bytes in a line. A line that is `<line>` or `<answer>` alone stands for what
+//! `play_each` was given.
 
-use hub_core::{Conn, Core, JoinRefused, Options, Setup, Touched, Verdict, prepare};
-use session_hash::First24;
-use std::alloc::Global;
+use crate::hub::Hub;
+use crate::refusal::keep;
+use crate::settings::open;
+use crate::spelling::spell;
+use adc_base32::Sid;
+use hub_core::{Conn, JoinRefused, SetupRefused, Touched, Verdict};
+use std::alloc::{AllocGlobal, Global};
 use std::process::Abort;
-use std::sync::Arc;
 
-/// What happens next in a conversation. A connection is named by the number of its join, from 1 on.
-#[derive(Clone, Copy, Debug)]
-pub(crate) enum Step<'a> {
-    /// The next connection joins.
-    Joins,
-    /// A connection asks to join, and is refused.
-    IsRefused(JoinRefused),
-    /// It sends a line, without line feed; the hub keeps it or ends it.
-    Says(usize, &'a [u8], Verdict),
-    /// The same, at a moment in seconds.
-    SaysAt(usize, u64, &'a [u8], Verdict),
-    /// The next connection joins, sends `HSUP ADBASE ADTIGR` and then this login line; afterwards
-    /// all take what waits for them.
-    Enters(&'a [u8]),
-    /// All take what waits for them.
-    Clears,
-    /// It gets this line next.
-    Hears(usize, &'a str),
-    /// A take of 256 lines gives this line alone, and says that nothing will follow.
-    HearsLast(usize, &'a str),
-    /// A take of 256 lines gives so many, and tells whether nothing will follow.
-    Takes(usize, u64, bool),
-    /// Nothing waits for it, and more may come.
-    Waits(usize),
-    /// Nothing waits for it, and nothing will.
-    Over(usize),
-    /// It leaves.
-    Quits(usize),
-    /// The hub hints that the last call concerned nobody.
-    ConcernsNobody,
-    /// That it concerned this connection alone.
-    Concerns(usize),
-    /// That it concerned these two.
-    ConcernsBoth(usize, usize),
-    /// That it concerned everybody.
-    ConcernsAll,
+/// Plays a conversation with a new hub.
+pub(crate) fn play(rt: &(impl Abort + AllocGlobal), text: &str) {
+    play_with(rt, rt.alloc(), text, "", "");
 }
 
-/// What a hub is set up with unless a conversation says otherwise.
-pub(crate) fn plain<'a>() -> Options<'a> {
-    Options {
-        name: "Hub",
-        topic: "",
-        accounts: &[],
-        commands: &[],
-        registered_only: false,
-        search_interval: 0,
-        max_users: 512,
-        opening: 0,
+/// Plays a conversation with a new hub for each line, with what is answered to it.
+pub(crate) fn play_each(rt: &(impl Abort + AllocGlobal), text: &str, rows: &[(&str, &str)]) {
+    for (line, answer) in rows {
+        play_with(rt, rt.alloc(), text, line, answer);
     }
 }
 
-/// Tries a call once more where memory was refused: all is as before then, so it has to succeed.
-macro_rules! again {
-    ($rt:expr; $call:expr) => {
-        match $call {
-            Ok(value) => value,
-            Err(_) => match $call {
-                Ok(value) => value,
-                Err(_) => panic!($rt; "refused twice"),
-            },
+fn play_with(rt: &impl Abort, alloc: Global, text: &str, line: &str, answer: &str) {
+    match open(rt, alloc, text) {
+        Ok(hub) => {
+            let mut played = Played {
+                alloc,
+                hub,
+                line,
+                answer,
+                joined: Vec::new(alloc),
+                place: Place {
+                    number: 0,
+                    text: "",
+                },
+                round: 0,
+            };
+            played.play(rt, text);
         }
-    };
+        Err(refused) => is_refused(rt, text, refused),
+    }
 }
 
-pub(crate) use again;
-
-/// Plays a conversation with a new hub, and stops the test at the first step that goes otherwise.
-/// Every peer is 127.0.0.1, every challenge 24 zero bytes, every moment 0.
-pub(crate) fn play(rt: &impl Abort, alloc: Global, options: &Options<'_>, steps: &[Step<'_>]) {
-    let mut hub = Played::open(rt, alloc, options);
-    hub.play(rt, alloc, steps);
+/// The only step has to be this refusal.
+fn is_refused(rt: &impl Abort, text: &str, refused: SetupRefused) {
+    match refused {
+        SetupRefused::Limit => is_only_step(rt, text, "no hub: Limit"),
+        SetupRefused::Name => is_only_step(rt, text, "no hub: Name"),
+        _ => panic!(rt; "no hub: {refused:?}"),
+    }
 }
 
-/// A hub, and those who joined it.
+fn is_only_step(rt: &impl Abort, text: &str, told: &str) {
+    let mut is_told = false;
+    for line in text.lines() {
+        let line = line.trim();
+        if line.is_empty() || line.starts_with("with ") {
+            continue;
+        }
+        assert!(rt; line == told && !is_told, "{told}, not {line}");
+        is_told = true;
+    }
+    assert!(rt; is_told, "{told}");
+}
+
+/// A line of a conversation.
+#[derive(Clone, Copy)]
+struct Place<'t> {
+    number: usize,
+    text: &'t str,
+}
+
+/// Steps that are played in rounds.
 #[derive(Drop)]
-pub(crate) struct Played {
-    setup: Arc<Setup>,
-    core: Core,
-    joined: Vec<Conn>,
+struct Rounds<'t> {
+    first: usize,
+    last: usize,
+    steps: Vec<Place<'t>>,
 }
 
-impl Played {
-    pub(crate) fn open(rt: &impl Abort, alloc: Global, options: &Options<'_>) -> Played {
-        let setup = again!(rt; Setup::new(alloc, options));
-        let setup = match Arc::new(alloc, setup) {
-            Ok(setup) => setup,
-            Err(refused) => match Arc::new(alloc, refused.value) {
-                Ok(setup) => setup,
-                Err(_) => panic!(rt; "refused twice"),
-            },
-        };
-        let core = again!(rt; Core::open(alloc, again!(rt; setup.clone())));
-        Played {
-            setup,
-            core,
-            joined: Vec::new(alloc),
+/// A hub, those who joined it, and how far the conversation has come.
+#[derive(Drop)]
+struct Played<'t> {
+    alloc: Global,
+    hub: Hub,
+    line: &'t str,
+    answer: &'t str,
+    joined: Vec<Joined<'t>>,
+    place: Place<'t>,
+    round: usize,
+}
+
+#[derive(Clone, Copy)]
+struct Joined<'t> {
+    name: &'t str,
+    connection: Conn,
+}
+
+impl<'t> Played<'t> {
+    fn play(&mut self, rt: &impl Abort, text: &'t str) {
+        let mut begun = false;
+        let mut rounds = None;
+        for (number, line) in text.lines().enumerate() {
+            let text = line.trim();
+            if text.is_empty() || !begun && text.starts_with("with ") {
+                continue;
+            }
+            begun = true;
+            rounds = self.read(rt, rounds, Place { number, text });
         }
+        assert!(rt; begun && rounds.is_none(), "there is more to come");
     }
 
-    /// Goes on with a conversation.
-    pub(crate) fn play(&mut self, rt: &impl Abort, alloc: Global, steps: &[Step<'_>]) {
-        for (place, step) in steps.iter().enumerate() {
-            self.make(rt, alloc, place, *step);
-        }
-    }
-
-    /// So many join, each of whom leaves at once.
-    pub(crate) fn pass(&mut self, rt: &impl Abort, alloc: Global, count: usize) {
-        for _ in 0..count {
-            let connection = again!(rt; self.core.join(alloc, [127, 0, 0, 1], [0; 24], 0));
-            assert!(rt;
-                self.core.is_open(connection),
-                "who has joined is not there"
-            );
-            self.core.quit(connection);
-        }
-    }
-
-    fn make(&mut self, rt: &impl Abort, alloc: Global, place: usize, step: Step<'_>) {
-        match step {
-            Step::Joins => self.joins(rt, alloc),
-            Step::IsRefused(why) => self.refuses(rt, alloc, place, why),
-            Step::Says(number, line, verdict) => {
-                self.says(rt, alloc, place, number, 0, line, verdict);
-            }
-            Step::SaysAt(number, now, line, verdict) => {
-                self.says(rt, alloc, place, number, now, line, verdict);
-            }
-            Step::Enters(line) => self.enters(rt, alloc, place, line),
-            Step::Clears => self.clear(rt, alloc),
-            Step::Hears(number, line) => {
-                self.hears(rt, alloc, place, number, line, 1);
-            }
-            Step::HearsLast(number, line) => {
-                let ended = self.hears(rt, alloc, place, number, line, 256);
-                assert!(rt; ended, "step {place}: more may come");
-            }
-            Step::Takes(number, lines, ended) => self.takes(rt, alloc, place, number, lines, ended),
-            Step::Waits(number) => self.has_nothing(rt, alloc, place, number, false),
-            Step::Over(number) => self.has_nothing(rt, alloc, place, number, true),
-            Step::Quits(number) => {
-                let connection = self.connection(rt, number);
-                self.core.quit(connection);
-            }
-            Step::ConcernsNobody => self.concerns(rt, place, Touched::Nobody),
-            Step::Concerns(number) => {
-                let one = self.core.sid(self.connection(rt, number));
-                self.concerns(rt, place, Touched::One(one));
-            }
-            Step::ConcernsBoth(number, other) => {
-                let one = self.core.sid(self.connection(rt, number));
-                let other = self.core.sid(self.connection(rt, other));
-                self.concerns(rt, place, Touched::Two(one, other));
-            }
-            Step::ConcernsAll => self.concerns(rt, place, Touched::Everybody),
-        }
-    }
-
-    fn concerns(&self, rt: &impl Abort, place: usize, whom: Touched) {
-        let touched = self.core.touched();
-        assert!(rt; touched == whom, "step {place}: {touched:?}, not {whom:?}");
-    }
-
-    /// The connection of a number, which is open.
-    fn connection(&self, rt: &impl Abort, number: usize) -> Conn
-        ensures { IsSeated result self.now.core }
-    {
-        assert!(rt;
-            0 < number && number <= self.joined.len(),
-            "nobody joined as {number}"
-        );
-        let connection = self.joined[number - 1];
-        assert!(rt; self.core.is_open(connection), "{number} has left");
-        connection
-    }
-
-    fn joins(&mut self, rt: &impl Abort, alloc: Global) {
-        let joined = again!(rt; self.core.join(alloc, [127, 0, 0, 1], [0; 24], 0));
-        again!(rt; self.joined.push(joined));
-    }
-
-    fn says(
+    /// Plays a step, or keeps it where it belongs to rounds.
+    fn read(
         &mut self,
         rt: &impl Abort,
-        alloc: Global,
-        place: usize,
-        number: usize,
-        now: u64,
-        line: &[u8],
-        verdict: Verdict,
-    ) {
-        let connection = self.connection(rt, number);
-        let line = again!(rt; prepare(alloc, &self.setup, &First24, [0; 24], line));
-        let said = again!(rt; self.core.line(alloc, connection, &line, now));
-        assert!(rt; said == verdict, "step {place}: {said:?}, not {verdict:?}");
-    }
-
-    fn enters(&mut self, rt: &impl Abort, alloc: Global, place: usize, line: &[u8]) {
-        self.joins(rt, alloc);
-        let number = self.joined.len();
-        self.says(
-            rt,
-            alloc,
-            place,
-            number,
-            0,
-            b"HSUP ADBASE ADTIGR",
-            Verdict::Kept,
-        );
-        self.says(rt, alloc, place, number, 0, line, Verdict::Kept);
-        self.clear(rt, alloc);
-    }
-
-    fn clear(&mut self, rt: &impl Abort, alloc: Global) {
-        for place in 0..self.joined.len() {
-            self.leave_unread(rt, alloc, place);
+        rounds: Option<Rounds<'t>>,
+        place: Place<'t>,
+    ) -> Option<Rounds<'t>> {
+        if let Some(mut rounds) = rounds {
+            if place.text == "end" {
+                self.play_rounds(rt, &rounds);
+                return None;
+            }
+            keep(rt, &mut rounds.steps, place);
+            return Some(rounds);
+        }
+        self.place = place;
+        match place.text.strip_prefix("for ") {
+            Some(told) => Some(self.rounds(rt, told)),
+            None => {
+                self.step(rt);
+                None
+            }
         }
     }
 
-    /// Takes up to 256 lines of a connection, unless it has quit.
-    fn leave_unread(&mut self, rt: &impl Abort, alloc: Global, place: usize) {
-        assert!(rt; place < self.joined.len(), "nobody has this place");
-        let connection = self.joined[place];
-        if !self.core.is_open(connection) {
-            return;
+    /// The rounds that `2 to 9:` begins.
+    fn rounds(&self, rt: &impl Abort, told: &str) -> Rounds<'t> {
+        let Some((first, rest)) = told.split_once(" to ") else {
+            self.unknown(rt)
+        };
+        let Some(last) = rest.strip_suffix(':') else {
+            self.unknown(rt)
+        };
+        Rounds {
+            first: self.number(rt, first),
+            last: self.number(rt, last),
+            steps: Vec::new(self.alloc),
         }
-        let mut unread = Vec::new(alloc);
-        again!(rt; self.core.take(connection, 256, &mut unread));
     }
 
+    fn play_rounds(&mut self, rt: &impl Abort, rounds: &Rounds<'t>) {
+        assert!(rt; rounds.first <= rounds.last, "no rounds");
+        for round in rounds.first..=rounds.last {
+            self.round = round;
+            for place in &rounds.steps {
+                self.place = *place;
+                self.step(rt);
+            }
+        }
+    }
+
+    fn step(&mut self, rt: &impl Abort) {
+        match self.place.text.split_once(": ") {
+            Some((head, line)) => {
+                let line = self.spell(rt, line);
+                self.exchange(rt, head, &line);
+            }
+            None => match self.place.text.strip_suffix(':') {
+                Some(head) => self.exchange(rt, head, b""),
+                None => self.happen(rt),
+            },
+        }
+    }
+
+    fn spell(&self, rt: &impl Abort, line: &str) -> Vec<u8> {
+        let line = match line {
+            "<line>" => self.line,
+            "<answer>" => self.answer,
+            _ => line,
+        };
+        spell(rt, self.alloc, line, self.round)
+    }
+
+    /// A step with a line.
+    fn exchange(&mut self, rt: &impl Abort, head: &'t str, line: &[u8]) {
+        if let Some(told) = head.strip_prefix("at ") {
+            return self.says_at(rt, told, line);
+        }
+        match head.split_once(' ') {
+            None => self.says(rt, head, line, 0, Verdict::Kept),
+            Some((who, "is ended by")) => self.says(rt, who, line, 0, Verdict::Ended),
+            Some((who, "enters")) => self.enters(rt, who, line),
+            Some((who, "hears")) => self.takes(rt, who, 1, 1, Some(line), false),
+            Some((who, "hears last")) => self.takes(rt, who, 256, 1, Some(line), true),
+            Some(("no", "join")) => self.refuses_to_join(rt, line),
+            Some((who, verb)) => self.takes_told(rt, who, verb, Some(line)),
+        }
+    }
+
+    /// A step without a line.
+    fn happen(&mut self, rt: &impl Abort) {
+        match self.place.text.split_once(' ') {
+            Some(("all", "take")) => self.all_take(rt),
+            Some((who, "joins")) => self.joins(rt, who),
+            Some((who, "enters")) => self.enters_as_usual(rt, who),
+            Some((who, "quits")) => self.quits(rt, who),
+            Some((who, "hears nothing")) => self.takes(rt, who, 256, 0, None, false),
+            Some((who, "hears no more")) => self.takes(rt, who, 256, 0, None, true),
+            Some(("concerns", whom)) => self.concerns(rt, whom),
+            Some((count, "come and go")) => {
+                let count = self.number(rt, count);
+                self.hub.pass(rt, count);
+            }
+            Some((who, verb)) => self.takes_told(rt, who, verb, None),
+            None => self.unknown(rt),
+        }
+    }
+
+    fn unknown(&self, rt: &impl Abort) -> ! {
+        let Place { number, text } = self.place;
+        panic!(rt; "line {number}, {text}: no step")
+    }
+
+    fn number(&self, rt: &impl Abort, told: &str) -> usize {
+        match told.parse::<usize>() {
+            Ok(number) => number,
+            Err(_) => self.unknown(rt),
+        }
+    }
+
+    fn connection(&self, rt: &impl Abort, who: &str) -> Conn {
+        if let Some(told) = who.strip_prefix('#') {
+            return self.numbered(rt, told);
+        }
+        for joined in self.joined.iter().rev() {
+            if joined.name == who {
+                return joined.connection;
+            }
+        }
+        let Place { number, text } = self.place;
+        panic!(rt; "line {number}, {text}: nobody is called {who}")
+    }
+
+    /// The connection that joined as this one, counted from 1 on.
+    fn numbered(&self, rt: &impl Abort, told: &str) -> Conn {
+        match self.joined.get(self.number(rt, told).wrapping_sub(1)) {
+            Some(joined) => joined.connection,
+            None => self.unknown(rt),
+        }
+    }
+
+    fn joins(&mut self, rt: &impl Abort, name: &'t str) {
+        match self.hub.join(rt) {
+            Ok(connection) => keep(rt, &mut self.joined, Joined { name, connection }),
+            Err(refused) => {
+                let Place { number, text } = self.place;
+                panic!(rt; "line {number}, {text}: {refused:?}")
+            }
+        }
+    }
+
+    fn refuses_to_join(&mut self, rt: &impl Abort, why: &[u8]) {
+        let Place { number, text } = self.place;
+        match self.hub.join(rt) {
+            Err(JoinRefused::Full) if why == b"Full".as_slice() => {}
+            answer => panic!(rt; "line {number}, {text}: {answer:?}"),
+        }
+    }
+
+    fn enters(&mut self, rt: &impl Abort, who: &'t str, login: &[u8]) {
+        self.joins(rt, who);
+        self.says(rt, who, b"HSUP ADBASE ADTIGR", 0, Verdict::Kept);
+        self.says(rt, who, login, 0, Verdict::Kept);
+        self.all_take(rt);
+    }
+
+    fn enters_as_usual(&mut self, rt: &impl Abort, who: &'t str) {
+        let join = self.joined.len().saturating_add(1);
+        let login = match login_line(who) {
+            Some(login) => spell(rt, self.alloc, login, join),
+            None => self.unknown(rt),
+        };
+        self.enters(rt, who, &login);
+        if who == "op" {
+            let password = spell(rt, self.alloc, "HPAS <secret>", 0);
+            self.says(rt, who, &password, 0, Verdict::Kept);
+            self.all_take(rt);
+        }
+    }
+
+    /// What `100 ana` or `100 ana is ended by` says.
+    fn says_at(&mut self, rt: &impl Abort, told: &'t str, line: &[u8]) {
+        let Some((moment, head)) = told.split_once(' ') else {
+            self.unknown(rt)
+        };
+        let now = self.number(rt, moment) as u64;
+        match head.split_once(' ') {
+            None => self.says(rt, head, line, now, Verdict::Kept),
+            Some((who, "is ended by")) => self.says(rt, who, line, now, Verdict::Ended),
+            Some(_) => self.unknown(rt),
+        }
+    }
+
+    fn says(&mut self, rt: &impl Abort, who: &str, line: &[u8], now: u64, verdict: Verdict) {
+        let connection = self.connection(rt, who);
+        let said = self.hub.line(rt, connection, line, now);
+        let Place { number, text } = self.place;
+        assert!(rt; said == verdict, "line {number}, {text}: {said:?}");
+    }
+
+    fn all_take(&mut self, rt: &impl Abort) {
+        for joined in &self.joined {
+            if self.hub.is_open(joined.connection) {
+                let _ = self.hub.take(rt, joined.connection, 256);
+            }
+        }
+    }
+
+    /// What `takes 3` or `takes last 3` says.
+    fn takes_told(&mut self, rt: &impl Abort, who: &str, verb: &str, line: Option<&[u8]>) {
+        let Some(told) = verb.strip_prefix("takes ") else {
+            self.unknown(rt)
+        };
+        match told.strip_prefix("last ") {
+            Some(count) => self.takes(rt, who, 256, self.number(rt, count), line, true),
+            None => self.takes(rt, who, 256, self.number(rt, told), line, false),
+        }
+    }
+
+    /// Takes up to `asked` lines, which have to be so many, each this one where it is given.
     fn takes(
         &mut self,
         rt: &impl Abort,
-        alloc: Global,
-        place: usize,
-        number: usize,
-        lines: u64,
+        who: &str,
+        asked: usize,
+        lines: usize,
+        line: Option<&[u8]>,
         ended: bool,
     ) {
-        let connection = self.connection(rt, number);
-        let mut heard = Vec::new(alloc);
-        let taken = again!(rt; self.core.take(connection, 256, &mut heard));
-        assert!(rt; taken.lines == lines, "step {place}: {} lines", taken.lines);
-        assert!(rt; taken.ended == ended, "step {place}: ended {}", taken.ended);
+        let connection = self.connection(rt, who);
+        let heard = self.hub.take(rt, connection, asked);
+        let Place { number, text } = self.place;
+        let shown = std::str::from_utf8(&heard.bytes);
+        assert!(rt;
+            heard.lines == lines as u64 && heard.ended == ended,
+            "line {number}, {text}: {} lines, ended {}, {shown:?}",
+            heard.lines,
+            heard.ended
+        );
+        let is_same = match line {
+            Some(line) => is_repeated(&heard.bytes, line, lines),
+            None => lines > 0 || heard.bytes.is_empty(),
+        };
+        assert!(rt; is_same, "line {number}, {text}: {shown:?}");
     }
 
-    fn refuses(&mut self, rt: &impl Abort, alloc: Global, place: usize, why: JoinRefused) {
-        match self.core.join(alloc, [127, 0, 0, 1], [0; 24], 0) {
-            Ok(_) => panic!(rt; "step {place}: admitted"),
-            Err(refused) => assert!(rt; refused == why, "step {place}: {refused:?}"),
+    fn quits(&mut self, rt: &impl Abort, who: &str) {
+        let connection = self.connection(rt, who);
+        self.hub.quit(rt, connection);
+    }
+
+    fn concerns(&mut self, rt: &impl Abort, whom: &str) {
+        let whom = match (whom, whom.split_once(" and ")) {
+            ("nobody", _) => Touched::Nobody,
+            ("all", _) => Touched::Everybody,
+            (_, Some((one, other))) => Touched::Two(self.sid(rt, one), self.sid(rt, other)),
+            (one, None) => Touched::One(self.sid(rt, one)),
+        };
+        let touched = self.hub.touched();
+        let Place { number, text } = self.place;
+        assert!(rt; touched == whom, "line {number}, {text}: {touched:?}");
+    }
+
+    fn sid(&self, rt: &impl Abort, who: &str) -> Sid {
+        self.hub.sid(rt, self.connection(rt, who))
+    }
+}
+
+/// What the login lines have behind the SID, which is `n` here.
+fn login_line(who: &str) -> Option<&'static str> {
+    match who {
+        "ana" => Some("BINF A<n> ID<P0> PD<P0> NIana SS10 SF2 I40.0.0.0 SUTCP4,SEGA"),
+        "bob" => Some("BINF A<n> ID<P1> PD<P1> NIbob SS5 SF1 SUTCP4"),
+        "cy" => Some("BINF A<n> ID<P2> PD<P2> NIcy"),
+        "op" => Some("BINF A<n> ID<P0> PD<P0> NIop"),
+        _ => None,
+    }
+}
+
+/// Whether bytes are a line and its line feed, so many times.
+fn is_repeated(bytes: &[u8], line: &[u8], count: usize) -> bool {
+    let mut rest = bytes;
+    for _ in 0..count {
+        match rest.strip_prefix(line) {
+            Some([b'\n', behind @ ..]) => rest = behind,
+            _ => return false,
         }
     }
-
-    /// Takes lines, which have to be this one, and tells whether nothing will follow.
-    fn hears(
-        &mut self,
-        rt: &impl Abort,
-        alloc: Global,
-        place: usize,
-        number: usize,
-        line: &str,
-        count: usize,
-    ) -> bool
-        requires some { 1 ≤ count }
-        requires few { count ≤ 256 }
-    {
-        let connection = self.connection(rt, number);
-        let mut heard = Vec::new(alloc);
-        let taken = again!(rt; self.core.take(connection, count, &mut heard));
-        assert!(rt;
-            taken.lines == 1,
-            "step {place}: {} lines, not {line}",
-            taken.lines
-        );
-        assert!(rt; heard.pop() == Some(b'\n'), "step {place}: no line feed");
-        assert!(rt;
-            heard.as_slice() == line.as_bytes(),
-            "step {place}: {heard:?}, not {line}"
-        );
-        taken.ended
-    }
-
-    fn has_nothing(
-        &mut self,
-        rt: &impl Abort,
-        alloc: Global,
-        place: usize,
-        number: usize,
-        ended: bool,
-    ) {
-        let connection = self.connection(rt, number);
-        let mut heard = Vec::new(alloc);
-        let taken = again!(rt; self.core.take(connection, 256, &mut heard));
-        assert!(rt;
-            taken.lines == 0 && heard.is_empty(),
-            "step {place}: {heard:?}"
-        );
-        assert!(rt; taken.ended == ended, "step {place}: ended {}", taken.ended);
-    }
+    rest.is_empty()
 }

@@ -1,145 +1,104 @@
-use crate::conversation::{Step, plain, play};
-use crate::lines::{filled, with_fields};
-use Step::{Clears, Enters, Hears, Joins, Says, Takes, Waits};
-use Verdict::Kept;
-use hub_core::Verdict;
+use crate::conversation::play;
 
 #[test]
 fn a_login_line_with_40_names_enters(rt: HostRuntime) {
-    let line = with_fields(
-        &rt,
-        rt.alloc(),
-        b"BINF AAAB IDAAAAAAAAAAAAAAAAAAAAAAAAAAAAAAAAAAAAAAA PDAAAAAAAAAAAAAAAAAAAAAAAAAAAAAAAAAAAAAAA NIana",
-        37,
-    );
     play(
         &rt,
-        rt.alloc(),
-        &plain(),
-        &[
-            Enters(&line),
-            Says(1, b"BMSG AAAB hi", Kept),
-            Hears(1, "BMSG AAAB hi"),
-            Waits(1),
-        ],
+        r"
+        ana enters: BINF AAAB ID<P0> PD<P0> NIana K01 K11 K21 K31 K41 K51 K61 K71 K81 K91 L01 L11 L21 L31 L41 L51 L61 L71 L81 L91 M01 M11 M21 M31 M41 M51 M61 M71 M81 M91 N01 N11 N21 N31 N41 N51 N61
+        ana: BMSG AAAB hi
+        ana hears: BMSG AAAB hi
+        ana hears nothing
+    ",
     );
 }
 
 #[test]
 fn a_login_line_with_41_names_is_refused(rt: HostRuntime) {
-    let line = with_fields(
-        &rt,
-        rt.alloc(),
-        b"BINF AAAB IDAAAAAAAAAAAAAAAAAAAAAAAAAAAAAAAAAAAAAAA PDAAAAAAAAAAAAAAAAAAAAAAAAAAAAAAAAAAAAAAA NIana",
-        38,
-    );
     play(
         &rt,
-        rt.alloc(),
-        &plain(),
-        &[
-            Joins,
-            Says(1, b"HSUP ADBASE ADTIGR", Kept),
-            Clears,
-            Says(1, &line, Kept),
-            Hears(1, "ISTA 140 Protocol\\serror"),
-            Says(1, b"BMSG AAAB hi", Kept),
-            Hears(1, "ISTA 144 Invalid\\sstate FCBMSG"),
-            Says(
-                1,
-                b"BINF AAAB IDAAAAAAAAAAAAAAAAAAAAAAAAAAAAAAAAAAAAAAA PDAAAAAAAAAAAAAAAAAAAAAAAAAAAAAAAAAAAAAAA NIana",
-                Kept,
-            ),
-            Hears(
-                1,
-                "BINF AAAB IDAAAAAAAAAAAAAAAAAAAAAAAAAAAAAAAAAAAAAAA NIana",
-            ),
-            Waits(1),
-        ],
+        r"
+        ana joins
+        ana: HSUP ADBASE ADTIGR
+        all take
+        ana: BINF AAAB ID<P0> PD<P0> NIana K01 K11 K21 K31 K41 K51 K61 K71 K81 K91 L01 L11 L21 L31 L41 L51 L61 L71 L81 L91 M01 M11 M21 M31 M41 M51 M61 M71 M81 M91 N01 N11 N21 N31 N41 N51 N61 N71
+        ana hears: ISTA 140 Protocol\serror
+        ana: BMSG AAAB hi
+        ana hears: ISTA 144 Invalid\sstate FCBMSG
+        ana: BINF AAAB ID<P0> PD<P0> NIana
+        ana hears: BINF AAAB ID<P0> NIana
+        ana hears nothing
+    ",
     );
 }
 
 #[test]
 fn an_update_to_40_fields_is_accepted(rt: HostRuntime) {
-    let line = with_fields(&rt, rt.alloc(), b"BINF AAAB", 34);
     play(
         &rt,
-        rt.alloc(),
-        &plain(),
-        &[
-            Enters(
-                b"BINF AAAB IDAAAAAAAAAAAAAAAAAAAAAAAAAAAAAAAAAAAAAAA PDAAAAAAAAAAAAAAAAAAAAAAAAAAAAAAAAAAAAAAA NIana SS10 SF2 I40.0.0.0 SUTCP4,SEGA",
-            ),
-            Says(1, &line, Kept),
-            Takes(1, 1, false),
-            Says(1, b"BINF AAAB ZZ1", Kept),
-            Hears(1, "ISTA 140 Protocol\\serror"),
-            Waits(1),
-        ],
+        r"
+        ana enters
+        ana: BINF AAAB X01 X11 X21 X31 X41 X51 X61 X71 X81 X91 XA1 XB1 XC1 XD1 XE1 XF1 XG1 XH1 XI1 XJ1 XK1 XL1 XM1 XN1 XO1 XP1 XQ1 XR1 XS1 XT1 XU1 XV1 XW1 XX1
+        ana hears: BINF AAAB X01 X11 X21 X31 X41 X51 X61 X71 X81 X91 XA1 XB1 XC1 XD1 XE1 XF1 XG1 XH1 XI1 XJ1 XK1 XL1 XM1 XN1 XO1 XP1 XQ1 XR1 XS1 XT1 XU1 XV1 XW1 XX1
+        ana: BINF AAAB ZZ1
+        ana hears: ISTA 140 Protocol\serror
+        ana hears nothing
+        bob joins
+        bob: HSUP ADBASE ADTIGR
+        all take
+        bob: BINF AAAC ID<P1> PD<P1> NIbob
+        bob hears: BINF AAAB ID<P0> NIana SS10 SF2 I4127.0.0.1 SUTCP4,SEGA X01 X11 X21 X31 X41 X51 X61 X71 X81 X91 XA1 XB1 XC1 XD1 XE1 XF1 XG1 XH1 XI1 XJ1 XK1 XL1 XM1 XN1 XO1 XP1 XQ1 XR1 XS1 XT1 XU1 XV1 XW1 XX1
+        bob hears: BINF AAAC ID<P1> NIbob
+        bob hears nothing
+    ",
     );
 }
 
 #[test]
 fn an_update_to_41_fields_changes_nothing(rt: HostRuntime) {
-    let line = with_fields(&rt, rt.alloc(), b"BINF AAAB", 35);
     play(
         &rt,
-        rt.alloc(),
-        &plain(),
-        &[
-            Enters(
-                b"BINF AAAB IDAAAAAAAAAAAAAAAAAAAAAAAAAAAAAAAAAAAAAAA PDAAAAAAAAAAAAAAAAAAAAAAAAAAAAAAAAAAAAAAA NIana SS10 SF2 I40.0.0.0 SUTCP4,SEGA",
-            ),
-            Says(1, &line, Kept),
-            Hears(1, "ISTA 140 Protocol\\serror"),
-            Waits(1),
-            Joins,
-            Says(2, b"HSUP ADBASE ADTIGR", Kept),
-            Clears,
-            Says(
-                2,
-                b"BINF AAAC IDAAAAAAAAAAAAAAAAAAAAAAAAAAAAAAAAAAAAAAI PDAAAAAAAAAAAAAAAAAAAAAAAAAAAAAAAAAAAAAAI NIbob",
-                Kept,
-            ),
-            Hears(
-                2,
-                "BINF AAAB IDAAAAAAAAAAAAAAAAAAAAAAAAAAAAAAAAAAAAAAA NIana SS10 SF2 I4127.0.0.1 SUTCP4,SEGA",
-            ),
-        ],
+        r"
+        ana enters
+        ana: BINF AAAB X01 X11 X21 X31 X41 X51 X61 X71 X81 X91 XA1 XB1 XC1 XD1 XE1 XF1 XG1 XH1 XI1 XJ1 XK1 XL1 XM1 XN1 XO1 XP1 XQ1 XR1 XS1 XT1 XU1 XV1 XW1 XX1 XY1
+        ana hears: ISTA 140 Protocol\serror
+        ana hears nothing
+        bob joins
+        bob: HSUP ADBASE ADTIGR
+        all take
+        bob: BINF AAAC ID<P1> PD<P1> NIbob
+        bob hears: BINF AAAB ID<P0> NIana SS10 SF2 I4127.0.0.1 SUTCP4,SEGA
+    ",
     );
 }
 
 #[test]
 fn a_message_of_65_536_bytes_goes_out(rt: HostRuntime) {
-    let line = filled(&rt, rt.alloc(), b"BMSG AAAB ", 65_536);
     play(
         &rt,
-        rt.alloc(),
-        &plain(),
-        &[
-            Enters(
-                b"BINF AAAB IDAAAAAAAAAAAAAAAAAAAAAAAAAAAAAAAAAAAAAAA PDAAAAAAAAAAAAAAAAAAAAAAAAAAAAAAAAAAAAAAA NIana",
-            ),
-            Says(1, &line, Kept),
-            Takes(1, 1, false),
-        ],
+        r"
+        ana enters: BINF AAAB ID<P0> PD<P0> NIana
+        bob enters: BINF AAAC ID<P1> PD<P1> NIbob
+        ana: BMSG AAAB <65526*x>
+        ana hears: BMSG AAAB <65526*x>
+        bob hears: BMSG AAAB <65526*x>
+        ana hears nothing
+        bob hears nothing
+    ",
     );
 }
 
 #[test]
 fn a_message_of_65_537_bytes_is_refused(rt: HostRuntime) {
-    let line = filled(&rt, rt.alloc(), b"BMSG AAAB ", 65_537);
     play(
         &rt,
-        rt.alloc(),
-        &plain(),
-        &[
-            Enters(
-                b"BINF AAAB IDAAAAAAAAAAAAAAAAAAAAAAAAAAAAAAAAAAAAAAA PDAAAAAAAAAAAAAAAAAAAAAAAAAAAAAAAAAAAAAAA NIana",
-            ),
-            Says(1, &line, Kept),
-            Hears(1, "ISTA 140 Protocol\\serror"),
-            Waits(1),
-        ],
+        r"
+        ana enters: BINF AAAB ID<P0> PD<P0> NIana
+        bob enters: BINF AAAC ID<P1> PD<P1> NIbob
+        ana: BMSG AAAB <65527*x>
+        ana hears: ISTA 140 Protocol\serror
+        ana hears nothing
+        bob hears nothing
+    ",
     );
 }

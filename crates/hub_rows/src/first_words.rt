@@ -1,27 +1,22 @@
-use crate::conversation::{Step, plain, play};
-use Step::{Hears, HearsLast, IsRefused, Joins, Over, Quits, Says, Waits};
-use Verdict::{Ended, Kept};
-use hub_core::{JoinRefused, Options, Verdict};
+use crate::conversation::{play, play_each};
 
 #[test]
 fn a_client_is_greeted(rt: HostRuntime) {
     play(
         &rt,
-        rt.alloc(),
-        &plain(),
-        &[
-            Joins,
-            Waits(1),
-            Says(1, b"HSUP ADBASE ADTIGR", Kept),
-            Hears(1, "ISUP ADBASE ADTIGR ADPING ADUCMD"),
-            Hears(1, "ISID AAAB"),
-            Hears(1, "IINF CT32 NIHub VEadc-hub\\s1.0"),
-            Waits(1),
-            Says(1, b"HSUP ADBASE ADTIGR", Kept),
-            Hears(1, "ISTA 144 Invalid\\sstate FCHSUP"),
-            Says(1, b"HSTA 000 ok", Kept),
-            Waits(1),
-        ],
+        r"
+        ana joins
+        ana hears nothing
+        ana: HSUP ADBASE ADTIGR
+        ana hears: ISUP ADBASE ADTIGR ADPING ADUCMD
+        ana hears: ISID AAAB
+        ana hears: IINF CT32 NIHub VEadc-hub\s1.0
+        ana hears nothing
+        ana: HSUP ADBASE ADTIGR
+        ana hears: ISTA 144 Invalid\sstate FCHSUP
+        ana: HSTA 000 ok
+        ana hears nothing
+    ",
     );
 }
 
@@ -29,126 +24,108 @@ fn a_client_is_greeted(rt: HostRuntime) {
 fn early_names_of_features_count(rt: HostRuntime) {
     play(
         &rt,
-        rt.alloc(),
-        &plain(),
-        &[
-            Joins,
-            Says(1, b"HSUP RMBASE ADBAS0 ADUCM0 ADTIGR ADZLIF RMZLIF", Kept),
-            Hears(1, "ISUP ADBASE ADTIGR ADPING ADUCMD"),
-        ],
+        r"
+        ana joins
+        ana: HSUP RMBASE ADBAS0 ADUCM0 ADTIGR ADZLIF RMZLIF
+        ana hears: ISUP ADBASE ADTIGR ADPING ADUCMD
+    ",
     );
 }
 
 #[test]
 fn name_and_topic_are_escaped(rt: HostRuntime) {
-    let options = Options {
-        name: "A hub",
-        topic: "one\ntwo \\",
-        ..plain()
-    };
     play(
         &rt,
-        rt.alloc(),
-        &options,
-        &[
-            Joins,
-            Says(1, b"HSUP ADBASE ADTIGR", Kept),
-            Hears(1, "ISUP ADBASE ADTIGR ADPING ADUCMD"),
-            Hears(1, "ISID AAAB"),
-            Hears(1, "IINF CT32 NIA\\shub VEadc-hub\\s1.0 DEone\\ntwo\\s\\\\"),
-        ],
+        r"
+        with name A hub
+        with topic one<x0a>two \
+        ana joins
+        ana: HSUP ADBASE ADTIGR
+        ana hears: ISUP ADBASE ADTIGR ADPING ADUCMD
+        ana hears: ISID AAAB
+        ana hears: IINF CT32 NIA\shub VEadc-hub\s1.0 DEone\ntwo\s\\
+    ",
     );
 }
 
 #[test]
 fn who_lacks_a_feature_is_shut_out(rt: HostRuntime) {
-    for (line, answer) in [
-        (b"HSUP ADBASE".as_slice(), "ISTA 247 No\\scommon\\shash"),
-        (b"HSUP ADTIGR", "ISTA 245 Feature\\smissing FCBASE"),
-        (b"HSUP", "ISTA 245 Feature\\smissing FCBASE"),
-        (b"HSUP ADBASE ADTIGR RMTIGR", "ISTA 247 No\\scommon\\shash"),
-    ] {
-        play(
-            &rt,
-            rt.alloc(),
-            &plain(),
-            &[
-                Joins,
-                Says(1, line, Ended),
-                HearsLast(1, answer),
-                Says(1, b"HSUP ADBASE ADTIGR", Ended),
-                Over(1),
-                Quits(1),
-            ],
-        );
-    }
+    play_each(
+        &rt,
+        r"
+        ana joins
+        ana is ended by: <line>
+        ana hears last: <answer>
+        ana is ended by: HSUP ADBASE ADTIGR
+        ana hears no more
+        ana quits
+    ",
+        &[
+            (r"HSUP ADBASE", r"ISTA 247 No\scommon\shash"),
+            (r"HSUP ADTIGR", r"ISTA 245 Feature\smissing FCBASE"),
+            (r"HSUP", r"ISTA 245 Feature\smissing FCBASE"),
+            (r"HSUP ADBASE ADTIGR RMTIGR", r"ISTA 247 No\scommon\shash"),
+        ],
+    );
 }
 
 #[test]
 fn what_is_wrong_is_refused_and_loses_nothing(rt: HostRuntime) {
-    for (line, answer) in [
-        (b"HSUP  ADBASE".as_slice(), "ISTA 140 Protocol\\serror"),
-        (b"HSUP ADBASE TIGR", "ISTA 140 Protocol\\serror"),
-        (b"HSUP ADBASE adTIGR", "ISTA 140 Protocol\\serror"),
-        (b"CSUP ADBASE ADTIGR", "ISTA 140 Protocol\\serror"),
-        (b"HSUP ADBASE \xff", "ISTA 140 Protocol\\serror"),
-        (b"hsup ADBASE ADTIGR", "ISTA 140 Protocol\\serror"),
-        (b"HMSG hi", "ISTA 144 Invalid\\sstate FCHMSG"),
-        (b"BMSG AAAB hi", "ISTA 144 Invalid\\sstate FCBMSG"),
-    ] {
-        play(
-            &rt,
-            rt.alloc(),
-            &plain(),
-            &[
-                Joins,
-                Says(1, b"", Kept),
-                Waits(1),
-                Says(1, line, Kept),
-                Hears(1, answer),
-                Waits(1),
-                Says(1, b"HSUP ADBASE ADTIGR", Kept),
-                Hears(1, "ISUP ADBASE ADTIGR ADPING ADUCMD"),
-            ],
-        );
-    }
+    play_each(
+        &rt,
+        r"
+        ana joins
+        bob enters
+        ana:
+        ana hears nothing
+        ana: <line>
+        ana hears: <answer>
+        ana hears nothing
+        ana: HSUP ADBASE ADTIGR
+        ana hears: ISUP ADBASE ADTIGR ADPING ADUCMD
+        bob hears nothing
+    ",
+        &[
+            (r"HSUP  ADBASE", r"ISTA 140 Protocol\serror"),
+            (r"HSUP ADBASE TIGR", r"ISTA 140 Protocol\serror"),
+            (r"HSUP ADBASE adTIGR", r"ISTA 140 Protocol\serror"),
+            (r"CSUP ADBASE ADTIGR", r"ISTA 140 Protocol\serror"),
+            (r"HSUP ADBASE <xff>", r"ISTA 140 Protocol\serror"),
+            (r"hsup ADBASE ADTIGR", r"ISTA 140 Protocol\serror"),
+            (r"HMSG hi", r"ISTA 144 Invalid\sstate FCHMSG"),
+            (r"BMSG AAAB hi", r"ISTA 144 Invalid\sstate FCBMSG"),
+        ],
+    );
 }
 
 #[test]
 fn who_writes_for_another_is_shut_out(rt: HostRuntime) {
     play(
         &rt,
-        rt.alloc(),
-        &plain(),
-        &[
-            Joins,
-            Says(1, b"BMSG AAAC hi", Ended),
-            HearsLast(1, "ISTA 240 Wrong\\sSID"),
-        ],
+        r"
+        ana joins
+        ana is ended by: BMSG AAAC hi
+        ana hears last: ISTA 240 Wrong\sSID
+    ",
     );
 }
 
 #[test]
 fn places_are_given_again(rt: HostRuntime) {
-    let options = Options {
-        max_users: 2,
-        ..plain()
-    };
     play(
         &rt,
-        rt.alloc(),
-        &options,
-        &[
-            Joins,
-            Joins,
-            IsRefused(JoinRefused::Full),
-            Quits(1),
-            Joins,
-            IsRefused(JoinRefused::Full),
-            Says(3, b"HSUP ADBASE ADTIGR", Kept),
-            Hears(3, "ISUP ADBASE ADTIGR ADPING ADUCMD"),
-            Hears(3, "ISID AAAD"),
-            Waits(2),
-        ],
+        r"
+        with max_users 2
+        ana joins
+        bob joins
+        no join: Full
+        ana quits
+        cy joins
+        no join: Full
+        cy: HSUP ADBASE ADTIGR
+        cy hears: ISUP ADBASE ADTIGR ADPING ADUCMD
+        cy hears: ISID AAAD
+        bob hears nothing
+    ",
     );
 }

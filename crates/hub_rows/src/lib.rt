@@ -14,9 +14,9 @@ mod field_limits;
 #[cfg(test)]
 mod first_words;
 #[cfg(test)]
-mod limits;
+mod hub;
 #[cfg(test)]
-mod lines;
+mod limits;
 #[cfg(test)]
 mod lists;
 #[cfg(test)]
@@ -28,8 +28,16 @@ mod operators;
 #[cfg(test)]
 mod passwords;
 #[cfg(test)]
+mod refusal;
+#[cfg(test)]
 mod routing;
 #[cfg(test)]
 mod searches;
+#[cfg(test)]
+mod settings;
+#[cfg(test)]
+mod spelling;
+#[cfg(test)]
+mod stops;
 #[cfg(test)]
 mod updates;

@@ -1,85 +1,88 @@
-use crate::conversation::{Step, again, plain, play};
-use crate::lines::filled;
-use Step::{Hears, Joins, Says, Waits};
-use Verdict::Kept;
-use hub_core::{Options, Setup, SetupRefused, Verdict};
-use std::alloc::Global;
-use std::process::Abort;
+use crate::conversation::{play, play_each};
 
 #[test]
 fn a_line_has_65_536_bytes_at_most(rt: HostRuntime) {
-    for (length, answer) in [
-        (65_536, "ISTA 144 Invalid\\sstate FCBMSG"),
-        (65_537, "ISTA 140 Protocol\\serror"),
-    ] {
-        let line = filled(&rt, rt.alloc(), b"BMSG AAAB ", length);
-        play(
-            &rt,
-            rt.alloc(),
-            &plain(),
-            &[Joins, Says(1, &line, Kept), Hears(1, answer), Waits(1)],
-        );
-    }
-}
-
-/// `HSUP` with BASE, TIGR and so many other features.
-fn supports(rt: &impl Abort, alloc: Global, others: u8) -> Vec<u8> {
-    let mut line = again!(rt; Vec::from_slice(alloc, b"HSUP ADBASE ADTIGR"));
-    for other in 0..others {
-        let word = [
-            b' ',
-            b'A',
-            b'D',
-            b'X',
-            b'Y',
-            b'A' + other / 10 % 10,
-            b'0' + other % 10,
-        ];
-        again!(rt; line.extend_from_slice(&word));
-    }
-    line
+    play_each(
+        &rt,
+        r"
+        ana joins
+        ana: <line>
+        ana hears: <answer>
+        ana hears nothing
+    ",
+        &[
+            (r"BMSG AAAB <65526*x>", r"ISTA 144 Invalid\sstate FCBMSG"),
+            (r"BMSG AAAB <65527*x>", r"ISTA 140 Protocol\serror"),
+        ],
+    );
 }
 
 #[test]
 fn a_client_has_64_features_at_most(rt: HostRuntime) {
-    for (others, answer) in [
-        (62, "ISUP ADBASE ADTIGR ADPING ADUCMD"),
-        (63, "ISTA 140 Protocol\\serror"),
-    ] {
-        let line = supports(&rt, rt.alloc(), others);
-        play(
-            &rt,
-            rt.alloc(),
-            &plain(),
-            &[Joins, Says(1, &line, Kept), Hears(1, answer)],
-        );
-    }
+    play_each(
+        &rt,
+        r"
+        ana joins
+        ana: <line>
+        ana hears: <answer>
+    ",
+        &[
+            (
+                "HSUP ADBASE ADTIGR \
+             ADXYA0 ADXYA1 ADXYA2 ADXYA3 ADXYA4 ADXYA5 ADXYA6 ADXYA7 ADXYA8 ADXYA9 \
+             ADXYB0 ADXYB1 ADXYB2 ADXYB3 ADXYB4 ADXYB5 ADXYB6 ADXYB7 ADXYB8 ADXYB9 \
+             ADXYC0 ADXYC1 ADXYC2 ADXYC3 ADXYC4 ADXYC5 ADXYC6 ADXYC7 ADXYC8 ADXYC9 \
+             ADXYD0 ADXYD1 ADXYD2 ADXYD3 ADXYD4 ADXYD5 ADXYD6 ADXYD7 ADXYD8 ADXYD9 \
+             ADXYE0 ADXYE1 ADXYE2 ADXYE3 ADXYE4 ADXYE5 ADXYE6 ADXYE7 ADXYE8 ADXYE9 \
+             ADXYF0 ADXYF1 ADXYF2 ADXYF3 ADXYF4 ADXYF5 ADXYF6 ADXYF7 ADXYF8 ADXYF9 \
+             ADXYG0 ADXYG1",
+                "ISUP ADBASE ADTIGR ADPING ADUCMD",
+            ),
+            (
+                "HSUP ADBASE ADTIGR \
+             ADXYA0 ADXYA1 ADXYA2 ADXYA3 ADXYA4 ADXYA5 ADXYA6 ADXYA7 ADXYA8 ADXYA9 \
+             ADXYB0 ADXYB1 ADXYB2 ADXYB3 ADXYB4 ADXYB5 ADXYB6 ADXYB7 ADXYB8 ADXYB9 \
+             ADXYC0 ADXYC1 ADXYC2 ADXYC3 ADXYC4 ADXYC5 ADXYC6 ADXYC7 ADXYC8 ADXYC9 \
+             ADXYD0 ADXYD1 ADXYD2 ADXYD3 ADXYD4 ADXYD5 ADXYD6 ADXYD7 ADXYD8 ADXYD9 \
+             ADXYE0 ADXYE1 ADXYE2 ADXYE3 ADXYE4 ADXYE5 ADXYE6 ADXYE7 ADXYE8 ADXYE9 \
+             ADXYF0 ADXYF1 ADXYF2 ADXYF3 ADXYF4 ADXYF5 ADXYF6 ADXYF7 ADXYF8 ADXYF9 \
+             ADXYG0 ADXYG1 ADXYG2",
+                r"ISTA 140 Protocol\serror",
+            ),
+        ],
+    );
 }
 
 #[test]
 fn a_hub_without_a_place_or_a_name_is_refused(rt: HostRuntime) {
-    for (max_users, name, why) in [
-        (0, "Hub", SetupRefused::Limit),
-        (901, "Hub", SetupRefused::Limit),
-        (901, "", SetupRefused::Limit),
-        (900, "", SetupRefused::Name),
-    ] {
-        let options = Options {
-            max_users,
-            name,
-            ..plain()
-        };
-        is_refused(&rt, rt.alloc(), &options, why);
-    }
-}
-
-fn is_refused(rt: &impl Abort, alloc: Global, options: &Options<'_>, why: SetupRefused) {
-    let refused = match Setup::new(alloc, options) {
-        Err(SetupRefused::Memory) => Setup::new(alloc, options),
-        answer => answer,
-    };
-    match refused {
-        Ok(_) => panic!(rt; "accepted {options:?}"),
-        Err(refused) => assert!(rt; refused == why, "{refused:?} for {options:?}"),
-    }
+    play(
+        &rt,
+        r"
+        with max_users 0
+        no hub: Limit
+    ",
+    );
+    play(
+        &rt,
+        r"
+        with max_users 901
+        no hub: Limit
+    ",
+    );
+    play(
+        &rt,
+        r"
+        with max_users 901
+        with name
+        no hub: Limit
+    ",
+    );
+    play(
+        &rt,
+        r"
+        with max_users 900
+        with name
+        no hub: Name
+    ",
+    );
 }

@@ -1,9 +1,20 @@
-use crate::conversation::{again, plain};
-use hub_core::{Answer, Ask, Asked, Core, Prepared, Setup, Verdict, prepare, run_calls};
+use crate::refusal::again;
+use hub_core::{Answer, Ask, Asked, Core, Options, Prepared, Setup, Verdict, prepare, run_calls};
 use session_hash::First24;
 use std::alloc::Global;
 use std::process::Abort;
 use std::sync::Arc;
+
+const PLAIN: Options<'static> = Options {
+    name: "Hub",
+    topic: "",
+    accounts: &[],
+    commands: &[],
+    registered_only: false,
+    search_interval: 0,
+    max_users: 512,
+    opening: 0,
+};
 
 /// The lines that the callers send.
 #[derive(Drop)]
@@ -15,7 +26,7 @@ struct Lines {
 }
 
 /// What is expected of an answer.
-#[derive(Clone, Copy, Debug)]
+#[derive(Clone, Copy)]
 enum Expected<'a> {
     Joined,
     Kept,
@@ -60,16 +71,13 @@ fn a_list_of_calls_is_answered_in_turn(rt: HostRuntime) {
         answers.len()
     );
     for (answer, expected) in answers.iter().zip(expected) {
-        assert!(&rt;
-            is_as_expected(answer, expected),
-            "{answer:?}, not {expected:?}"
-        );
+        assert!(&rt; is_as_expected(answer, expected), "{answer:?}");
     }
     assert!(&rt; core.joins() == 2 && core.totals().users == 1);
 }
 
 fn setup(rt: &impl Abort, alloc: Global) -> Arc<Setup> {
-    match Arc::new(alloc, again!(rt; Setup::new(alloc, &plain()))) {
+    match Arc::new(alloc, again!(rt; Setup::new(alloc, &PLAIN))) {
         Ok(setup) => setup,
         Err(refused) => match Arc::new(alloc, refused.value) {
             Ok(setup) => setup,
@@ -138,11 +146,10 @@ fn run(
 /// The answers, unless memory was refused to one of the calls.
 fn plainly(told: Option<(Core, Vec<Answer>)>) -> Option<(Core, Vec<Answer>)> {
     let (core, answers) = told?;
-    if answers
-        .iter()
-        .any(|answer| matches!(answer, Answer::Memory))
-    {
-        return None;
+    for answer in &answers {
+        if matches!(answer, Answer::Memory) {
+            return None;
+        }
     }
     Some((core, answers))
 }

@@ -1,58 +1,41 @@
-use crate::conversation::{Step, plain, play};
-use Step::{Enters, Hears, Joins, Says, SaysAt, Waits};
-use Verdict::Kept;
-use hub_core::{Options, Verdict};
+use crate::conversation::play;
 
 #[test]
 fn a_search_comes_too_soon(rt: HostRuntime) {
-    let options = Options {
-        search_interval: 10,
-        ..plain()
-    };
     play(
         &rt,
-        rt.alloc(),
-        &options,
-        &[
-            Enters(
-                b"BINF AAAB IDAAAAAAAAAAAAAAAAAAAAAAAAAAAAAAAAAAAAAAA PDAAAAAAAAAAAAAAAAAAAAAAAAAAAAAAAAAAAAAAA NIana SS10 SF2 I40.0.0.0 SUTCP4,SEGA",
-            ),
-            SaysAt(1, 5, b"BSCH AAAB ANx TO1", Kept),
-            Hears(1, "BSCH AAAB ANx TO1"),
-            SaysAt(1, 14, b"BSCH AAAB ANx TO1", Kept),
-            Hears(1, "ISTA 100 Search\\stoo\\ssoon"),
-            Waits(1),
-            SaysAt(1, 15, b"BSCH AAAB ANx TO1", Kept),
-            Hears(1, "BSCH AAAB ANx TO1"),
-            Waits(1),
-        ],
+        r"
+        with interval 10
+        ana enters
+        at 5 ana: BSCH AAAB ANx TO1
+        ana hears: BSCH AAAB ANx TO1
+        at 14 ana: BSCH AAAB ANx TO1
+        ana hears: ISTA 100 Search\stoo\ssoon
+        ana hears nothing
+        at 15 ana: BSCH AAAB ANx TO1
+        ana hears: BSCH AAAB ANx TO1
+        ana hears nothing
+    ",
     );
 }
 
 #[test]
 fn a_search_at_an_earlier_moment_comes_too_soon(rt: HostRuntime) {
-    let options = Options {
-        search_interval: 10,
-        ..plain()
-    };
     play(
         &rt,
-        rt.alloc(),
-        &options,
-        &[
-            Enters(
-                b"BINF AAAB IDAAAAAAAAAAAAAAAAAAAAAAAAAAAAAAAAAAAAAAA PDAAAAAAAAAAAAAAAAAAAAAAAAAAAAAAAAAAAAAAA NIana SS10 SF2 I40.0.0.0 SUTCP4,SEGA",
-            ),
-            SaysAt(1, 5, b"BSCH AAAB ANx TO1", Kept),
-            Hears(1, "BSCH AAAB ANx TO1"),
-            SaysAt(1, 3, b"BSCH AAAB ANx TO1", Kept),
-            Hears(1, "ISTA 100 Search\\stoo\\ssoon"),
-            Waits(1),
-            SaysAt(1, 15, b"BSCH AAAB ANx TO1", Kept),
-            Hears(1, "BSCH AAAB ANx TO1"),
-            SaysAt(1, 16, b"HSCH AAx", Kept),
-            Waits(1),
-        ],
+        r"
+        with interval 10
+        ana enters
+        at 5 ana: BSCH AAAB ANx TO1
+        ana hears: BSCH AAAB ANx TO1
+        at 3 ana: BSCH AAAB ANx TO1
+        ana hears: ISTA 100 Search\stoo\ssoon
+        ana hears nothing
+        at 15 ana: BSCH AAAB ANx TO1
+        ana hears: BSCH AAAB ANx TO1
+        at 16 ana: HSCH AAx
+        ana hears nothing
+    ",
     );
 }
 
@@ -60,23 +43,14 @@ fn a_search_at_an_earlier_moment_comes_too_soon(rt: HostRuntime) {
 fn large_shares_add_up(rt: HostRuntime) {
     play(
         &rt,
-        rt.alloc(),
-        &plain(),
-        &[
-            Enters(
-                b"BINF AAAB IDAAAAAAAAAAAAAAAAAAAAAAAAAAAAAAAAAAAAAAA PDAAAAAAAAAAAAAAAAAAAAAAAAAAAAAAAAAAAAAAA NIana SS18446744073709551615",
-            ),
-            Enters(
-                b"BINF AAAC IDAAAAAAAAAAAAAAAAAAAAAAAAAAAAAAAAAAAAAAI PDAAAAAAAAAAAAAAAAAAAAAAAAAAAAAAAAAAAAAAI NIbob SS18446744073709551615",
-            ),
-            Joins,
-            Says(3, b"HSUP ADBASE ADTIGR ADPING", Kept),
-            Hears(3, "ISUP ADBASE ADTIGR ADPING ADUCMD"),
-            Hears(3, "ISID AAAD"),
-            Hears(
-                3,
-                "IINF CT32 NIHub VEadc-hub\\s1.0 UC2 SS36893488147419103230 SF0 MC512 UP0",
-            ),
-        ],
+        r"
+        ana enters: BINF AAAB ID<P0> PD<P0> NIana SS18446744073709551615
+        bob enters: BINF AAAC ID<P1> PD<P1> NIbob SS18446744073709551615
+        cy joins
+        cy: HSUP ADBASE ADTIGR ADPING
+        cy hears: ISUP ADBASE ADTIGR ADPING ADUCMD
+        cy hears: ISID AAAD
+        cy hears: IINF CT32 NIHub VEadc-hub\s1.0 UC2 SS36893488147419103230 SF0 MC512 UP0
+    ",
     );
 }

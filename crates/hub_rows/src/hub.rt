@@ -1,0 +1,244 @@
+use crate::refusal::again;
+use adc_base32::Sid;
+use hub_core::{
+    Conn, Core, JoinRefused, Options, Prepared, Setup, SetupRefused, Stage, Totals, Touched,
+    Verdict, prepare,
+};
+use session_hash::First24;
+use std::alloc::Global;
+use std::process::Abort;
+use std::sync::Arc;
+
+/// A hub whose peers are all 127.0.0.1 and whose challenges are all 24 zero bytes. A call for which memory is refused
+/// has to leave all as it was, and is made once more; it has to succeed then.
+#[derive(Drop)]
+pub(crate) struct Hub {
+    alloc: Global,
+    setup: Arc<Setup>,
+    core: Core,
+    /// The first who joined.
+    first: Vec<Conn>,
+}
+
+/// What can be seen of a hub.
+#[derive(Clone, Copy, PartialEq)]
+struct Sight {
+    totals: Totals,
+    joins: u64,
+    glances: [Option<Glance>; MOST_LOOKED_AT],
+}
+
+/// What can be seen of an open connection.
+#[derive(Clone, Copy, PartialEq)]
+struct Glance {
+    stage: Stage,
+    present: u64,
+    waiting: u64,
+}
+
+/// How many connections are looked at before and after a call: the first who joined.
+const MOST_LOOKED_AT: usize = 8;
+
+/// What a take gave.
+#[derive(Drop)]
+pub(crate) struct Heard {
+    pub(crate) bytes: Vec<u8>,
+    pub(crate) lines: u64,
+    /// Whether nothing will follow.
+    pub(crate) ended: bool,
+}
+
+impl Hub {
+    /// Opens a hub, or tells why its options are refused.
+    pub(crate) fn open(
+        rt: &impl Abort,
+        alloc: Global,
+        options: &Options<'_>,
+    ) -> Result<Hub, SetupRefused> {
+        let setup = share(rt, alloc, set_up(rt, alloc, options)?);
+        let core = open_core(rt, alloc, &setup);
+        let first = again!(rt; Vec::with_capacity(alloc, MOST_LOOKED_AT));
+        Ok(Hub {
+            alloc,
+            setup,
+            core,
+            first,
+        })
+    }
+
+    pub(crate) fn join(&mut self, rt: &impl Abort) -> Result<Conn, JoinRefused> {
+        let before = self.sight();
+        for _ in 0..2 {
+            match self.try_join() {
+                Err(JoinRefused::Memory) => self.has_not_changed(rt, &before),
+                answer => return answer,
+            }
+        }
+        panic!(rt; "refused twice")
+    }
+
+    fn try_join(&mut self) -> Result<Conn, JoinRefused> {
+        let connection = self.core.join(self.alloc, [127, 0, 0, 1], [0; 24], 0)?;
+        if self.first.len() < MOST_LOOKED_AT {
+            let _ = self.first.push(connection);
+        }
+        Ok(connection)
+    }
+
+    /// So many join, each of whom leaves at once.
+    pub(crate) fn pass(&mut self, rt: &impl Abort, count: usize) {
+        for _ in 0..count {
+            let connection = again!(rt; self.try_join());
+            self.quit(rt, connection);
+        }
+    }
+
+    pub(crate) fn line(
+        &mut self,
+        rt: &impl Abort,
+        connection: Conn,
+        line: &[u8],
+        now: u64,
+    ) -> Verdict {
+        let line = self.make_ready(rt, line);
+        let before = self.sight();
+        for _ in 0..2 {
+            match self.try_line(rt, connection, &line, now) {
+                Some(verdict) => return verdict,
+                None => self.has_not_changed(rt, &before),
+            }
+        }
+        panic!(rt; "refused twice")
+    }
+
+    fn make_ready(&self, rt: &impl Abort, line: &[u8]) -> Prepared {
+        for _ in 0..2 {
+            if let Ok(line) = prepare(self.alloc, &self.setup, &First24, [0; 24], line) {
+                return line;
+            }
+        }
+        panic!(rt; "refused twice")
+    }
+
+    fn try_line(
+        &mut self,
+        rt: &impl Abort,
+        connection: Conn,
+        line: &Prepared,
+        now: u64,
+    ) -> Option<Verdict> {
+        assert!(rt; self.core.is_open(connection), "it has left");
+        self.core.line(self.alloc, connection, line, now).ok()
+    }
+
+    /// Takes `count` lines, 1 to 256.
+    pub(crate) fn take(&mut self, rt: &impl Abort, connection: Conn, count: usize) -> Heard {
+        let mut bytes = Vec::new(self.alloc);
+        let before = self.sight();
+        for _ in 0..2 {
+            if let Some((lines, ended)) = self.try_take(rt, connection, count, &mut bytes) {
+                return Heard {
+                    bytes,
+                    lines,
+                    ended,
+                };
+            }
+            self.has_not_changed(rt, &before);
+            assert!(rt; bytes.is_empty(), "a refused take gave bytes");
+        }
+        panic!(rt; "refused twice")
+    }
+
+    fn try_take(
+        &mut self,
+        rt: &impl Abort,
+        connection: Conn,
+        count: usize,
+        bytes: &mut Vec<u8>,
+    ) -> Option<(u64, bool)> {
+        assert!(rt; self.core.is_open(connection), "it has left");
+        assert!(rt; 1 <= count && count <= 256, "1 to 256 lines are taken");
+        let taken = self.core.take(connection, count, bytes).ok()?;
+        Some((taken.lines, taken.ended))
+    }
+
+    pub(crate) fn quit(&mut self, rt: &impl Abort, connection: Conn) {
+        leave(rt, &mut self.core, connection);
+    }
+
+    pub(crate) fn is_open(&self, connection: Conn) -> bool {
+        self.core.is_open(connection)
+    }
+
+    /// Whom the last call concerned.
+    pub(crate) fn touched(&self) -> Touched {
+        self.core.touched()
+    }
+
+    pub(crate) fn sid(&self, rt: &impl Abort, connection: Conn) -> Sid {
+        assert!(rt; self.core.is_open(connection), "it has left");
+        self.core.sid(connection)
+    }
+
+    fn has_not_changed(&self, rt: &impl Abort, before: &Sight) {
+        assert!(rt; self.sight() == *before, "a refused call changed the hub");
+    }
+
+    fn sight(&self) -> Sight {
+        let mut glances = [None; MOST_LOOKED_AT];
+        for (glance, connection) in glances.iter_mut().zip(&self.first) {
+            *glance = self.glance(*connection);
+        }
+        Sight {
+            totals: self.core.totals(),
+            joins: self.core.joins(),
+            glances,
+        }
+    }
+
+    fn glance(&self, connection: Conn) -> Option<Glance> {
+        if !self.core.is_open(connection) {
+            return None;
+        }
+        let look = self.core.look(connection);
+        Some(Glance {
+            stage: look.stage,
+            present: look.present,
+            waiting: look.waiting,
+        })
+    }
+}
+
+fn leave(rt: &impl Abort, core: &mut Core, connection: Conn) {
+    assert!(rt; core.is_open(connection), "it has left");
+    core.quit(connection);
+}
+
+fn set_up(rt: &impl Abort, alloc: Global, options: &Options<'_>) -> Result<Setup, SetupRefused> {
+    for _ in 0..2 {
+        match Setup::new(alloc, options) {
+            Err(SetupRefused::Memory) => {}
+            answer => return answer,
+        }
+    }
+    panic!(rt; "refused twice")
+}
+
+fn share(rt: &impl Abort, alloc: Global, setup: Setup) -> Arc<Setup> {
+    match Arc::new(alloc, setup) {
+        Ok(setup) => setup,
+        Err(refused) => match Arc::new(alloc, refused.value) {
+            Ok(setup) => setup,
+            Err(_) => panic!(rt; "refused twice"),
+        },
+    }
+}
+
+fn open_core(rt: &impl Abort, alloc: Global, setup: &Arc<Setup>) -> Core {
+    for _ in 0..2 {
+        if let Ok(core) = Core::open(alloc, again!(rt; setup.clone())) {
+            return core;
+        }
+    }
+    panic!(rt; "refused twice")
+}

@@ -1,0 +1,137 @@
+use crate::hub::Hub;
+use crate::refusal::keep;
+use crate::spelling::spell;
+use hub_core::{Account, MenuEntry, MenuItem, Options, SetupRefused};
+use std::alloc::Global;
+use std::process::Abort;
+
+/// What one line alone sets.
+#[derive(Clone, Copy)]
+struct Told<'a> {
+    name: &'a str,
+    topic: &'a str,
+    registered_only: bool,
+    interval: u32,
+    max_users: u32,
+    opening: u32,
+}
+
+/// Opens the hub that the first lines of a conversation describe, or tells why it is refused.
+pub(crate) fn open(rt: &impl Abort, alloc: Global, text: &str) -> Result<Hub, SetupRefused> {
+    let lines = setting_lines(rt, alloc, text);
+    let mut accounts = Vec::new(alloc);
+    let mut commands = Vec::new(alloc);
+    let mut told = Told {
+        name: "Hub",
+        topic: "",
+        registered_only: false,
+        interval: 0,
+        max_users: 512,
+        opening: 0,
+    };
+    for line in &lines {
+        match line.as_str().split_once(' ') {
+            Some(("account", rest)) => keep(rt, &mut accounts, account(rt, rest)),
+            Some(("menu", rest)) => keep(rt, &mut commands, menu_entry(rt, rest)),
+            Some((name, rest)) => told = set(rt, told, name, rest),
+            None => told = set(rt, told, line.as_str(), ""),
+        }
+    }
+    let options = Options {
+        name: told.name,
+        topic: told.topic,
+        accounts: accounts.as_slice(),
+        commands: commands.as_slice(),
+        registered_only: told.registered_only,
+        search_interval: told.interval,
+        max_users: told.max_users,
+        opening: u64::from(told.opening),
+    };
+    Hub::open(rt, alloc, &options)
+}
+
+/// What stands behind `with` in the lines before the first step.
+fn setting_lines(rt: &impl Abort, alloc: Global, text: &str) -> Vec<String> {
+    let mut lines = Vec::new(alloc);
+    for line in text.lines() {
+        let line = line.trim();
+        if line.is_empty() {
+            continue;
+        }
+        match line.strip_prefix("with ") {
+            Some(told) => keep(rt, &mut lines, told_text(rt, alloc, told)),
+            None => break,
+        }
+    }
+    lines
+}
+
+fn told_text(rt: &impl Abort, alloc: Global, told: &str) -> String {
+    match String::from_utf8(spell(rt, alloc, told, 0)) {
+        Ok(told) => told,
+        Err(_) => panic!(rt; "with {told}: it is not UTF-8"),
+    }
+}
+
+fn set<'a>(rt: &impl Abort, mut told: Told<'a>, name: &str, rest: &'a str) -> Told<'a> {
+    match name {
+        "name" => told.name = rest,
+        "topic" => told.topic = rest,
+        "interval" => told.interval = number(rt, rest),
+        "max_users" => told.max_users = number(rt, rest),
+        "opening" => told.opening = number(rt, rest),
+        "registered_only" if rest.is_empty() => told.registered_only = true,
+        _ => panic!(rt; "unknown setting {name}"),
+    }
+    told
+}
+
+fn number(rt: &impl Abort, told: &str) -> u32 {
+    match told.parse::<u32>() {
+        Ok(number) => number,
+        Err(_) => panic!(rt; "no number: {told}"),
+    }
+}
+
+/// `NICK PASSWORD`, and `operator` behind them for one.
+fn account<'a>(rt: &impl Abort, told: &'a str) -> Account<'a> {
+    let Some((nick, rest)) = told.split_once(' ') else {
+        panic!(rt; "no account: {told}")
+    };
+    match rest.split_once(' ') {
+        None => Account {
+            nick,
+            password: rest,
+            operator: false,
+        },
+        Some((password, "operator")) => Account {
+            nick,
+            password,
+            operator: true,
+        },
+        Some(_) => panic!(rt; "no account: {told}"),
+    }
+}
+
+/// `NAME CONTEXT separator`, or `NAME CONTEXT text TEXT`.
+fn menu_entry<'a>(rt: &impl Abort, told: &'a str) -> MenuEntry<'a> {
+    let Some((name, rest)) = told.split_once(' ') else {
+        panic!(rt; "no menu entry: {told}")
+    };
+    let (context, item) = match rest.split_once(' ') {
+        Some((context, "separator")) => (context, MenuItem::Separator),
+        Some((context, item)) => match item.strip_prefix("text ") {
+            Some(text) => (context, MenuItem::Text(text)),
+            None => panic!(rt; "no menu entry: {told}"),
+        },
+        None => panic!(rt; "no menu entry: {told}"),
+    };
+    match context.parse::<u8>() {
+        Ok(context) => MenuEntry {
+            name,
+            context,
+            item,
+        },
+        Err(_) => panic!(rt; "no context: {told}"),
+    }
+}
