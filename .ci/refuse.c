@@ -7,6 +7,7 @@
 //   REFUSE_COPY=SECONDS       nothing is refused to the program itself. At each growth named above it is copied; the growth is
 //                             refused to the copy, which then runs alone to its end, for that time at most;
 //   REFUSE_PASS=TEXT          with REFUSE_COPY: what the output of each copy has to end with, beside status 0;
+//   REFUSE_OUTPUT=FD          with REFUSE_COPY: the file to which the output of all copies goes;
 //   REFUSE_REPORT=FD          a file open for reading and writing, into which `struct report` is written as things happen.
 #define _GNU_SOURCE
 #include <dlfcn.h>
@@ -93,25 +94,26 @@ __attribute__((constructor)) static void begin(void) {
         close(file);
     }
     if (seconds) {
-        output = memfd_create("output", MFD_CLOEXEC);
-        if (output < 0) _exit(125);
+        output = (int)number("REFUSE_OUTPUT", UINT64_MAX);
+        if (lseek(output, 0, SEEK_END) < 0) _exit(125);
     }
     counts = 1;
 }
 
-static int ends_with_pass(void) {
+// Whether what was written from a place on ends with the text that says so.
+static int passed(off_t start) {
     size_t length = strlen(pass);
     char last[256];
     off_t end = lseek(output, 0, SEEK_END);
-    if (length > sizeof last || end < (off_t)length) return 0;
+    if (length > sizeof last || end - start < (off_t)length) return 0;
     return pread(output, last, length, end - (off_t)length) == (ssize_t)length && !memcmp(last, pass, length);
 }
 
 // Returns true in the copy, whose growth is refused, and false in the program once the copy has ended.
 static int copies(uint64_t growth) {
-    if (ftruncate(output, 0) || lseek(output, 0, SEEK_SET)) _exit(125);
+    off_t start = lseek(output, 0, SEEK_END);
     pid_t copy = fork();
-    if (copy < 0) _exit(125);
+    if (start < 0 || copy < 0) _exit(125);
     if (copy == 0) {
         report = &nowhere;
         counts = 0;
@@ -122,7 +124,7 @@ static int copies(uint64_t growth) {
     int status = 0;
     while (waitpid(copy, &status, 0) < 0)
         if (errno != EINTR) _exit(125);
-    int64_t found = status ? status : pass && !ends_with_pass() ? -1 : 0;
+    int64_t found = status ? status : pass && !passed(start) ? -1 : 0;
     if (found) {
         uint64_t at = report->failed++;
         if (at < FAILURES) report->failures[at] = (struct failure){growth, found};
