@@ -1,0 +1,11 @@
+//! Each public call of the hub that takes memory, refused it once: tests alone.
+#![tactic(auto)]
+
+#[cfg(test)]
+mod core;
+#[cfg(test)]
+mod halls;
+#[cfg(test)]
+mod once;
+#[cfg(test)]
+mod shared;
