@@ -8,6 +8,7 @@ mod tests;
 
 pub use command_line::program;
 pub use hub_challenges::Challenges;
+use hub_endings::Ending;
 pub use hub_server::serve_on;
 pub use hub_stream::{RunFault, run_one};
 use std::alloc::Global;
@@ -15,25 +16,25 @@ use std::process::ExitCode;
 use std::{env, io};
 
 fn main(rt: HostRuntime) -> ExitCode {
-    let words = arguments(&rt, rt.alloc());
-    let mut input = rt.reader();
-    let status = program(
-        &rt,
-        &words,
-        &mut input,
-        &mut io::writer(&rt),
-        &mut rt.stderr(),
-    );
+    let mut errors = rt.stderr();
+    let status = match arguments(&rt, rt.alloc()) {
+        Ok(words) => {
+            let mut input = rt.reader();
+            let mut output = io::writer(&rt);
+            program(&rt, &words, &mut input, &mut output, &mut errors)
+        }
+        Err(ending) => ending.tell(&mut errors),
+    };
     ExitCode::from(status)
 }
 
-/// The words after the program's name; none where they cannot be had as text.
-fn arguments(rt: &HostRuntime, alloc: Global) -> Vec<String> {
-    let Ok(words) = env::args(rt) else {
-        return Vec::new(alloc);
-    };
-    match words.skip(1).collect(alloc) {
+/// The words after the program's name. It fails with `Usage` where one of them is no text, and with `Memory` where
+/// memory runs out.
+fn arguments(rt: &HostRuntime, alloc: Global) -> Result<Vec<String>, Ending> {
+    let words = match env::args(rt) {
         Ok(words) => words,
-        Err(_) => Vec::new(alloc),
-    }
+        Err(error) if error.kind() == io::ErrorKind::OutOfMemory => return Err(Ending::Memory),
+        Err(_) => return Err(Ending::Usage),
+    };
+    words.skip(1).collect(alloc).map_err(|_| Ending::Memory)
 }

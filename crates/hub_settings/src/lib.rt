@@ -11,7 +11,8 @@ mod keys;
 mod limits;
 mod parts;
 mod reading;
-mod settings;mod values;
+mod settings;
+mod values;
 
 pub use fault::{KeyName, SettingsFault};
 pub use hash_name::HashName;

@@ -1,5 +1,5 @@
 use crate::halls::{LOGINS, set_up};
-use crate::once::{again, once, tell};
+use crate::once::{again, once, refused_once, tell};
 use hub_core::{
     Answer, Ask, Asked, Conn, Core, JoinRefused, LineRefused, OpenRefused, Setup, Stage,
     TakeRefused, Totals, Verdict, prepare, run_calls,

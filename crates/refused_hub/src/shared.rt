@@ -4,7 +4,7 @@ ghost use Rattle.hub_rules.specs.Prepared.{prepared};
 ghost use Rattle.session_hash.specs.First24.{first_24};
 
 use crate::halls::{LOGINS, set_up};
-use crate::once::{again, once, tell};
+use crate::once::{again, once, refused_once, tell};
 use hub_core::{JoinRefused, LineRefused, Prepared, Setup, Stage, TakeRefused, Verdict, prepare};
 use hub_shared::{Host, Hub, Pass, Visitor};
 use session_hash::First24;

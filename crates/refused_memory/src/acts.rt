@@ -1,4 +1,4 @@
-use crate::once::{once, tell};
+use crate::once::{once, refused_once};
 use adc_ids::Cid;
 use operator_acts::{Act, ActFault, BanRefused, Bans, Left};
 

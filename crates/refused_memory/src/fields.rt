@@ -1,4 +1,4 @@
-use crate::once::{again, once, tell};
+use crate::once::{again, once, refused_once};
 use inf_fields::{FieldName, Fields, InfFault, Update, dotted};
 use std::alloc::AllocError;
 

@@ -1,4 +1,4 @@
-use crate::once::{again, once, tell};
+use crate::once::{again, once, refused_once};
 use adc_line::{FrameFault, Framer, Line, LineFault, Next, UnescapeFault, escape, unescape};
 use login_state::{Feature, Features, SupFault};
 use std::alloc::AllocError;

@@ -12,12 +12,10 @@ macro_rules! once {
         match $call {
             Ok(value) => value,
             Err(refused) => {
-                tell($rt, $name);
-                assert!($rt; matches!(refused, $memory), "{}: not for memory", $name);
-                assert!($rt; $seen == before, "{}: a refusal changed something", $name);
+                refused_once($rt, $name, matches!(refused, $memory), $seen == before);
                 match $call {
                     Ok(value) => value,
-                    Err(_) => panic!($rt; "{}: refused twice", $name),
+                    Err(_) => panic!($rt; "refused twice"),
                 }
             }
         }
@@ -39,6 +37,18 @@ macro_rules! again {
 
 pub(crate) use again;
 pub(crate) use once;
+
+/// Writes which call was refused, and stops the test unless it was for want of memory and changed nothing.
+pub(crate) fn refused_once(
+    rt: &(impl Abort + Print),
+    name: &str,
+    is_for_memory: bool,
+    is_unchanged: bool,
+) {
+    tell(rt, name);
+    assert!(rt; is_for_memory, "{name}: not for memory");
+    assert!(rt; is_unchanged, "{name}: a refusal changed something");
+}
 
 /// Writes which call was refused memory.
 pub(crate) fn tell(rt: &(impl Abort + Print), name: &str) {

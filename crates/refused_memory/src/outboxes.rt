@@ -1,6 +1,6 @@
 ghost use Rattle.std.specs.Prelude.{◌≤◌};
 
-use crate::once::{again, once, tell};
+use crate::once::{again, once, refused_once};
 use adc_base32::Sid;
 use bytes::Bytes;
 use outboxes::{Batch, Outbox, OutboxRefused, PushRefused, TakeRefused, Taken};

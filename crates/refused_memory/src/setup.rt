@@ -1,4 +1,4 @@
-use crate::once::{again, once, tell};
+use crate::once::{again, once, refused_once};
 use adc_base32::Sid;
 use adc_line::Line;
 use bytes::Bytes;

@@ -1,4 +1,4 @@
-use crate::once::{once, tell};
+use crate::once::{once, refused_once};
 use adc_base32::{B32, decode, encode};
 use adc_ids::{Nick, NickFault};
 use feature_route::{FeatureSet, Want};

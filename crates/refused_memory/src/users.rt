@@ -1,4 +1,4 @@
-use crate::once::{again, once, tell};
+use crate::once::{again, tell};
 use adc_base32::Sid;
 use adc_ids::{Cid, Nick};
 use inf_fields::{Fields, Update};
