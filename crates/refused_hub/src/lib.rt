@@ -2,10 +2,10 @@
 #![tactic(auto)]
 
 #[cfg(test)]
-mod core;
-#[cfg(test)]
 mod halls;
 #[cfg(test)]
 mod once;
 #[cfg(test)]
-mod shared;
+mod one_thread;
+#[cfg(test)]
+mod threads;

@@ -10,7 +10,7 @@ mod lines;
 #[cfg(test)]
 mod once;
 #[cfg(test)]
-mod outboxes;
+mod queues;
 #[cfg(test)]
 mod setup;
 #[cfg(test)]

@@ -13,7 +13,7 @@ pub struct Draws {
 }
 
 impl Draws {
-    pub fn new(seed: u64) -> Draws {
+    pub(crate) fn new(seed: u64) -> Draws {
         Draws { state: seed }
     }
 
@@ -28,7 +28,11 @@ impl Draws {
 }
 
 /// So many commands on at most 60 users with 40 nicks and 48 client identifiers.
-pub fn commands(alloc: Global, draws: &mut Draws, count: usize) -> Result<Vec<Command>, Fail> {
+pub(crate) fn commands(
+    alloc: Global,
+    draws: &mut Draws,
+    count: usize,
+) -> Result<Vec<Command>, Fail> {
     let mut commands = with_room(alloc, count)?;
     for _ in 0..count {
         commands

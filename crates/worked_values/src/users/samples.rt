@@ -6,11 +6,11 @@ use std::alloc::{AllocError, Global};
 use std::test::Fail;
 use user_table::{TableRefused, User, Users, takes_update};
 
-pub fn sid(number: u32) -> Result<Sid, Fail> {
+pub(crate) fn sid(number: u32) -> Result<Sid, Fail> {
     Ok(Sid::from_u32(number).ok_or("no identifier")?)
 }
 
-pub fn nick(alloc: Global, text: &str) -> Result<Nick, Fail> {
+pub(crate) fn nick(alloc: Global, text: &str) -> Result<Nick, Fail> {
     let answer = match Nick::parse(alloc, text) {
         Err(_) => Nick::parse(alloc, text),
         answer => answer,
@@ -18,21 +18,21 @@ pub fn nick(alloc: Global, text: &str) -> Result<Nick, Fail> {
     Ok(answer.ok().ok_or("no nick")?)
 }
 
-pub fn key(alloc: Global, nick: &Nick) -> Result<String, AllocError> {
+pub(crate) fn key(alloc: Global, nick: &Nick) -> Result<String, AllocError> {
     match nick.key(alloc) {
         Err(AllocError) => nick.key(alloc),
         answer => answer,
     }
 }
 
-pub fn words(alloc: Global, line: &str) -> Result<Vec<&str>, AllocError> {
+pub(crate) fn words(alloc: Global, line: &str) -> Result<Vec<&str>, AllocError> {
     match line.split(' ').collect(alloc) {
         Err(AllocError) => line.split(' ').collect(alloc),
         answer => answer,
     }
 }
 
-pub fn update(alloc: Global, line: &str) -> Result<Update, Fail> {
+pub(crate) fn update(alloc: Global, line: &str) -> Result<Update, Fail> {
     let words = words(alloc, line)?;
     let answer = match Update::read(alloc, &words) {
         Err(_) => Update::read(alloc, &words),
@@ -41,7 +41,7 @@ pub fn update(alloc: Global, line: &str) -> Result<Update, Fail> {
     Ok(answer.ok().ok_or("no update")?)
 }
 
-pub fn fields(alloc: Global, line: &str) -> Result<Fields, Fail> {
+pub(crate) fn fields(alloc: Global, line: &str) -> Result<Fields, Fail> {
     let update = update(alloc, line)?;
     let mut fields = Fields::new(alloc);
     if fields.merge(&update).is_err() {
@@ -51,14 +51,20 @@ pub fn fields(alloc: Global, line: &str) -> Result<Fields, Fail> {
 }
 
 /// A user whose client identifier is so many equal bytes, and who said a line.
-pub fn user(alloc: Global, number: u32, cid: u8, name: &str, line: &str) -> Result<User, Fail> {
+pub(crate) fn user(
+    alloc: Global,
+    number: u32,
+    cid: u8,
+    name: &str,
+    line: &str,
+) -> Result<User, Fail> {
     let key = key(alloc, &nick(alloc, name)?)?;
     let fields = fields(alloc, line)?;
     Ok(User::new(sid(number)?, Cid::from_bytes([cid; 24]), key, fields))
 }
 
 /// The users in order of entry, a line for each: numbers, the nick's key and the fields.
-pub fn lines<U: Users>(alloc: Global, users: &U) -> Result<Vec<String>, AllocError> {
+pub(crate) fn lines<U: Users>(alloc: Global, users: &U) -> Result<Vec<String>, AllocError> {
     match lines_once(alloc, users) {
         Err(AllocError) => lines_once(alloc, users),
         answer => answer,
@@ -84,7 +90,7 @@ fn line(alloc: Global, user: &User) -> Result<String, AllocError> {
 }
 
 /// Inserts, and once more where memory was refused. After each refusal the table has to be as it was.
-pub fn insert<U: Users>(
+pub(crate) fn insert<U: Users>(
     alloc: Global,
     users: &mut U,
     user: User,
@@ -116,7 +122,7 @@ pub fn insert<U: Users>(
 
 /// Says a line of the user with a number, and once more where memory was refused. After each refusal
 /// the table has to be as it was.
-pub fn say<U: Users>(
+pub(crate) fn say<U: Users>(
     alloc: Global,
     users: &mut U,
     number: u32,
@@ -160,7 +166,7 @@ fn merge<U: Users>(
 }
 
 /// ana with SID 1, bob with 2 and eva with 3.
-pub fn three<U: Users>(alloc: Global) -> Result<U, Fail> {
+pub(crate) fn three<U: Users>(alloc: Global) -> Result<U, Fail> {
     let mut users = U::new(alloc);
     for (number, name, line) in [
         (1, "ana", "NIana SS100 SF2"),
