@@ -90,7 +90,8 @@ fn ready(
 /// What a guest sees.
 fn seen<R: Wait>(rt: &R, hall: &Hall, guest: &mut Guest) -> (Stage, u64, u64)
     requires { guest.old.pass.home ≡ hall.now.hub.home }
-    ensures { guest.new.pass.home ≡ hall.now.hub.home }
+    ensures home { guest.new.pass.home ≡ hall.now.hub.home }
+    ensures challenge { guest.new.pass.challenge ≡ guest.old.pass.challenge }
 {
     let look = hall.hub.look(rt, &mut guest.pass);
     (look.stage, look.present, look.waiting)
