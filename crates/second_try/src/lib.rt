@@ -1,0 +1,54 @@
+//! What tests do with a call that may be refused memory: they make it once more, and see that it changed nothing.
+#![tactic(auto)]
+
+mod said;
+
+pub use said::tell;
+
+/// What a test needs beside the calls that it is about, once more where memory was refused.
+#[macro_export]
+macro_rules! again {
+    ($rt:expr; $call:expr) => {
+        match $call {
+            Ok(value) => value,
+            Err(_) => match $call {
+                Ok(value) => value,
+                Err(_) => panic!($rt; "refused twice"),
+            },
+        }
+    };
+}
+
+/// Makes a call that may be refused memory. Where it is, what can be seen of the values that it may change is as before, and the same
+/// call made again is not refused. That it was is told by a line, which a run whose memory suffices must not write.
+#[macro_export]
+macro_rules! once {
+    ($rt:expr; $name:expr, $memory:pat, $call:expr) => {
+        match $call {
+            Ok(value) => value,
+            Err(refused) => {
+                assert!($rt; second_try::tell($rt, $name), "not written");
+                assert!($rt; matches!(refused, $memory), "{}: not for memory", $name);
+                match $call {
+                    Ok(value) => value,
+                    Err(_) => panic!($rt; "refused twice"),
+                }
+            }
+        }
+    };
+    ($rt:expr; $name:expr, $memory:pat, $seen:expr, $call:expr) => {{
+        let before = $seen;
+        match $call {
+            Ok(value) => value,
+            Err(refused) => {
+                assert!($rt; second_try::tell($rt, $name), "not written");
+                assert!($rt; matches!(refused, $memory), "{}: not for memory", $name);
+                assert!($rt; $seen == before, "{}: a refusal changed something", $name);
+                match $call {
+                    Ok(value) => value,
+                    Err(_) => panic!($rt; "refused twice"),
+                }
+            }
+        }
+    }};
+}
