@@ -1,14 +1,9 @@
 //! An ADC hub: a server, or one connection over standard input and output.
 #![tactic(auto)]
 
-mod command_line;
-mod start;
-#[cfg(test)]
-mod tests;
-
-pub use command_line::program;
 pub use hub_challenges::Challenges;
 use hub_endings::Ending;
+pub use hub_program::program;
 pub use hub_server::serve_on;
 pub use hub_stream::{RunFault, run_one};
 use std::alloc::Global;

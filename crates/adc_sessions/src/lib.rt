@@ -16,5 +16,3 @@ pub use incoming::{Incoming, Peer, Starter};
 pub use port::Port;
 pub use session::Session;
 
-#[cfg(test)]
-mod tests;

@@ -2,7 +2,5 @@
 #![tactic(auto)]
 
 mod challenges;
-#[cfg(test)]
-mod tests;
 
 pub use challenges::Challenges;

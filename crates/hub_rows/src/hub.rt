@@ -1,9 +1,9 @@
-use crate::refusal::again;
 use adc_base32::Sid;
 use hub_core::{
     Conn, Core, JoinRefused, Options, Prepared, Setup, SetupRefused, Stage, Totals, Touched,
     Verdict, prepare,
 };
+use second_try::again;
 use session_hash::First24;
 use std::alloc::Global;
 use std::process::Abort;

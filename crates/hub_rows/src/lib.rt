@@ -30,11 +30,15 @@ mod passwords;
 #[cfg(test)]
 mod refusal;
 #[cfg(test)]
+mod refused;
+#[cfg(test)]
 mod routing;
 #[cfg(test)]
 mod searches;
 #[cfg(test)]
 mod settings;
+#[cfg(test)]
+mod shared;
 #[cfg(test)]
 mod spelling;
 #[cfg(test)]

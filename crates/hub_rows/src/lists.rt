@@ -1,5 +1,5 @@
-use crate::refusal::again;
 use hub_core::{Answer, Ask, Asked, Core, Options, Prepared, Setup, Verdict, prepare, run_calls};
+use second_try::again;
 use session_hash::First24;
 use std::alloc::Global;
 use std::process::Abort;

@@ -1,5 +1,6 @@
-use crate::refusal::{again, keep};
+use crate::refusal::keep;
 use adc_base32::Sid;
+use second_try::again;
 use std::alloc::Global;
 use std::process::Abort;
 

@@ -19,6 +19,3 @@ pub use hub::Hub;
 pub use hub_core::Touched;
 pub use pass::Pass;
 pub use visitor::Visitor;
-
-#[cfg(test)]
-mod tests;

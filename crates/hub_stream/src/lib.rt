@@ -4,8 +4,6 @@
 mod fault;
 mod run;
 mod session;
-#[cfg(test)]
-mod tests;
 
 pub use fault::RunFault;
 pub use run::run_one;

@@ -1,8 +1,0 @@
-use Rattle.std.specs.String.{string_bytes}
-use Rattle.adc_hub.proofs.Words.{only_two, first_is}
-use Rattle.adc_hub.proofs.command_line.settings_path.Goals as goal
-
-pub returns-in-len2 : goal.returns-in-len2
-returns-in-len2 c =
-    let two = only_two string_bytes c.args.words.now c.word-item.result c.path-item.result c.in-len2.len_at_least c.in-len2.len_below c.word-item.is c.path-item.is in
-    (string_bytes c.path-item.result, first_is _ (string_bytes c.word-item.result) c.as_str.result.now _ _ c.eq.result two c.as_str.ensures.value c.eq.ensures c.if-eq.true)

@@ -1,0 +1,159 @@
+// The program over memory: what it is asked for, and what it leaves.
+use hub_program::program;
+use second_try::again;
+use std::alloc::{AllocError, AllocGlobal, Global};
+use std::fs::Files;
+use std::io::{self, Read, Write};
+use std::net::Net;
+use std::process::Abort;
+use std::random::RandomSource;
+use std::sync::Wait;
+use std::thread::Threads;
+use std::time::Clock;
+
+/// Which of its files fails at each call.
+#[derive(Clone, Copy, Debug, PartialEq)]
+pub(crate) enum Broken {
+    /// None.
+    Nothing,
+    /// Standard input.
+    Input,
+    /// Standard output.
+    Output,
+    /// Standard error.
+    Errors,
+}
+
+/// Standard input.
+#[derive(Drop)]
+struct Input<'a> {
+    rest: &'a [u8],
+    is_broken: bool,
+}
+
+impl Read for Input<'_> {
+    fn read(&mut self, buf: &mut [u8]) -> io::Result<usize> {
+        if self.is_broken {
+            return Err(io::ErrorKind::BrokenPipe.into());
+        }
+        self.rest.read(buf)
+    }
+}
+
+/// Standard output or error.
+#[derive(Drop)]
+struct Output {
+    got: Vec<u8>,
+    is_broken: bool,
+    calls: usize,
+}
+
+impl Output {
+    /// One with room for all that these tests write, so that no write asks for memory.
+    fn new(alloc: Global, is_broken: bool) -> Result<Output, AllocError> {
+        Ok(Output {
+            got: Vec::with_capacity(alloc, 1024)?,
+            is_broken,
+            calls: 0,
+        })
+    }
+}
+
+impl Write for Output {
+    fn write(&mut self, buf: &[u8]) -> io::Result<usize> {
+        self.calls = self.calls.saturating_add(1);
+        if self.is_broken {
+            return Err(io::ErrorKind::BrokenPipe.into());
+        }
+        self.got.extend_from_slice(buf)?;
+        Ok(buf.len())
+    }
+
+    fn flush(&mut self) -> io::Result<()> {
+        self.calls = self.calls.saturating_add(1);
+        Ok(())
+    }
+}
+
+/// What the program left: its status, standard output, standard error.
+#[derive(Drop)]
+struct Left {
+    status: u8,
+    output: Output,
+    errors: Output,
+}
+
+/// These words, each a string of its own.
+fn strings(alloc: Global, words: &[&str]) -> Result<Vec<String>, AllocError> {
+    let mut strings = Vec::with_capacity(alloc, words.len())?;
+    for word in words {
+        strings.push(String::from_str(alloc, word)?)?;
+    }
+    Ok(strings)
+}
+
+/// Runs the program with a greeting for its input.
+fn attempt<T: Wait + Threads + Clock + Net + RandomSource + AllocGlobal + Files + Sync>(
+    rt: &T,
+    words: &[&str],
+    broken: Broken,
+) -> Result<Left, AllocError> {
+    let words = strings(rt.alloc(), words)?;
+    let mut input = Input {
+        rest: b"HSUP ADBASE ADTIGR\n",
+        is_broken: broken == Broken::Input,
+    };
+    let mut output = Output::new(rt.alloc(), broken == Broken::Output)?;
+    let mut errors = Output::new(rt.alloc(), broken == Broken::Errors)?;
+    let status = program(rt, &words, &mut input, &mut output, &mut errors);
+    Ok(Left {
+        status,
+        output,
+        errors,
+    })
+}
+
+/// The same, and once more where memory was refused, as the program then says.
+fn run<T: Wait + Threads + Clock + Net + RandomSource + AllocGlobal + Files + Sync + Abort>(
+    rt: &T,
+    words: &[&str],
+    broken: Broken,
+) -> Left {
+    if let Ok(left) = attempt(rt, words, broken) {
+        if left.status != 4 {
+            return left;
+        }
+        let said = left.errors.got.as_slice();
+        assert!(rt; broken == Broken::Errors || said == b"adc_hub: memory\n".as_slice());
+    }
+    again!(rt; attempt(rt, words, broken))
+}
+
+/// Stops the test unless the program, asked like this, leaves just that. Where it says nothing, it does not try to.
+pub(crate) fn asks<T: Wait + Threads + Clock + Net + RandomSource + AllocGlobal + Files + Sync + Abort>(
+    rt: &T,
+    words: &[&str],
+    broken: Broken,
+    status: u8,
+    output: &[u8],
+    errors: &[u8],
+) {
+    let left = run(rt, words, broken);
+    assert!(rt;
+        left.status == status,
+        "{words:?}, {broken:?}: {}",
+        left.status
+    );
+    assert!(rt;
+        left.output.got.as_slice() == output,
+        "{words:?}, {broken:?}"
+    );
+    assert!(rt;
+        left.errors.got.as_slice() == errors,
+        "{words:?}, {broken:?}"
+    );
+    assert!(rt;
+        status != 0 || left.errors.calls == 0,
+        "{words:?}, {broken:?}"
+    );
+}

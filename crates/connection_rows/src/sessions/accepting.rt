@@ -1,0 +1,129 @@
+ghost use Rattle.std.specs.Prelude.{⊤};
+
+use adc_sessions::{Accept, AcceptEnd, Incoming, Peer, Starter};
+use futures::task::{Context, Poll};
+use futures::test::MockTask;
+use second_try::again;
+use std::alloc::Global;
+use std::io;
+use std::process::Abort;
+
+/// Brings streams and faults as it is told, and then lets wait.
+#[derive(Drop)]
+struct Script {
+    // Whether a stream comes at its turn.
+    steps: Vec<bool>,
+    at: usize,
+}
+
+impl Script {
+    /// So many faults, then so many streams, and both again.
+    fn twice(rt: &impl Abort, alloc: Global, faults: usize, streams: usize) -> Script {
+        let mut steps = Vec::new(alloc);
+        for _ in 0..2 {
+            for _ in 0..faults {
+                again!(rt; steps.push(false));
+            }
+            for _ in 0..streams {
+                again!(rt; steps.push(true));
+            }
+        }
+        Script { steps, at: 0 }
+    }
+}
+
+impl Incoming for Script {
+    type Stream = ();
+
+    fn poll_incoming(&mut self, cx: &mut Context<'_>) -> Poll<io::Result<((), Peer)>> {
+        let Some(is_stream) = self.steps.get(self.at) else {
+            return cx.yield_now();
+        };
+        self.at += 1;
+        if *is_stream {
+            let peer = Peer {
+                address: [127, 0, 0, 1],
+            };
+            return Poll::Ready(Ok(((), peer)));
+        }
+        Poll::Ready(Err(io::ErrorKind::ConnectionAborted.into()))
+    }
+}
+
+/// Counts what it starts.
+#[derive(Debug, Drop)]
+struct Count {
+    started: u32,
+}
+
+impl Starter<()> for Count {
+    ghost starts = { λ _ _ _. ⊤ };
+
+    ghost starts_nothing = { λ _. tt };
+
+    ghost starts_in_order = { λ _ _ _ _ _ _ _. tt };
+
+    fn start(&mut self, _stream: (), _peer: Peer) {
+        self.started = self.started.saturating_add(1);
+    }
+}
+
+/// Polls until it is over, and tells how; at most 16 streams come of one poll.
+fn accepts(
+    rt: &impl Abort,
+    task: &MockTask,
+    script: Script,
+    stop_after: Option<u64>,
+) -> (AcceptEnd, u32) {
+    let mut accept = Accept::new(script, Count { started: 0 }, stop_after);
+    for _ in 0..1_000 {
+        let before = accept.starter.started;
+        let polled = task.poll(&mut accept);
+        let started = accept.starter.started;
+        assert!(rt;
+            started <= before.saturating_add(16),
+            "{before} and then {started}"
+        );
+        if let Poll::Ready(end) = polled {
+            return (end, started);
+        }
+    }
+    panic!(rt; "polled a thousand times")
+}
+
+#[test]
+fn sixty_four_faults_in_a_row_are_too_many(rt: HostRuntime) {
+    let task = again!(&rt; MockTask::new(&rt));
+    let script = Script::twice(&rt, rt.alloc(), 64, 1);
+    let ended = accepts(&rt, &task, script, Some(2));
+    assert!(&rt; ended == (AcceptEnd::AcceptFailed, 0), "{ended:?}");
+}
+
+#[test]
+fn sixty_three_faults_and_a_stream_are_not(rt: HostRuntime) {
+    let task = again!(&rt; MockTask::new(&rt));
+    let script = Script::twice(&rt, rt.alloc(), 63, 1);
+    let ended = accepts(&rt, &task, script, Some(2));
+    assert!(&rt; ended == (AcceptEnd::Stopped, 2), "{ended:?}");
+}
+
+#[test]
+fn the_set_number_of_streams_is_accepted(rt: HostRuntime) {
+    let task = again!(&rt; MockTask::new(&rt));
+    for number in [0, 1, 16, 17, 40] {
+        let script = Script::twice(&rt, rt.alloc(), 1, 50);
+        let ended = accepts(&rt, &task, script, Some(number));
+        assert!(&rt; ended == (AcceptEnd::Stopped, number as u32), "{ended:?}");
+    }
+}
+
+#[test]
+fn no_number_is_no_end(rt: HostRuntime) {
+    let task = again!(&rt; MockTask::new(&rt));
+    let script = Script::twice(&rt, rt.alloc(), 3, 50);
+    let mut accept = Accept::new(script, Count { started: 0 }, None);
+    for _ in 0..1_000 {
+        assert!(&rt; task.poll(&mut accept) == Poll::Pending);
+    }
+    assert!(&rt; accept.starter.started == 100, "{}", accept.starter.started);
+}

@@ -1,0 +1,52 @@
+use adc_sessions::Bell;
+use futures::task::{Context, Poll, Source, Waker};
+
+/// A bell that is always rung.
+#[derive(Drop)]
+pub(crate) struct AlwaysRung;
+
+impl Bell for AlwaysRung {
+    fn ring(&self) {}
+
+    fn wait(&mut self, _cx: &mut Context<'_>) -> bool {
+        true
+    }
+}
+
+/// A bell that never is.
+#[derive(Drop)]
+pub(crate) struct NeverRung;
+
+impl Bell for NeverRung {
+    fn ring(&self) {}
+
+    fn wait(&mut self, cx: &mut Context<'_>) -> bool {
+        let _: Poll<()> = cx.yield_now();
+        false
+    }
+}
+
+/// A bell that never is, and that wakes nobody.
+#[derive(Drop)]
+pub(crate) struct Silent {
+    source: Source,
+    waker: Option<Waker>,
+}
+
+impl Silent {
+    pub(crate) fn new() -> Silent {
+        Silent {
+            source: Source::new(),
+            waker: None,
+        }
+    }
+}
+
+impl Bell for Silent {
+    fn ring(&self) {}
+
+    fn wait(&mut self, cx: &mut Context<'_>) -> bool {
+        let _: Poll<()> = cx.register(&self.source, &mut self.waker);
+        false
+    }
+}

@@ -1,0 +1,101 @@
+use super::bells::NeverRung;
+use super::hub_port::{HubPort, heard};
+use super::running::{begins, made, run};
+use super::wire::{Trouble, Wire};
+use adc_sessions::End;
+use futures::test::MockTask;
+use second_try::again;
+use std::alloc::Global;
+use std::process::Abort;
+
+const BOB: &[u8] = b"BINF AAAB IDAAAAAAAAAAAAAAAAAAAAAAAAAAAAAAAAAAAAAAI \
+PDAAAAAAAAAAAAAAAAAAAAAAAAAAAAAAAAAAAAAAI NIbob SS5 SF1 SUTCP4";
+
+const ANA: &[u8] = b"HSUP ADBASE ADTIGR\nBINF AAAC IDAAAAAAAAAAAAAAAAAAAAAAAAAAAAAAAAAAAAAAA \
+PDAAAAAAAAAAAAAAAAAAAAAAAAAAAAAAAAAAAAAAA NIana SS10 SF2 I40.0.0.0 SUTCP4,SEGA\nBMSG AAAC hi\n";
+
+const ANA_GETS: &[u8] = b"ISUP ADBASE ADTIGR ADPING ADUCMD\nISID AAAC\n\
+IINF CT32 NIHub VEadc-hub\\s1.0\nBINF AAAB IDAAAAAAAAAAAAAAAAAAAAAAAAAAAAAAAAAAAAAAI NIbob SS5 SF1 SUTCP4\n\
+BINF AAAC IDAAAAAAAAAAAAAAAAAAAAAAAAAAAAAAAAAAAAAAA NIana SS10 SF2 I4127.0.0.1 SUTCP4,SEGA\nBMSG AAAC hi\n";
+
+/// Which calls go wrong.
+#[derive(Clone, Copy, Debug, PartialEq, Eq)]
+enum Kind {
+    Read,
+    Write,
+    Full,
+}
+
+/// What bob gets where ana's line was handed over.
+const WHOLE: &[u8] =
+    b"BINF AAAC IDAAAAAAAAAAAAAAAAAAAAAAAAAAAAAAAAAAAAAAA NIana SS10 SF2 I4127.0.0.1 \
+SUTCP4,SEGA\nBMSG AAAC hi\nIQUI AAAC\n";
+
+/// What he gets where only her login was.
+const LOGIN_ALONE: &[u8] =
+    b"BINF AAAC IDAAAAAAAAAAAAAAAAAAAAAAAAAAAAAAAAAAAAAAA NIana SS10 SF2 I4127.0.0.1 \
+SUTCP4,SEGA\nIQUI AAAC\n";
+
+/// Whether bob was told of ana as one of three visits tells: to the end, to the login, to neither.
+fn is_told(bob: &[u8]) -> bool {
+    bob.is_empty() || bob == LOGIN_ALONE || bob == WHOLE
+}
+
+/// Bob is there; ana enters and says hi, byte by byte, and something goes wrong. Tells how it ended.
+fn visit(rt: &impl Abort, alloc: Global, task: &MockTask, trouble: Trouble) -> End {
+    for _ in 0..2 {
+        let port = HubPort::open(rt, alloc, &[BOB]);
+        let wire = Wire::new(rt, alloc, ANA, 1).troubled(trouble);
+        let mut session = made(rt, alloc, wire, port, NeverRung);
+        let (end, wire, left, _) = run(rt, task, &mut session);
+        begins(rt, wire.written(), ANA_GETS);
+        let mut core = left.core;
+        let bob = heard(rt, alloc, &mut core, left.first);
+        assert!(rt; is_told(&bob), "{bob:?}");
+        if end == End::Closed {
+            assert!(rt; wire.written() == ANA_GETS && bob.as_slice() == WHOLE);
+        }
+        if end != End::Memory {
+            return end;
+        }
+    }
+    panic!(rt; "refused twice")
+}
+
+/// Makes the first call go wrong, then the second, and so on, up to a visit in which nothing does.
+fn visits(rt: &impl Abort, alloc: Global, task: &MockTask, kind: Kind, end: End) -> u32 {
+    for call in 1..1_000u32 {
+        let trouble = match kind {
+            Kind::Read => Trouble::Read(call),
+            Kind::Write => Trouble::Write(call),
+            Kind::Full => Trouble::Full(call),
+        };
+        let ended = visit(rt, alloc, task, trouble);
+        if ended == End::Closed {
+            return call;
+        }
+        assert!(rt; ended == end, "call {call}: {ended:?}");
+    }
+    panic!(rt; "no visit went well")
+}
+
+#[test]
+fn any_read_may_fail(rt: HostRuntime) {
+    let task = again!(&rt; MockTask::new(&rt));
+    let calls = visits(&rt, rt.alloc(), &task, Kind::Read, End::ReadFailed);
+    assert!(&rt; calls as usize == ANA.len() + 2, "{calls}");
+}
+
+#[test]
+fn any_write_may_fail(rt: HostRuntime) {
+    let task = again!(&rt; MockTask::new(&rt));
+    let calls = visits(&rt, rt.alloc(), &task, Kind::Write, End::WriteFailed);
+    assert!(&rt; calls as usize == ANA_GETS.len() + 1, "{calls}");
+}
+
+#[test]
+fn any_write_may_take_nothing(rt: HostRuntime) {
+    let task = again!(&rt; MockTask::new(&rt));
+    let calls = visits(&rt, rt.alloc(), &task, Kind::Full, End::WriteFailed);
+    assert!(&rt; calls as usize == ANA_GETS.len() + 1, "{calls}");
+}

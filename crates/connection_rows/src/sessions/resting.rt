@@ -1,0 +1,95 @@
+ghost use Rattle.std.specs.Prelude.{⊤};
+
+use super::bells::Silent;
+use super::running::made;
+use adc_sessions::{End, Port};
+use futures::task::Poll;
+use futures::test::MockTask;
+use hub_core::{LineRefused, TakeRefused, Taken, Verdict};
+use second_try::again;
+use std::alloc::Global;
+use std::process::Abort;
+use tokio::io::{duplex, read_exact};
+
+/// How many lines wait: more than three takes give.
+const LINES: usize = 1_000;
+
+const HI: &[u8] = b"hi\n";
+
+/// A port for which lines wait from the beginning, and for which no more come.
+#[derive(Drop)]
+struct Store {
+    bytes: Vec<u8>,
+    given: usize,
+}
+
+impl Store {
+    fn new(rt: &impl Abort, alloc: Global) -> Store {
+        let mut bytes = Vec::new(alloc);
+        for _ in 0..LINES {
+            again!(rt; bytes.extend_from_slice(HI));
+        }
+        Store { bytes, given: 0 }
+    }
+}
+
+impl Port for Store {
+    type Left = ();
+
+    ghost step = { λ _ _ _. ⊤ };
+
+    ghost leaves = { λ _ _. ⊤ };
+
+    fn line(&mut self, _alloc: Global, _line: &[u8]) -> Result<Verdict, LineRefused> {
+        Ok(Verdict::Kept)
+    }
+
+    fn take(&mut self, count: usize, out: &mut Vec<u8>) -> Result<Taken, TakeRefused> {
+        let rest = &self.bytes[self.given.min(self.bytes.len())..];
+        let bytes = rest.len().min(count.saturating_mul(HI.len()));
+        if out.extend_from_slice(&rest[..bytes]).is_err() {
+            return Err(TakeRefused::Memory);
+        }
+        self.given = self.given.saturating_add(bytes);
+        Ok(Taken {
+            lines: (bytes / HI.len()) as u64,
+            ended: false,
+        })
+    }
+
+    fn quit(self) {}
+}
+
+/// Polls a session as often as it is woken. Its client says nothing and closes nothing, and nobody rings for it.
+fn hears_all(rt: &impl Abort, alloc: Global, task: &MockTask, client: &MockTask) -> bool {
+    let (near, far) = again!(rt; duplex(alloc, 4_096));
+    let mut session = made(rt, alloc, near, Store::new(rt, alloc), Silent::new());
+    for _ in 0..1_000 {
+        if let Poll::Ready((end, _, ())) = task.poll(&mut session) {
+            assert!(rt; end == End::Memory, "{end:?}");
+            return false;
+        }
+        if !task.is_woken() {
+            break;
+        }
+    }
+    assert!(rt; !task.is_woken(), "polled a thousand times");
+    let room = again!(rt; vec![in alloc; 0; LINES * 3]);
+    let Poll::Ready(Ok((_, heard))) = client.poll(&mut read_exact(far, room)) else {
+        panic!(rt; "it rests while lines wait");
+    };
+    assert!(rt; heard == Store::new(rt, alloc).bytes);
+    true
+}
+
+#[test]
+fn a_session_rests_only_once_no_line_waits(rt: HostRuntime) {
+    let task = again!(&rt; MockTask::new(&rt));
+    let client = again!(&rt; MockTask::new(&rt));
+    for _ in 0..2 {
+        if hears_all(&rt, rt.alloc(), &task, &client) {
+            return;
+        }
+    }
+    panic!(&rt; "refused twice")
+}

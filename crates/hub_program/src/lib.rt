@@ -1,0 +1,7 @@
+//! What the program does with the words of its command line: a hub for one connection, or a server.
+#![tactic(auto)]
+
+mod command_line;
+mod start;
+
+pub use command_line::program;

@@ -1,0 +1,24 @@
+use crate::refused::halls::LOGINS;
+use crate::shared::guests::{Guest, Hall, entered, hears, looks, opened, says};
+use hub_core::{Stage, Verdict};
+use std::alloc::AllocGlobal;
+
+#[test]
+fn a_line_to_three(rt: HostRuntime) {
+    let rt = &rt;
+    let alloc = rt.alloc();
+    let (hall, mut host) = opened(rt, alloc, 3);
+    let mut ana = entered(rt, alloc, &hall, host.admit(&hall.hub), LOGINS[0]);
+    let mut bob = entered(rt, alloc, &hall, host.admit(&hall.hub), LOGINS[1]);
+    let mut cy = entered(rt, alloc, &hall, host.admit(&hall.hub), LOGINS[2]);
+    // The lines of the logins.
+    hears(rt, alloc, &hall, &mut ana);
+    hears(rt, alloc, &hall, &mut bob);
+    hears(rt, alloc, &hall, &mut cy);
+    says(rt, alloc, &hall, &mut ana, b"BMSG AAAB hi", Verdict::Kept);
+    assert!(rt; hears(rt, alloc, &hall, &mut ana).as_slice() == b"BMSG AAAB hi\n".as_slice());
+    assert!(rt; hears(rt, alloc, &hall, &mut bob).as_slice() == b"BMSG AAAB hi\n".as_slice());
+    assert!(rt; hears(rt, alloc, &hall, &mut cy).as_slice() == b"BMSG AAAB hi\n".as_slice());
+    let look = looks(rt, &hall, &mut cy);
+    assert!(rt; look.stage == Stage::Normal && look.present == 3 && look.waiting == 0);
+}

@@ -1,0 +1,137 @@
+// Guests in threads of their own.
+ghost use Rattle.std.specs.Prelude.{◌≡◌};
+
+use crate::shared::guests::{Guest, Hall, hears, looks, says};
+use hub_core::Verdict;
+use second_try::again;
+use std::alloc::Global;
+use std::io::Print;
+use std::process::Abort;
+use std::sync::Wait;
+use std::thread::{Threads, join};
+
+/// How many lines each guest says.
+const LINES: u8 = 100;
+
+/// How many bytes a line has when it is heard, with its line feed.
+const LENGTH: usize = 13;
+
+/// Ana says a line in one thread, while Bob looks about in another.
+pub(crate) fn speaks_apart<R: Threads + Wait + Abort + Print + Sync>(
+    rt: &R,
+    alloc: Global,
+    hall: &Hall,
+    ana: Guest,
+    bob: Guest,
+) -> (Guest, Guest)
+    requires ana { ana.pass.home ≡ hall.now.hub.home }
+    requires bob { bob.pass.home ≡ hall.now.hub.home }
+    ensures ana { result.0.pass.home ≡ hall.now.hub.home }
+    ensures bob { result.1.pass.home ≡ hall.now.hub.home }
+{
+    join(
+        rt,
+        move || -> Guest
+            requires { ana.pass.home ≡ hall.now.hub.home }
+            ensures { result.pass.home ≡ hall.entry.now.hub.home }
+        {
+            let mut ana = ana;
+            says(rt, alloc, hall, &mut ana, b"BMSG AAAB hi", Verdict::Kept);
+            ana
+        },
+        move || -> Guest
+            requires { bob.pass.home ≡ hall.now.hub.home }
+            ensures { result.pass.home ≡ hall.entry.now.hub.home }
+        {
+            let mut bob = bob;
+            looks(rt, hall, &mut bob);
+            bob
+        },
+    )
+}
+
+/// Both say their lines, each in a thread of its own, and hear what is said; then each hears the rest.
+pub(crate) fn chats_of_two<R: Threads + Wait + Abort + Print + Sync>(
+    rt: &R,
+    alloc: Global,
+    hall: &Hall,
+    ana: Guest,
+    bob: Guest,
+) -> ((Guest, Vec<u8>), (Guest, Vec<u8>))
+    requires ana { ana.pass.home ≡ hall.now.hub.home }
+    requires bob { bob.pass.home ≡ hall.now.hub.home }
+    ensures ana { result.0.0.pass.home ≡ hall.now.hub.home }
+    ensures bob { result.1.0.pass.home ≡ hall.now.hub.home }
+{
+    let ((mut ana, mut one), (mut bob, mut other)) = join(
+        rt,
+        move || -> (Guest, Vec<u8>)
+            requires { ana.pass.home ≡ hall.now.hub.home }
+            ensures { result.0.pass.home ≡ hall.entry.now.hub.home }
+        { chats(rt, alloc, hall, ana, b'B') },
+        move || -> (Guest, Vec<u8>)
+            requires { bob.pass.home ≡ hall.now.hub.home }
+            ensures { result.0.pass.home ≡ hall.entry.now.hub.home }
+        { chats(rt, alloc, hall, bob, b'C') },
+    );
+    let rest = hears(rt, alloc, hall, &mut ana);
+    again!(rt; one.extend_from_slice(&rest));
+    let rest = hears(rt, alloc, hall, &mut bob);
+    again!(rt; other.extend_from_slice(&rest));
+    ((ana, one), (bob, other))
+}
+
+// Says a hundred lines, and hears after each what is there.
+fn chats<R: Wait + Abort + Print>(
+    rt: &R,
+    alloc: Global,
+    hall: &Hall,
+    guest: Guest,
+    letter: u8,
+) -> (Guest, Vec<u8>)
+    requires { guest.pass.home ≡ hall.now.hub.home }
+    ensures { result.0.pass.home ≡ hall.now.hub.home }
+{
+    let mut guest = guest;
+    let mut heard = Vec::new(alloc);
+    for number in 0..LINES {
+        let line = [
+            b'B',
+            b'M',
+            b'S',
+            b'G',
+            b' ',
+            b'A',
+            b'A',
+            b'A',
+            letter,
+            b' ',
+            b'0' + number / 10,
+            b'0' + number % 10,
+        ];
+        says(rt, alloc, hall, &mut guest, &line, Verdict::Kept);
+        let more = hears(rt, alloc, hall, &mut guest);
+        again!(rt; heard.extend_from_slice(&more));
+    }
+    (guest, heard)
+}
+
+/// Whether all lines of both were heard, those of each in their order.
+pub(crate) fn is_one_chat(heard: &[u8]) -> bool {
+    if heard.len() != 2 * LINES as usize * LENGTH {
+        return false;
+    }
+    let mut next = [0u8; 2];
+    for line in heard.chunks(LENGTH) {
+        if line.len() < LENGTH || !line.starts_with(b"BMSG AAA") {
+            return false;
+        }
+        let speaker = if line[8] == b'B' { 0 } else { 1 };
+        let number = next[speaker];
+        if number >= LINES || line[10] != b'0' + number / 10 || line[11] != b'0' + number % 10 {
+            return false;
+        }
+        next[speaker] = number + 1;
+    }
+    next == [LINES, LINES]
+}

@@ -1,0 +1,254 @@
+// A hub and those who call it.
+ghost use Rattle.std.specs.Prelude.{◌≡◌, ◌∷◌, [], IfOk, IfErr};
+ghost use Rattle.std.specs.Arc.{arc_value};
+ghost use Rattle.hub_rules.specs.Prepared.{prepared};
+ghost use Rattle.session_hash.specs.First24.{first_24};
+
+use hub_core::{
+    JoinRefused, LineRefused, Look, Options, Prepared, Setup, Stage, TakeRefused, Verdict, prepare,
+};
+use hub_shared::{Host, Hub, Pass, Visitor};
+use second_try::{again, once, tell};
+use session_hash::First24;
+use std::alloc::{AllocFailed, Global};
+use std::io::Print;
+use std::process::Abort;
+use std::sync::{Arc, Wait};
+
+/// A hub with its setup.
+#[derive(Drop)]
+pub(crate) struct Hall {
+    pub(crate) setup: Arc<Setup>,
+    pub(crate) hub: Hub<First24>,
+    pub(crate) ghost set: { hub.setup ≡ arc_value setup },
+}
+
+/// A pass with the challenge of its join.
+#[derive(Drop)]
+pub(crate) struct Guest {
+    pub(crate) pass: Pass<First24>,
+    pub(crate) challenge: [u8; 24],
+    pub(crate) ghost challenged: { pass.challenge ≡ challenge },
+}
+
+fn setup_for(rt: &impl Abort, alloc: Global, max_users: u32) -> Arc<Setup> {
+    let options = Options {
+        name: "Hub",
+        topic: "",
+        accounts: &[],
+        commands: &[],
+        registered_only: false,
+        search_interval: 0,
+        max_users,
+        opening: 0,
+    };
+    match Arc::new(alloc, again!(rt; Setup::new(alloc, &options))) {
+        Ok(setup) => setup,
+        Err(AllocFailed { value }) => match Arc::new(alloc, value) {
+            Ok(setup) => setup,
+            Err(_) => panic!(rt; "refused twice"),
+        },
+    }
+}
+
+pub(crate) fn opened(
+    rt: &(impl Abort + Print),
+    alloc: Global,
+    max_users: u32,
+) -> (Hall, Host<First24>)
+    ensures { result.1 ≡ record { home = result.0.hub.home; admitted = 0 } }
+{
+    let setup = setup_for(rt, alloc, max_users);
+    let shared = again!(rt; setup.clone());
+    let (hub, host) = match Hub::open(alloc, shared, &First24) {
+        Ok(all) => all,
+        Err(_) => {
+            assert!(rt; tell(rt, "hub_shared::Hub::open"), "not written");
+            again!(rt; Hub::open(alloc, again!(rt; setup.clone()), &First24))
+        }
+    };
+    (Hall { setup, hub }, host)
+}
+
+/// Joins, and where memory is refused, once more with the visitor that came back.
+pub(crate) fn joined<R: Wait + Abort + Print>(
+    rt: &R,
+    alloc: Global,
+    hall: &Hall,
+    visitor: Visitor<First24>,
+) -> Result<Guest, (JoinRefused, Visitor<First24>)>
+    requires here { visitor.home ≡ hall.now.hub.home }
+    ensures guest { IfOk result (λ guest. guest.pass.home ≡ hall.now.hub.home) }
+    ensures back { IfErr result (λ r. r.1.home ≡ hall.now.hub.home) }
+{
+    let challenge = [0; 24];
+    match hall
+        .hub
+        .join(rt, alloc, visitor, [127, 0, 0, 1], challenge, 0)
+    {
+        Ok(pass) => Ok(Guest { pass, challenge }),
+        Err((JoinRefused::Memory, visitor)) => {
+            assert!(rt; tell(rt, "hub_shared::Hub::join"), "not written");
+            match hall
+                .hub
+                .join(rt, alloc, visitor, [127, 0, 0, 1], challenge, 0)
+            {
+                Ok(pass) => Ok(Guest { pass, challenge }),
+                Err((why, visitor)) => {
+                    assert!(rt; why != JoinRefused::Memory, "refused twice");
+                    Err((why, visitor))
+                }
+            }
+        }
+        Err((why, visitor)) => Err((why, visitor)),
+    }
+}
+
+#[tactic(auto, unfolding(hub_rules::specs::Prepared::prepared))]
+pub(crate) fn ready(
+    rt: &impl Abort,
+    alloc: Global,
+    setup: &Setup,
+    challenge: [u8; 24],
+    bytes: &[u8],
+) -> Prepared
+    ensures { result ≡ prepared setup.now first_24 challenge result.bytes }
+{
+    again!(rt; prepare(alloc, setup, &First24, challenge, bytes))
+}
+
+/// What a guest sees of the hub.
+fn seen<R: Wait>(rt: &R, hall: &Hall, guest: &mut Guest) -> (Stage, u64, u64)
+    requires { guest.old.pass.home ≡ hall.now.hub.home }
+    ensures home { guest.new.pass.home ≡ hall.now.hub.home }
+    ensures challenge { guest.new.pass.challenge ≡ guest.old.pass.challenge }
+{
+    let look = hall.hub.look(rt, &mut guest.pass);
+    (look.stage, look.present, look.waiting)
+}
+
+/// Sends a line, and where memory is refused, once more: the speaker then sees what it saw.
+pub(crate) fn says<R: Wait + Abort + Print>(
+    rt: &R,
+    alloc: Global,
+    hall: &Hall,
+    guest: &mut Guest,
+    bytes: &[u8],
+    verdict: Verdict,
+)
+    requires { guest.old.pass.home ≡ hall.now.hub.home }
+    ensures { guest.new.pass.home ≡ hall.now.hub.home }
+{
+    let line = ready(rt, alloc, &hall.setup, guest.challenge, bytes);
+    let call = "hub_shared::Hub::line";
+    let said =
+        once!(rt; call, LineRefused::Memory, seen(rt, hall, guest), hall.hub.line(rt, alloc, &mut guest.pass, &line, 0));
+    assert!(rt; said == verdict, "{said:?}, not {verdict:?}");
+}
+
+/// Takes what waits, up to 256 lines; where memory is refused, as much waits as before.
+pub(crate) fn hears<R: Wait + Abort + Print>(
+    rt: &R,
+    alloc: Global,
+    hall: &Hall,
+    guest: &mut Guest,
+) -> Vec<u8>
+    requires { guest.old.pass.home ≡ hall.now.hub.home }
+    ensures { guest.new.pass.home ≡ hall.now.hub.home }
+{
+    let mut heard = Vec::new(alloc);
+    let call = "hub_shared::Hub::take";
+    once!(rt; call, TakeRefused::Memory, (seen(rt, hall, guest), heard.len()), hall.hub.take(rt, &mut guest.pass, 256, &mut heard));
+    heard
+}
+
+pub(crate) fn looks<R: Wait>(rt: &R, hall: &Hall, guest: &mut Guest) -> Look
+    requires { guest.old.pass.home ≡ hall.now.hub.home }
+    ensures { guest.new.pass.home ≡ hall.now.hub.home }
+{
+    hall.hub.look(rt, &mut guest.pass)
+}
+
+/// Joins and logs in.
+pub(crate) fn entered<R: Wait + Abort + Print>(
+    rt: &R,
+    alloc: Global,
+    hall: &Hall,
+    visitor: Visitor<First24>,
+    login: &[u8],
+) -> Guest
+    requires { visitor.home ≡ hall.now.hub.home }
+    ensures { result.pass.home ≡ hall.now.hub.home }
+{
+    let Ok(mut guest) = joined(rt, alloc, hall, visitor) else {
+        panic!(rt; "not admitted")
+    };
+    says(
+        rt,
+        alloc,
+        hall,
+        &mut guest,
+        b"HSUP ADBASE ADTIGR",
+        Verdict::Kept,
+    );
+    says(rt, alloc, hall, &mut guest, login, Verdict::Kept);
+    guest
+}
+
+/// Leaves.
+pub(crate) fn gone<R: Wait>(rt: &R, hall: &Hall, guest: Guest) -> Visitor<First24>
+    requires { guest.pass.home ≡ hall.now.hub.home }
+    ensures { result.home ≡ hall.now.hub.home }
+{
+    let Guest { pass, challenge: _ } = guest;
+    hall.hub.quit(rt, pass)
+}
+
+/// Both compare what they have seen.
+pub(crate) fn met(hall: &Hall, left: Guest, right: Guest) -> (Guest, Guest)
+    requires left { left.pass.home ≡ hall.now.hub.home }
+    requires right { right.pass.home ≡ hall.now.hub.home }
+    ensures left { result.0.pass.home ≡ hall.now.hub.home }
+    ensures right { result.1.pass.home ≡ hall.now.hub.home }
+{
+    let Guest { pass, challenge } = left;
+    let Guest {
+        pass: other_pass,
+        challenge: other_challenge,
+    } = right;
+    let (pass, other_pass) = hall.hub.meet(pass, other_pass);
+    let left = Guest { pass, challenge };
+    let right = Guest {
+        pass: other_pass,
+        challenge: other_challenge,
+    };
+    (left, right)
+}
+
+/// One visitor in a vector.
+pub(crate) fn only(
+    rt: &impl Abort,
+    alloc: Global,
+    visitor: Visitor<First24>,
+) -> Vec<Visitor<First24>>
+    ensures { result.items ≡ visitor ∷ [] }
+{
+    let mut all = again!(rt; Vec::with_capacity(alloc, 1));
+    all.push_reserved(visitor);
+    all
+}
+
+/// Two visitors in a vector.
+pub(crate) fn both(
+    rt: &impl Abort,
+    alloc: Global,
+    first: Visitor<First24>,
+    second: Visitor<First24>,
+) -> Vec<Visitor<First24>>
+    ensures { result.items ≡ first ∷ second ∷ [] }
+{
+    let mut all = again!(rt; Vec::with_capacity(alloc, 2));
+    all.push_reserved(first);
+    all.push_reserved(second);
+    all
+}

@@ -1,0 +1,57 @@
+// A line for which memory may be refused.
+ghost use Rattle.std.specs.Prelude.{◌≡◌};
+
+use crate::shared::guests::{Guest, Hall, hears, looks, ready};
+use hub_core::{LineRefused, Verdict};
+use std::alloc::Global;
+use std::io::Print;
+use std::process::Abort;
+use std::sync::Wait;
+
+const HI: &[u8] = b"BMSG AAAB hi";
+
+/// Says hi to all, and tells whether it was said; not where memory was refused.
+pub(crate) fn is_said<R: Wait + Abort + Print>(
+    rt: &R,
+    alloc: Global,
+    hall: &Hall,
+    guest: &mut Guest,
+) -> bool
+    requires { guest.old.pass.home ≡ hall.now.hub.home }
+    ensures { guest.new.pass.home ≡ hall.now.hub.home }
+{
+    let line = ready(rt, alloc, &hall.setup, guest.challenge, HI);
+    match hall.hub.line(rt, alloc, &mut guest.pass, &line, 0) {
+        Ok(verdict) => {
+            assert!(rt; verdict == Verdict::Kept, "{verdict:?}");
+            true
+        }
+        Err(LineRefused::Memory) => false,
+    }
+}
+
+/// Nothing waits for a guest.
+pub(crate) fn is_told_nothing<R: Wait + Abort + Print>(rt: &R, hall: &Hall, guest: &mut Guest)
+    requires { guest.old.pass.home ≡ hall.now.hub.home }
+    ensures { guest.new.pass.home ≡ hall.now.hub.home }
+{
+    let look = looks(rt, hall, guest);
+    assert!(rt; look.waiting == 0, "{look:?}");
+}
+
+/// The line waits for a guest, once, and nothing else.
+pub(crate) fn hears_it_once<R: Wait + Abort + Print>(
+    rt: &R,
+    alloc: Global,
+    hall: &Hall,
+    guest: &mut Guest,
+)
+    requires { guest.old.pass.home ≡ hall.now.hub.home }
+    ensures { guest.new.pass.home ≡ hall.now.hub.home }
+{
+    let heard = hears(rt, alloc, hall, guest);
+    assert!(rt;
+        heard.as_slice() == b"BMSG AAAB hi\n".as_slice(),
+        "{heard:?}"
+    );
+}
