@@ -7,8 +7,11 @@
 //   REFUSE_COPY=SECONDS       nothing is refused to the program itself. At each growth named above it is copied; the growth is
 //                             refused to the copy, which then runs alone to its end, for that time at most;
 //   REFUSE_PASS=TEXT          with REFUSE_COPY: what the output of each copy has to end with, beside status 0;
+//   REFUSE_LEFT=N             with REFUSE_COPY: how many blocks a copy may hold at its end; with more its status is 124;
 //   REFUSE_OUTPUT=FD          with REFUSE_COPY: the file to which the output of all copies goes;
 //   REFUSE_REPORT=FD          a file open for reading and writing, into which `struct report` is written as things happen.
+//
+// It also counts the calls by which a program reaches a thread, a file, a socket or a process, which a copy would share or lack.
 #define _GNU_SOURCE
 #include <dlfcn.h>
 #include <errno.h>
@@ -34,6 +37,8 @@ struct failure {
 struct report {
     _Atomic uint64_t counted; // growths met by the program
     _Atomic uint64_t refused; // growths refused to it, or copies made
+    _Atomic uint64_t reached; // calls that make a thread, a process, or what is read and written
+    _Atomic int64_t left;     // blocks that are held, at last those that the program did not give back
     _Atomic uint64_t failed;  // copies that failed
     struct failure failures[FAILURES]; // the first of them
 };
@@ -42,7 +47,8 @@ static struct report nowhere, *report = &nowhere;
 static uint64_t from = UINT64_MAX, to, each = 1, seconds;
 static const char *pass;
 static char *at; // of REFUSE_AT what is left
-static atomic_bool counts;
+static atomic_bool counts, is_copy;
+static int64_t may_be_left = INT64_MAX;
 static int output = -1;
 
 static void *(*next_malloc)(size_t);
@@ -82,6 +88,7 @@ __attribute__((constructor)) static void begin(void) {
     each = number("REFUSE_EACH", 1);
     seconds = number("REFUSE_COPY", 0);
     pass = getenv("REFUSE_PASS");
+    may_be_left = (int64_t)number("REFUSE_LEFT", INT64_MAX);
     at = getenv("REFUSE_AT");
     int file = (int)number("REFUSE_REPORT", UINT64_MAX);
     if (file >= 0) {
@@ -115,8 +122,10 @@ static int copies(uint64_t growth) {
     pid_t copy = fork();
     if (start < 0 || copy < 0) _exit(125);
     if (copy == 0) {
+        nowhere.left = report->left;
         report = &nowhere;
         counts = 0;
+        is_copy = 1;
         struct itimerval limit = {.it_value = {.tv_sec = (time_t)seconds}};
         if (dup2(output, 1) < 0 || dup2(output, 2) < 0 || setitimer(ITIMER_REAL, &limit, NULL)) _exit(125);
         return 1;
@@ -154,36 +163,82 @@ static int is_refused(void) {
     return is;
 }
 
+// Notes a block that was given.
+static void *given(void *block) {
+    if (block) report->left++;
+    return block;
+}
+
 void *malloc(size_t size) {
     if (!next_malloc) return from_early(size);
-    return is_refused() ? NULL : next_malloc(size);
+    return is_refused() ? NULL : given(next_malloc(size));
 }
 
 void *calloc(size_t n, size_t size) {
     // (never given out before, the early bytes are 0)
     if (!next_calloc) return size && n > SIZE_MAX / size ? NULL : from_early(n * size);
-    return is_refused() ? NULL : next_calloc(n, size);
+    return is_refused() ? NULL : given(next_calloc(n, size));
 }
 
 void *realloc(void *old, size_t size) {
     if (!next_realloc) return NULL;
-    if (old && !size) return next_realloc(old, size);
-    return is_refused() ? NULL : next_realloc(old, size);
+    if (!old) return is_refused() ? NULL : given(next_realloc(old, size));
+    if (!size) report->left--;
+    return size && is_refused() ? NULL : next_realloc(old, size);
 }
 
 void *aligned_alloc(size_t to_multiple, size_t size) {
     if (!next_aligned_alloc) return NULL;
-    return is_refused() ? NULL : next_aligned_alloc(to_multiple, size);
+    return is_refused() ? NULL : given(next_aligned_alloc(to_multiple, size));
 }
 
 int posix_memalign(void **made, size_t to_multiple, size_t size) {
-    if (!next_posix_memalign) return ENOMEM;
-    return is_refused() ? ENOMEM : next_posix_memalign(made, to_multiple, size);
+    if (!next_posix_memalign || is_refused()) return ENOMEM;
+    int status = next_posix_memalign(made, to_multiple, size);
+    if (!status) given(*made);
+    return status;
 }
 
 void free(void *old) {
     static void (*next_free)(void *);
     if ((char *)old >= early && (char *)old < early + sizeof early) return;
     if (!next_free) next_free = dlsym(RTLD_NEXT, "free");
+    if (old) report->left--;
     next_free(old);
 }
+
+static _Noreturn void end_now(int status) {
+    static void (*next_exit)(int);
+    if (!next_exit) next_exit = dlsym(RTLD_NEXT, "_exit");
+    next_exit(status);
+    abort();
+}
+
+// A copy that ends well, and holds more than it may, says so by its status.
+static int status_of_end(int status) { return status == 0 && is_copy && report->left > may_be_left ? 124 : status; }
+
+void _exit(int status) { end_now(status_of_end(status)); }
+
+__attribute__((destructor)) static void end(void) {
+    if (status_of_end(0)) end_now(124);
+}
+
+// Each such call takes at most six words, and answers one.
+#define REACHES(name)                                                       \
+    long reach_##name(long a, long b, long c, long d, long e, long f) __asm__(#name); \
+    long reach_##name(long a, long b, long c, long d, long e, long f) {     \
+        static long (*next)(long, long, long, long, long, long);            \
+        if (!next) next = dlsym(RTLD_NEXT, #name);                          \
+        report->reached++;                                                  \
+        return next(a, b, c, d, e, f);                                      \
+    }
+REACHES(pthread_create)
+REACHES(posix_spawn)
+REACHES(openat)
+REACHES(open)
+REACHES(socket)
+REACHES(pipe2)
+REACHES(eventfd)
+REACHES(epoll_create1)
+REACHES(getaddrinfo)
+REACHES(unlinkat)
