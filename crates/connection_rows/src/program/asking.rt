@@ -130,14 +130,9 @@ fn run<T: Wait + Threads + Clock + Net + RandomSource + AllocGlobal + Files + Sy
 }
 
 /// Stops the test unless the program, asked like this, leaves just that. Where it says nothing, it does not try to.
-pub(crate) fn asks<T: Wait + Threads + Clock + Net + RandomSource + AllocGlobal + Files + Sync + Abort>(
-    rt: &T,
-    words: &[&str],
-    broken: Broken,
-    status: u8,
-    output: &[u8],
-    errors: &[u8],
-) {
+pub(crate) fn asks<
+    T: Wait + Threads + Clock + Net + RandomSource + AllocGlobal + Files + Sync + Abort,
+>(rt: &T, words: &[&str], broken: Broken, status: u8, output: &[u8], errors: &[u8]) {
     let left = run(rt, words, broken);
     assert!(rt;
         left.status == status,

@@ -7,6 +7,7 @@ use second_try::again;
 use std::alloc::Global;
 use std::io;
 use std::process::Abort;
+use std::sync::atomic::{AtomicU32, Ordering};
 
 /// Brings streams and faults as it is told, and then lets wait.
 #[derive(Drop)]
@@ -51,12 +52,12 @@ impl Incoming for Script {
 }
 
 /// Counts what it starts.
-#[derive(Debug, Drop)]
-struct Count {
-    started: u32,
+#[derive(Drop)]
+struct Count<'a> {
+    started: &'a AtomicU32,
 }
 
-impl Starter<()> for Count {
+impl Starter<()> for Count<'_> {
     ghost starts = { λ _ _ _. ⊤ };
 
     ghost starts_nothing = { λ _. tt };
@@ -64,7 +65,7 @@ impl Starter<()> for Count {
     ghost starts_in_order = { λ _ _ _ _ _ _ _. tt };
 
     fn start(&mut self, _stream: (), _peer: Peer) {
-        self.started = self.started.saturating_add(1);
+        self.started.fetch_add(1, Ordering::Relaxed);
     }
 }
 
@@ -75,11 +76,12 @@ fn accepts(
     script: Script,
     stop_after: Option<u64>,
 ) -> (AcceptEnd, u32) {
-    let mut accept = Accept::new(script, Count { started: 0 }, stop_after);
+    let count = AtomicU32::new(0);
+    let mut accept = Accept::new(script, Count { started: &count }, stop_after);
     for _ in 0..1_000 {
-        let before = accept.starter.started;
+        let before = count.load(Ordering::Relaxed);
         let polled = task.poll(&mut accept);
-        let started = accept.starter.started;
+        let started = count.load(Ordering::Relaxed);
         assert!(rt;
             started <= before.saturating_add(16),
             "{before} and then {started}"
@@ -121,9 +123,11 @@ fn the_set_number_of_streams_is_accepted(rt: HostRuntime) {
 fn no_number_is_no_end(rt: HostRuntime) {
     let task = again!(&rt; MockTask::new(&rt));
     let script = Script::twice(&rt, rt.alloc(), 3, 50);
-    let mut accept = Accept::new(script, Count { started: 0 }, None);
+    let count = AtomicU32::new(0);
+    let mut accept = Accept::new(script, Count { started: &count }, None);
     for _ in 0..1_000 {
         assert!(&rt; task.poll(&mut accept) == Poll::Pending);
     }
-    assert!(&rt; accept.starter.started == 100, "{}", accept.starter.started);
+    let started = count.load(Ordering::Relaxed);
+    assert!(&rt; started == 100, "{started}");
 }

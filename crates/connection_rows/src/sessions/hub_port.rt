@@ -2,6 +2,7 @@ ghost use Rattle.std.specs.Prelude.{⊤, ◌≤◌};
 
 use adc_sessions::Port;
 use hub_core::{Conn, Core, LineRefused, Options, Setup, TakeRefused, Taken, Verdict, prepare};
+use second_try::again;
 use session_hash::First24;
 use std::alloc::Global;
 use std::process::Abort;
