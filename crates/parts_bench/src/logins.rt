@@ -1,6 +1,6 @@
 // A login as a usual client writes it.
 use inf_fields::{Fields, Update};
-use std::alloc::Global;
+use std::alloc::{AllocError, Global};
 use std::io;
 use std::time::{Clock, Instant};
 
@@ -26,53 +26,58 @@ const WORDS: [&str; 14] = [
 /// How many nanoseconds the reading of the words takes.
 pub fn read_nanos<R: Clock>(rt: &R, alloc: Global) -> io::Result<u128> {
     let start = Instant::now(rt)?;
-    let mut done: u64 = 0;
     for _ in 0..TIMES {
-        done = done.wrapping_add(u64::from(Update::read(alloc, &WORDS).is_ok()));
+        read(alloc, &WORDS)?;
     }
-    Ok(per_time(start.elapsed(rt)?.as_nanos(), done))
+    Ok(start.elapsed(rt)?.as_nanos() / u128::from(TIMES))
 }
 
 /// How many nanoseconds it takes to read the words and merge them into no fields.
 pub fn merge_nanos<R: Clock>(rt: &R, alloc: Global) -> io::Result<u128> {
     let start = Instant::now(rt)?;
-    let mut done: u64 = 0;
     for _ in 0..TIMES {
-        done = done.wrapping_add(u64::from(merged(alloc).is_some()));
+        merged(alloc, &read(alloc, &WORDS)?)?;
     }
-    Ok(per_time(start.elapsed(rt)?.as_nanos(), done))
+    Ok(start.elapsed(rt)?.as_nanos() / u128::from(TIMES))
 }
 
 /// How many nanoseconds it takes to read, clean, merge and print them.
 pub fn print_nanos<R: Clock>(rt: &R, alloc: Global) -> io::Result<u128> {
     let start = Instant::now(rt)?;
-    let mut done: u64 = 0;
     for _ in 0..TIMES {
-        done = done.wrapping_add(u64::from(printed(alloc).is_some()));
+        let passed = cleaned(alloc, &read(alloc, &WORDS)?)?;
+        printed(alloc, &merged(alloc, &passed)?)?;
     }
-    Ok(per_time(start.elapsed(rt)?.as_nanos(), done))
+    Ok(start.elapsed(rt)?.as_nanos() / u128::from(TIMES))
 }
 
-fn merged(alloc: Global) -> Option<Fields> {
-    let update = Update::read(alloc, &WORDS).ok()?;
+// Each call stands in a function of its own, where nothing else has to be known of what it gives.
+
+pub fn read(alloc: Global, words: &[&str]) -> Result<Update, AllocError> {
+    match Update::read(alloc, words) {
+        Ok(update) => Ok(update),
+        Err(_) => Err(AllocError),
+    }
+}
+
+pub fn merged(alloc: Global, update: &Update) -> Result<Fields, AllocError> {
     let mut fields = Fields::new(alloc);
-    fields.merge(&update).ok()?;
-    Some(fields)
+    match fields.merge(update) {
+        Ok(()) => Ok(fields),
+        Err(_) => Err(AllocError),
+    }
 }
 
-fn printed(alloc: Global) -> Option<String> {
-    let update = Update::read(alloc, &WORDS).ok()?;
-    let passed = update.clean(alloc, [127, 0, 0, 1]).ok()?;
-    let mut fields = Fields::new(alloc);
-    fields.merge(&passed).ok()?;
-    fields.print(alloc).ok()
+fn cleaned(alloc: Global, update: &Update) -> Result<Update, AllocError> {
+    match update.clean(alloc, [127, 0, 0, 1]) {
+        Ok(passed) => Ok(passed),
+        Err(_) => Err(AllocError),
+    }
 }
 
-// Where a call was refused no time is told.
-fn per_time(nanos: u128, done: u64) -> u128 {
-    if done == TIMES {
-        nanos / TIMES as u128
-    } else {
-        0
+fn printed(alloc: Global, fields: &Fields) -> Result<String, AllocError> {
+    match fields.print(alloc) {
+        Ok(text) => Ok(text),
+        Err(_) => Err(AllocError),
     }
 }

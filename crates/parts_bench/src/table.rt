@@ -1,7 +1,8 @@
 // A table of 900 users with the usual fields.
+use crate::logins::{merged, read};
 use adc_base32::Sid;
 use adc_ids::{Cid, Nick};
-use inf_fields::{Fields, Update};
+use inf_fields::Fields;
 use std::alloc::{AllocError, Global};
 use std::io;
 use user_table::{IndexedUsers, User, Users};
@@ -27,8 +28,7 @@ pub fn keys(alloc: Global) -> io::Result<Vec<String>> {
 pub fn table(alloc: Global) -> io::Result<IndexedUsers> {
     let mut users = IndexedUsers::new(alloc);
     for number in 0..USERS {
-        let user = user(alloc, number)?.ok_or(AllocError)?;
-        put_in(&mut users, user)?;
+        put_in(&mut users, user(alloc, number)?)?;
     }
     Ok(users)
 }
@@ -44,30 +44,30 @@ pub fn put_in(users: &mut IndexedUsers, user: User) -> Result<(), AllocError> {
     }
 }
 
-/// The user with a number, or `None` where the number is no SID.
-fn user(alloc: Global, number: u32) -> Result<Option<User>, AllocError> {
+/// The user with a number.
+fn user(alloc: Global, number: u32) -> io::Result<User> {
+    let sid = Sid::from_u32(number).ok_or(AllocError)?;
     let name = format!(in alloc; "nick{number}")?;
-    let said = format!(in alloc; "NInick{number}")?;
-    let Some(sid) = Sid::from_u32(number) else {
-        return Ok(None);
-    };
-    let Ok(nick) = Nick::parse(alloc, &name) else {
-        return Ok(None);
-    };
+    let key = key(alloc, &name)?;
+    Ok(User::new(sid, cid(number), key, fields(alloc, &name)?))
+}
+
+fn key(alloc: Global, name: &str) -> Result<String, AllocError> {
+    match Nick::parse(alloc, name) {
+        Ok(nick) => nick.key(alloc),
+        Err(_) => Err(AllocError),
+    }
+}
+
+fn fields(alloc: Global, name: &str) -> Result<Fields, AllocError> {
+    let name = format!(in alloc; "NI{name}")?;
     let words = [
-        said.as_str(),
+        name.as_str(),
         "SS123456789",
         "SF1000",
         "SL3",
         "HN1",
         "SUTCP4,UDP4",
     ];
-    let Ok(update) = Update::read(alloc, &words) else {
-        return Ok(None);
-    };
-    let mut fields = Fields::new(alloc);
-    if fields.merge(&update).is_err() {
-        return Ok(None);
-    }
-    Ok(Some(User::new(sid, cid(number), nick.key(alloc)?, fields)))
+    merged(alloc, &read(alloc, &words)?)
 }
