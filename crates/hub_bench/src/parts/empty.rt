@@ -17,7 +17,7 @@ pub struct Mark {
 }
 
 impl Recorded<Mark, ()> for Empty {
-    ghost use Rattle.parts_bench.specs.declared.empty.Mark.{Mark};
+    ghost use Rattle.hub_bench.specs.declared.parts.empty.Mark.{Mark};
 
     ghost by = { λ e. e.caller };
 

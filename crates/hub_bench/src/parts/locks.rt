@@ -1,6 +1,6 @@
 // A lock with nothing in it, for one thread and for four.
-use crate::empty::opened;
-use crate::hammer::{alone, four};
+use crate::parts::empty::opened;
+use crate::parts::hammer::{alone, four};
 use std::alloc::Global;
 use std::io;
 use std::sync::Wait;

@@ -1,7 +1,7 @@
 // A table of 900 users: look-ups, exits and entries.
-use crate::changes::{Spent, measure_changes};
-use crate::look_ups::{at_nanos, cid_nanos, nick_nanos, sid_nanos, totals_nanos};
-use crate::table::{keys, table};
+use crate::parts::changes::{Spent, measure_changes};
+use crate::parts::look_ups::{at_nanos, cid_nanos, nick_nanos, sid_nanos, totals_nanos};
+use crate::parts::table::{keys, table};
 use std::alloc::Global;
 use std::io;
 use std::time::Clock;

@@ -1,5 +1,5 @@
 // One line for each of 900 connections.
-use crate::queues::{batch, line, outboxes};
+use crate::parts::queues::{batch, line, outboxes};
 use bytes::Bytes;
 use outboxes::{Batch, Outbox};
 use std::alloc::Global;

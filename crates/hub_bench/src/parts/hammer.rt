@@ -1,7 +1,7 @@
 // One thread, and four at once, that do nothing but take and give.
 ghost use Rattle.one_history.specs.States.{IsIdleAt};
 
-use crate::empty::{EmptyLock, EmptySeat, pass};
+use crate::parts::empty::{EmptyLock, EmptySeat, pass};
 use std::io;
 use std::sync::Wait;
 use std::thread::{Threads, join};

@@ -1,9 +1,9 @@
 // Prints what was measured, a line for each figure.
-use crate::giving::broadcast;
-use crate::logins::{merge_nanos, print_nanos, read_nanos};
-use crate::taking::take_nanos;
-use crate::users::measure_table;
-use crate::{digests, identifiers, lines};
+use crate::parts::giving::broadcast;
+use crate::parts::logins::{merge_nanos, print_nanos, read_nanos};
+use crate::parts::taking::take_nanos;
+use crate::parts::users::measure_table;
+use crate::parts::{digests, identifiers, lines};
 use std::alloc::Global;
 use std::io;
 use std::time::Clock;

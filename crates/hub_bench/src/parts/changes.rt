@@ -1,5 +1,5 @@
 // How long it takes to take a user out and to put the user in again. The first is taken out each time, so all others close up.
-use crate::table::{USERS, put_in};
+use crate::parts::table::{USERS, put_in};
 use adc_base32::Sid;
 use std::alloc::AllocError;
 use std::io;

@@ -1,5 +1,5 @@
 // A full take from one outbox, whose lines others have too.
-use crate::queues::{batch, line, outboxes};
+use crate::parts::queues::{batch, line, outboxes};
 use outboxes::Outbox;
 use std::alloc::Global;
 use std::io;

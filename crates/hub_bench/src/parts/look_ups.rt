@@ -1,5 +1,5 @@
 // How long look-ups take.
-use crate::table::{USERS, cid};
+use crate::parts::table::{USERS, cid};
 use adc_base32::Sid;
 use std::io;
 use std::time::{Clock, Instant};

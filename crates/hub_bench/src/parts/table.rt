@@ -1,5 +1,5 @@
 // A table of 900 users with the usual fields.
-use crate::logins::{merged, read};
+use crate::parts::logins::{merged, read};
 use adc_base32::Sid;
 use adc_ids::{Cid, Nick};
 use inf_fields::Fields;
