@@ -81,6 +81,15 @@ pub(crate) fn chats_of_two<R: Threads + Wait + Abort + Print + Sync>(
     ((ana, one), (bob, other))
 }
 
+/// The line of a number that the guest with this letter says.
+fn numbered(letter: u8, number: u8) -> [u8; 12] {
+    let mut line = *b"BMSG AAA? 00";
+    line[8] = letter;
+    line[10] = b'0' + number / 10;
+    line[11] = b'0' + number % 10;
+    line
+}
+
 // Says a hundred lines, and hears after each what is there.
 fn chats<R: Wait + Abort + Print>(
     rt: &R,
@@ -95,21 +104,14 @@ fn chats<R: Wait + Abort + Print>(
     let mut guest = guest;
     let mut heard = Vec::new(alloc);
     for number in 0..LINES {
-        let line = [
-            b'B',
-            b'M',
-            b'S',
-            b'G',
-            b' ',
-            b'A',
-            b'A',
-            b'A',
-            letter,
-            b' ',
-            b'0' + number / 10,
-            b'0' + number % 10,
-        ];
-        says(rt, alloc, hall, &mut guest, &line, Verdict::Kept);
+        says(
+            rt,
+            alloc,
+            hall,
+            &mut guest,
+            &numbered(letter, number),
+            Verdict::Kept,
+        );
         let more = hears(rt, alloc, hall, &mut guest);
         again!(rt; heard.extend_from_slice(&more));
     }

@@ -5,7 +5,8 @@ ghost use Rattle.hub_rules.specs.Prepared.{prepared};
 ghost use Rattle.session_hash.specs.First24.{first_24};
 
 use hub_core::{
-    JoinRefused, LineRefused, Look, Options, Prepared, Setup, Stage, TakeRefused, Verdict, prepare,
+    JoinRefused, LineRefused, Look, Options, Prepared, Setup, Stage, TakeRefused, Taken, Verdict,
+    prepare,
 };
 use hub_shared::{Host, Hub, Pass, Visitor};
 use second_try::{again, once, tell};
@@ -105,7 +106,7 @@ pub(crate) fn joined<R: Wait + Abort + Print>(
 }
 
 #[tactic(auto, unfolding(hub_rules::specs::Prepared::prepared))]
-pub(crate) fn ready(
+fn ready(
     rt: &impl Abort,
     alloc: Global,
     setup: &Setup,
@@ -120,11 +121,25 @@ pub(crate) fn ready(
 /// What a guest sees of the hub.
 fn seen<R: Wait>(rt: &R, hall: &Hall, guest: &mut Guest) -> (Stage, u64, u64)
     requires { guest.old.pass.home ≡ hall.now.hub.home }
-    ensures home { guest.new.pass.home ≡ hall.now.hub.home }
-    ensures challenge { guest.new.pass.challenge ≡ guest.old.pass.challenge }
+    ensures { guest.new.pass.home ≡ hall.now.hub.home }
 {
     let look = hall.hub.look(rt, &mut guest.pass);
     (look.stage, look.present, look.waiting)
+}
+
+/// Makes a line ready and sends it once.
+pub(crate) fn sends<R: Wait + Abort>(
+    rt: &R,
+    alloc: Global,
+    hall: &Hall,
+    guest: &mut Guest,
+    bytes: &[u8],
+) -> Result<Verdict, LineRefused>
+    requires { guest.old.pass.home ≡ hall.now.hub.home }
+    ensures { guest.new.pass.home ≡ hall.now.hub.home }
+{
+    let line = ready(rt, alloc, &hall.setup, guest.challenge, bytes);
+    hall.hub.line(rt, alloc, &mut guest.pass, &line, 0)
 }
 
 /// Sends a line, and where memory is refused, once more: the speaker then sees what it saw.
@@ -139,11 +154,22 @@ pub(crate) fn says<R: Wait + Abort + Print>(
     requires { guest.old.pass.home ≡ hall.now.hub.home }
     ensures { guest.new.pass.home ≡ hall.now.hub.home }
 {
-    let line = ready(rt, alloc, &hall.setup, guest.challenge, bytes);
     let call = "hub_shared::Hub::line";
     let said =
-        once!(rt; call, LineRefused::Memory, seen(rt, hall, guest), hall.hub.line(rt, alloc, &mut guest.pass, &line, 0));
+        once!(rt; call, LineRefused::Memory, seen(rt, hall, guest), sends(rt, alloc, hall, guest, bytes));
     assert!(rt; said == verdict, "{said:?}, not {verdict:?}");
+}
+
+fn takes<R: Wait>(
+    rt: &R,
+    hall: &Hall,
+    guest: &mut Guest,
+    heard: &mut Vec<u8>,
+) -> Result<Taken, TakeRefused>
+    requires { guest.old.pass.home ≡ hall.now.hub.home }
+    ensures { guest.new.pass.home ≡ hall.now.hub.home }
+{
+    hall.hub.take(rt, &mut guest.pass, 256, heard)
 }
 
 /// Takes what waits, up to 256 lines; where memory is refused, as much waits as before.
@@ -158,7 +184,7 @@ pub(crate) fn hears<R: Wait + Abort + Print>(
 {
     let mut heard = Vec::new(alloc);
     let call = "hub_shared::Hub::take";
-    once!(rt; call, TakeRefused::Memory, (seen(rt, hall, guest), heard.len()), hall.hub.take(rt, &mut guest.pass, 256, &mut heard));
+    once!(rt; call, TakeRefused::Memory, (seen(rt, hall, guest), heard.len()), takes(rt, hall, guest, &mut heard));
     heard
 }
 

@@ -1,7 +1,7 @@
 // A line for which memory may be refused.
 ghost use Rattle.std.specs.Prelude.{◌≡◌};
 
-use crate::shared::guests::{Guest, Hall, hears, looks, ready};
+use crate::shared::guests::{Guest, Hall, hears, looks, sends};
 use hub_core::{LineRefused, Verdict};
 use std::alloc::Global;
 use std::io::Print;
@@ -20,8 +20,7 @@ pub(crate) fn is_said<R: Wait + Abort + Print>(
     requires { guest.old.pass.home ≡ hall.now.hub.home }
     ensures { guest.new.pass.home ≡ hall.now.hub.home }
 {
-    let line = ready(rt, alloc, &hall.setup, guest.challenge, HI);
-    match hall.hub.line(rt, alloc, &mut guest.pass, &line, 0) {
+    match sends(rt, alloc, hall, guest, HI) {
         Ok(verdict) => {
             assert!(rt; verdict == Verdict::Kept, "{verdict:?}");
             true
