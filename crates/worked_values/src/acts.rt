@@ -1,255 +1,381 @@
-// Each call that takes memory is made again where a growth was refused, and must succeed then: the tests pass whichever growth fails.
-use adc_ids::{Cid, Nick};
-use operator_acts::{Act, ActFault, Ban, BanRefused, Bans, Left};
-use std::alloc::{AllocError, Global};
+use crate::identities::key;
+use crate::rows::{
+    Part, byte, number, pair, play, refused, say, say_bytes, say_next, say_number, say_whether,
+    small, twice, unknown,
+};
+use adc_ids::Cid;
+use operator_acts::{Act, ActFault, BanRefused, Bans, FreeText, Left};
+use std::alloc::{AllocGlobal, Global};
+use std::io::Print;
+use std::process::Abort;
 
-fn parsed<'a>(alloc: Global, text: &'a str) -> Result<Act<'a>, ActFault> {
-    match Act::parse(alloc, text) {
-        Err(ActFault::Memory) => Act::parse(alloc, text),
-        answer => answer,
+/// What operators write.
+#[derive(Drop)]
+pub(crate) struct Acts;
+
+impl Part for Acts {
+    fn call<R: Abort + AllocGlobal + Print>(
+        &mut self,
+        rt: &R,
+        name: &str,
+        text: &str,
+        _bytes: &[u8],
+        said: &mut Vec<u8>,
+    ) {
+        if name != "read" {
+            unknown(rt, name);
+        }
+        match twice!(rt; "operator_acts::Act::parse", ActFault::Memory, Act::parse(rt.alloc(), text))
+        {
+            Ok(act) => say_act(rt, said, act),
+            Err(ActFault::Bad) => say(rt, said, "Bad"),
+            Err(ActFault::Memory) => say(rt, said, "Memory"),
+        }
     }
 }
 
-fn key(alloc: Global, nick: &Nick) -> Result<String, AllocError> {
-    match nick.key(alloc) {
-        Err(_) => nick.key(alloc),
-        answer => answer,
+fn say_act(rt: &(impl Abort + AllocGlobal + Print), said: &mut Vec<u8>, act: Act<'_>) {
+    match act {
+        Act::Kick { nick, reason } => {
+            say(rt, said, "kick ");
+            say(rt, said, &key(rt, &nick));
+            say_text(rt, said, &reason);
+        }
+        Act::Ban {
+            nick,
+            seconds,
+            reason,
+        } => {
+            say(rt, said, "ban ");
+            say(rt, said, &key(rt, &nick));
+            say_number(rt, said, seconds as u128);
+            say_text(rt, said, &reason);
+        }
+        Act::Unban(cid) => {
+            say(rt, said, "unban ");
+            say_bytes(rt, said, &cid.bytes());
+        }
+        Act::Topic(topic) => {
+            say(rt, said, "topic");
+            say_text(rt, said, &topic);
+        }
     }
 }
 
-fn is_called(alloc: Global, nick: &Nick, name: &str) -> bool {
-    match key(alloc, nick) {
-        Ok(key) => key.as_str() == name,
-        Err(_) => false,
+fn say_text(rt: &impl Abort, said: &mut Vec<u8>, text: &FreeText<'_>) {
+    if !text.is_empty() {
+        say(rt, said, ": ");
+    }
+    say(rt, said, text.as_str());
+}
+
+/// Bans. A client identifier is told by its first byte and its last, with zeros between.
+#[derive(Drop)]
+pub(crate) struct BanList {
+    pub(crate) bans: Bans,
+}
+
+impl Part for BanList {
+    fn call<R: Abort + AllocGlobal + Print>(
+        &mut self,
+        rt: &R,
+        name: &str,
+        text: &str,
+        _bytes: &[u8],
+        said: &mut Vec<u8>,
+    ) {
+        match name {
+            "alone" => alone(rt, text, said),
+            "fill" => self.fill(rt, small(rt, text), said),
+            "count" => say_number(rt, said, self.bans.count() as u128),
+            _ => self.on_one(rt, name, text, said),
+        }
     }
 }
 
-/// The client identifier whose first byte and last byte are these, with zeros between.
-fn cid(first: u8, last: u8) -> Cid {
+/// The client identifier that two numbers tell, and what stands behind them.
+fn cid_of<'t>(rt: &impl Abort, text: &'t str) -> (Cid, &'t str) {
     let mut bytes = [0; 24];
-    bytes[0] = first;
-    bytes[23] = last;
-    Cid::from_bytes(bytes)
+    let (first, rest) = pair(text, ' ');
+    let (last, rest) = pair(rest, ' ');
+    bytes[0] = byte(rt, first);
+    bytes[23] = byte(rt, last);
+    (Cid::from_bytes(bytes), rest)
+}
+
+/// What is left of the one ban before it is set and then, and of two others.
+fn alone(rt: &(impl Abort + AllocGlobal + Print), text: &str, said: &mut Vec<u8>) {
+    let (seconds, rest) = pair(text, ' ');
+    let (from, now) = pair(rest, ' ');
+    let now = number(rt, now);
+    let mut list = BanList {
+        bans: Bans::new(rt.alloc()),
+    };
+    let (cid, _) = cid_of(rt, "7 7");
+    say_left(rt, said, list.bans.left(cid, now));
+    let mut added = Vec::new(rt.alloc());
+    list.add(rt, cid, small(rt, seconds), number(rt, from), &mut added);
+    assert!(rt; added.as_slice() == b"ok".as_slice());
+    for other in ["7 7", "7 8", "8 7"] {
+        let (cid, _) = cid_of(rt, other);
+        say_left(rt, said, list.bans.left(cid, now));
+    }
+}
+
+impl BanList {
+    fn on_one<R: Abort + AllocGlobal + Print>(
+        &mut self,
+        rt: &R,
+        name: &str,
+        text: &str,
+        said: &mut Vec<u8>,
+    ) {
+        let (cid, rest) = cid_of(rt, text);
+        let (one, other) = pair(rest, ' ');
+        match name {
+            "add" => self.add(rt, cid, small(rt, one), number(rt, other), said),
+            "left" => say_left(rt, said, self.bans.left(cid, number(rt, one))),
+            "remove" => say_whether(rt, said, self.bans.remove(cid)),
+            _ => unknown(rt, name),
+        }
+    }
+
+    /// Where memory is refused all is as before, and the ban is added again.
+    fn add(
+        &mut self,
+        rt: &(impl Abort + Print),
+        cid: Cid,
+        seconds: u32,
+        now: u64,
+        said: &mut Vec<u8>,
+    ) {
+        let (count, left) = (self.bans.count(), self.bans.left(cid, now));
+        let first = Cid::from_bytes([0; 24]);
+        let before = self.bans.left(first, now);
+        let answer = match self.bans.add(cid, seconds, now) {
+            Err(BanRefused::Memory) => {
+                let same = self.bans.count() == count && self.bans.left(cid, now) == left;
+                refused(
+                    rt,
+                    "operator_acts::Bans::add",
+                    same && self.bans.left(first, now) == before,
+                );
+                self.bans.add(cid, seconds, now)
+            }
+            answer => answer,
+        };
+        match answer {
+            Ok(()) => say(rt, said, "ok"),
+            Err(BanRefused::Full) => say(rt, said, "Full"),
+            Err(BanRefused::Memory) => say(rt, said, "Memory"),
+        }
+    }
+
+    /// Bans so many for a second from the moment 0.
+    fn fill(&mut self, rt: &(impl Abort + Print), count: u32, said: &mut Vec<u8>) {
+        for number in 0..count {
+            let mut bytes = [0; 24];
+            bytes[0] = (number / 256 % 256) as u8;
+            bytes[23] = (number % 256) as u8;
+            said.clear();
+            self.add(rt, Cid::from_bytes(bytes), 1, 0, said);
+            if said.as_slice() != b"ok".as_slice() {
+                return;
+            }
+        }
+    }
+}
+
+fn say_left(rt: &(impl Abort + AllocGlobal), said: &mut Vec<u8>, left: Left) {
+    match left {
+        Left::Free => say_next(rt, said, "free"),
+        Left::Ever => say_next(rt, said, "ever"),
+        Left::For(seconds) => say_number(rt, said, seconds as u128),
+    }
 }
 
 #[test]
 fn reads_kicks(rt: HostRuntime) {
-    let alloc = rt.alloc();
-    for (text, name, why) in [
-        ("!kick bob", "bob", ""),
-        ("!kick bob ", "bob", ""),
-        ("!kick bob rude", "bob", "rude"),
-        ("!kick bob  rude", "bob", " rude"),
-        ("!kick bob very rude ", "bob", "very rude "),
-        ("!kick bob line\nline", "bob", "line\nline"),
-        ("!kick e\u{301} \u{e9}", "\u{e9}", "\u{e9}"),
-    ] {
-        let Ok(Act::Kick { nick, reason }) = parsed(alloc, text) else {
-            return assert!(rt; false, "{text:?} is no kick");
-        };
-        assert!(rt; is_called(alloc, &nick, name), "{text:?}");
-        assert!(rt; reason.as_str() == why, "{text:?}");
-        assert!(rt; reason.is_empty() == why.is_empty(), "{text:?}");
-    }
+    play(
+        &rt,
+        &mut Acts,
+        "
+        read !kick bob -> kick bob
+        read !kick bob<x20> -> kick bob
+        read !kick bob rude -> kick bob: rude
+        read !kick bob  rude -> kick bob:  rude
+        read !kick bob very rude<x20> -> kick bob: very rude<x20>
+        read !kick bob line<x0a>line -> kick bob: line<x0a>line
+        read !kick e\u{301} \u{e9} -> kick \u{e9}: \u{e9}
+    ",
+    );
 }
 
 #[test]
 fn reads_bans(rt: HostRuntime) {
-    let alloc = rt.alloc();
-    for (text, time, why) in [
-        ("!ban bob 0", 0, ""),
-        ("!ban bob 60", 60, ""),
-        ("!ban bob 60 ", 60, ""),
-        ("!ban bob 60 rude", 60, "rude"),
-        ("!ban bob 60  7", 60, " 7"),
-        ("!ban bob 0000000060 rude", 60, "rude"),
-        ("!ban bob 4294967295", 4_294_967_295, ""),
-    ] {
-        let Ok(
-            Act::Ban {
-                nick,
-                seconds,
-                reason,
-            },
-        ) = parsed(alloc, text)
-        else {
-            return assert!(rt; false, "{text:?} is no ban");
-        };
-        assert!(rt; is_called(alloc, &nick, "bob"), "{text:?}");
-        assert!(rt; seconds == time, "{text:?}: {seconds}");
-        assert!(rt; reason.as_str() == why, "{text:?}");
-    }
-}
-
-fn ends_the_ban_of(act: &Act<'_>, cid: Cid) -> bool {
-    match act {
-        Act::Unban(found) => *found == cid,
-        _ => false,
-    }
+    play(
+        &rt,
+        &mut Acts,
+        "
+        read !ban bob 0 -> ban bob 0
+        read !ban bob 60 -> ban bob 60
+        read !ban bob 60<x20> -> ban bob 60
+        read !ban bob 60 rude -> ban bob 60: rude
+        read !ban bob 60  7 -> ban bob 60:  7
+        read !ban bob 0000000060 rude -> ban bob 60: rude
+        read !ban bob 4294967295 -> ban bob 4294967295
+    ",
+    );
 }
 
 #[test]
 fn reads_unbans(rt: HostRuntime) {
-    let alloc = rt.alloc();
-    for (text, last) in [
-        ("!unban AAAAAAAAAAAAAAAAAAAAAAAAAAAAAAAAAAAAAAA", 0),
-        ("!unban AAAAAAAAAAAAAAAAAAAAAAAAAAAAAAAAAAAAAAI", 1),
-        ("!unban AAAAAAAAAAAAAAAAAAAAAAAAAAAAAAAAAAAAAAY", 3),
-    ] {
-        let Ok(act) = parsed(alloc, text) else {
-            return assert!(rt; false, "{text:?} is no act");
-        };
-        assert!(rt; ends_the_ban_of(&act, cid(0, last)), "{text:?}");
-    }
-}
-
-fn sets_topic(act: &Act<'_>, topic: &str) -> bool {
-    match act {
-        Act::Topic(found) => found.as_str() == topic,
-        _ => false,
-    }
+    play(
+        &rt,
+        &mut Acts,
+        "
+        read !unban <39*A> -> unban <24*x00>
+        read !unban <38*A>I -> unban <23*x00><x01>
+        read !unban <38*A>Y -> unban <23*x00><x03>
+    ",
+    );
 }
 
 #[test]
 fn reads_topics(rt: HostRuntime) {
-    let alloc = rt.alloc();
-    for (text, topic) in [
-        ("!topic", ""),
-        ("!topic ", ""),
-        ("!topic new one", "new one"),
-        ("!topic  x", " x"),
-        ("!topic x ", "x "),
-        ("!topic !kick bob", "!kick bob"),
-    ] {
-        let Ok(act) = parsed(alloc, text) else {
-            return assert!(rt; false, "{text:?} is no act");
-        };
-        assert!(rt; sets_topic(&act, topic), "{text:?}");
-    }
+    play(
+        &rt,
+        &mut Acts,
+        "
+        read !topic -> topic
+        read !topic<x20> -> topic
+        read !topic new one -> topic: new one
+        read !topic  x -> topic:  x
+        read !topic x<x20> -> topic: x<x20>
+        read !topic !kick bob -> topic: !kick bob
+    ",
+    );
 }
 
 #[test]
 fn refuses_other_texts(rt: HostRuntime) {
-    let alloc = rt.alloc();
-    for text in [
-        "",
-        "!",
-        " ",
-        "hello",
-        "!dance",
-        "!dance bob",
-        "kick bob",
-        "!KICK bob",
-        " !kick bob",
-        "!kickbob",
-        "!kick",
-        "!kick ",
-        "!kick  bob",
-        "!kick b\tb",
-        "!ban",
-        "!ban bob",
-        "!ban bob ",
-        "!ban bob  60",
-        "!ban  60",
-        "!ban bob x",
-        "!ban bob 6x",
-        "!ban bob +6",
-        "!ban bob -6",
-        "!ban bob 4294967296",
-        "!ban bob 9999999999",
-        "!ban bob 00000000060",
-        "!unban",
-        "!unban ",
-        "!unban bob",
-        "!unban AAAAAAAAAAAAAAAAAAAAAAAAAAAAAAAAAAAAAAY ",
-        "!unban AAAAAAAAAAAAAAAAAAAAAAAAAAAAAAAAAAAAAAY x",
-        "!unban  AAAAAAAAAAAAAAAAAAAAAAAAAAAAAAAAAAAAAAY",
-        "!unban AAAAAAAAAAAAAAAAAAAAAAAAAAAAAAAAAAAAAAB",
-        "!unban AAAAAAAAAAAAAAAAAAAAAAAAAAAAAAAAAAAAAA",
-        "!unban aaaaaaaaaaaaaaaaaaaaaaaaaaaaaaaaaaaaaay",
-        "!topicnew",
-    ] {
-        assert!(rt;
-            parsed(alloc, text).err() == Some(ActFault::Bad),
-            "{text:?}"
-        );
-    }
+    play(
+        &rt,
+        &mut Acts,
+        "
+        read <> -> Bad
+        read ! -> Bad
+        read <x20> -> Bad
+        read hello -> Bad
+        read !dance -> Bad
+        read !dance bob -> Bad
+        read kick bob -> Bad
+        read !KICK bob -> Bad
+        read <x20>!kick bob -> Bad
+        read !kickbob -> Bad
+        read !kick -> Bad
+        read !kick<x20> -> Bad
+        read !kick  bob -> Bad
+        read !kick b<x09>b -> Bad
+        read !ban -> Bad
+        read !ban bob -> Bad
+        read !ban bob<x20> -> Bad
+        read !ban bob  60 -> Bad
+        read !ban  60 -> Bad
+        read !ban bob x -> Bad
+        read !ban bob 6x -> Bad
+        read !ban bob +6 -> Bad
+        read !ban bob -6 -> Bad
+        read !ban bob 4294967296 -> Bad
+        read !ban bob 9999999999 -> Bad
+        read !ban bob 00000000060 -> Bad
+        read !unban -> Bad
+        read !unban<x20> -> Bad
+        read !unban bob -> Bad
+        read !unban <38*A>Y<x20> -> Bad
+        read !unban <38*A>Y x -> Bad
+        read !unban  <38*A>Y -> Bad
+        read !unban <38*A>B -> Bad
+        read !unban <38*A> -> Bad
+        read !unban <38*a>y -> Bad
+        read !topicnew -> Bad
+    ",
+    );
 }
 
-/// Adds a ban, and where a growth is refused, looks that all is as before and adds it again.
-fn add(bans: &mut Bans, cid: Cid, seconds: u32, now: u64) -> Result<(), BanRefused> {
-    let count = bans.count();
-    let left = bans.left(cid, now);
-    match bans.add(cid, seconds, now) {
-        Err(BanRefused::Memory) if bans.count() == count && bans.left(cid, now) == left => {
-            bans.add(cid, seconds, now)
-        }
-        answer => answer,
-    }
+pub(crate) fn play_bans<R: Abort + AllocGlobal + Print>(rt: &R, rows: &str) {
+    play(
+        rt,
+        &mut BanList {
+            bans: Bans::new(rt.alloc()),
+        },
+        rows,
+    );
 }
 
 #[test]
 fn tells_what_is_left(rt: HostRuntime) {
-    let end = u64::MAX;
-    for (seconds, from, now, left) in [
-        (60, 100, 100, Left::For(60)),
-        (60, 100, 159, Left::For(1)),
-        (60, 100, 160, Left::Free),
-        (60, 100, 99, Left::For(61)),
-        (60, 100, end, Left::Free),
-        (0, 100, 100, Left::Ever),
-        (0, 100, 0, Left::Ever),
-        (0, 100, end, Left::Ever),
-        (1, 0, 0, Left::For(1)),
-        (1, 0, 1, Left::Free),
-        (5, end - 1, end - 1, Left::For(1)),
-        (5, end - 1, end, Left::Free),
-        (u32::MAX, end, 0, Left::For(end)),
-        (u32::MAX, 0, 0, Left::For(4_294_967_295)),
-    ] {
-        let mut bans = Bans::new(rt.alloc());
-        assert!(rt; bans.left(cid(7, 7), now) == Left::Free);
-        assert!(rt; add(&mut bans, cid(7, 7), seconds, from) == Ok(()));
-        let found = bans.left(cid(7, 7), now);
-        assert!(rt; found == left, "{seconds} from {from} at {now}: {found:?}");
-        assert!(rt; bans.left(cid(7, 8), now) == Left::Free);
-        assert!(rt; bans.left(cid(8, 7), now) == Left::Free);
-    }
+    // For how many seconds somebody is banned, from which moment, and at which moment it is looked: what is left before, what then, and what
+    // of two others.
+    play_bans(
+        &rt,
+        "
+        alone 60 100 100 -> free 60 free free
+        alone 60 100 159 -> free 1 free free
+        alone 60 100 160 -> free free free free
+        alone 60 100 99 -> free 61 free free
+        alone 60 100 18446744073709551615 -> free free free free
+        alone 0 100 100 -> free ever free free
+        alone 0 100 0 -> free ever free free
+        alone 0 100 18446744073709551615 -> free ever free free
+        alone 1 0 0 -> free 1 free free
+        alone 1 0 1 -> free free free free
+        alone 5 18446744073709551614 18446744073709551614 -> free 1 free free
+        alone 5 18446744073709551614 18446744073709551615 -> free free free free
+        alone 4294967295 18446744073709551615 0 -> free 18446744073709551615 free free
+        alone 4294967295 0 0 -> free 4294967295 free free
+    ",
+    );
 }
 
 #[test]
 fn keeps_the_last_act_on_each(rt: HostRuntime) {
-    let mut bans = Bans::new(rt.alloc());
-    assert!(rt; !bans.remove(cid(1, 1)));
-    assert!(rt; add(&mut bans, cid(1, 1), 60, 100) == Ok(()));
-    assert!(rt; add(&mut bans, cid(0, 2), 0, 100) == Ok(()));
-    assert!(rt; add(&mut bans, cid(1, 1), 5, 10) == Ok(()));
-    assert!(rt; bans.count() == 2);
-    assert!(rt; bans.left(cid(1, 1), 12) == Left::For(3));
-    assert!(rt; bans.left(cid(1, 1), 100) == Left::Free);
-    assert!(rt; bans.remove(cid(1, 1)));
-    assert!(rt; !bans.remove(cid(1, 1)));
-    assert!(rt; bans.left(cid(1, 1), 12) == Left::Free);
-    assert!(rt; bans.left(cid(0, 2), 12) == Left::Ever);
-    assert!(rt; bans.count() == 1);
+    play_bans(
+        &rt,
+        "
+        remove 1 1 -> no
+        add 1 1 60 100 -> ok
+        add 0 2 0 100 -> ok
+        add 1 1 5 10 -> ok
+        count -> 2
+        left 1 1 12 -> 3
+        left 1 1 100 -> free
+        remove 1 1 -> yes
+        remove 1 1 -> no
+        left 1 1 12 -> free
+        left 0 2 12 -> ever
+        count -> 1
+    ",
+    );
 }
 
 #[test]
 fn holds_no_more_than_1024(rt: HostRuntime) {
-    let mut bans = Bans::new(rt.alloc());
-    for number in 0..1_024u32 {
-        let one = cid((number / 256) as u8, (number % 256) as u8);
-        assert!(rt; add(&mut bans, one, 1, 0) == Ok(()), "{number}");
-    }
-    // Each has run out, and counts.
-    assert!(rt; bans.left(cid(3, 255), 100) == Left::Free);
-    assert!(rt; bans.count() == 1_024);
-    assert!(rt; bans.add(cid(4, 0), 1, 100) == Err(BanRefused::Full));
-    assert!(rt; bans.left(cid(4, 0), 100) == Left::Free);
-    assert!(rt; add(&mut bans, cid(2, 9), 9, 100) == Ok(()));
-    assert!(rt; bans.left(cid(2, 9), 100) == Left::For(9));
-    assert!(rt; bans.count() == 1_024);
-    assert!(rt; bans.remove(cid(3, 255)));
-    assert!(rt; add(&mut bans, cid(4, 0), 1, 100) == Ok(()));
-    assert!(rt; bans.left(cid(4, 0), 100) == Left::For(1));
+    // Each of the first has run out, and counts.
+    play_bans(
+        &rt,
+        "
+        fill 1024 -> ok
+        left 3 255 100 -> free
+        count -> 1024
+        add 4 0 1 100 -> Full
+        left 4 0 100 -> free
+        add 2 9 9 100 -> ok
+        left 2 9 100 -> 9
+        count -> 1024
+        remove 3 255 -> yes
+        add 4 0 1 100 -> ok
+        left 4 0 100 -> 1
+    ",
+    );
 }

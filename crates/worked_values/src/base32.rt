@@ -1,180 +1,256 @@
-// Each call is made again where memory was refused, and must succeed then: the tests pass whichever growth fails.
+use crate::rows::{Part, number, pair, play, say, say_bytes, say_number, small, twice, unknown};
 use adc_base32::{B32, Sid, decode, decode24, encode, encode24};
-use std::alloc::{AllocError, Global};
+use second_try::again;
+use std::alloc::{AllocGlobal, Global};
+use std::io::Print;
+use std::process::Abort;
+
+/// Identifiers and bytes in base32.
+#[derive(Drop)]
+pub(crate) struct Base32;
+
+impl Part for Base32 {
+    fn call<R: Abort + AllocGlobal + Print>(
+        &mut self,
+        rt: &R,
+        name: &str,
+        text: &str,
+        bytes: &[u8],
+        said: &mut Vec<u8>,
+    ) {
+        match name {
+            "sid" => say_sid(rt, said, Sid::from_u32(small(rt, text))),
+            "number" => say_sid_number(rt, said, Sid::parse(bytes)),
+            "next" => next(rt, text, said),
+            "encode" => encoded(rt, bytes, said),
+            "decode" => decoded(rt, text, said),
+            "encode24" => encoded24(rt, bytes, said),
+            "decode24" => decoded24(rt, bytes, said),
+            _ => unknown(rt, name),
+        }
+    }
+}
+
+fn say_sid(rt: &impl Abort, said: &mut Vec<u8>, sid: Option<Sid>) {
+    match sid {
+        Some(sid) => say_bytes(rt, said, &sid.text()),
+        None => say(rt, said, "none"),
+    }
+}
+
+fn say_sid_number(rt: &(impl Abort + AllocGlobal), said: &mut Vec<u8>, sid: Option<Sid>) {
+    match sid {
+        Some(sid) => say_number(rt, said, sid.number() as u128),
+        None => say(rt, said, "none"),
+    }
+}
+
+/// The next identifier after a number where those from a number up to another are taken.
+fn next(rt: &(impl Abort + AllocGlobal), text: &str, said: &mut Vec<u8>) {
+    let (last, range) = pair(text, ' ');
+    let (from, to) = pair(range, ' ');
+    let last = small(rt, last);
+    let taken = held(rt, rt.alloc(), small(rt, from), small(rt, to));
+    if last > 1_048_575 || taken.len() > 1_048_574 {
+        unknown(rt, text);
+    }
+    say_sid_number(rt, said, Some(Sid::next_free(last, &taken)));
+}
+
+fn held(rt: &impl Abort, alloc: Global, from: u32, to: u32) -> Vec<Sid> {
+    let mut taken = Vec::new(alloc);
+    for number in from..to {
+        if let Some(sid) = Sid::from_u32(number) {
+            again!(rt; taken.extend_from_slice(&[sid]));
+        }
+    }
+    taken
+}
+
+fn encoded(rt: &(impl Abort + AllocGlobal + Print), bytes: &[u8], said: &mut Vec<u8>) {
+    match twice!(rt; "adc_base32::encode", B32::Memory, encode(rt.alloc(), bytes)) {
+        Ok(text) => say(rt, said, &text),
+        Err(fault) => say_fault(rt, said, fault),
+    }
+}
+
+fn decoded(rt: &(impl Abort + AllocGlobal + Print), text: &str, said: &mut Vec<u8>) {
+    let (count, digits) = pair(text, ' ');
+    let (count, digits) = (number(rt, count) as usize, digits.as_bytes());
+    match twice!(rt; "adc_base32::decode", B32::Memory, decode(rt.alloc(), digits, count)) {
+        Ok(bytes) => say_bytes(rt, said, &bytes),
+        Err(fault) => say_fault(rt, said, fault),
+    }
+}
+
+fn encoded24(rt: &impl Abort, bytes: &[u8], said: &mut Vec<u8>) {
+    match bytes.try_into() {
+        Ok(bytes) => say_bytes(rt, said, &encode24(bytes)),
+        Err(_) => unknown(rt, "encode24"),
+    }
+}
+
+fn decoded24(rt: &impl Abort, text: &[u8], said: &mut Vec<u8>) {
+    match decode24(text) {
+        Ok(bytes) => say_bytes(rt, said, &bytes),
+        Err(fault) => say_fault(rt, said, fault),
+    }
+}
+
+fn say_fault(rt: &impl Abort, said: &mut Vec<u8>, fault: B32) {
+    say(
+        rt,
+        said,
+        match fault {
+            B32::Length => "Length",
+            B32::Digit => "Digit",
+            B32::LowBits => "LowBits",
+            B32::Memory => "Memory",
+        },
+    );
+}
 
 #[test]
 fn spells_identifiers(rt: HostRuntime) {
     // The first, one past a digit, and the last.
-    for (number, text) in [
-        (0, b"AAAA"),
-        (1, b"AAAB"),
-        (33, b"AABB"),
-        (1_048_575, b"7777"),
-    ] {
-        let sid = Sid::from_u32(number);
-        assert!(rt; sid.map(|s| s.text()) == Some(*text), "{number}");
-        assert!(rt; Sid::parse(text) == sid, "{number}");
-    }
-    assert!(rt; Sid::from_u32(1_048_576).is_none());
+    play(
+        &rt,
+        &mut Base32,
+        "
+        sid 0 -> AAAA
+        sid 1 -> AAAB
+        sid 33 -> AABB
+        sid 1048575 -> 7777
+        sid 1048576 -> none
+        number AAAA -> 0
+        number AAAB -> 1
+        number AABB -> 33
+        number 7777 -> 1048575
+    ",
+    );
 }
 
 #[test]
 fn refuses_what_is_no_identifier(rt: HostRuntime) {
-    for text in [
-        b"".as_slice(),
-        b"AAA",
-        b"AAAAA",
-        b"aaab",
-        b"AA1A",
-        b"AA8A",
-        b"AAA=",
-        b"AAA ",
-    ] {
-        assert!(rt; Sid::parse(text).is_none(), "{text:?}");
-    }
-}
-
-fn encoded(alloc: Global, bytes: &[u8]) -> Result<String, B32> {
-    match encode(alloc, bytes) {
-        Err(B32::Memory) => encode(alloc, bytes),
-        answer => answer,
-    }
-}
-
-fn decoded(alloc: Global, text: &[u8], n: usize) -> Result<Vec<u8>, B32> {
-    match decode(alloc, text, n) {
-        Err(B32::Memory) => decode(alloc, text, n),
-        answer => answer,
-    }
+    play(
+        &rt,
+        &mut Base32,
+        "
+        number <> -> none
+        number AAA -> none
+        number AAAAA -> none
+        number aaab -> none
+        number AA1A -> none
+        number AA8A -> none
+        number AAA= -> none
+        number AAA<x20> -> none
+    ",
+    );
 }
 
 #[test]
 fn spells_bytes(rt: HostRuntime) {
-    let alloc = rt.alloc();
     // The test vectors of RFC 4648, section 10, without padding; a password; the highest bits.
-    for (bytes, text) in [
-        (b"".as_slice(), b"".as_slice()),
-        (b"f", b"MY"),
-        (b"fo", b"MZXQ"),
-        (b"foo", b"MZXW6"),
-        (b"foob", b"MZXW6YQ"),
-        (b"fooba", b"MZXW6YTB"),
-        (b"foobar", b"MZXW6YTBOI"),
-        (b"secre", b"ONSWG4TF"),
-        (b"\xff\xff\xff\xff\xff\xff", b"7777777774"),
-    ] {
-        let Ok(spelt) = encoded(alloc, bytes) else {
-            return assert!(rt; false, "{text:?}: no text");
-        };
-        assert!(rt; spelt.as_bytes() == text, "{text:?}");
-        let Ok(read) = decoded(alloc, text, bytes.len()) else {
-            return assert!(rt; false, "{text:?}: no bytes");
-        };
-        assert!(rt; read.as_slice() == bytes, "{text:?}");
-    }
+    play(
+        &rt,
+        &mut Base32,
+        "
+        encode <> -> <>
+        encode f -> MY
+        encode fo -> MZXQ
+        encode foo -> MZXW6
+        encode foob -> MZXW6YQ
+        encode fooba -> MZXW6YTB
+        encode foobar -> MZXW6YTBOI
+        encode secre -> ONSWG4TF
+        encode <6*xff> -> 7777777774
+        decode 0 <> -> <>
+        decode 1 MY -> f
+        decode 2 MZXQ -> fo
+        decode 3 MZXW6 -> foo
+        decode 4 MZXW6YQ -> foob
+        decode 5 MZXW6YTB -> fooba
+        decode 6 MZXW6YTBOI -> foobar
+        decode 5 ONSWG4TF -> secre
+        decode 6 7777777774 -> <6*xff>
+    ",
+    );
 }
 
 #[test]
 fn names_the_first_fault(rt: HostRuntime) {
-    let alloc = rt.alloc();
-    for (text, n, fault) in [
-        (b"AAA".as_slice(), 1, B32::Length),
-        (b"A", 0, B32::Length),
-        (b"", 1, B32::Length),
-        (b"11", 2, B32::Length),
-        (b"AA", 18_446_744_073_709_551_615, B32::Length),
-        (b"A1", 1, B32::Digit),
-        (b"a1", 1, B32::Digit),
-        (b"1B", 1, B32::Digit),
-        (b"A=", 1, B32::Digit),
-        (b"AB", 1, B32::LowBits),
-        (b"AAAB", 2, B32::LowBits),
-        (b"AAAAB", 3, B32::LowBits),
-        (b"AAAAAAB", 4, B32::LowBits),
-    ] {
-        let found = decoded(alloc, text, n).err();
-        assert!(rt; found == Some(fault), "{text:?}: {found:?} for {fault:?}");
-    }
+    play(
+        &rt,
+        &mut Base32,
+        "
+        decode 1 AAA -> Length
+        decode 0 A -> Length
+        decode 1 <> -> Length
+        decode 2 11 -> Length
+        decode 18446744073709551615 AA -> Length
+        decode 1 A1 -> Digit
+        decode 1 a1 -> Digit
+        decode 1 1B -> Digit
+        decode 1 A= -> Digit
+        decode 1 AB -> LowBits
+        decode 2 AAAB -> LowBits
+        decode 3 AAAAB -> LowBits
+        decode 4 AAAAAAB -> LowBits
+    ",
+    );
 }
 
 #[test]
 fn reads_24_bytes(rt: HostRuntime) {
-    let mut three = [0; 24];
-    three[23] = 3;
-    for (text, bytes) in [
-        (
-            b"AAAAAAAAAAAAAAAAAAAAAAAAAAAAAAAAAAAAAAA".as_slice(),
-            Ok([0; 24]),
-        ),
-        (b"AAAAAAAAAAAAAAAAAAAAAAAAAAAAAAAAAAAAAAY", Ok(three)),
-        (
-            b"777777777777777777777777777777777777777",
-            Err(B32::LowBits),
-        ),
-        (b"77777777777777777777777777777777777777Y", Ok([255; 24])),
-        (
-            b"AAAAAAAAAAAAAAAAAAAAAAAAAAAAAAAAAAAAAAB",
-            Err(B32::LowBits),
-        ),
-        (b"AAAAAAAAAAAAAAAAAAAAAAAAAAAAAAAAAAAAA1B", Err(B32::Digit)),
-        (b"AAAAAAAAAAAAAAAAAAAAAAAAAAAAAAAAAAAAAA", Err(B32::Length)),
-        (b"", Err(B32::Length)),
-    ] {
-        assert!(rt; decode24(text) == bytes, "{text:?}");
-    }
-}
-
-#[test]
-fn gives_the_next_identifier(rt: HostRuntime) {
-    let alloc = rt.alloc();
-    // What is taken: the numbers from the second to the third, and identifier 0.
-    for (last, from, to, next) in [
-        (0, 1, 1, 1),
-        (33, 1, 1, 34),
-        (1_048_575, 1, 2, 2),
-        (1_048_575, 1, 1, 1),
-        (1_048_574, 1, 1, 1_048_575),
-        (1_048_574, 1_048_575, 1_048_576, 1),
-        (0, 1, 901, 901),
-        (0, 2, 901, 1),
-        (500, 501, 1_401, 1_401),
-        (0, 1, 2_051, 2_051),
-        (1_048_000, 1_047_000, 1_048_576, 1),
-    ] {
-        let Ok(taken) = held(alloc, from, to).or_else(|_| held(alloc, from, to)) else {
-            return assert!(rt; false, "{last}: no memory");
-        };
-        if last > 1_048_575 || taken.len() > 1_048_574 {
-            return assert!(rt; false, "{last}: no such state");
-        }
-        let sid = Sid::next_free(last, &taken);
-        assert!(rt; sid.number() == next, "{last}: {sid:?} for {next}");
-    }
-    assert!(rt; Sid::next_free(0, &[]).text() == *b"AAAB");
-}
-
-fn held(alloc: Global, from: u32, to: u32) -> Result<Vec<Sid>, AllocError> {
-    let mut taken = Vec::new(alloc);
-    taken.reserve(to as usize + 1)?;
-    for sid in (from..to).filter_map(Sid::from_u32) {
-        taken.push(sid).map_err(|_| AllocError)?;
-    }
-    Ok(taken)
+    play(
+        &rt,
+        &mut Base32,
+        "
+        decode24 <39*A> -> <24*x00>
+        decode24 <38*A>Y -> <23*x00><x03>
+        decode24 <39*7> -> LowBits
+        decode24 <38*7>Y -> <24*xff>
+        decode24 <38*A>B -> LowBits
+        decode24 <37*A>1B -> Digit
+        decode24 <38*A> -> Length
+        decode24 <> -> Length
+    ",
+    );
 }
 
 #[test]
 fn spells_24_bytes(rt: HostRuntime) {
-    let mut three = [0; 24];
-    three[23] = 3;
-    for (bytes, text) in [
-        ([0; 24], b"AAAAAAAAAAAAAAAAAAAAAAAAAAAAAAAAAAAAAAA"),
-        (three, b"AAAAAAAAAAAAAAAAAAAAAAAAAAAAAAAAAAAAAAY"),
-        ([255; 24], b"77777777777777777777777777777777777777Y"),
-        (
-            *b"foobarfoobarfoobarfoobar",
-            b"MZXW6YTBOJTG633CMFZGM33PMJQXEZTPN5RGC4Q",
-        ),
-    ] {
-        assert!(rt; encode24(&bytes) == *text, "{bytes:?}");
-    }
+    play(
+        &rt,
+        &mut Base32,
+        "
+        encode24 <24*x00> -> <39*A>
+        encode24 <23*x00><x03> -> <38*A>Y
+        encode24 <24*xff> -> <38*7>Y
+        encode24 <4*foobar> -> MZXW6YTBOJTG633CMFZGM33PMJQXEZTPN5RGC4Q
+    ",
+    );
+}
+
+#[test]
+fn gives_the_next_identifier(rt: HostRuntime) {
+    // What is taken: the numbers from the second up to the third, and identifier 0.
+    play(
+        &rt,
+        &mut Base32,
+        "
+        next 0 1 1 -> 1
+        next 33 1 1 -> 34
+        next 1048575 1 2 -> 2
+        next 1048575 1 1 -> 1
+        next 1048574 1 1 -> 1048575
+        next 1048574 1048575 1048576 -> 1
+        next 0 1 901 -> 901
+        next 0 2 901 -> 1
+        next 500 501 1401 -> 1401
+        next 0 1 2051 -> 2051
+        next 1048000 1047000 1048576 -> 1
+        next 0 0 0 -> 1
+    ",
+    );
 }

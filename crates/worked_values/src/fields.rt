@@ -1,335 +1,396 @@
-// Each call is made again where memory was refused, and must succeed then: the tests pass whichever growth fails.
+use crate::rows::{
+    Part, byte, pair, play, refused, say, say_bytes, say_number, say_whether, twice, unknown,
+};
 use inf_fields::{FieldName, Fields, InfFault, Update, dotted, merging_laws, shared_amount};
-use std::alloc::{AllocError, Global};
+use second_try::again;
+use std::alloc::{AllocError, AllocGlobal};
+use std::io::Print;
 use std::process::Abort;
-use std::test::Fail;
 
-fn read(alloc: Global, words: &[&str]) -> Result<Update, InfFault> {
-    match Update::read(alloc, words) {
-        Err(InfFault::Memory) => Update::read(alloc, words),
-        answer => answer,
+/// What a user says, and what is known of the user.
+#[derive(Drop)]
+pub(crate) struct User {
+    fields: Fields,
+}
+
+impl Part for User {
+    fn call<R: Abort + AllocGlobal + Print>(
+        &mut self,
+        rt: &R,
+        name: &str,
+        text: &str,
+        bytes: &[u8],
+        said: &mut Vec<u8>,
+    ) {
+        match name {
+            "read" => say_read(rt, said, read(rt, text).as_ref()),
+            "pass" => passed_on(rt, [127, 0, 0, 1], text, said),
+            "pass_10.0.0.1" => passed_on(rt, [10, 0, 0, 1], text, said),
+            "merge" => self.merge(rt, text, said),
+            "fits" => say_whether(rt, said, self.fields.fits(&update(rt, text))),
+            "print" => say(rt, said, &printed(rt, &self.fields)),
+            "get" => say_value(rt, said, self.fields.get(field(rt, text))),
+            "name" => say_name(rt, said, bytes),
+            "known" => say_bytes(rt, said, &field(rt, text).bytes()),
+            "dotted" => spelt(rt, text, said),
+            "amount" => say_amount(rt, said, shared_amount(text)),
+            _ => told(rt, name, text, said),
+        }
     }
 }
 
-fn words(alloc: Global, line: &str) -> Result<Vec<&str>, AllocError> {
-    match line.split(' ').collect(alloc) {
-        Err(_) => line.split(' ').collect(alloc),
-        answer => answer,
+/// What an update tells of a field.
+fn told(rt: &(impl Abort + AllocGlobal + Print), name: &str, line: &str, said: &mut Vec<u8>) {
+    say_value(rt, said, update(rt, line).get(field(rt, name)));
+}
+
+/// The update that the words of a line say; a line without letters has no words.
+fn read(rt: &(impl Abort + AllocGlobal + Print), line: &str) -> Result<Update, InfFault> {
+    if line.is_empty() {
+        return read_words(rt, &[]);
+    }
+    let words: Vec<&str> = again!(rt; line.split(' ').collect(rt.alloc()));
+    read_words(rt, &words)
+}
+
+fn read_words(rt: &(impl Abort + AllocGlobal + Print), words: &[&str]) -> Result<Update, InfFault> {
+    twice!(rt; "inf_fields::Update::read", InfFault::Memory, Update::read(rt.alloc(), words))
+}
+
+/// An update that is one.
+pub(crate) fn update(rt: &(impl Abort + AllocGlobal + Print), line: &str) -> Update {
+    match read(rt, line) {
+        Ok(update) => update,
+        Err(fault) => unknown(rt, fault_name(fault)),
     }
 }
 
-/// The update that the words of a line say.
-fn update(alloc: Global, line: &str) -> Result<Update, Fail> {
-    let words = words(alloc, line)?;
-    Ok(read(alloc, &words).ok().ok_or("no update")?)
+fn fault_name(fault: InfFault) -> &'static str {
+    match fault {
+        InfFault::BadName => "BadName",
+        InfFault::TooMany => "TooMany",
+        InfFault::Memory => "Memory",
+    }
 }
 
-fn clean(alloc: Global, update: &Update, peer: [u8; 4]) -> Result<Update, Fail> {
-    let answer = match update.clean(alloc, peer) {
-        Err(_) => update.clean(alloc, peer),
-        answer => answer,
-    };
-    Ok(answer.ok().ok_or("not cleaned")?)
+fn say_read(
+    rt: &(impl Abort + AllocGlobal + Print),
+    said: &mut Vec<u8>,
+    answer: Result<&Update, &InfFault>,
+) {
+    match answer {
+        Ok(update) => say_update(rt, said, update),
+        Err(fault) => say(rt, said, fault_name(*fault)),
+    }
 }
 
-fn assert_update(rt: &impl Abort, alloc: Global, update: &Update, text: &str) -> Result<(), Fail> {
-    let answer = match update.print(alloc) {
-        Err(_) => update.print(alloc),
-        answer => answer,
-    };
-    let printed = answer.ok().ok_or("not printed")?;
-    assert!(rt; printed.as_str() == text, "{printed}");
-    Ok(())
+fn say_update(rt: &(impl Abort + AllocGlobal + Print), said: &mut Vec<u8>, update: &Update) {
+    match twice!(rt; "inf_fields::Update::print", InfFault::Memory, update.print(rt.alloc())) {
+        Ok(text) => {
+            assert!(rt; update.is_empty() == text.is_empty());
+            say(rt, said, &text);
+        }
+        Err(_) => unknown(rt, "print"),
+    }
 }
 
-fn assert_fields(rt: &impl Abort, alloc: Global, fields: &Fields, text: &str) -> Result<(), Fail> {
-    let answer = match fields.print(alloc) {
-        Err(_) => fields.print(alloc),
-        answer => answer,
-    };
-    let printed = answer.ok().ok_or("not printed")?;
-    assert!(rt; printed.as_str() == text, "{printed}");
-    Ok(())
+/// An update as it is passed on from an address.
+fn cleaned(rt: &(impl Abort + AllocGlobal + Print), update: &Update, peer: [u8; 4]) -> Update {
+    match twice!(rt; "inf_fields::Update::clean", InfFault::Memory, update.clean(rt.alloc(), peer))
+    {
+        Ok(update) => update,
+        Err(_) => unknown(rt, "clean"),
+    }
 }
 
-/// Says a line, cleaned for 127.0.0.1, to the fields, which print `before`. Where memory is refused
-/// they still do; then they print `after`.
-fn merge(
-    rt: &impl Abort,
-    alloc: Global,
-    fields: &mut Fields,
+fn passed_on(
+    rt: &(impl Abort + AllocGlobal + Print),
+    peer: [u8; 4],
     line: &str,
-    before: &str,
-) -> Result<(), Fail> {
-    let said = update(alloc, line)?;
-    let update = clean(alloc, &said, [127, 0, 0, 1])?;
-    assert!(rt; fields.fits(&update), "{line}");
-    if let Err(InfFault::Memory) = fields.merge(&update) {
-        assert_fields(rt, alloc, fields, before)?;
-        return again(fields, &update);
+    said: &mut Vec<u8>,
+) {
+    say_update(rt, said, &cleaned(rt, &update(rt, line), peer));
+}
+
+pub(crate) fn printed(rt: &(impl Abort + AllocGlobal + Print), fields: &Fields) -> String {
+    match twice!(rt; "inf_fields::Fields::print", InfFault::Memory, fields.print(rt.alloc())) {
+        Ok(text) => text,
+        Err(_) => unknown(rt, "print"),
     }
-    Ok(())
 }
 
-fn again(fields: &mut Fields, update: &Update) -> Result<(), Fail> {
-    Ok(fields.merge(update).ok().ok_or("not merged")?)
-}
-
-/// The fields of a user who says one line after another. Behind each line stands what they print then.
-fn merged(rt: &impl Abort, alloc: Global, rows: &[(&str, &str)]) -> Result<Fields, Fail> {
-    let mut fields = Fields::new(alloc);
-    let mut before = "";
-    for (line, after) in rows {
-        merge(rt, alloc, &mut fields, line, before)?;
-        assert_fields(rt, alloc, &fields, after)?;
-        before = after;
+/// The field that is told by what it is for, or by its name.
+fn field(rt: &impl Abort, told: &str) -> FieldName {
+    match told {
+        "nick" => FieldName::nick(),
+        "support" => FieldName::support(),
+        "share_size" => FieldName::share_size(),
+        "shared_files" => FieldName::shared_files(),
+        "id" => FieldName::id(),
+        "address" => FieldName::address(),
+        "private_id" => FieldName::private_id(),
+        _ => unknown(rt, told),
     }
-    Ok(fields)
 }
 
-/// What is passed on of a line.
-fn assert_passed_on(rt: &impl Abort, alloc: Global, line: &str, passed: &str) -> Result<(), Fail> {
-    let update = update(alloc, line)?;
-    let passed_on = clean(alloc, &update, [127, 0, 0, 1])?;
-    assert!(rt; passed_on.is_empty() == passed.is_empty(), "{line}");
-    assert_update(rt, alloc, &passed_on, passed)
+fn say_value(rt: &impl Abort, said: &mut Vec<u8>, value: Option<&str>) {
+    match value {
+        Some(value) => {
+            say(rt, said, "is ");
+            say(rt, said, value);
+        }
+        None => say(rt, said, "none"),
+    }
+}
+
+fn say_name(rt: &impl Abort, said: &mut Vec<u8>, bytes: &[u8]) {
+    let [one, other] = bytes else {
+        unknown(rt, "name")
+    };
+    match FieldName::new([*one, *other]) {
+        Some(name) => say_bytes(rt, said, &name.bytes()),
+        None => say(rt, said, "none"),
+    }
+}
+
+fn spelt(rt: &(impl Abort + AllocGlobal + Print), text: &str, said: &mut Vec<u8>) {
+    let (a, rest) = pair(text, ' ');
+    let (b, rest) = pair(rest, ' ');
+    let (c, d) = pair(rest, ' ');
+    let peer = [byte(rt, a), byte(rt, b), byte(rt, c), byte(rt, d)];
+    match twice!(rt; "inf_fields::dotted", AllocError, dotted(rt.alloc(), peer)) {
+        Ok(text) => say(rt, said, &text),
+        Err(_) => unknown(rt, "dotted"),
+    }
+}
+
+fn say_amount(rt: &(impl Abort + AllocGlobal), said: &mut Vec<u8>, amount: Option<u64>) {
+    match amount {
+        Some(amount) => say_number(rt, said, amount as u128),
+        None => say(rt, said, "none"),
+    }
+}
+
+impl User {
+    /// Merges a line, cleaned for 127.0.0.1, and tells what is known then. Where it is refused all is as before.
+    fn merge(&mut self, rt: &(impl Abort + AllocGlobal + Print), line: &str, said: &mut Vec<u8>) {
+        let update = cleaned(rt, &update(rt, line), [127, 0, 0, 1]);
+        let before = printed(rt, &self.fields);
+        let fits = self.fields.fits(&update);
+        let answer = match self.fields.merge(&update) {
+            Err(InfFault::Memory) => {
+                refused(
+                    rt,
+                    "inf_fields::Fields::merge",
+                    printed(rt, &self.fields) == before,
+                );
+                self.fields.merge(&update)
+            }
+            answer => answer,
+        };
+        let after = printed(rt, &self.fields);
+        assert!(rt;
+            fits == answer.is_ok() && (fits || before == after),
+            "{line}"
+        );
+        match answer {
+            Ok(()) => say(rt, said, &after),
+            Err(fault) => say(rt, said, fault_name(fault)),
+        }
+    }
+}
+
+/// What is known of a user who said a line.
+pub(crate) fn merged(rt: &(impl Abort + AllocGlobal + Print), line: &str) -> Fields {
+    let update = update(rt, line);
+    let mut fields = Fields::new(rt.alloc());
+    again!(rt; fields.merge(&update));
+    fields
+}
+
+pub(crate) fn play_user<R: Abort + AllocGlobal + Print>(rt: &R, rows: &str) {
+    play(
+        rt,
+        &mut User {
+            fields: Fields::new(rt.alloc()),
+        },
+        rows,
+    );
 }
 
 #[test]
-fn fills_the_address_in_and_keeps_the_private_identifier(rt: HostRuntime) -> Result<(), Fail> {
-    for (line, passed) in [
-        (
-            "IDAAA PDAAA NIana SS10 SF2 I40.0.0.0 SUTCP4,SEGA",
-            " IDAAA NIana SS10 SF2 I4127.0.0.1 SUTCP4,SEGA",
-        ),
-        (
-            "IDAAA PDAAA NIana SL3 SS0 SF0 HN1 HR0 HO0 VEx\\s1 US65536 I40.0.0.0 SUSEGA,ADC0,TCP4,UDP4 U41412",
-            " IDAAA NIana SL3 SS0 SF0 HN1 HR0 HO0 VEx\\s1 US65536 I4127.0.0.1 SUSEGA,ADC0,TCP4,UDP4 U41412",
-        ),
-        ("SU", " SU"),
-        ("CT4 NIop I6::1 U61412 CT2", " NIop"),
-        ("I410.0.0.1", " I410.0.0.1"),
-        ("I4", " I4"),
-        ("I40.0.0.00 DE0.0.0.0", " I40.0.0.00 DE0.0.0.0"),
-        ("PDAAA", ""),
-    ] {
-        assert_passed_on(&rt, rt.alloc(), line, passed)?;
-    }
-    Ok(())
-}
-
-fn assert_said(rt: &impl Abort, alloc: Global, line: &str, text: &str) -> Result<(), Fail> {
-    let update = update(alloc, line)?;
-    assert_update(rt, alloc, &update, text)
+fn fills_the_address_in_and_keeps_the_private_identifier(rt: HostRuntime) {
+    play_user(
+        &rt,
+        r"
+        pass IDAAA PDAAA NIana SS10 SF2 I40.0.0.0 SUTCP4,SEGA -> <x20>IDAAA NIana SS10 SF2 I4127.0.0.1 SUTCP4,SEGA
+        pass IDAAA PDAAA NIana SL3 SS0 SF0 HN1 HR0 HO0 VEx\s1 US65536 I40.0.0.0 SUSEGA,ADC0,TCP4,UDP4 U41412 -> <x20>IDAAA NIana SL3 SS0 SF0 HN1 HR0 HO0 VEx\s1 US65536 I4127.0.0.1 SUSEGA,ADC0,TCP4,UDP4 U41412
+        pass SU -> <x20>SU
+        pass CT4 NIop I6::1 U61412 CT2 -> <x20>NIop
+        pass I410.0.0.1 -> <x20>I410.0.0.1
+        pass I4 -> <x20>I4
+        pass I40.0.0.00 DE0.0.0.0 -> <x20>I40.0.0.00 DE0.0.0.0
+        pass PDAAA -> <>
+    ",
+    );
 }
 
 #[test]
-fn keeps_the_first_place_and_the_last_value(rt: HostRuntime) -> Result<(), Fail> {
-    for (line, text) in [
-        ("NIa SS1 NIb", " NIb SS1"),
-        ("SU SUTCP4 SU", " SU"),
-        ("X0 A1b X0c A1 Z9", " X0c A1 Z9"),
-        ("DE\u{e9}\\s\u{1f600}", " DE\u{e9}\\s\u{1f600}"),
-    ] {
-        assert_said(&rt, rt.alloc(), line, text)?;
-    }
-    Ok(())
+fn keeps_the_first_place_and_the_last_value(rt: HostRuntime) {
+    play_user(
+        &rt,
+        r"
+        read NIa SS1 NIb -> <x20>NIb SS1
+        read SU SUTCP4 SU -> <x20>SU
+        read X0 A1b X0c A1 Z9 -> <x20>X0c A1 Z9
+        read DE<xc3><xa9>\s<xf0><x9f><x98><x80> -> <x20>DE<xc3><xa9>\s<xf0><x9f><x98><x80>
+    ",
+    );
 }
 
 #[test]
-fn tells_what_was_said(rt: HostRuntime) -> Result<(), Fail> {
-    let update = update(rt.alloc(), "NIana SU SS5 NIanna")?;
-    for (name, value) in [
-        (FieldName::nick(), Some("anna")),
-        (FieldName::support(), Some("")),
-        (FieldName::share_size(), Some("5")),
-        (FieldName::shared_files(), None),
-    ] {
-        assert!(rt; update.get(name) == value, "{name:?}");
-    }
-    assert!(rt; !update.is_empty());
-    Ok(())
+fn tells_what_was_said(rt: HostRuntime) {
+    play_user(
+        &rt,
+        "
+        nick NIana SU SS5 NIanna -> is anna
+        support NIana SU SS5 NIanna -> is <>
+        share_size NIana SU SS5 NIanna -> is 5
+        shared_files NIana SU SS5 NIanna -> none
+    ",
+    );
 }
 
 #[test]
-fn needs_no_words(rt: HostRuntime) -> Result<(), Fail> {
-    let none = read(rt.alloc(), &[]).ok().ok_or("no update")?;
-    assert!(rt; none.is_empty());
-    assert_update(&rt, rt.alloc(), &none, "")
+fn needs_no_words(rt: HostRuntime) {
+    play_user(&rt, "read <> -> <>");
 }
 
 #[test]
 fn refuses_words_without_names(rt: HostRuntime) {
-    for word in [
-        "", "N", "nI", "Ni", "1I", "N-", "\u{e9}", "N\u{e9}x", "ni\\s",
-    ] {
-        let fault = read(rt.alloc(), &["NIana", word]).err();
-        assert!(rt; fault == Some(InfFault::BadName), "{word}");
-    }
-}
-
-/// 41 words with different names.
-const NAMES: [&str; 41] = [
-    "A0", "A1", "A2", "A3", "A4", "A5", "A6", "A7", "A8", "A9", "B0", "B1", "B2", "B3", "B4", "B5",
-    "B6", "B7", "B8", "B9", "C0", "C1", "C2", "C3", "C4", "C5", "C6", "C7", "C8", "C9", "D0", "D1",
-    "D2", "D3", "D4", "D5", "D6", "D7", "D8", "D9", "E0",
-];
-
-/// The first fault of 40 of the names and then two words.
-fn fault_with(alloc: Global, more: [&'static str; 2]) -> Result<Option<InfFault>, AllocError> {
-    let mut words = Vec::with_capacity(alloc, 42)?;
-    words.extend_from_slice(&NAMES[..40])?;
-    words.extend_from_slice(&more)?;
-    Ok(read(alloc, &words).err())
-}
-
-#[test]
-fn takes_forty_names(rt: HostRuntime) -> Result<(), Fail> {
-    assert!(rt; read(rt.alloc(), &NAMES[..40]).is_ok());
-    for (more, fault) in [
-        (["A0x", "D9"], None),
-        (["A0x", "E0"], Some(InfFault::TooMany)),
-        (["E0", "e0"], Some(InfFault::BadName)),
-    ] {
-        let found = match fault_with(rt.alloc(), more) {
-            Err(_) => fault_with(rt.alloc(), more),
-            answer => answer,
-        };
-        assert!(rt; found? == fault, "{more:?}");
-    }
-    Ok(())
-}
-
-#[test]
-fn merges_what_ana_says(rt: HostRuntime) -> Result<(), Fail> {
-    let ana = merged(
+    play_user(
         &rt,
-        rt.alloc(),
-        &[
-            (
-                "IDAAA PDAAA NIana SS10 SF2 I40.0.0.0 SUTCP4,SEGA",
-                " IDAAA NIana SS10 SF2 I4127.0.0.1 SUTCP4,SEGA",
-            ),
-            (
-                "DEhi NIanna",
-                " IDAAA NIanna SS10 SF2 I4127.0.0.1 SUTCP4,SEGA DEhi",
-            ),
-            ("SF EM", " IDAAA NIanna SS10 I4127.0.0.1 SUTCP4,SEGA DEhi"),
-            ("SF7", " IDAAA NIanna SS10 I4127.0.0.1 SUTCP4,SEGA DEhi SF7"),
-            (
-                "PDAAA CT4",
-                " IDAAA NIanna SS10 I4127.0.0.1 SUTCP4,SEGA DEhi SF7",
-            ),
-        ],
-    )?;
-    for (name, value) in [
-        (FieldName::id(), Some("AAA")),
-        (FieldName::nick(), Some("anna")),
-        (FieldName::address(), Some("127.0.0.1")),
-        (FieldName::private_id(), None),
-    ] {
-        assert!(rt; ana.get(name) == value, "{name:?}");
-    }
-    Ok(())
+        r"
+        read NIana<x20> -> BadName
+        read NIana N -> BadName
+        read NIana nI -> BadName
+        read NIana Ni -> BadName
+        read NIana 1I -> BadName
+        read NIana N- -> BadName
+        read NIana <xc3><xa9> -> BadName
+        read NIana N<xc3><xa9>x -> BadName
+        read NIana ni\s -> BadName
+    ",
+    );
 }
 
 #[test]
-fn forgets_what_bob_takes_back(rt: HostRuntime) -> Result<(), Fail> {
-    let bob = merged(
+fn takes_forty_names(rt: HostRuntime) {
+    play_user(
         &rt,
-        rt.alloc(),
-        &[
-            (
-                "IDIII PDIII NIbob SS5 SF1 SUTCP4",
-                " IDIII NIbob SS5 SF1 SUTCP4",
-            ),
-            ("SU", " IDIII NIbob SS5 SF1"),
-        ],
-    )?;
-    assert!(rt; bob.get(FieldName::support()).is_none());
-    Ok(())
-}
-
-const SIX: &str = "ID1 NI1 SS1 SF1 I41 SU1";
-
-const THIRTY_FOUR: &str =
-    "X01 X11 X21 X31 X41 X51 X61 X71 X81 X91 XA1 XB1 XC1 XD1 XE1 XF1 XG1 XH1 XI1 XJ1 XK1 XL1 XM1 XN1 XO1 XP1 XQ1 XR1 XS1 XT1 XU1 XV1 XW1 XX1";
-
-const FORTY: &str =
-    " ID1 NI1 SS1 SF1 I41 SU1 X01 X11 X21 X31 X41 X51 X61 X71 X81 X91 XA1 XB1 XC1 XD1 XE1 XF1 XG1 XH1 XI1 XJ1 XK1 XL1 XM1 XN1 XO1 XP1 XQ1 XR1 XS1 XT1 XU1 XV1 XW1 XX1";
-
-#[test]
-fn holds_forty_fields(rt: HostRuntime) -> Result<(), Fail> {
-    let rows = [(SIX, " ID1 NI1 SS1 SF1 I41 SU1"), (THIRTY_FOUR, FORTY)];
-    let mut fields = merged(&rt, rt.alloc(), &rows)?;
-    for (line, fits) in [("XY1 NI2", false), ("XY1 NI ZZ", true), ("XX2", true)] {
-        let update = update(rt.alloc(), line)?;
-        assert!(rt; fields.fits(&update) == fits, "{line}");
-    }
-    let one_more = update(rt.alloc(), "XY1")?;
-    assert!(rt; fields.merge(&one_more).err() == Some(InfFault::TooMany));
-    assert_fields(&rt, rt.alloc(), &fields, FORTY)
-}
-
-fn dotted_text(alloc: Global, peer: [u8; 4]) -> Result<String, AllocError> {
-    match dotted(alloc, peer) {
-        Err(_) => dotted(alloc, peer),
-        answer => answer,
-    }
+        "
+        read A0 A1 A2 A3 A4 A5 A6 A7 A8 A9 B0 B1 B2 B3 B4 B5 B6 B7 B8 B9 C0 C1 C2 C3 C4 C5 C6 C7 C8 C9 D0 D1 D2 D3 D4 D5 D6 D7 D8 D9 -> <x20>A0 A1 A2 A3 A4 A5 A6 A7 A8 A9 B0 B1 B2 B3 B4 B5 B6 B7 B8 B9 C0 C1 C2 C3 C4 C5 C6 C7 C8 C9 D0 D1 D2 D3 D4 D5 D6 D7 D8 D9
+        read A0 A1 A2 A3 A4 A5 A6 A7 A8 A9 B0 B1 B2 B3 B4 B5 B6 B7 B8 B9 C0 C1 C2 C3 C4 C5 C6 C7 C8 C9 D0 D1 D2 D3 D4 D5 D6 D7 D8 D9 A0x D9 -> <x20>A0x A1 A2 A3 A4 A5 A6 A7 A8 A9 B0 B1 B2 B3 B4 B5 B6 B7 B8 B9 C0 C1 C2 C3 C4 C5 C6 C7 C8 C9 D0 D1 D2 D3 D4 D5 D6 D7 D8 D9
+        read A0 A1 A2 A3 A4 A5 A6 A7 A8 A9 B0 B1 B2 B3 B4 B5 B6 B7 B8 B9 C0 C1 C2 C3 C4 C5 C6 C7 C8 C9 D0 D1 D2 D3 D4 D5 D6 D7 D8 D9 A0x E0 -> TooMany
+        read A0 A1 A2 A3 A4 A5 A6 A7 A8 A9 B0 B1 B2 B3 B4 B5 B6 B7 B8 B9 C0 C1 C2 C3 C4 C5 C6 C7 C8 C9 D0 D1 D2 D3 D4 D5 D6 D7 D8 D9 E0 e0 -> BadName
+    ",
+    );
 }
 
 #[test]
-fn spells_addresses(rt: HostRuntime) -> Result<(), Fail> {
-    for (peer, text) in [
-        ([127, 0, 0, 1], "127.0.0.1"),
-        ([0, 0, 0, 0], "0.0.0.0"),
-        ([255, 10, 9, 100], "255.10.9.100"),
-    ] {
-        let dotted = dotted_text(rt.alloc(), peer)?;
-        assert!(rt; dotted.as_str() == text, "{dotted}");
-    }
-    Ok(())
+fn merges_what_ana_says(rt: HostRuntime) {
+    play_user(
+        &rt,
+        "
+        merge IDAAA PDAAA NIana SS10 SF2 I40.0.0.0 SUTCP4,SEGA -> <x20>IDAAA NIana SS10 SF2 I4127.0.0.1 SUTCP4,SEGA
+        merge DEhi NIanna -> <x20>IDAAA NIanna SS10 SF2 I4127.0.0.1 SUTCP4,SEGA DEhi
+        merge SF EM -> <x20>IDAAA NIanna SS10 I4127.0.0.1 SUTCP4,SEGA DEhi
+        merge SF7 -> <x20>IDAAA NIanna SS10 I4127.0.0.1 SUTCP4,SEGA DEhi SF7
+        merge PDAAA CT4 -> <x20>IDAAA NIanna SS10 I4127.0.0.1 SUTCP4,SEGA DEhi SF7
+        get id -> is AAA
+        get nick -> is anna
+        get address -> is 127.0.0.1
+        get private_id -> none
+    ",
+    );
+}
+
+#[test]
+fn forgets_what_bob_takes_back(rt: HostRuntime) {
+    play_user(
+        &rt,
+        "
+        merge IDIII PDIII NIbob SS5 SF1 SUTCP4 -> <x20>IDIII NIbob SS5 SF1 SUTCP4
+        merge SU -> <x20>IDIII NIbob SS5 SF1
+        get support -> none
+    ",
+    );
+}
+
+#[test]
+fn holds_forty_fields(rt: HostRuntime) {
+    play_user(
+        &rt,
+        "
+        merge ID1 NI1 SS1 SF1 I41 SU1 -> <x20>ID1 NI1 SS1 SF1 I41 SU1
+        merge X01 X11 X21 X31 X41 X51 X61 X71 X81 X91 XA1 XB1 XC1 XD1 XE1 XF1 XG1 XH1 XI1 XJ1 XK1 XL1 XM1 XN1 XO1 XP1 XQ1 XR1 XS1 XT1 XU1 XV1 XW1 XX1 -> <x20>ID1 NI1 SS1 SF1 I41 SU1 X01 X11 X21 X31 X41 X51 X61 X71 X81 X91 XA1 XB1 XC1 XD1 XE1 XF1 XG1 XH1 XI1 XJ1 XK1 XL1 XM1 XN1 XO1 XP1 XQ1 XR1 XS1 XT1 XU1 XV1 XW1 XX1
+        fits XY1 NI2 -> no
+        fits XY1 NI ZZ -> yes
+        fits XX2 -> yes
+        merge XY1 -> TooMany
+        print -> <x20>ID1 NI1 SS1 SF1 I41 SU1 X01 X11 X21 X31 X41 X51 X61 X71 X81 X91 XA1 XB1 XC1 XD1 XE1 XF1 XG1 XH1 XI1 XJ1 XK1 XL1 XM1 XN1 XO1 XP1 XQ1 XR1 XS1 XT1 XU1 XV1 XW1 XX1
+    ",
+    );
+}
+
+#[test]
+fn spells_addresses(rt: HostRuntime) {
+    play_user(
+        &rt,
+        "
+        dotted 127 0 0 1 -> 127.0.0.1
+        dotted 0 0 0 0 -> 0.0.0.0
+        dotted 255 10 9 100 -> 255.10.9.100
+    ",
+    );
 }
 
 #[test]
 fn reads_amounts(rt: HostRuntime) {
-    for (value, amount) in [
-        ("0", Some(0)),
-        ("10", Some(10)),
-        ("00000000000000000010", Some(10)),
-        ("000000000000000000010", None),
-        ("18446744073709551615", Some(18_446_744_073_709_551_615)),
-        ("18446744073709551616", None),
-        ("99999999999999999999", None),
-        ("", None),
-        ("x", None),
-        ("5x", None),
-        ("+5", None),
-        ("-5", None),
-        ("5\\s", None),
-    ] {
-        assert!(rt; shared_amount(value) == amount, "{value}");
-    }
+    play_user(
+        &rt,
+        r"
+        amount 0 -> 0
+        amount 10 -> 10
+        amount 00000000000000000010 -> 10
+        amount 000000000000000000010 -> none
+        amount 18446744073709551615 -> 18446744073709551615
+        amount 18446744073709551616 -> none
+        amount 99999999999999999999 -> none
+        amount <> -> none
+        amount x -> none
+        amount 5x -> none
+        amount +5 -> none
+        amount -5 -> none
+        amount 5\s -> none
+    ",
+    );
 }
 
 #[test]
 fn knows_names(rt: HostRuntime) {
-    for (bytes, named) in [
-        (*b"ID", true),
-        (*b"I4", true),
-        (*b"ZZ", true),
-        (*b"id", false),
-        (*b"Id", false),
-        (*b"4I", false),
-        (*b"I ", false),
-    ] {
-        let name = FieldName::new(bytes);
-        assert!(rt; name.is_some() == named, "{bytes:?}");
-        assert!(rt;
-            name.map_or(true, |name| name.bytes() == bytes),
-            "{bytes:?}"
-        );
-    }
-    assert!(rt; FieldName::new(*b"SS") == Some(FieldName::share_size()));
+    play_user(
+        &rt,
+        "
+        name ID -> ID
+        name I4 -> I4
+        name ZZ -> ZZ
+        name id -> none
+        name Id -> none
+        name 4I -> none
+        name I<x20> -> none
+        known share_size -> SS
+    ",
+    );
     merging_laws();
 }

@@ -1,116 +1,127 @@
-// Each call is made again where memory was refused, and must succeed then: the tests pass whichever growth fails.
+use crate::rows::{Part, pair, play, say, say_bytes, say_whether, twice, unknown};
 use adc_ids::{Cid, Nick, NickFault, Pid};
-use std::alloc::{AllocError, Global};
+use second_try::again;
+use std::alloc::{AllocError, AllocGlobal, Global};
+use std::io::Print;
+use std::process::Abort;
 
-fn parsed(alloc: Global, text: &str) -> Result<Nick, NickFault> {
-    match Nick::parse(alloc, text) {
-        Err(NickFault::Memory) => Nick::parse(alloc, text),
-        answer => answer,
+/// Identifiers of clients, and nicks.
+#[derive(Drop)]
+pub(crate) struct Identities;
+
+impl Part for Identities {
+    fn call<R: Abort + AllocGlobal + Print>(
+        &mut self,
+        rt: &R,
+        name: &str,
+        text: &str,
+        bytes: &[u8],
+        said: &mut Vec<u8>,
+    ) {
+        match name {
+            "identifier" => identifier(rt, bytes, said),
+            "nick" => match parsed(rt, text) {
+                Ok(nick) => say(rt, said, &key(rt, &nick)),
+                Err(NickFault::Invalid) => say(rt, said, "Invalid"),
+                Err(NickFault::Memory) => say(rt, said, "Memory"),
+            },
+            "alike" => alike(rt, text, said),
+            _ => unknown(rt, name),
+        }
     }
 }
 
-fn key(alloc: Global, nick: &Nick) -> Result<String, AllocError> {
-    match nick.key(alloc) {
-        Err(_) => nick.key(alloc),
-        answer => answer,
+/// What a text says as a client identifier, and the same as a private one.
+fn identifier(rt: &impl Abort, text: &[u8], said: &mut Vec<u8>) {
+    match (Cid::parse(text), Pid::parse(text)) {
+        (Some(cid), Some(pid)) => {
+            let bytes = cid.bytes();
+            assert!(rt; cid == Cid::from_bytes(bytes) && pid.bytes() == bytes);
+            assert!(rt; cid.text().as_slice() == text);
+            say_bytes(rt, said, &bytes);
+        }
+        (None, None) => say(rt, said, "none"),
+        _ => say(rt, said, "they differ"),
     }
 }
 
-/// So many characters U+1F600.
-fn faces(alloc: Global, count: usize) -> Result<String, AllocError> {
-    let mut text = String::with_capacity(alloc, 4 * 65)?;
-    for _ in 0..count {
-        text.push('\u{1F600}')?;
-    }
-    Ok(text)
+fn parsed(rt: &(impl Abort + AllocGlobal + Print), text: &str) -> Result<Nick, NickFault> {
+    twice!(rt; "adc_ids::Nick::parse", NickFault::Memory, Nick::parse(rt.alloc(), text))
 }
 
-fn made(alloc: Global, count: usize) -> Result<String, AllocError> {
-    match faces(alloc, count) {
-        Err(_) => faces(alloc, count),
-        answer => answer,
+/// A nick that is one.
+pub(crate) fn nick(rt: &(impl Abort + AllocGlobal + Print), text: &str) -> Nick {
+    match parsed(rt, text) {
+        Ok(nick) => nick,
+        Err(_) => unknown(rt, text),
     }
+}
+
+pub(crate) fn key(rt: &(impl Abort + AllocGlobal + Print), nick: &Nick) -> String {
+    match twice!(rt; "adc_ids::Nick::key", AllocError, nick.key(rt.alloc())) {
+        Ok(key) => key,
+        Err(_) => unknown(rt, "key"),
+    }
+}
+
+/// Whether two nicks have one key.
+fn alike(rt: &(impl Abort + AllocGlobal + Print), text: &str, said: &mut Vec<u8>) {
+    let (one, other) = pair(text, ' ');
+    let (one, other) = (key(rt, &nick(rt, one)), key(rt, &nick(rt, other)));
+    say_whether(rt, said, one.as_str() == other.as_str());
 }
 
 #[test]
 fn reads_identifiers(rt: HostRuntime) {
-    let mut three = [0; 24];
-    three[23] = 3;
-    for (text, bytes) in [
-        (b"AAAAAAAAAAAAAAAAAAAAAAAAAAAAAAAAAAAAAAA", [0; 24]),
-        (b"AAAAAAAAAAAAAAAAAAAAAAAAAAAAAAAAAAAAAAY", three),
-        (
-            b"MZXW6YTBOJTG633CMFZGM33PMJQXEZTPN5RGC4Q",
-            *b"foobarfoobarfoobarfoobar",
-        ),
-    ] {
-        let Some(cid) = Cid::parse(text) else {
-            return assert!(rt; false, "{text:?}");
-        };
-        assert!(rt; cid.bytes() == bytes, "{text:?}");
-        assert!(rt; cid.text() == *text, "{text:?}");
-        assert!(rt; cid == Cid::from_bytes(bytes), "{text:?}");
-        let Some(pid) = Pid::parse(text) else {
-            return assert!(rt; false, "{text:?}");
-        };
-        assert!(rt; pid.bytes() == bytes, "{text:?}");
-    }
-    for text in [
-        b"".as_slice(),
-        b"AAAAAAAAAAAAAAAAAAAAAAAAAAAAAAAAAAAAAA",
-        b"AAAAAAAAAAAAAAAAAAAAAAAAAAAAAAAAAAAAAAB",
-        b"AAAAAAAAAAAAAAAAAAAAAAAAAAAAAAAAAAAAAAa",
-        b"AAAAAAAAAAAAAAAAAAAAAAAAAAAAAAAAAAAAAAAA",
-    ] {
-        assert!(rt; Cid::parse(text).is_none(), "{text:?}");
-        assert!(rt; Pid::parse(text).is_none(), "{text:?}");
-    }
+    play(
+        &rt,
+        &mut Identities,
+        "
+        identifier <39*A> -> <24*x00>
+        identifier <38*A>Y -> <23*x00><x03>
+        identifier MZXW6YTBOJTG633CMFZGM33PMJQXEZTPN5RGC4Q -> <4*foobar>
+        identifier <> -> none
+        identifier <38*A> -> none
+        identifier <38*A>B -> none
+        identifier <38*A>a -> none
+        identifier <40*A> -> none
+    ",
+    );
 }
 
 #[test]
 fn takes_nicks(rt: HostRuntime) {
-    let alloc = rt.alloc();
-    for text in ["a", "!", "ana", "\u{e9}", "a\u{a0}b"] {
-        assert!(rt; parsed(alloc, text).is_ok(), "{text}");
-    }
-    for text in ["", " ", "a b", "ana ", "a\nb", "\u{0}"] {
-        assert!(rt;
-            parsed(alloc, text).err() == Some(NickFault::Invalid),
-            "{text:?}"
-        );
-    }
-    for (count, fault) in [(64, None), (65, Some(NickFault::Invalid))] {
-        let Ok(text) = made(alloc, count) else {
-            return assert!(rt; false, "no text");
-        };
-        assert!(rt; parsed(alloc, &text).err() == fault, "{count}");
-    }
+    play(
+        &rt,
+        &mut Identities,
+        "
+        nick a -> a
+        nick ! -> !
+        nick ana -> ana
+        nick \u{e9} -> \u{e9}
+        nick a\u{a0}b -> a\u{a0}b
+        nick <> -> Invalid
+        nick <x20> -> Invalid
+        nick a b -> Invalid
+        nick ana<x20> -> Invalid
+        nick a<x0a>b -> Invalid
+        nick <x00> -> Invalid
+        nick <64*\u{1F600}> -> <64*\u{1F600}>
+        nick <65*\u{1F600}> -> Invalid
+    ",
+    );
 }
 
 #[test]
 fn compares_nicks_by_their_key(rt: HostRuntime) {
-    let alloc = rt.alloc();
-    for (one, other, same) in [
-        ("\u{e9}", "e\u{301}", true),
-        ("\u{e9}", "e", false),
-        ("Ana", "ana", false),
-        ("\u{212b}", "\u{c5}", true),
-    ] {
-        let Ok(one) = parsed(alloc, one) else {
-            return assert!(rt; false, "{one}");
-        };
-        let Ok(other) = parsed(alloc, other) else {
-            return assert!(rt; false, "{other}");
-        };
-        let Ok(first) = key(alloc, &one) else {
-            return assert!(rt; false, "no key");
-        };
-        let Ok(second) = key(alloc, &other) else {
-            return assert!(rt; false, "no key");
-        };
-        assert!(rt;
-            (first.as_str() == second.as_str()) == same,
-            "{first} {second}"
-        );
-    }
+    play(
+        &rt,
+        &mut Identities,
+        "
+        alike \u{e9} e\u{301} -> yes
+        alike \u{e9} e -> no
+        alike Ana ana -> no
+        alike \u{212b} \u{c5} -> yes
+    ",
+    );
 }

@@ -1,4 +1,4 @@
-//! Worked values of the parts of a hub, which tests compare with what the parts give.
+//! Worked values of the parts of a hub, which tests compare with what the parts give; and each public call that takes memory, refused it once.
 #![tactic(auto)]
 
 #[cfg(test)]
@@ -18,7 +18,11 @@ mod logins;
 #[cfg(test)]
 mod queues;
 #[cfg(test)]
+mod refused;
+#[cfg(test)]
 mod routing;
+#[cfg(test)]
+mod rows;
 #[cfg(test)]
 mod searches;
 #[cfg(test)]

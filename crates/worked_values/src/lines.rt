@@ -1,308 +1,361 @@
-// Each call is made again where memory was refused, and must succeed then: the tests pass whichever growth fails.
+use crate::rows::{Part, number, pair, play, refused, say, say_bytes, say_whether, twice, unknown};
 use adc_line::{
     FrameFault, Framer, Kind, Line, LineFault, Next, UnescapeFault, escape, is_feature_name,
     is_feature_word, unescape,
 };
-use std::alloc::{AllocError, Global};
+use second_try::again;
+use std::alloc::{AllocError, AllocGlobal};
+use std::io::Print;
 use std::process::Abort;
-use std::test::Fail;
 
-fn parsed(alloc: Global, bytes: &[u8]) -> Result<Line, LineFault> {
-    match Line::parse(alloc, bytes) {
-        Err(LineFault::Memory) => Line::parse(alloc, bytes),
-        answer => answer,
+/// Lines and their words.
+#[derive(Drop)]
+pub(crate) struct Lines;
+
+impl Part for Lines {
+    fn call<R: Abort + AllocGlobal + Print>(
+        &mut self,
+        rt: &R,
+        name: &str,
+        text: &str,
+        bytes: &[u8],
+        said: &mut Vec<u8>,
+    ) {
+        match name {
+            "read" => match parsed(rt, bytes) {
+                Ok(line) => say_line(rt, said, &line, text),
+                Err(fault) => say(rt, said, fault_name(fault)),
+            },
+            "escape" => escaped(rt, text, said),
+            "unescape" => unescaped(rt, text, said),
+            "name" => say_whether(rt, said, is_feature_name(bytes)),
+            "word" => say_whether(rt, said, is_feature_word(bytes)),
+            _ => unknown(rt, name),
+        }
     }
 }
 
-/// `BMSG AAAB ` and then the letter `a`, in all so many bytes.
-fn chat_line(alloc: Global, length: usize) -> Result<Vec<u8>, AllocError> {
-    let mut line = Vec::new(alloc);
-    line.reserve(length)?;
-    line.extend_from_slice(b"BMSG AAAB ")?;
-    for _ in 0..length.saturating_sub(10) {
-        line.push(b'a').map_err(|_| AllocError)?;
-    }
-    Ok(line)
+fn parsed(rt: &(impl Abort + AllocGlobal + Print), bytes: &[u8]) -> Result<Line, LineFault> {
+    twice!(rt; "adc_line::Line::parse", LineFault::Memory, Line::parse(rt.alloc(), bytes))
 }
 
-fn made_line(alloc: Global, length: usize) -> Result<Vec<u8>, AllocError> {
-    match chat_line(alloc, length) {
-        Ok(line) => Ok(line),
-        Err(_) => chat_line(alloc, length),
+/// A line that is one.
+pub(crate) fn line(rt: &(impl Abort + AllocGlobal + Print), bytes: &[u8]) -> Line {
+    match parsed(rt, bytes) {
+        Ok(line) => line,
+        Err(fault) => unknown(rt, fault_name(fault)),
+    }
+}
+
+fn fault_name(fault: LineFault) -> &'static str {
+    match fault {
+        LineFault::TooLong => "TooLong",
+        LineFault::NotUtf8 => "NotUtf8",
+        LineFault::Header => "Header",
+        LineFault::Parameter => "Parameter",
+        LineFault::Escape => "Escape",
+        LineFault::Memory => "Memory",
+    }
+}
+
+/// The kind, command, sender, target and features of a line, `-` for each that it has not, and `;` before each parameter.
+fn say_line(rt: &impl Abort, said: &mut Vec<u8>, line: &Line, text: &str) {
+    assert!(rt; line.text() == text, "{text}");
+    say(rt, said, kind_name(line.kind()));
+    say(rt, said, " ");
+    say_bytes(rt, said, &line.command());
+    for sid in [line.from(), line.target()] {
+        say(rt, said, " ");
+        match sid {
+            Some(sid) => say_bytes(rt, said, &sid.text()),
+            None => say(rt, said, "-"),
+        }
+    }
+    say(rt, said, " ");
+    say(rt, said, line.features().unwrap_or("-"));
+    for word in line.params() {
+        say(rt, said, ";");
+        say(rt, said, word);
+    }
+}
+
+fn kind_name(kind: Kind) -> &'static str {
+    match kind {
+        Kind::Broadcast => "Broadcast",
+        Kind::Client => "Client",
+        Kind::Direct => "Direct",
+        Kind::Echo => "Echo",
+        Kind::Feature => "Feature",
+        Kind::Hub => "Hub",
+        Kind::Info => "Info",
+        Kind::Udp => "Udp",
+    }
+}
+
+fn escaped(rt: &(impl Abort + AllocGlobal + Print), text: &str, said: &mut Vec<u8>) {
+    match twice!(rt; "adc_line::escape", AllocError, escape(rt.alloc(), text)) {
+        Ok(word) => say(rt, said, &word),
+        Err(_) => say(rt, said, "Memory"),
+    }
+}
+
+fn unescaped(rt: &(impl Abort + AllocGlobal + Print), word: &str, said: &mut Vec<u8>) {
+    match twice!(rt; "adc_line::unescape", UnescapeFault::Memory, unescape(rt.alloc(), word)) {
+        Ok(text) => say(rt, said, &text),
+        Err(UnescapeFault::Escape) => say(rt, said, "Escape"),
+        Err(UnescapeFault::Memory) => say(rt, said, "Memory"),
+    }
+}
+
+/// A stream that is cut into lines, and the line that was cut off last, which stays where memory is refused or no line follows.
+#[derive(Drop)]
+pub(crate) struct Frames {
+    framer: Framer,
+    line: Vec<u8>,
+}
+
+impl Part for Frames {
+    fn call<R: Abort + AllocGlobal + Print>(
+        &mut self,
+        rt: &R,
+        name: &str,
+        _text: &str,
+        bytes: &[u8],
+        said: &mut Vec<u8>,
+    ) {
+        match name {
+            "feed" => self.feed(rt, bytes),
+            "next" => self.next(rt, said),
+            "pieces" => self.pieces(rt, bytes, said),
+            _ => unknown(rt, name),
+        }
+    }
+}
+
+impl Frames {
+    fn feed(&mut self, rt: &(impl Abort + Print), piece: &[u8]) {
+        let answer = match self.framer.feed(piece) {
+            Err(FrameFault::Memory) => {
+                refused(rt, "adc_line::Framer::feed", true);
+                self.framer.feed(piece)
+            }
+            answer => answer,
+        };
+        assert!(rt; answer.is_ok(), "not fed");
+    }
+
+    fn next(&mut self, rt: &(impl Abort + Print), said: &mut Vec<u8>) {
+        let before = again!(rt; self.line.clone());
+        let answer = match self.framer.next(&mut self.line) {
+            Err(FrameFault::Memory) => {
+                refused(rt, "adc_line::Framer::next", self.line == before);
+                self.framer.next(&mut self.line)
+            }
+            answer => answer,
+        };
+        match answer {
+            Ok(Next::Line) => {
+                say(rt, said, "line ");
+                say_bytes(rt, said, &self.line);
+                return;
+            }
+            Ok(Next::More) => say(rt, said, "more"),
+            Ok(Next::TooLong) => say(rt, said, "too long"),
+            Err(_) => say(rt, said, "fault"),
+        }
+        assert!(rt; self.line == before, "no line, and it changed");
+    }
+
+    /// Feeds pieces of each of some sizes of the stream, and takes all lines after each piece.
+    fn pieces(
+        &mut self,
+        rt: &(impl Abort + AllocGlobal + Print),
+        stream: &[u8],
+        said: &mut Vec<u8>,
+    ) {
+        for size in [1, 2, 7, 19, 20, 64] {
+            let mut frames = new_frames(rt);
+            for piece in stream.chunks(size) {
+                frames.feed(rt, piece);
+                frames.lines(rt, said);
+            }
+            say(rt, said, "; ");
+        }
+    }
+
+    fn lines(&mut self, rt: &(impl Abort + AllocGlobal + Print), said: &mut Vec<u8>) {
+        for _ in 0..4 {
+            let mut next = Vec::new(rt.alloc());
+            self.next(rt, &mut next);
+            if next.as_slice() == b"more".as_slice() {
+                return;
+            }
+            say_bytes(rt, said, &next);
+            say(rt, said, ", ");
+        }
+    }
+}
+
+pub(crate) fn new_frames(rt: &impl AllocGlobal) -> Frames {
+    Frames {
+        framer: Framer::new(rt.alloc()),
+        line: Vec::new(rt.alloc()),
     }
 }
 
 #[test]
-fn names_the_first_fault(rt: HostRuntime) -> Result<(), Fail> {
-    let alloc = rt.alloc();
-    for (bytes, fault) in [
-        (b"".as_slice(), LineFault::Header),
-        (b" ", LineFault::Header),
-        (b"  ", LineFault::Header),
-        (b"BMSG", LineFault::Header),
-        (b"BMSG AAA", LineFault::Header),
-        (b"bMSG AAAB hi", LineFault::Header),
-        (b"BMSG aaab hi", LineFault::Header),
-        (b"BMSGX AAAB hi", LineFault::Header),
-        (b"B1SG AAAB hi", LineFault::Header),
-        (b"AMSG AAAB hi", LineFault::Header),
-        (b"BMSG  AAAB hi", LineFault::Header),
-        (b"UMSG", LineFault::Header),
-        (b"UMSG AB1 hi", LineFault::Header),
-        (b"FSCH AAAB ANx", LineFault::Header),
-        (b"FSCH AAAB +TCP ANx", LineFault::Header),
-        (b"FSCH AAAB TCP4 ANx", LineFault::Header),
-        (b"FSCH AAAB +tcp4 ANx", LineFault::Header),
-        (b"FSCH AAAB +TCP4- ANx", LineFault::Header),
-        (b"FSCH AAAB", LineFault::Header),
-        (b"DMSG AAAB", LineFault::Header),
-        (b"DMSG AAAB hi", LineFault::Header),
-        (b"BMSG AAAB ", LineFault::Parameter),
-        (b"BMSG AAAB  hi", LineFault::Parameter),
-        (b"BMSG AAAB h\ni", LineFault::Parameter),
-        (b"HSUP  ADBASE", LineFault::Parameter),
-        (b"BMSG AAAB a\\xb ", LineFault::Parameter),
-        (b"EMSG AAAB AAAC \\", LineFault::Escape),
-        (b"BMSG AAAB a\\xb", LineFault::Escape),
-        (b"BMSG AAAB \\\\\\", LineFault::Escape),
-        (b"BMSG AAAB \xff", LineFault::NotUtf8),
-        (b"\xff", LineFault::NotUtf8),
-        (b"BMSG AAAB \xc3", LineFault::NotUtf8),
-    ] {
-        let found = parsed(alloc, bytes).err();
-        assert!(rt; found == Some(fault), "{bytes:?} for {fault:?}");
-    }
-    let mut long = made_line(alloc, 65_537)?;
-    assert!(rt; parsed(alloc, &long).err() == Some(LineFault::TooLong));
-    long.truncate(65_536);
-    assert!(rt; parsed(alloc, &long).is_ok());
-    Ok(())
-}
-
-/// Which words a line has, in the order type, command, sender, target, features, parameters.
-type Row<'a> = (
-    &'a str,
-    Kind,
-    &'a [u8; 3],
-    Option<[u8; 4]>,
-    Option<[u8; 4]>,
-    Option<&'a str>,
-);
-
-fn assert_read(rt: &impl Abort, alloc: Global, row: Row<'_>, params: &[&str]) {
-    let (text, kind, command, from, target, features) = row;
-    let Ok(line) = parsed(alloc, text.as_bytes()) else {
-        return assert!(rt; false, "{text}");
-    };
-    assert!(rt; line.text() == text, "{text}");
-    assert!(rt; line.kind() == kind, "{text}");
-    assert!(rt; line.command() == *command, "{text}");
-    assert!(rt; line.from().map(|sid| sid.text()) == from, "{text}");
-    assert!(rt; line.target().map(|sid| sid.text()) == target, "{text}");
-    assert!(rt; line.features() == features, "{text}");
-    let mut words = line.params();
-    for param in params {
-        assert!(rt; words.next() == Some(*param), "{text}");
-    }
-    assert!(rt; words.next().is_none(), "{text}");
+fn names_the_first_fault(rt: HostRuntime) {
+    play(
+        &rt,
+        &mut Lines,
+        r"
+        read <> -> Header
+        read <x20> -> Header
+        read <x20><x20> -> Header
+        read BMSG -> Header
+        read BMSG AAA -> Header
+        read bMSG AAAB hi -> Header
+        read BMSG aaab hi -> Header
+        read BMSGX AAAB hi -> Header
+        read B1SG AAAB hi -> Header
+        read AMSG AAAB hi -> Header
+        read BMSG  AAAB hi -> Header
+        read UMSG -> Header
+        read UMSG AB1 hi -> Header
+        read FSCH AAAB ANx -> Header
+        read FSCH AAAB +TCP ANx -> Header
+        read FSCH AAAB TCP4 ANx -> Header
+        read FSCH AAAB +tcp4 ANx -> Header
+        read FSCH AAAB +TCP4- ANx -> Header
+        read FSCH AAAB -> Header
+        read DMSG AAAB -> Header
+        read DMSG AAAB hi -> Header
+        read BMSG AAAB<x20> -> Parameter
+        read BMSG AAAB  hi -> Parameter
+        read BMSG AAAB h<x0a>i -> Parameter
+        read HSUP  ADBASE -> Parameter
+        read BMSG AAAB a\xb<x20> -> Parameter
+        read EMSG AAAB AAAC \ -> Escape
+        read BMSG AAAB a\xb -> Escape
+        read BMSG AAAB \\\ -> Escape
+        read BMSG AAAB <xff> -> NotUtf8
+        read <xff> -> NotUtf8
+        read BMSG AAAB <xc3> -> NotUtf8
+        read BMSG AAAB <65527*a> -> TooLong
+        read BMSG AAAB <65526*a> -> Broadcast MSG AAAB - -;<65526*a>
+    ",
+    );
 }
 
 #[test]
 fn reads_each_type(rt: HostRuntime) {
-    let alloc = rt.alloc();
-    let own = Some(*b"AAAB");
-    let row = ("BMSG AAAB", Kind::Broadcast, b"MSG", own, None, None);
-    assert_read(&rt, alloc, row, &[]);
-    let row = (
-        "BMSG AAAB hi\\sthere \u{e9} PM\r",
-        Kind::Broadcast,
-        b"MSG",
-        own,
-        None,
-        None,
+    play(
+        &rt,
+        &mut Lines,
+        r"
+        read BMSG AAAB -> Broadcast MSG AAAB - -
+        read BMSG AAAB hi\sthere <xc3><xa9> PM<x0d> -> Broadcast MSG AAAB - -;hi\sthere;<xc3><xa9>;PM<x0d>
+        read BM1G AAAB x -> Broadcast M1G AAAB - -;x
+        read CSTA 000 ok -> Client STA - - -;000;ok
+        read DMSG AAAB AAAC yo -> Direct MSG AAAB AAAC -;yo
+        read EMSG AAAB 7777 \\ -> Echo MSG AAAB 7777 -;\\
+        read FSCH AAAB +TCP4-NAT0 ANx TO1 -> Feature SCH AAAB - +TCP4-NAT0;ANx;TO1
+        read HSUP ADBASE ADTIGR -> Hub SUP - - -;ADBASE;ADTIGR
+        read ISID AAAB -> Info SID - - -;AAAB
+        read UMSG ABC hi -> Udp MSG - - -;hi
+    ",
     );
-    assert_read(&rt, alloc, row, &["hi\\sthere", "\u{e9}", "PM\r"]);
-    let row = ("BM1G AAAB x", Kind::Broadcast, b"M1G", own, None, None);
-    assert_read(&rt, alloc, row, &["x"]);
-    let row = ("CSTA 000 ok", Kind::Client, b"STA", None, None, None);
-    assert_read(&rt, alloc, row, &["000", "ok"]);
-    let row = (
-        "DMSG AAAB AAAC yo",
-        Kind::Direct,
-        b"MSG",
-        own,
-        Some(*b"AAAC"),
-        None,
-    );
-    assert_read(&rt, alloc, row, &["yo"]);
-    let row = (
-        "EMSG AAAB 7777 \\\\",
-        Kind::Echo,
-        b"MSG",
-        own,
-        Some(*b"7777"),
-        None,
-    );
-    assert_read(&rt, alloc, row, &["\\\\"]);
-    let features = Some("+TCP4-NAT0");
-    let row = (
-        "FSCH AAAB +TCP4-NAT0 ANx TO1",
-        Kind::Feature,
-        b"SCH",
-        own,
-        None,
-        features,
-    );
-    assert_read(&rt, alloc, row, &["ANx", "TO1"]);
-    let row = ("HSUP ADBASE ADTIGR", Kind::Hub, b"SUP", None, None, None);
-    assert_read(&rt, alloc, row, &["ADBASE", "ADTIGR"]);
-    let row = ("ISID AAAB", Kind::Info, b"SID", None, None, None);
-    assert_read(&rt, alloc, row, &["AAAB"]);
-    let row = ("UMSG ABC hi", Kind::Udp, b"MSG", None, None, None);
-    assert_read(&rt, alloc, row, &["hi"]);
-}
-
-fn spelling(alloc: Global, text: &str) -> Result<String, AllocError> {
-    match escape(alloc, text) {
-        Err(_) => escape(alloc, text),
-        answer => answer,
-    }
-}
-
-fn meaning(alloc: Global, word: &str) -> Result<String, UnescapeFault> {
-    match unescape(alloc, word) {
-        Err(UnescapeFault::Memory) => unescape(alloc, word),
-        answer => answer,
-    }
-}
-
-/// The text is spelt as the word, and the word is read as the text.
-fn assert_spelt(rt: &impl Abort, alloc: Global, text: &str, word: &str) -> Result<(), Fail> {
-    let escaped = spelling(alloc, text)?;
-    assert!(rt; escaped.as_str() == word, "{text}");
-    let back = meaning(alloc, word)?;
-    assert!(rt; back.as_str() == text, "{word}");
-    Ok(())
 }
 
 #[test]
-fn escapes_and_back(rt: HostRuntime) -> Result<(), Fail> {
-    let alloc = rt.alloc();
-    for (text, word) in [
-        ("", ""),
-        ("hi", "hi"),
-        ("adc-hub 1.0", "adc-hub\\s1.0"),
-        ("a\nb", "a\\nb"),
-        ("\\", "\\\\"),
-        (" \n\\", "\\s\\n\\\\"),
-        ("\\s", "\\\\s"),
-        ("\u{e9} \u{1f600}", "\u{e9}\\s\u{1f600}"),
-    ] {
-        assert_spelt(&rt, alloc, text, word)?;
-    }
-    for word in ["\\", "a\\x", "\\S", "a b", "a\nb", "\\\\\\"] {
-        let fault = meaning(alloc, word).err();
-        assert!(rt; fault == Some(UnescapeFault::Escape), "{word}");
-    }
-    Ok(())
-}
-
-fn fed(framer: &mut Framer, piece: &[u8]) -> Result<(), FrameFault> {
-    match framer.feed(piece) {
-        Err(FrameFault::Memory) => framer.feed(piece),
-        answer => answer,
-    }
-}
-
-/// The next line, into a vector that holds `held` and still does where memory is refused.
-fn next_line(
-    rt: &impl Abort,
-    framer: &mut Framer,
-    out: &mut Vec<u8>,
-    held: &[u8],
-) -> Result<Next, FrameFault> {
-    match framer.next(out) {
-        Err(FrameFault::Memory) => {
-            assert!(rt; out.as_slice() == held);
-            framer.next(out)
-        }
-        answer => answer,
-    }
+fn escapes_and_back(rt: HostRuntime) {
+    play(
+        &rt,
+        &mut Lines,
+        r"
+        escape <> -> <>
+        escape hi -> hi
+        escape adc-hub 1.0 -> adc-hub\s1.0
+        escape a<x0a>b -> a\nb
+        escape \ -> \\
+        escape <x20><x0a>\ -> \s\n\\
+        escape \s -> \\s
+        escape <xc3><xa9> <xf0><x9f><x98><x80> -> <xc3><xa9>\s<xf0><x9f><x98><x80>
+        unescape <> -> <>
+        unescape hi -> hi
+        unescape adc-hub\s1.0 -> adc-hub 1.0
+        unescape a\nb -> a<x0a>b
+        unescape \\ -> \
+        unescape \s\n\\ -> <x20><x0a>\
+        unescape \\s -> \s
+        unescape <xc3><xa9>\s<xf0><x9f><x98><x80> -> <xc3><xa9> <xf0><x9f><x98><x80>
+        unescape \ -> Escape
+        unescape a\x -> Escape
+        unescape \S -> Escape
+        unescape a b -> Escape
+        unescape a<x0a>b -> Escape
+        unescape \\\ -> Escape
+    ",
+    );
 }
 
 #[test]
-fn frames_however_cut(rt: HostRuntime) -> Result<(), Fail> {
-    let stream = b"HSUP ADBASE ADTIGR\n\nBMSG AAAB hi\nrest".as_slice();
-    let lines = [b"HSUP ADBASE ADTIGR".as_slice(), b"", b"BMSG AAAB hi"];
-    for size in [1, 2, 7, 19, 20, 64] {
-        let mut framer = Framer::new(rt.alloc());
-        let mut out = Vec::new(rt.alloc());
-        let mut held = b"".as_slice();
-        let mut expected = lines.iter();
-        for piece in stream.chunks(size) {
-            fed(&mut framer, piece)?;
-            for _ in 0..4 {
-                if next_line(&rt, &mut framer, &mut out, held)? != Next::Line {
-                    break;
-                }
-                held = expected.next().copied().ok_or("one line too many")?;
-                assert!(rt; out.as_slice() == held, "{size}");
-            }
-        }
-        assert!(rt; expected.next().is_none(), "{size}");
-        assert!(rt; out.as_slice() == held, "{size}");
-    }
-    Ok(())
+fn frames_however_cut(rt: HostRuntime) {
+    play(
+        &rt,
+        &mut new_frames(&rt),
+        "
+        pieces HSUP ADBASE ADTIGR<x0a><x0a>BMSG AAAB hi<x0a>rest -> <6*line HSUP ADBASE ADTIGR, line , line BMSG AAAB hi, ; >
+    ",
+    );
 }
 
 #[test]
-fn frames_no_line_that_is_too_long(rt: HostRuntime) -> Result<(), Fail> {
-    let alloc = rt.alloc();
-    let line = made_line(alloc, 65_536)?;
-    let mut framer = Framer::new(alloc);
-    let mut out = Vec::new(alloc);
-    fed(&mut framer, &line)?;
-    assert!(rt; next_line(&rt, &mut framer, &mut out, b"")? == Next::More);
-    fed(&mut framer, b"\n")?;
-    assert!(rt; next_line(&rt, &mut framer, &mut out, b"")? == Next::Line);
-    assert!(rt; out == line);
-    fed(&mut framer, &line)?;
-    fed(&mut framer, b"a")?;
-    assert!(rt; next_line(&rt, &mut framer, &mut out, &line)? == Next::TooLong);
-    fed(&mut framer, b"\nHSUP\n")?;
-    assert!(rt; next_line(&rt, &mut framer, &mut out, &line)? == Next::TooLong);
-    assert!(rt; out == line);
-    Ok(())
+fn frames_no_line_that_is_too_long(rt: HostRuntime) {
+    play(
+        &rt,
+        &mut new_frames(&rt),
+        "
+        feed BMSG AAAB <65526*a> -> <>
+        next -> more
+        feed <x0a> -> <>
+        next -> line BMSG AAAB <65526*a>
+        feed BMSG AAAB <65526*a> -> <>
+        feed a -> <>
+        next -> too long
+        feed <x0a>HSUP<x0a> -> <>
+        next -> too long
+    ",
+    );
 }
 
 #[test]
-fn knows_the_names_of_features(rt: HostRuntime) -> Result<(), Fail> {
-    for name in [b"TCP4".as_slice(), b"NAT0", b"A000", b"ZZZZ"] {
-        assert!(rt; is_feature_name(name), "{name:?}");
-    }
-    for name in [
-        b"".as_slice(),
-        b"TCP",
-        b"TCP4X",
-        b"tcp4",
-        b"0TCP",
-        b"TCP-",
-        b"+TCP4",
-    ] {
-        assert!(rt; !is_feature_name(name), "{name:?}");
-    }
-    for word in [b"+TCP4".as_slice(), b"-NAT0", b"+TCP4-NAT0", b"+SEGA-SEGA"] {
-        assert!(rt; is_feature_word(word), "{word:?}");
-    }
-    for word in [
-        b"".as_slice(),
-        b"TCP4",
-        b"+tcp4",
-        b"+TCP",
-        b"+TCP4-",
-        b"+TCP4,NAT0",
-    ] {
-        assert!(rt; !is_feature_word(word), "{word:?}");
-    }
-    Ok(())
+fn knows_the_names_of_features(rt: HostRuntime) {
+    play(
+        &rt,
+        &mut Lines,
+        "
+        name TCP4 -> yes
+        name NAT0 -> yes
+        name A000 -> yes
+        name ZZZZ -> yes
+        name <> -> no
+        name TCP -> no
+        name TCP4X -> no
+        name tcp4 -> no
+        name 0TCP -> no
+        name TCP- -> no
+        name +TCP4 -> no
+        word +TCP4 -> yes
+        word -NAT0 -> yes
+        word +TCP4-NAT0 -> yes
+        word +SEGA-SEGA -> yes
+        word <> -> no
+        word TCP4 -> no
+        word +tcp4 -> no
+        word +TCP -> no
+        word +TCP4- -> no
+        word +TCP4,NAT0 -> no
+    ",
+    );
 }

@@ -1,32 +1,186 @@
-// Each call is made again where memory was refused, and must succeed then: the tests pass whichever growth fails.
 ghost use Rattle.std.specs.Prelude.{◌≤◌};
 
+use crate::rows::{
+    Part, number, pair, play, refused, say, say_bytes, say_number, small, twice, unknown,
+};
 use adc_base32::Sid;
 use bytes::Bytes;
 use outboxes::{Batch, Outbox, OutboxRefused, PLACE_BYTES, PushRefused, TakeRefused, Taken};
-use std::alloc::{AllocError, Global};
+use second_try::again;
+use std::alloc::{AllocError, AllocGlobal, Global};
+use std::io::Print;
 use std::mem::size_of;
-use std::test::Fail;
+use std::process::Abort;
 
-fn outbox(alloc: Global, cap: usize, bytes: usize) -> Result<Outbox, OutboxRefused> {
-    match Outbox::new(alloc, cap, bytes) {
-        Err(OutboxRefused::Memory) => Outbox::new(alloc, cap, bytes),
-        answer => answer,
+/// An outbox, and all that was taken out of it.
+#[derive(Drop)]
+pub(crate) struct Queue {
+    outbox: Outbox,
+    taken: Vec<u8>,
+}
+
+impl Part for Queue {
+    fn call<R: Abort + AllocGlobal + Print>(
+        &mut self,
+        rt: &R,
+        name: &str,
+        text: &str,
+        _bytes: &[u8],
+        said: &mut Vec<u8>,
+    ) {
+        match name {
+            "room" => self.outbox = room(rt, text),
+            "shares" => self.outbox.give(batch(rt, text)),
+            "shares_again" => self.outbox.give(copied(rt, &batch(rt, text))),
+            "quits" => self.outbox.give_quit(sid(rt, small(rt, text))),
+            "fill" => self.fill(rt, text),
+            "takes" => return self.takes(rt, number(rt, text) as usize, said),
+            "drains" => return self.drains(rt, said),
+            _ => unknown(rt, name),
+        }
+        self.say_waiting(rt, said);
     }
 }
 
-fn shared(alloc: Global, text: &[u8]) -> Result<Bytes, AllocError> {
-    match Bytes::copy_from_slice(alloc, text) {
-        Ok(line) => Ok(line),
-        Err(AllocError) => Bytes::copy_from_slice(alloc, text),
+fn sid(rt: &impl Abort, number: u32) -> Sid {
+    match Sid::from_u32(number) {
+        Some(sid) => sid,
+        None => unknown(rt, "sid"),
     }
 }
 
-/// A line of so many bytes: letters and then a line feed.
-fn long_line(alloc: Global, length: usize) -> Result<Bytes, AllocError> {
-    match letters(alloc, length) {
-        Ok(line) => Ok(line),
-        Err(AllocError) => letters(alloc, length),
+/// An outbox for so many lines and bytes.
+fn room(rt: &(impl Abort + AllocGlobal + Print), text: &str) -> Outbox {
+    let (cap, bytes) = pair(text, ' ');
+    outbox(rt, number(rt, cap) as usize, number(rt, bytes) as usize)
+}
+
+pub(crate) fn outbox(rt: &(impl Abort + AllocGlobal + Print), cap: usize, bytes: usize) -> Outbox {
+    match twice!(rt; "outboxes::Outbox::new", OutboxRefused::Memory, Outbox::new(rt.alloc(), cap, bytes))
+    {
+        Ok(outbox) => outbox,
+        Err(_) => unknown(rt, "room"),
+    }
+}
+
+/// Lines, each with its line feed, between `;`.
+fn batch(rt: &(impl Abort + AllocGlobal + Print), lines: &str) -> Batch {
+    let mut batch = Batch::new(rt.alloc());
+    for line in lines.split(';') {
+        if !line.is_empty() {
+            push(rt, &mut batch, &ended(rt, line));
+        }
+    }
+    batch
+}
+
+fn ended(rt: &(impl Abort + AllocGlobal), line: &str) -> Bytes {
+    let mut text = Vec::new(rt.alloc());
+    say(rt, &mut text, line);
+    say(rt, &mut text, "\n");
+    again!(rt; Bytes::copy_from_slice(rt.alloc(), &text))
+}
+
+fn push(rt: &(impl Abort + Print), batch: &mut Batch, line: &Bytes) {
+    let was_empty = batch.is_empty();
+    let first = again!(rt; line.clone());
+    if batch.push(first).is_err() {
+        refused(rt, "outboxes::Batch::push", batch.is_empty() == was_empty);
+        let second = again!(rt; line.clone());
+        assert!(rt; batch.push(second).is_ok(), "not pushed");
+    }
+}
+
+/// A batch of the same lines.
+fn copied(rt: &(impl Abort + AllocGlobal + Print), batch: &Batch) -> Batch {
+    let mut copy = Batch::new(rt.alloc());
+    if copy.push_all(batch).is_err() {
+        refused(rt, "outboxes::Batch::push_all", copy.is_empty());
+        assert!(rt; copy.push_all(batch).is_ok(), "not pushed");
+    }
+    copy
+}
+
+impl Queue {
+    fn say_waiting(&self, rt: &(impl Abort + AllocGlobal), said: &mut Vec<u8>) {
+        say_number(rt, said, self.outbox.waiting() as u128);
+        if self.outbox.lagging() {
+            say(rt, said, " lagging");
+        }
+    }
+
+    /// So many lines, which all that was taken so far stands behind.
+    fn takes(&mut self, rt: &(impl Abort + AllocGlobal + Print), count: usize, said: &mut Vec<u8>) {
+        let ended = self.take(rt, count, said);
+        say(rt, said, if ended { " last;" } else { ";" });
+        say_bytes(rt, said, &self.taken);
+    }
+
+    /// Takes, and tells how many lines it were; whether none will follow.
+    fn take(
+        &mut self,
+        rt: &(impl Abort + AllocGlobal + Print),
+        count: usize,
+        said: &mut Vec<u8>,
+    ) -> bool {
+        if count < 1 || count > 256 {
+            unknown(rt, "takes");
+        }
+        let Taken { lines, ended } = self.take_some(rt, count);
+        say_number(rt, said, lines as u128);
+        ended
+    }
+
+    /// Where memory is refused all is as before, and it takes again.
+    fn take_some(&mut self, rt: &(impl Abort + Print), count: usize) -> Taken
+        requires some { 1 ≤ count }
+        requires few { count ≤ 256 }
+    {
+        let (waiting, lagging, length) = (
+            self.outbox.waiting(),
+            self.outbox.lagging(),
+            self.taken.len(),
+        );
+        let answer = match self.outbox.take(count, &mut self.taken) {
+            Err(TakeRefused::Memory) => {
+                let same = self.outbox.waiting() == waiting && self.outbox.lagging() == lagging;
+                refused(
+                    rt,
+                    "outboxes::Outbox::take",
+                    same && self.taken.len() == length,
+                );
+                self.outbox.take(count, &mut self.taken)
+            }
+            answer => answer,
+        };
+        match answer {
+            Ok(taken) => taken,
+            Err(_) => unknown(rt, "takes"),
+        }
+    }
+
+    /// Gives a line of so many bytes, letters and a line feed, so many times, to an outbox for 1,024 lines of 1,048,576 bytes.
+    fn fill(&mut self, rt: &(impl Abort + AllocGlobal + Print), text: &str) {
+        let (length, times) = pair(text, ' ');
+        let line = again!(rt; letters(rt.alloc(), number(rt, length) as usize));
+        self.outbox = outbox(rt, 1024, 1_048_576);
+        for _ in 0..number(rt, times) {
+            let mut batch = Batch::new(rt.alloc());
+            push(rt, &mut batch, &line);
+            self.outbox.give(batch);
+        }
+    }
+
+    /// Takes four times as much as it may; how many lines, and how many bytes in all.
+    fn drains(&mut self, rt: &(impl Abort + AllocGlobal + Print), said: &mut Vec<u8>) {
+        self.taken.clear();
+        for _ in 0..4 {
+            if self.take(rt, 256, said) {
+                say(rt, said, " last");
+            }
+        }
+        say(rt, said, ";");
+        say_number(rt, said, self.taken.len() as u128);
     }
 }
 
@@ -37,208 +191,128 @@ fn letters(alloc: Global, length: usize) -> Result<Bytes, AllocError> {
     Ok(Bytes::from_vec(line)?)
 }
 
-/// Pushes, and once more where memory was refused.
-fn push(batch: &mut Batch, line: &Bytes) -> Result<(), Fail> {
-    if batch.push(line.clone()?) == Err(PushRefused::Memory) {
-        batch.push(line.clone()?)?;
-    }
-    Ok(())
-}
-
-fn batch(alloc: Global, lines: &[&[u8]]) -> Result<Batch, Fail> {
-    let mut batch = Batch::new(alloc);
-    for line in lines {
-        push(&mut batch, &shared(alloc, line)?)?;
-    }
-    Ok(batch)
-}
-
-/// Takes, and once more where memory was refused; then all has to be as it was.
-fn take(outbox: &mut Outbox, k: usize, out: &mut Vec<u8>) -> Result<Taken, Fail>
-    requires some { 1 ≤ k }
-    requires few { k ≤ 256 }
-{
-    let (waiting, lagging, length) = (outbox.waiting(), outbox.lagging(), out.len());
-    match outbox.take(k, out) {
-        Err(TakeRefused::Memory) => {
-            if outbox.waiting() != waiting || outbox.lagging() != lagging || out.len() != length {
-                return Err(Fail::new("a refused take changed something"));
-            }
-            Ok(outbox.take(k, out)?)
-        }
-        answer => Ok(answer?),
-    }
-}
-
-#[test]
-fn adds_a_share_whole_or_not_at_all(rt: HostRuntime) -> Result<(), Fail> {
-    let alloc = rt.alloc();
-    let mut outbox = outbox(alloc, 2, 1000)?;
-    outbox.give(batch(alloc, &[b"BMSG AAAB a\n"])?);
-    assert!(rt; outbox.waiting() == 1 && !outbox.lagging());
-    outbox.give(batch(alloc, &[b"BMSG AAAB b\n", b"BMSG AAAB c\n"])?);
-    assert!(rt; outbox.waiting() == 1 && outbox.lagging());
-    outbox.give(batch(alloc, &[b"BMSG AAAB d\n"])?);
-    outbox.give(batch(alloc, &[])?);
-    if let Some(sid) = Sid::from_u32(1) {
-        outbox.give_quit(sid);
-    }
-    let mut out = Vec::new(alloc);
-    let taken = take(&mut outbox, 1, &mut out)?;
-    assert!(rt;
-        taken
-            == Taken {
-                lines: 1,
-                ended: true
-            }
-    );
-    assert!(rt; out.as_slice() == b"BMSG AAAB a\n".as_slice());
-    assert!(rt; outbox.waiting() == 0 && outbox.lagging());
-    Ok(())
-}
-
-#[test]
-fn writes_quits_as_lines(rt: HostRuntime) -> Result<(), Fail> {
-    let alloc = rt.alloc();
-    let mut outbox = outbox(alloc, 4, 1000)?;
-    for text in [b"AAAB", b"AAAC"] {
-        if let Some(sid) = Sid::parse(text) {
-            outbox.give_quit(sid);
-        }
-    }
-    outbox.give(batch(alloc, &[b"BMSG AAAB hi\n", b"ISTA 000 Done\n"])?);
-    assert!(rt; outbox.waiting() == 4);
-    let mut out = Vec::new(alloc);
-    for (k, lines, all) in [
-        (1, 1, b"IQUI AAAB\n".as_slice()),
-        (2, 2, b"IQUI AAAB\nIQUI AAAC\nBMSG AAAB hi\n"),
-        (
-            256,
-            1,
-            b"IQUI AAAB\nIQUI AAAC\nBMSG AAAB hi\nISTA 000 Done\n",
-        ),
-        (
-            256,
-            0,
-            b"IQUI AAAB\nIQUI AAAC\nBMSG AAAB hi\nISTA 000 Done\n",
-        ),
-    ] {
-        let taken = take(&mut outbox, k, &mut out)?;
-        assert!(rt;
-            taken
-                == Taken {
-                    lines,
-                    ended: false
-                },
-            "{k}"
-        );
-        assert!(rt; out.as_slice() == all, "{k}");
-    }
-    Ok(())
-}
-
-#[test]
-fn counts_ten_bytes_for_a_quit(rt: HostRuntime) -> Result<(), Fail> {
-    let alloc = rt.alloc();
-    let Some(sid) = Sid::from_u32(1) else {
-        return Ok(());
+pub(crate) fn play_queue<R: Abort + AllocGlobal + Print>(rt: &R, rows: &str) {
+    let outbox = outbox(rt, 1, 1);
+    let mut queue = Queue {
+        outbox,
+        taken: Vec::new(rt.alloc()),
     };
+    play(rt, &mut queue, rows);
+}
+
+#[test]
+fn adds_a_share_whole_or_not_at_all(rt: HostRuntime) {
+    play_queue(
+        &rt,
+        "
+        room 2 1000 -> 0
+        shares BMSG AAAB a -> 1
+        shares BMSG AAAB b;BMSG AAAB c -> 1 lagging
+        shares BMSG AAAB d -> 1 lagging
+        shares <> -> 1 lagging
+        quits 1 -> 1 lagging
+        takes 1 -> 1 last;BMSG AAAB a<x0a>
+        shares <> -> 0 lagging
+    ",
+    );
+}
+
+#[test]
+fn writes_quits_as_lines(rt: HostRuntime) {
+    play_queue(
+        &rt,
+        "
+        room 4 1000 -> 0
+        quits 1 -> 1
+        quits 2 -> 2
+        shares BMSG AAAB hi;ISTA 000 Done -> 4
+        takes 1 -> 1;IQUI AAAB<x0a>
+        takes 2 -> 2;IQUI AAAB<x0a>IQUI AAAC<x0a>BMSG AAAB hi<x0a>
+        takes 256 -> 1;IQUI AAAB<x0a>IQUI AAAC<x0a>BMSG AAAB hi<x0a>ISTA 000 Done<x0a>
+        takes 256 -> 0;IQUI AAAB<x0a>IQUI AAAC<x0a>BMSG AAAB hi<x0a>ISTA 000 Done<x0a>
+    ",
+    );
+}
+
+#[test]
+fn counts_ten_bytes_for_a_quit(rt: HostRuntime) {
     // How many lines and bytes may wait, and how many of three quits do.
-    for (cap, bytes, waiting) in [
-        (2, 10, 1),
-        (2, 9, 0),
-        (2, 19, 1),
-        (2, 20, 2),
-        (1, 20, 1),
-        (3, 30, 3),
-    ] {
-        let mut outbox = outbox(alloc, cap, bytes)?;
-        for _ in 0..3 {
-            outbox.give_quit(sid);
-        }
-        assert!(rt; outbox.waiting() == waiting, "{cap} lines, {bytes} bytes");
-        assert!(rt;
-            outbox.lagging() == (waiting < 3),
-            "{cap} lines, {bytes} bytes"
-        );
-    }
-    Ok(())
+    play_queue(
+        &rt,
+        "
+        room 2 10 -> 0
+        quits 1 -> 1
+        quits 1 -> 1 lagging
+        quits 1 -> 1 lagging
+        room 2 9 -> 0
+        quits 1 -> 0 lagging
+        quits 1 -> 0 lagging
+        quits 1 -> 0 lagging
+        room 2 19 -> 0
+        quits 1 -> 1
+        quits 1 -> 1 lagging
+        quits 1 -> 1 lagging
+        room 2 20 -> 0
+        quits 1 -> 1
+        quits 1 -> 2
+        quits 1 -> 2 lagging
+        room 1 20 -> 0
+        quits 1 -> 1
+        quits 1 -> 1 lagging
+        quits 1 -> 1 lagging
+        room 3 30 -> 0
+        quits 1 -> 1
+        quits 1 -> 2
+        quits 1 -> 3
+    ",
+    );
 }
 
 #[test]
-fn has_room_again_after_a_take(rt: HostRuntime) -> Result<(), Fail> {
-    let alloc = rt.alloc();
-    let mut outbox = outbox(alloc, 2, 24)?;
-    let mut out = Vec::new(alloc);
-    for _ in 0..5 {
-        outbox.give(batch(alloc, &[b"BMSG AAAB a\n", b"BMSG AAAB b\n"])?);
-        let taken = take(&mut outbox, 2, &mut out)?;
-        assert!(rt;
-            taken
-                == Taken {
-                    lines: 2,
-                    ended: false
-                }
-        );
-    }
-    assert!(rt; out.len() == 120 && !outbox.lagging());
-    Ok(())
-}
-
-/// Gives a line so many times, and takes after all.
-fn fill(alloc: Global, length: usize, times: u64) -> Result<Outbox, Fail> {
-    let line = long_line(alloc, length)?;
-    let mut outbox = outbox(alloc, 1024, 1_048_576)?;
-    for _ in 0..times {
-        let mut batch = Batch::new(alloc);
-        push(&mut batch, &line)?;
-        outbox.give(batch);
-    }
-    Ok(outbox)
+fn has_room_again_after_a_take(rt: HostRuntime) {
+    play_queue(
+        &rt,
+        "
+        room 2 24 -> 0
+        shares BMSG AAAB a;BMSG AAAB b -> 2
+        takes 2 -> 2;BMSG AAAB a<x0a>BMSG AAAB b<x0a>
+        shares BMSG AAAB a;BMSG AAAB b -> 2
+        takes 2 -> 2;BMSG AAAB a<x0a>BMSG AAAB b<x0a>BMSG AAAB a<x0a>BMSG AAAB b<x0a>
+        shares BMSG AAAB a;BMSG AAAB b -> 2
+        takes 2 -> 2;BMSG AAAB a<x0a>BMSG AAAB b<x0a>BMSG AAAB a<x0a>BMSG AAAB b<x0a>BMSG AAAB a<x0a>BMSG AAAB b<x0a>
+        shares BMSG AAAB a;BMSG AAAB b -> 2
+        takes 2 -> 2;BMSG AAAB a<x0a>BMSG AAAB b<x0a>BMSG AAAB a<x0a>BMSG AAAB b<x0a>BMSG AAAB a<x0a>BMSG AAAB b<x0a>BMSG AAAB a<x0a>BMSG AAAB b<x0a>
+        shares BMSG AAAB a;BMSG AAAB b -> 2
+        takes 2 -> 2;BMSG AAAB a<x0a>BMSG AAAB b<x0a>BMSG AAAB a<x0a>BMSG AAAB b<x0a>BMSG AAAB a<x0a>BMSG AAAB b<x0a>BMSG AAAB a<x0a>BMSG AAAB b<x0a>BMSG AAAB a<x0a>BMSG AAAB b<x0a>
+    ",
+    );
 }
 
 #[test]
-fn holds_a_mebibyte_or_1024_lines(rt: HostRuntime) -> Result<(), Fail> {
-    let alloc = rt.alloc();
-    // The bytes of each line with its line feed, how many are given, how many wait, and their bytes.
-    for (length, times, waiting, bytes) in [
-        (65_537, 16, 15, 983_055),
-        (65_536, 16, 16, 1_048_576),
-        (1024, 1024, 1024, 1_048_576),
-        (1024, 1025, 1024, 1_048_576),
-        (12, 1024, 1024, 12_288),
-        (12, 1025, 1024, 12_288),
-    ] {
-        let mut outbox = fill(alloc, length, times)?;
-        assert!(rt; outbox.waiting() == waiting, "{times} lines of {length}");
-        assert!(rt;
-            outbox.lagging() == (waiting < times),
-            "{times} lines of {length}"
-        );
-        let mut out = Vec::new(alloc);
-        for turn in 1..=4 {
-            let lines = outbox.waiting().min(256);
-            let taken = take(&mut outbox, 256, &mut out)?;
-            let ended = waiting < times && outbox.waiting() == 0;
-            assert!(rt;
-                taken == Taken { lines, ended },
-                "turn {turn} of {times} lines of {length}"
-            );
-        }
-        assert!(rt;
-            outbox.waiting() == 0 && out.len() == bytes,
-            "{times} lines of {length}"
-        );
-    }
-    Ok(())
+fn holds_a_mebibyte_or_1024_lines(rt: HostRuntime) {
+    // The bytes of each line with its line feed, and how many are given; how many wait. Then how many come with each take, and their bytes.
+    play_queue(
+        &rt,
+        "
+        fill 65537 16 -> 15 lagging
+        drains -> 15 last 0 last 0 last 0 last; 983055
+        fill 65536 16 -> 16
+        drains -> 16 0 0 0; 1048576
+        fill 1024 1024 -> 1024
+        drains -> 256 256 256 256; 1048576
+        fill 1024 1025 -> 1024 lagging
+        drains -> 256 256 256 256 last; 1048576
+        fill 12 1024 -> 1024
+        drains -> 256 256 256 256; 12288
+        fill 12 1025 -> 1024 lagging
+        drains -> 256 256 256 256 last; 12288
+    ",
+    );
 }
 
 #[test]
 fn an_empty_outbox_is_small(rt: HostRuntime) {
     let (own, place) = (size_of::<Outbox>(), PLACE_BYTES);
-    assert!(rt;
-        own == 56 && place == 16,
-        "{own} bytes, and {place} for each line"
-    );
+    assert!(rt; own == 56 && place == 16);
     assert!(rt; own + 1024 * place <= 44 * 1024);
 }

@@ -1,163 +1,199 @@
-// Each call that takes memory is made again where a growth was refused, and must succeed then: the tests pass whichever growth fails.
+use crate::lines::line;
+use crate::rows::{Part, pair, play, say, say_next, say_number, say_whether, twice, unknown};
 use adc_base32::Sid;
-use adc_line::{Line, LineFault};
 use feature_route::{Audience, FeatureSet, Want, audience};
-use std::alloc::{AllocError, Global};
+use std::alloc::{AllocError, AllocGlobal};
+use std::io::Print;
+use std::process::Abort;
 
-fn set(alloc: Global, su: &str) -> Result<FeatureSet, AllocError> {
-    match FeatureSet::read(alloc, su) {
-        Err(_) => FeatureSet::read(alloc, su),
-        answer => answer,
+/// Whom a line is for.
+#[derive(Drop)]
+pub(crate) struct Routing;
+
+impl Part for Routing {
+    fn call<R: Abort + AllocGlobal + Print>(
+        &mut self,
+        rt: &R,
+        name: &str,
+        text: &str,
+        bytes: &[u8],
+        said: &mut Vec<u8>,
+    ) {
+        match name {
+            "want" => say_whether(rt, said, Want::parse(text).is_some()),
+            "match" => matched(rt, text, said),
+            "present" => hearers(rt, bytes, true, "TCP4", said),
+            "absent" => hearers(rt, bytes, false, "TCP4", said),
+            "bare" => hearers(rt, bytes, false, "", said),
+            "named" => named(rt, bytes, said),
+            _ => unknown(rt, name),
+        }
     }
 }
 
-fn line(alloc: Global, text: &str) -> Result<Line, LineFault> {
-    match Line::parse(alloc, text.as_bytes()) {
-        Err(LineFault::Memory) => Line::parse(alloc, text.as_bytes()),
-        answer => answer,
+fn set(rt: &(impl Abort + AllocGlobal + Print), su: &str) -> FeatureSet {
+    match twice!(rt; "feature_route::FeatureSet::read", AllocError, FeatureSet::read(rt.alloc(), su))
+    {
+        Ok(set) => set,
+        Err(_) => unknown(rt, su),
+    }
+}
+
+/// Whether a feature word matches who supports these features; by their names and by their set the same.
+fn matched(rt: &(impl Abort + AllocGlobal + Print), text: &str, said: &mut Vec<u8>) {
+    let (word, su) = pair(text, ' ');
+    let Some(want) = Want::parse(word) else {
+        unknown(rt, word)
+    };
+    let is_matched = want.matches(su);
+    assert!(rt;
+        want.matches_set(&set(rt, su)) == is_matched,
+        "{text}: the set says something else"
+    );
+    say_whether(rt, said, is_matched);
+}
+
+/// Who of three users hears a line: ana (AAAB) with TCP4 and SEGA, bob (AAAC) with these features, and cy (AAAD) with none.
+fn hearers(
+    rt: &(impl Abort + AllocGlobal + Print),
+    bytes: &[u8],
+    target_present: bool,
+    features_of_bob: &str,
+    said: &mut Vec<u8>,
+) {
+    let line = line(rt, bytes);
+    let audience = audience(&line, target_present);
+    for (number, name, features) in [
+        (1, "ana", "TCP4,SEGA"),
+        (2, "bob", features_of_bob),
+        (3, "cy", ""),
+    ] {
+        let Some(sid) = Sid::from_u32(number) else {
+            unknown(rt, name)
+        };
+        let hears = audience.holds(sid, features);
+        assert!(rt;
+            audience.holds_set(sid, &set(rt, features)) == hears,
+            "the set says something else"
+        );
+        if hears {
+            say_next(rt, said, name);
+        }
+    }
+    if said.is_empty() {
+        say(rt, said, "nobody");
+    }
+}
+
+/// Those whom a line is for by name, where its target is present.
+fn named(rt: &(impl Abort + AllocGlobal + Print), bytes: &[u8], said: &mut Vec<u8>) {
+    match audience(&line(rt, bytes), true) {
+        Audience::One(sid) => say_number(rt, said, sid.number() as u128),
+        Audience::Two(one, two) => {
+            say_number(rt, said, one.number() as u128);
+            say_number(rt, said, two.number() as u128);
+        }
+        _ => say(rt, said, "others"),
     }
 }
 
 #[test]
 fn takes_feature_words(rt: HostRuntime) {
-    for (text, is_one) in [
-        ("+TCP4", true),
-        ("-TCP4", true),
-        ("+TCP4-NAT0", true),
-        ("+TCP4-SEGA+ADC0", true),
-        ("+A000", true),
-        ("+TCP", false),
-        ("+TCP45", false),
-        ("TCP4", false),
-        ("+tcp4", false),
-        ("+4TCP", false),
-        ("*TCP4", false),
-        ("+TCP4 ", false),
-        ("++TCP4", false),
-        ("+", false),
-        ("", false),
-    ] {
-        assert!(rt; Want::parse(text).is_some() == is_one, "{text:?}");
-    }
+    play(
+        &rt,
+        &mut Routing,
+        "
+        want +TCP4 -> yes
+        want -TCP4 -> yes
+        want +TCP4-NAT0 -> yes
+        want +TCP4-SEGA+ADC0 -> yes
+        want +A000 -> yes
+        want +TCP -> no
+        want +TCP45 -> no
+        want TCP4 -> no
+        want +tcp4 -> no
+        want +4TCP -> no
+        want *TCP4 -> no
+        want +TCP4<x20> -> no
+        want ++TCP4 -> no
+        want + -> no
+        want <> -> no
+    ",
+    );
 }
 
 #[test]
 fn matches_users_by_their_features(rt: HostRuntime) {
-    let alloc = rt.alloc();
-    for (word, su, matched) in [
-        ("+TCP4-SEGA", "TCP4,SEGA", false),
-        ("+TCP4-SEGA", "TCP4", true),
-        ("+TCP4-SEGA", "", false),
-        ("+TCP4", "TCP4,SEGA", true),
-        ("+TCP4", "SEGA,TCP4", true),
-        ("+TCP4", "", false),
-        ("+TCP4+SEGA", "TCP4,SEGA", true),
-        ("+TCP4+SEGA", "TCP4", false),
-        ("+TCP4+SEGA", "SEGA", false),
-        ("-TCP4", "TCP4,SEGA", false),
-        ("-TCP4", "SEGA", true),
-        ("-TCP4", "", true),
-        ("+SEGA-SEGA", "TCP4,SEGA", false),
-        ("+SEGA-SEGA", "TCP4", false),
-        ("+TCP4+TCP4", "TCP4", true),
-        ("-NAT0+UDP4", "SEGA,ADC0,TCP4,UDP4", true),
-        ("-NAT0+UDP4", "SEGA,ADC0,NAT0,UDP4", false),
-        ("+TCP4", "TCP4,TCP4,TCP4", true),
-        ("+SEGA", "TCP4,,SEGA", true),
-        ("-SEGA", "TCP4,,SEGA,", false),
-        ("+TCP4", "tcp4", false),
-        ("+TCP4", "TCP4 ", false),
-        ("+TCP4", "TCP", false),
-        ("+TCP4", "TCP45", false),
-        ("+TCP4", "XTCP4,TCP4X", false),
-        ("+TCP4", ",", false),
-        ("-TCP4", "\u{e9}\u{e9},TCP\u{e9}", true),
-    ] {
-        let Some(want) = Want::parse(word) else {
-            return assert!(rt; false, "{word} is no feature word");
-        };
-        assert!(rt; want.matches(su) == matched, "{word} of {su:?}");
-        let Ok(set) = set(alloc, su) else {
-            return assert!(rt; false, "no set of {su:?}");
-        };
-        assert!(rt;
-            want.matches_set(&set) == matched,
-            "{word} of the set of {su:?}"
-        );
-    }
-}
-
-/// Who of three users hears a line: ana (AAAB), bob (AAAC) and cy (AAAD), whose features are these.
-fn hearers<'a>(
-    alloc: Global,
-    text: &str,
-    target_present: bool,
-    features: [&'a str; 3],
-) -> Result<[bool; 3], &'a str> {
-    let line = line(alloc, text).ok().ok_or("no line")?;
-    let audience = audience(&line, target_present);
-    let mut heard = [false; 3];
-    for at in 0..3 {
-        let sid = Sid::from_u32(at as u32 + 1).ok_or("no identifier")?;
-        heard[at] = audience.holds(sid, features[at]);
-        let set = set(alloc, features[at]).ok().ok_or("no set")?;
-        if audience.holds_set(sid, &set) != heard[at] {
-            return Err("the set says something else");
-        }
-    }
-    Ok(heard)
+    play(
+        &rt,
+        &mut Routing,
+        "
+        match +TCP4-SEGA TCP4,SEGA -> no
+        match +TCP4-SEGA TCP4 -> yes
+        match +TCP4-SEGA <> -> no
+        match +TCP4 TCP4,SEGA -> yes
+        match +TCP4 SEGA,TCP4 -> yes
+        match +TCP4 <> -> no
+        match +TCP4+SEGA TCP4,SEGA -> yes
+        match +TCP4+SEGA TCP4 -> no
+        match +TCP4+SEGA SEGA -> no
+        match -TCP4 TCP4,SEGA -> no
+        match -TCP4 SEGA -> yes
+        match -TCP4 <> -> yes
+        match +SEGA-SEGA TCP4,SEGA -> no
+        match +SEGA-SEGA TCP4 -> no
+        match +TCP4+TCP4 TCP4 -> yes
+        match -NAT0+UDP4 SEGA,ADC0,TCP4,UDP4 -> yes
+        match -NAT0+UDP4 SEGA,ADC0,NAT0,UDP4 -> no
+        match +TCP4 TCP4,TCP4,TCP4 -> yes
+        match +SEGA TCP4,,SEGA -> yes
+        match -SEGA TCP4,,SEGA, -> no
+        match +TCP4 tcp4 -> no
+        match +TCP4 TCP4<x20> -> no
+        match +TCP4 TCP -> no
+        match +TCP4 TCP45 -> no
+        match +TCP4 XTCP4,TCP4X -> no
+        match +TCP4 , -> no
+        match -TCP4 \u{e9}\u{e9},TCP\u{e9} -> yes
+    ",
+    );
 }
 
 #[test]
 fn sends_lines_to_their_audience(rt: HostRuntime) {
-    let alloc = rt.alloc();
-    let features = ["TCP4,SEGA", "TCP4", ""];
-    for (text, target_present, heard) in [
-        ("BMSG AAAB hi", false, [true, true, true]),
-        ("DMSG AAAB AAAC yo", true, [false, true, false]),
-        ("DMSG AAAB 7777 hi", false, [false, false, false]),
-        ("DMSG AAAB AAAB hi", true, [true, false, false]),
-        ("EMSG AAAB AAAC yo", true, [true, true, false]),
-        ("EMSG AAAB AAAB hi", true, [true, false, false]),
-        ("EMSG AAAB 7777 hi", false, [false, false, false]),
-        ("FSCH AAAB +TCP4-SEGA ANx TO1", false, [false, true, false]),
-        ("FSCH AAAB +TCP4 ANx TO2", false, [true, true, false]),
-        ("FSCH AAAB +TCP4+SEGA ANx TO3", false, [true, false, false]),
-        ("FSCH AAAB -TCP4 ANx TO4", false, [false, false, true]),
-        ("FMSG AAAB +SEGA-SEGA x", false, [false, false, false]),
-        ("CMSG hi", true, [false, false, false]),
-        ("HMSG hi", true, [false, false, false]),
-        ("IMSG hi", true, [false, false, false]),
-        ("UMSG ABC hi", true, [false, false, false]),
-    ] {
-        match hearers(alloc, text, target_present, features) {
-            Ok(found) => assert!(rt; found == heard, "{text}: {found:?}"),
-            Err(why) => assert!(rt; false, "{text}: {why}"),
-        }
-    }
-    // bob has given up its features.
-    match hearers(
-        alloc,
-        "FSCH AAAB +TCP4 ANx TO5",
-        false,
-        ["TCP4,SEGA", "", ""],
-    ) {
-        Ok(found) => assert!(rt; found == [true, false, false], "{found:?}"),
-        Err(why) => assert!(rt; false, "{why}"),
-    }
+    play(
+        &rt,
+        &mut Routing,
+        "
+        absent BMSG AAAB hi -> ana bob cy
+        present DMSG AAAB AAAC yo -> bob
+        absent DMSG AAAB 7777 hi -> nobody
+        present DMSG AAAB AAAB hi -> ana
+        present EMSG AAAB AAAC yo -> ana bob
+        present EMSG AAAB AAAB hi -> ana
+        absent EMSG AAAB 7777 hi -> nobody
+        absent FSCH AAAB +TCP4-SEGA ANx TO1 -> bob
+        absent FSCH AAAB +TCP4 ANx TO2 -> ana bob
+        absent FSCH AAAB +TCP4+SEGA ANx TO3 -> ana
+        absent FSCH AAAB -TCP4 ANx TO4 -> cy
+        absent FMSG AAAB +SEGA-SEGA x -> nobody
+        present CMSG hi -> nobody
+        present HMSG hi -> nobody
+        present IMSG hi -> nobody
+        present UMSG ABC hi -> nobody
+        bare FSCH AAAB +TCP4 ANx TO5 -> ana
+    ",
+    );
 }
 
 #[test]
 fn names_each_hearer_once(rt: HostRuntime) {
-    let alloc = rt.alloc();
-    let Ok(own) = line(alloc, "EMSG AAAB AAAB hi") else {
-        return assert!(rt; false, "no line");
-    };
-    assert!(rt; matches!(audience(&own, true), Audience::One(sid) if sid.number() == 1));
-    let Ok(other) = line(alloc, "EMSG AAAB AAAC hi") else {
-        return assert!(rt; false, "no line");
-    };
-    assert!(rt;
-        matches!(audience(&other, true), Audience::Two(one, two) if one.number() == 2 && two.number() == 1)
+    play(
+        &rt,
+        &mut Routing,
+        "
+        named EMSG AAAB AAAB hi -> 1
+        named EMSG AAAB AAAC hi -> 2 1
+    ",
     );
 }

@@ -1,21 +1,50 @@
+use crate::rows::{Part, number, pair, play, say_whether};
 use search_pass::may_search;
+use std::alloc::AllocGlobal;
+use std::io::Print;
+use std::process::Abort;
+
+/// Whether a user may search: a row has the moment of the last search, the present moment and the interval, all in seconds.
+#[derive(Drop)]
+struct Searches;
+
+impl Part for Searches {
+    fn call<R: Abort + AllocGlobal + Print>(
+        &mut self,
+        rt: &R,
+        name: &str,
+        text: &str,
+        _bytes: &[u8],
+        said: &mut Vec<u8>,
+    ) {
+        let (now, interval) = pair(text, ' ');
+        let last = match name {
+            "never" => None,
+            _ => Some(number(rt, name)),
+        };
+        say_whether(
+            rt,
+            said,
+            may_search(last, number(rt, now), number(rt, interval)),
+        );
+    }
+}
 
 #[test]
 fn keeps_searches_apart(rt: HostRuntime) {
-    for (last, now, interval, may) in [
-        (None, 0, 10, true),
-        (Some(5), 14, 10, false),
-        (Some(5), 15, 10, true),
-        (Some(5), 3, 10, false),
-        (Some(5), 3, 0, true),
-        (Some(0), 9, 10, false),
-        (Some(u64::MAX - 1), u64::MAX, 1, true),
-        (Some(u64::MAX), 0, u64::MAX, false),
-        (Some(0), u64::MAX, u64::MAX, true),
-    ] {
-        assert!(rt;
-            may_search(last, now, interval) == may,
-            "{last:?} {now} {interval}"
-        );
-    }
+    play(
+        &rt,
+        &mut Searches,
+        "
+        never 0 10 -> yes
+        5 14 10 -> no
+        5 15 10 -> yes
+        5 3 10 -> no
+        5 3 0 -> yes
+        0 9 10 -> no
+        18446744073709551614 18446744073709551615 1 -> yes
+        18446744073709551615 0 18446744073709551615 -> no
+        0 18446744073709551615 18446744073709551615 -> yes
+    ",
+    );
 }

@@ -1,234 +1,277 @@
+use crate::rows::{Part, pair, play, say, say_number, say_whether, small, twice, unknown};
 use hub_settings::{HashName, Settings, SettingsFault, read_settings};
-use std::alloc::{AllocError, Global};
+use second_try::again;
+use std::alloc::{AllocError, AllocGlobal, Global};
+use std::io::Print;
 use std::net::{Ipv4Addr, SocketAddrV4};
 use std::process::Abort;
 
-/// Reads the text, and once more where memory was refused.
-fn read(rt: &impl Abort, alloc: Global, text: &str) -> Result<Settings, SettingsFault> {
-    match read_settings(alloc, text, 7) {
-        Err(SettingsFault::Memory) => match read_settings(alloc, text, 7) {
-            Err(SettingsFault::Memory) => panic!(rt; "refused twice"),
-            answer => answer,
-        },
-        answer => answer,
+/// What a settings file says, which is read at the moment 7.
+#[derive(Drop)]
+pub(crate) struct File {
+    settings: Settings,
+}
+
+impl Part for File {
+    fn call<R: Abort + AllocGlobal + Print>(
+        &mut self,
+        rt: &R,
+        name: &str,
+        text: &str,
+        _bytes: &[u8],
+        said: &mut Vec<u8>,
+    ) {
+        match name {
+            "read" => self.read(rt, text, said),
+            "list" => self.list(rt, text, said),
+            "hub" => self.say_hub(rt, text, said),
+            _ => self.say_program(rt, name, said),
+        }
     }
 }
 
-/// The text of this many entries of a list, each with a number in place of `#`.
-fn many(alloc: Global, entry: &str, count: usize) -> Result<String, AllocError> {
+/// Reads a text, in which `;` stands for the end of a line.
+fn read(rt: &(impl Abort + AllocGlobal + Print), text: &str) -> Result<Settings, SettingsFault> {
+    let mut lines = again!(rt; String::with_capacity(rt.alloc(), text.len()));
+    let mut is_first = true;
+    for line in text.split(';') {
+        if !is_first {
+            again!(rt; lines.push_str("\n"));
+        }
+        is_first = false;
+        again!(rt; lines.push_str(line));
+    }
+    twice!(rt; "hub_settings::read_settings", SettingsFault::Memory, read_settings(rt.alloc(), &lines, 7))
+}
+
+impl File {
+    fn read(&mut self, rt: &(impl Abort + AllocGlobal + Print), text: &str, said: &mut Vec<u8>) {
+        match read(rt, text) {
+            Ok(settings) => {
+                self.settings = settings;
+                say(rt, said, "ok");
+            }
+            Err(SettingsFault::Key(key)) => {
+                say(rt, said, "key ");
+                say(rt, said, key.as_str());
+            }
+            Err(SettingsFault::Text) => say(rt, said, "Text"),
+            Err(_) => say(rt, said, "another fault"),
+        }
+    }
+
+    /// Reads so many accounts or commands, which have numbers for names.
+    fn list(&mut self, rt: &(impl Abort + AllocGlobal + Print), text: &str, said: &mut Vec<u8>) {
+        let (count, what) = pair(text, ' ');
+        let count = small(rt, count);
+        let text = again!(rt; listed(rt.alloc(), count, what));
+        self.read(rt, &text, said);
+    }
+
+    fn say_hub(&self, rt: &(impl Abort + AllocGlobal), text: &str, said: &mut Vec<u8>) {
+        let setup = self.settings.setup();
+        match pair(text, ' ') {
+            ("name", _) => say(rt, said, setup.name()),
+            ("topic", _) => say(rt, said, setup.topic()),
+            ("max_users", _) => say_number(rt, said, setup.max_users() as u128),
+            ("search_interval", _) => say_number(rt, said, setup.search_interval() as u128),
+            ("registered_only", _) => say_whether(rt, said, setup.registered_only()),
+            ("opening", _) => say_number(rt, said, setup.opening() as u128),
+            ("operator", nick) => match setup.account(nick) {
+                Some(account) => say_whether(rt, said, account.is_operator()),
+                None => say(rt, said, "nobody"),
+            },
+            _ => unknown(rt, text),
+        }
+    }
+
+    fn say_program(&self, rt: &(impl Abort + AllocGlobal), name: &str, said: &mut Vec<u8>) {
+        match name {
+            "listen" => say_address(rt, said, self.settings.listen()),
+            "hash" => match self.settings.hash() {
+                HashName::Tiger => say(rt, said, "Tiger"),
+                HashName::First24 => say(rt, said, "First24"),
+            },
+            "tables" => say(rt, said, self.settings.tables()),
+            "threads" => say_number(rt, said, self.settings.threads() as u128),
+            "stop_after" => say_number(rt, said, self.settings.stop_after() as u128),
+            "seed_file" => say(rt, said, self.settings.seed_file()),
+            _ => unknown(rt, name),
+        }
+    }
+}
+
+fn say_address(rt: &impl Abort, said: &mut Vec<u8>, address: SocketAddrV4) {
+    if address == SocketAddrV4::new(Ipv4Addr::new(127, 0, 0, 1), 4111) {
+        say(rt, said, "127.0.0.1:4111");
+    } else if address == SocketAddrV4::new(Ipv4Addr::new(0, 0, 0, 0), 65535) {
+        say(rt, said, "0.0.0.0:65535");
+    } else {
+        say(rt, said, "another");
+    }
+}
+
+/// So many entries of a list.
+fn listed(alloc: Global, count: u32, what: &str) -> Result<String, AllocError> {
     let mut text = String::new(alloc);
     for number in 0..count {
-        for part in entry.chars() {
-            if part == '#' {
-                let digits = format!(in alloc; "{number}")?;
-                text.push_str(&digits)?;
-            } else {
-                text.push(part)?;
-            }
-        }
+        let entry = match what {
+            "accounts" => format!(in alloc; "[[account]];nick = \"n{number}\";password = \"p\";")?,
+            _ => format!(in alloc; "[[command]];name = \"n{number}\";context = 1;text = \"t\";")?,
+        };
+        text.push_str(&entry)?;
     }
     Ok(text)
 }
 
-fn accounts(rt: &impl Abort, alloc: Global, count: usize) -> String {
-    let entry = "[[account]]\nnick = \"n#\"\npassword = \"p\"\n";
-    match many(alloc, entry, count) {
-        Ok(text) => text,
-        Err(_) => match many(alloc, entry, count) {
-            Ok(text) => text,
-            Err(_) => panic!(rt; "refused twice"),
-        },
-    }
-}
-
-fn commands(rt: &impl Abort, alloc: Global, count: usize) -> String {
-    let entry = "[[command]]\nname = \"n#\"\ncontext = 1\ntext = \"t\"\n";
-    match many(alloc, entry, count) {
-        Ok(text) => text,
-        Err(_) => match many(alloc, entry, count) {
-            Ok(text) => text,
-            Err(_) => panic!(rt; "refused twice"),
-        },
-    }
-}
-
-/// Reads the text, whose fault is to be this key.
-fn is_refused(rt: &impl Abort, alloc: Global, text: &str, wanted: &str) {
-    match read(rt, alloc, text) {
-        Err(SettingsFault::Key(key)) => {
-            assert!(rt; key.as_str() == wanted, "{text}: {}", key.as_str());
-        }
-        Err(_) => panic!(rt; "{text}: another fault"),
-        Ok(_) => panic!(rt; "{text}: no fault"),
-    }
+pub(crate) fn play_file<R: Abort + AllocGlobal + Print>(rt: &R, rows: &str) {
+    let Ok(settings) = read(rt, "") else {
+        unknown(rt, "an empty text")
+    };
+    play(rt, &mut File { settings }, rows);
 }
 
 #[test]
 fn an_empty_text_gives_the_defaults(rt: HostRuntime) {
-    let Ok(settings) = read(&rt, rt.alloc(), "") else {
-        panic!(rt; "refused");
-    };
-    assert!(rt; settings.listen() == SocketAddrV4::new(Ipv4Addr::new(127, 0, 0, 1), 4111));
-    assert!(rt; settings.hash() == HashName::Tiger);
-    assert!(rt; settings.tables() == "tiger.bin");
-    assert!(rt; settings.threads() == 2);
-    assert!(rt; settings.stop_after() == 0);
-    assert!(rt; settings.seed_file() == "/dev/urandom");
-    let setup = settings.setup();
-    assert!(rt; setup.name() == "Hub" && setup.topic() == "");
-    assert!(rt; setup.max_users() == 512 && setup.search_interval() == 0);
-    assert!(rt; !setup.registered_only() && setup.opening() == 7);
+    play_file(
+        &rt,
+        "
+        read <> -> ok
+        listen -> 127.0.0.1:4111
+        hash -> Tiger
+        tables -> tiger.bin
+        threads -> 2
+        stop_after -> 0
+        seed_file -> /dev/urandom
+        hub name -> Hub
+        hub topic -> <>
+        hub max_users -> 512
+        hub search_interval -> 0
+        hub registered_only -> no
+        hub opening -> 7
+    ",
+    );
 }
 
 #[test]
 fn every_key_is_read(rt: HostRuntime) {
-    let text =
-        "name = \"My hub\"\ntopic = \"All\"\nlisten = \"0.0.0.0:65535\"\nhash = \"first24\"\ntables = \"t\"\n\
-registered_only = true\nsearch_interval = 4294967295\nmax_users = 900\nthreads = 64\nstop_after = 65536\nseed_file = \"s\"\n\
-[[account]]\nnick = \"op\"\npassword = \"secret\"\noperator = true\n[[account]]\nnick = \"reg\"\npassword = \"x\"\n\
-[[command]]\nname = \"Help\"\ncontext = 15\ntext = \"HMSG !help\"\nseparator = false\n\
-[[command]]\nname = \"Sep\"\ncontext = 2\nseparator = true\n";
-    let Ok(settings) = read(&rt, rt.alloc(), text) else {
-        panic!(rt; "refused");
-    };
-    assert!(rt; settings.listen() == SocketAddrV4::new(Ipv4Addr::new(0, 0, 0, 0), 65535));
-    assert!(rt; settings.hash() == HashName::First24);
-    assert!(rt; settings.tables() == "t" && settings.seed_file() == "s");
-    assert!(rt; settings.threads() == 64 && settings.stop_after() == 65_536);
-    let setup = settings.setup();
-    assert!(rt; setup.name() == "My hub" && setup.topic() == "All");
-    assert!(rt; setup.max_users() == 900 && setup.search_interval() == 4_294_967_295);
-    assert!(rt; setup.registered_only());
-    let (Some(op), Some(reg)) = (setup.account("op"), setup.account("reg")) else {
-        panic!(rt; "no account");
-    };
-    assert!(rt; op.is_operator() && !reg.is_operator());
+    play_file(
+        &rt,
+        r#"
+        read name = "My hub";topic = "All";listen = "0.0.0.0:65535";hash = "first24";tables = "t";registered_only = true;search_interval = 4294967295;max_users = 900;threads = 64;stop_after = 65536;seed_file = "s";[[account]];nick = "op";password = "secret";operator = true;[[account]];nick = "reg";password = "x";[[command]];name = "Help";context = 15;text = "HMSG !help";separator = false;[[command]];name = "Sep";context = 2;separator = true -> ok
+        listen -> 0.0.0.0:65535
+        hash -> First24
+        tables -> t
+        seed_file -> s
+        threads -> 64
+        stop_after -> 65536
+        hub name -> My hub
+        hub topic -> All
+        hub max_users -> 900
+        hub search_interval -> 4294967295
+        hub registered_only -> yes
+        hub operator op -> yes
+        hub operator reg -> no
+    "#,
+    );
 }
 
 #[test]
 fn a_text_that_is_no_toml(rt: HostRuntime) {
-    for text in ["a = ", "name", "name = \"a\"\nname = \"b\"\n"] {
-        let answer = read(&rt, rt.alloc(), text);
-        assert!(rt; matches!(&answer, Err(SettingsFault::Text)), "{text}");
-    }
+    play_file(
+        &rt,
+        r#"
+        read a = <> -> Text
+        read name -> Text
+        read name = "a";name = "b" -> Text
+    "#,
+    );
 }
-
-/// Texts, and the key that is at fault.
-const KEY_FAULTS: [(&str, &str); 31] = [
-    ("name = \"\"", "name"),
-    ("name = 1", "name"),
-    ("topic = []", "topic"),
-    ("listen = \"127.0.0.1\"", "listen"),
-    ("listen = \"localhost:4111\"", "listen"),
-    ("listen = \"127.0.0.1:65536\"", "listen"),
-    ("listen = \"256.0.0.1:4111\"", "listen"),
-    ("listen = \"[::1]:4111\"", "listen"),
-    ("listen = 4111", "listen"),
-    ("hash = \"md5\"", "hash"),
-    ("hash = \"Tiger\"", "hash"),
-    ("hash = true", "hash"),
-    ("tables = 1", "tables"),
-    ("registered_only = \"yes\"", "registered_only"),
-    ("registered_only = 1", "registered_only"),
-    ("search_interval = -1", "search_interval"),
-    ("search_interval = 4294967296", "search_interval"),
-    ("search_interval = \"10\"", "search_interval"),
-    ("max_users = 0", "max_users"),
-    ("max_users = 901", "max_users"),
-    ("max_users = 1.0", "max_users"),
-    ("threads = 0", "threads"),
-    ("threads = 65", "threads"),
-    ("stop_after = -1", "stop_after"),
-    ("stop_after = 65537", "stop_after"),
-    ("seed_file = 1", "seed_file"),
-    ("nam = \"x\"", "nam"),
-    ("b = 1\na = 1\nB = 1", "B"),
-    ("max_users = 901\nthreads = 65\nname = \"\"", "name"),
-    ("stop_after = -1\nhash = 1\na = 1", "hash"),
-    ("a = 1\nseed_file = 1", "seed_file"),
-];
 
 #[test]
 fn each_fault_is_named_by_its_key(rt: HostRuntime) {
-    for (text, wanted) in KEY_FAULTS {
-        is_refused(&rt, rt.alloc(), text, wanted);
-    }
+    play_file(
+        &rt,
+        r#"
+        read name = "" -> key name
+        read name = 1 -> key name
+        read topic = [] -> key topic
+        read listen = "127.0.0.1" -> key listen
+        read listen = "localhost:4111" -> key listen
+        read listen = "127.0.0.1:65536" -> key listen
+        read listen = "256.0.0.1:4111" -> key listen
+        read listen = "[::1]:4111" -> key listen
+        read listen = 4111 -> key listen
+        read hash = "md5" -> key hash
+        read hash = "Tiger" -> key hash
+        read hash = true -> key hash
+        read tables = 1 -> key tables
+        read registered_only = "yes" -> key registered_only
+        read registered_only = 1 -> key registered_only
+        read search_interval = -1 -> key search_interval
+        read search_interval = 4294967296 -> key search_interval
+        read search_interval = "10" -> key search_interval
+        read max_users = 0 -> key max_users
+        read max_users = 901 -> key max_users
+        read max_users = 1.0 -> key max_users
+        read threads = 0 -> key threads
+        read threads = 65 -> key threads
+        read stop_after = -1 -> key stop_after
+        read stop_after = 65537 -> key stop_after
+        read seed_file = 1 -> key seed_file
+        read nam = "x" -> key nam
+        read b = 1;a = 1;B = 1 -> key B
+        read max_users = 901;threads = 65;name = "" -> key name
+        read stop_after = -1;hash = 1;a = 1 -> key hash
+        read a = 1;seed_file = 1 -> key seed_file
+    "#,
+    );
 }
-
-/// Texts with lists, and the key that is at fault.
-const LIST_FAULTS: [(&str, &str); 26] = [
-    ("account = 1", "account"),
-    ("account = [1]", "account"),
-    ("[account]\nnick = \"a\"\npassword = \"p\"", "account"),
-    ("[[account]]\nnick = \"a\"", "account"),
-    ("[[account]]\npassword = \"p\"", "account"),
-    ("[[account]]\nnick = \"a\"\npassword = \"\"", "account"),
-    ("[[account]]\nnick = \"\"\npassword = \"p\"", "account"),
-    ("[[account]]\nnick = \"a b\"\npassword = \"p\"", "account"),
-    ("[[account]]\nnick = \"a\"\npassword = 1", "account"),
-    (
-        "[[account]]\nnick = \"a\"\npassword = \"p\"\noperator = 1",
-        "account",
-    ),
-    (
-        "[[account]]\nnick = \"a\"\npassword = \"p\"\nclass = 1",
-        "account",
-    ),
-    (
-        "[[account]]\nnick = \"op\"\npassword = \"p\"\n[[account]]\nnick = \"op\"\npassword = \"q\"",
-        "account",
-    ),
-    ("command = \"x\"", "command"),
-    ("command = [\"x\"]", "command"),
-    ("[[command]]\ncontext = 1\ntext = \"t\"", "command"),
-    (
-        "[[command]]\nname = \"\"\ncontext = 1\ntext = \"t\"",
-        "command",
-    ),
-    ("[[command]]\nname = \"n\"\ntext = \"t\"", "command"),
-    (
-        "[[command]]\nname = \"n\"\ncontext = 0\ntext = \"t\"",
-        "command",
-    ),
-    (
-        "[[command]]\nname = \"n\"\ncontext = 16\ntext = \"t\"",
-        "command",
-    ),
-    ("[[command]]\nname = \"n\"\ncontext = 1", "command"),
-    (
-        "[[command]]\nname = \"n\"\ncontext = 1\nseparator = false",
-        "command",
-    ),
-    (
-        "[[command]]\nname = \"n\"\ncontext = 1\ntext = \"t\"\nseparator = true",
-        "command",
-    ),
-    (
-        "[[command]]\nname = \"n\"\ncontext = 1\ntext = 1",
-        "command",
-    ),
-    (
-        "[[command]]\nname = \"n\"\ncontext = 1\ntext = \"t\"\nkey = 1",
-        "command",
-    ),
-    (
-        "command = 1\n[[account]]\nnick = \"a b\"\npassword = \"p\"",
-        "account",
-    ),
-    ("a = 1\ncommand = 1", "command"),
-];
 
 #[test]
 fn each_fault_of_a_list_is_named_by_its_key(rt: HostRuntime) {
-    for (text, wanted) in LIST_FAULTS {
-        is_refused(&rt, rt.alloc(), text, wanted);
-    }
+    play_file(
+        &rt,
+        r#"
+        read account = 1 -> key account
+        read account = [1] -> key account
+        read [account];nick = "a";password = "p" -> key account
+        read [[account]];nick = "a" -> key account
+        read [[account]];password = "p" -> key account
+        read [[account]];nick = "a";password = "" -> key account
+        read [[account]];nick = "";password = "p" -> key account
+        read [[account]];nick = "a b";password = "p" -> key account
+        read [[account]];nick = "a";password = 1 -> key account
+        read [[account]];nick = "a";password = "p";operator = 1 -> key account
+        read [[account]];nick = "a";password = "p";class = 1 -> key account
+        read [[account]];nick = "op";password = "p";[[account]];nick = "op";password = "q" -> key account
+        read command = "x" -> key command
+        read command = ["x"] -> key command
+        read [[command]];context = 1;text = "t" -> key command
+        read [[command]];name = "";context = 1;text = "t" -> key command
+        read [[command]];name = "n";text = "t" -> key command
+        read [[command]];name = "n";context = 0;text = "t" -> key command
+        read [[command]];name = "n";context = 16;text = "t" -> key command
+        read [[command]];name = "n";context = 1 -> key command
+        read [[command]];name = "n";context = 1;separator = false -> key command
+        read [[command]];name = "n";context = 1;text = "t";separator = true -> key command
+        read [[command]];name = "n";context = 1;text = 1 -> key command
+        read [[command]];name = "n";context = 1;text = "t";key = 1 -> key command
+        read command = 1;[[account]];nick = "a b";password = "p" -> key account
+        read a = 1;command = 1 -> key command
+    "#,
+    );
 }
 
 #[test]
 fn lists_have_a_limit(rt: HostRuntime) {
-    assert!(rt; read(&rt, rt.alloc(), &accounts(&rt, rt.alloc(), 32)).is_ok());
-    is_refused(&rt, rt.alloc(), &accounts(&rt, rt.alloc(), 33), "account");
-    assert!(rt; read(&rt, rt.alloc(), &commands(&rt, rt.alloc(), 64)).is_ok());
-    is_refused(&rt, rt.alloc(), &commands(&rt, rt.alloc(), 65), "command");
+    play_file(
+        &rt,
+        "
+        list 32 accounts -> ok
+        list 33 accounts -> key account
+        list 64 commands -> ok
+        list 65 commands -> key command
+    ",
+    );
 }

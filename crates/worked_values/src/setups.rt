@@ -1,26 +1,13 @@
-// Each call that takes memory is made again where a growth was refused, and must succeed then: the tests pass whichever growth fails.
-use adc_line::{Line, LineFault};
+pub(crate) mod given;
+pub(crate) mod prepared;
+pub(crate) mod texts;
+
+use crate::rows::{say_bytes, twice, unknown};
 use bytes::Bytes;
-use hub_setup::{Account, Options, Setup, SetupRefused};
-use inf_fields::{Fields, InfFault, Update};
-use std::alloc::{AllocError, Global};
-
-/// A call, once more where memory was refused.
-macro_rules! again {
-    ($call:expr) => {
-        match $call {
-            Err(AllocError) => $call,
-            answer => answer,
-        }
-    };
-}
-
-pub(crate) use again;
-
-mod menu;
-mod preparation;
-mod settings;
-mod texts;
+use hub_setup::{Account, MenuEntry, MenuItem, Options, Setup, SetupRefused};
+use std::alloc::AllocGlobal;
+use std::io::Print;
+use std::process::Abort;
 
 /// A hub of this name, with no accounts and no menu, for one connection.
 fn options<'a>(name: &'a str) -> Options<'a> {
@@ -36,18 +23,41 @@ fn options<'a>(name: &'a str) -> Options<'a> {
     }
 }
 
-fn operator<'a>(nick: &'a str, password: &'a str) -> Account<'a> {
+fn account<'a>(nick: &'a str, password: &'a str, operator: bool) -> Account<'a> {
     Account {
         nick,
         password,
-        operator: true,
+        operator,
     }
 }
 
-/// Sets up, once more where memory was refused.
-fn set_up(alloc: Global, options: &Options<'_>) -> Result<Setup, SetupRefused> {
-    match Setup::new(alloc, options) {
-        Err(SetupRefused::Memory) => Setup::new(alloc, options),
-        answer => answer,
+fn entry<'a>(name: &'a str, context: u8, item: MenuItem<'a>) -> MenuEntry<'a> {
+    MenuEntry {
+        name,
+        context,
+        item,
+    }
+}
+
+fn set_up(
+    rt: &(impl Abort + AllocGlobal + Print),
+    options: &Options<'_>,
+) -> Result<Setup, SetupRefused> {
+    twice!(rt; "hub_setup::Setup::new", SetupRefused::Memory, Setup::new(rt.alloc(), options))
+}
+
+/// What is no fault.
+fn setup(rt: &(impl Abort + AllocGlobal + Print), options: &Options<'_>) -> Setup {
+    match set_up(rt, options) {
+        Ok(setup) => setup,
+        Err(_) => unknown(rt, "options"),
+    }
+}
+
+/// A line without its line feed.
+fn say_line(rt: &impl Abort, said: &mut Vec<u8>, line: &Bytes) {
+    match line.as_slice().split_last() {
+        Some((b'\n', text)) => say_bytes(rt, said, text),
+        _ => unknown(rt, "line"),
     }
 }

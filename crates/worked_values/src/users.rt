@@ -1,210 +1,349 @@
-// Each test is of both bodies of `Users`. Each call is made again where memory was refused, and must succeed then: the tests pass
-// whichever growth fails.
-mod alike;
+// Each test is of both bodies of `Users`.
+pub(crate) mod alike;
 mod commands;
-mod samples;
+pub(crate) mod samples;
 
-use self::samples::{insert, say, sid, three, update, user};
+use self::samples::{number_of, say_totals, say_user, seen, sid, user};
+use crate::fields::update;
+use crate::identities::nick;
+use crate::rows::{
+    Part, byte, number, pair, play, refused, say, say_bytes, say_number, say_whether, small,
+    unknown,
+};
 use adc_ids::Cid;
-use inf_fields::FieldName;
-use std::alloc::Global;
+use std::alloc::AllocGlobal;
+use std::io::Print;
 use std::process::Abort;
-use std::test::Fail;
-use user_table::{IndexedUsers, PlainUsers, TableRefused, Totals, Users, takes_update};
+use user_table::{IndexedUsers, PlainUsers, TableRefused, User, Users, takes_update};
 
-/// The numbers of the users in order of entry.
-fn assert_order<U: Users>(rt: &impl Abort, users: &U, numbers: &[u32]) {
-    for (place, number) in numbers.iter().enumerate() {
-        assert!(rt;
-            users.at(place).map(|user| user.sid().number()) == Some(*number),
-            "{place}"
-        );
+/// The users who are present.
+#[derive(Drop)]
+pub(crate) struct UserTable<U: Users> {
+    users: U,
+}
+
+impl<U: Users> Part for UserTable<U> {
+    fn call<R: Abort + AllocGlobal + Print>(
+        &mut self,
+        rt: &R,
+        name: &str,
+        text: &str,
+        _bytes: &[u8],
+        said: &mut Vec<u8>,
+    ) {
+        match name {
+            "enters" => self.enters(rt, entering(rt, text), said),
+            "says" => self.says(rt, text, "", said),
+            "renames" => self.renames(rt, text, said),
+            "leaves" => self.leaves(rt, small(rt, text), said),
+            "takes" => self.takes(rt, text, said),
+            "order" => self.order(rt, said),
+            "totals" => say_totals(rt, said, &self.users),
+            "user" => say_user(rt, said, &entering(rt, text)),
+            "all" => say_bytes(rt, said, &seen(rt, &self.users)),
+            _ => self.looks(rt, name, text, said),
+        }
     }
-    assert!(rt; users.at(numbers.len()).is_none());
 }
 
-#[test]
-fn lists_users_in_order_of_entry(rt: HostRuntime) -> Result<(), Fail> {
-    assert_order(&rt, &three::<PlainUsers>(rt.alloc())?, &[1, 2, 3]);
-    assert_order(&rt, &three::<IndexedUsers>(rt.alloc())?, &[1, 2, 3]);
-    Ok(())
+/// What the numbers of a session identifier and of a client identifier, a nick and a line say of a user.
+fn entering(rt: &(impl Abort + AllocGlobal + Print), text: &str) -> User {
+    let (number, rest) = pair(text, ' ');
+    let (cid, rest) = pair(rest, ' ');
+    let (name, line) = pair(rest, ' ');
+    user(rt, small(rt, number), byte(rt, cid), name, line)
 }
 
-#[test]
-fn reads_a_user(rt: HostRuntime) -> Result<(), Fail> {
-    let user = user(rt.alloc(), 5, 7, "e\u{301}va", "NIe\u{301}va SS9")?;
-    assert!(rt; user.sid().number() == 5);
-    assert!(rt; user.cid().bytes() == [7; 24]);
-    assert!(rt; user.key() == "\u{e9}va");
-    assert!(rt; user.fields().get(FieldName::share_size()) == Some("9"));
-    Ok(())
-}
-
-#[test]
-fn finds_users(rt: HostRuntime) -> Result<(), Fail> {
-    finds_users_in(&rt, &three::<PlainUsers>(rt.alloc())?)?;
-    finds_users_in(&rt, &three::<IndexedUsers>(rt.alloc())?)
-}
-
-fn finds_users_in<U: Users>(rt: &impl Abort, users: &U) -> Result<(), Fail> {
-    for (number, name) in [(1, "ana"), (2, "bob"), (3, "eva")] {
-        let cid = Cid::from_bytes([number as u8; 24]);
-        let number = Some(number);
-        assert!(rt;
-            users
-                .by_sid(sid(number.unwrap_or(0))?)
-                .map(|user| user.sid().number())
-                == number
-        );
-        assert!(rt; users.by_cid(cid).map(|user| user.sid().number()) == number);
-        assert!(rt; users.by_nick(name).map(|user| user.sid().number()) == number);
-    }
-    assert!(rt; users.by_sid(sid(4)?).is_none());
-    assert!(rt; users.by_cid(Cid::from_bytes([4; 24])).is_none());
-    assert!(rt; users.by_nick("Ana").is_none());
-    Ok(())
-}
-
-#[test]
-fn refuses_a_nick_before_a_client_identifier(rt: HostRuntime) -> Result<(), Fail> {
-    let alloc = rt.alloc();
-    refuses_who_is_taken(&rt, alloc, &mut three::<PlainUsers>(alloc)?)?;
-    refuses_who_is_taken(&rt, alloc, &mut three::<IndexedUsers>(alloc)?)
-}
-
-fn refuses_who_is_taken<U: Users>(
-    rt: &impl Abort,
-    alloc: Global,
-    users: &mut U,
-) -> Result<(), Fail> {
-    for (cid, name, refused) in [
-        (1, "ana", Some(TableRefused::NickTaken)),
-        (9, "bob", Some(TableRefused::NickTaken)),
-        (3, "dan", Some(TableRefused::CidTaken)),
-        (9, "dan", None),
-    ] {
-        let user = user(alloc, 4, cid, name, "SS1")?;
-        assert!(rt; insert(alloc, users, user)? == refused, "{cid} {name}");
-    }
-    assert_order(rt, users, &[1, 2, 3, 4]);
-    Ok(())
-}
-
-#[test]
-fn closes_up_where_a_user_leaves(rt: HostRuntime) -> Result<(), Fail> {
-    let alloc = rt.alloc();
-    closes_up(&rt, alloc, &mut three::<PlainUsers>(alloc)?)?;
-    closes_up(&rt, alloc, &mut three::<IndexedUsers>(alloc)?)
-}
-
-fn closes_up<U: Users>(rt: &impl Abort, alloc: Global, users: &mut U) -> Result<(), Fail> {
-    assert!(rt; users.remove(sid(2)?).map(|user| user.sid().number()) == Some(2));
-    assert!(rt; users.remove(sid(2)?).is_none());
-    assert_order(rt, users, &[1, 3]);
-    assert!(rt; users.by_nick("bob").is_none());
-    assert!(rt; users.by_cid(Cid::from_bytes([2; 24])).is_none());
-    assert!(rt;
-        users.totals()
-            == Totals {
-                users: 2,
-                ss: 100,
-                sf: 5
-            }
+fn say_answer(rt: &impl Abort, said: &mut Vec<u8>, refused: Option<TableRefused>) {
+    say(
+        rt,
+        said,
+        match refused {
+            None => "ok",
+            Some(TableRefused::NickTaken) => "NickTaken",
+            Some(TableRefused::CidTaken) => "CidTaken",
+            Some(TableRefused::Memory) => "Memory",
+        },
     );
-    let bob = user(alloc, 2, 2, "bob", "NIbob")?;
-    assert!(rt; insert(alloc, users, bob)?.is_none());
-    assert_order(rt, users, &[1, 3, 2]);
-    Ok(())
+}
+
+fn say_found(rt: &(impl Abort + AllocGlobal), said: &mut Vec<u8>, user: Option<&User>) {
+    match number_of(user) {
+        Some(number) => say_number(rt, said, number as u128),
+        None => say(rt, said, "nobody"),
+    }
+}
+
+impl<U: Users> UserTable<U> {
+    /// A user enters. Each refusal changes nothing, and one for memory is not repeated.
+    fn enters(&mut self, rt: &(impl Abort + AllocGlobal + Print), user: User, said: &mut Vec<u8>) {
+        let before = seen(rt, &self.users);
+        let answer = match self.inserts(rt, user) {
+            Err((TableRefused::Memory, user)) => {
+                let same = seen(rt, &self.users) == before && self.is_absent(&user);
+                refused(rt, "user_table::Users::insert", same);
+                self.inserts(rt, user)
+            }
+            answer => answer,
+        };
+        match answer {
+            Ok(()) => say_answer(rt, said, None),
+            Err((refused, _)) => {
+                assert!(rt;
+                    seen(rt, &self.users) == before,
+                    "a refusal changed something"
+                );
+                say_answer(rt, said, Some(refused));
+            }
+        }
+    }
+
+    fn is_absent(&self, user: &User) -> bool {
+        self.users.by_sid(user.sid()).is_none()
+            && self.users.by_cid(user.cid()).is_none()
+            && self.users.by_nick(user.key()).is_none()
+    }
+
+    fn inserts(&mut self, rt: &impl Abort, user: User) -> Result<(), (TableRefused, User)> {
+        if self.users.by_sid(user.sid()).is_some() {
+            unknown(rt, "who is there enters");
+        }
+        self.users.insert(user)
+    }
+
+    /// The user with a number says a line, and gets a nick unless that is empty. Each refusal changes nothing, and one for memory is not
+    /// repeated.
+    fn says(
+        &mut self,
+        rt: &(impl Abort + AllocGlobal + Print),
+        text: &str,
+        name: &str,
+        said: &mut Vec<u8>,
+    ) {
+        let (number, line) = pair(text, ' ');
+        let number = small(rt, number);
+        let (before, holder) = (seen(rt, &self.users), number_of(self.users.by_nick(name)));
+        let answer = match self.merges(rt, number, line, name) {
+            Some(TableRefused::Memory) => {
+                let same = seen(rt, &self.users) == before
+                    && number_of(self.users.by_nick(name)) == holder;
+                refused(rt, "user_table::Users::merge_info", same);
+                self.merges(rt, number, line, name)
+            }
+            answer => answer,
+        };
+        if answer.is_some() {
+            assert!(rt;
+                seen(rt, &self.users) == before,
+                "a refusal changed something"
+            );
+        }
+        say_answer(rt, said, answer);
+    }
+
+    fn merges(
+        &mut self,
+        rt: &(impl Abort + AllocGlobal + Print),
+        number: u32,
+        line: &str,
+        name: &str,
+    ) -> Option<TableRefused> {
+        let (sid, update) = (sid(rt, number), update(rt, line));
+        let given = if name.is_empty() {
+            None
+        } else {
+            Some(nick(rt, name))
+        };
+        if !takes_update(&self.users, sid, &update) {
+            unknown(rt, "no room");
+        }
+        self.users.merge_info(sid, &update, given).err()
+    }
+
+    /// A nick, and then what the user says.
+    fn renames(&mut self, rt: &(impl Abort + AllocGlobal + Print), text: &str, said: &mut Vec<u8>) {
+        let (name, rest) = pair(text, ' ');
+        self.says(rt, rest, name, said);
+    }
+
+    fn leaves(&mut self, rt: &(impl Abort + AllocGlobal), number: u32, said: &mut Vec<u8>) {
+        say_found(rt, said, self.users.remove(sid(rt, number)).as_ref());
+    }
+
+    fn takes(&self, rt: &(impl Abort + AllocGlobal + Print), text: &str, said: &mut Vec<u8>) {
+        let (number, line) = pair(text, ' ');
+        let sid = sid(rt, small(rt, number));
+        say_whether(rt, said, takes_update(&self.users, sid, &update(rt, line)));
+    }
+
+    /// The numbers of the users in order of entry.
+    fn order(&self, rt: &(impl Abort + AllocGlobal), said: &mut Vec<u8>) {
+        for place in 0..=self.users.totals().users {
+            match number_of(self.users.at(place as usize)) {
+                Some(number) => say_number(rt, said, number as u128),
+                None => say(rt, said, " end"),
+            }
+        }
+    }
+
+    fn looks(&self, rt: &(impl Abort + AllocGlobal), name: &str, text: &str, said: &mut Vec<u8>) {
+        let found = match name {
+            "sid" => self.users.by_sid(sid(rt, small(rt, text))),
+            "cid" => self.users.by_cid(Cid::from_bytes([byte(rt, text); 24])),
+            "nick" => self.users.by_nick(text),
+            "at" => self.users.at(number(rt, text) as usize),
+            _ => unknown(rt, name),
+        };
+        say_found(rt, said, found);
+    }
+}
+
+/// Makes the calls on both tables, in which ana is with SID 1, bob with 2 and eva with 3.
+pub(crate) fn play_users<R: Abort + AllocGlobal + Print>(rt: &R, rows: &str) {
+    play_three::<PlainUsers>(rt, rows);
+    play_three::<IndexedUsers>(rt, rows);
+}
+
+fn play_three<U: Users>(rt: &(impl Abort + AllocGlobal + Print), rows: &str) {
+    let mut users: UserTable<U> = table(rt);
+    play(
+        rt,
+        &mut users,
+        "
+        enters 1 1 ana NIana SS100 SF2 -> ok
+        enters 2 2 bob NIbob SS20 SFx -> ok
+        enters 3 3 eva NIeva SF3 -> ok
+    ",
+    );
+    play(rt, &mut users, rows);
+}
+
+/// A table with nobody.
+pub(crate) fn table<U: Users>(rt: &impl AllocGlobal) -> UserTable<U> {
+    let users = U::new(rt.alloc());
+    UserTable { users }
+}
+
+/// Makes the calls on both tables, in which there is nobody.
+pub(crate) fn play_nobody<R: Abort + AllocGlobal + Print>(rt: &R, rows: &str) {
+    let mut plain: UserTable<PlainUsers> = table(rt);
+    play(rt, &mut plain, rows);
+    let mut indexed: UserTable<IndexedUsers> = table(rt);
+    play(rt, &mut indexed, rows);
 }
 
 #[test]
-fn sums_what_is_shared(rt: HostRuntime) -> Result<(), Fail> {
-    let alloc = rt.alloc();
-    sums_beyond_64_bits(&rt, alloc, &mut PlainUsers::new(alloc))?;
-    sums_beyond_64_bits(&rt, alloc, &mut IndexedUsers::new(alloc))?;
-    sums_up(&rt, alloc, &mut three::<PlainUsers>(alloc)?)?;
-    sums_up(&rt, alloc, &mut three::<IndexedUsers>(alloc)?)
+fn lists_users_in_order_of_entry(rt: HostRuntime) {
+    play_users(&rt, "order -> 1 2 3 end");
 }
 
-fn sums_beyond_64_bits<U: Users>(
-    rt: &impl Abort,
-    alloc: Global,
-    users: &mut U,
-) -> Result<(), Fail> {
-    for (number, name) in [(1, "dan"), (2, "leo")] {
-        let user = user(alloc, number, number as u8, name, "SS18446744073709551615")?;
-        assert!(rt; insert(alloc, users, user)?.is_none());
-    }
-    assert!(rt; users.totals().ss == 36_893_488_147_419_103_230);
-    Ok(())
-}
-
-fn sums_up<U: Users>(rt: &impl Abort, alloc: Global, users: &mut U) -> Result<(), Fail> {
-    assert!(rt;
-        users.totals()
-            == Totals {
-                users: 3,
-                ss: 120,
-                sf: 5
-            }
+#[test]
+fn reads_a_user(rt: HostRuntime) {
+    play_nobody(
+        &rt,
+        "user 5 7 e\u{301}va NIe\u{301}va SS9 -> 5 7 \u{e9}va NIe\u{301}va SS9;",
     );
-    let large = "SS18446744073709551615 SF18446744073709551615";
-    for (number, name) in [(4, "dan"), (5, "leo")] {
-        let user = user(alloc, number, number as u8, name, large)?;
-        assert!(rt; insert(alloc, users, user)?.is_none());
-    }
+}
+
+#[test]
+fn finds_users(rt: HostRuntime) {
+    play_users(
+        &rt,
+        "
+        sid 1 -> 1
+        cid 1 -> 1
+        nick ana -> 1
+        sid 2 -> 2
+        cid 2 -> 2
+        nick bob -> 2
+        sid 3 -> 3
+        cid 3 -> 3
+        nick eva -> 3
+        sid 4 -> nobody
+        cid 4 -> nobody
+        nick Ana -> nobody
+    ",
+    );
+}
+
+#[test]
+fn refuses_a_nick_before_a_client_identifier(rt: HostRuntime) {
+    play_users(
+        &rt,
+        "
+        enters 4 1 ana SS1 -> NickTaken
+        enters 4 9 bob SS1 -> NickTaken
+        enters 4 3 dan SS1 -> CidTaken
+        enters 4 9 dan SS1 -> ok
+        order -> 1 2 3 4 end
+    ",
+    );
+}
+
+#[test]
+fn closes_up_where_a_user_leaves(rt: HostRuntime) {
+    play_users(
+        &rt,
+        "
+        leaves 2 -> 2
+        leaves 2 -> nobody
+        order -> 1 3 end
+        nick bob -> nobody
+        cid 2 -> nobody
+        totals -> 2 100 5
+        enters 2 2 bob NIbob -> ok
+        order -> 1 3 2 end
+    ",
+    );
+}
+
+#[test]
+fn sums_what_is_shared(rt: HostRuntime) {
+    play_nobody(
+        &rt,
+        "
+        enters 1 1 dan SS18446744073709551615 -> ok
+        enters 2 2 leo SS18446744073709551615 -> ok
+        totals -> 2 36893488147419103230 0
+    ",
+    );
     // 120 and 5, and twice 2^64 - 1
-    assert!(rt;
-        users.totals()
-            == Totals {
-                users: 5,
-                ss: 36_893_488_147_419_103_350,
-                sf: 36_893_488_147_419_103_235
-            }
+    play_users(
+        &rt,
+        "
+        totals -> 3 120 5
+        enters 4 4 dan SS18446744073709551615 SF18446744073709551615 -> ok
+        enters 5 5 leo SS18446744073709551615 SF18446744073709551615 -> ok
+        totals -> 5 36893488147419103350 36893488147419103235
+    ",
     );
-    Ok(())
 }
 
 #[test]
-fn renames_a_user_in_place(rt: HostRuntime) -> Result<(), Fail> {
-    let alloc = rt.alloc();
-    renames_in_place(&rt, alloc, &mut three::<PlainUsers>(alloc)?)?;
-    renames_in_place(&rt, alloc, &mut three::<IndexedUsers>(alloc)?)
-}
-
-fn renames_in_place<U: Users>(rt: &impl Abort, alloc: Global, users: &mut U) -> Result<(), Fail> {
-    for (number, line, name, refused) in [
-        (2, "NIrob SS21", Some("rob"), None),
-        (1, "NIeva SS1", Some("eva"), Some(TableRefused::NickTaken)),
-        (3, "NIeva SS4", Some("eva"), None),
-        (1, "DEx SS99", None, None),
-    ] {
-        assert!(rt; say(alloc, users, number, line, name)? == refused, "{line}");
-    }
-    assert_order(rt, users, &[1, 2, 3]);
-    assert!(rt; users.by_nick("bob").is_none());
-    assert!(rt; users.by_nick("rob").map(|user| user.sid().number()) == Some(2));
-    assert!(rt; users.by_nick("ana").map(|user| user.sid().number()) == Some(1));
-    assert!(rt;
-        users.totals()
-            == Totals {
-                users: 3,
-                ss: 124,
-                sf: 5
-            }
+fn renames_a_user_in_place(rt: HostRuntime) {
+    play_users(
+        &rt,
+        "
+        renames rob 2 NIrob SS21 -> ok
+        renames eva 1 NIeva SS1 -> NickTaken
+        renames eva 3 NIeva SS4 -> ok
+        says 1 DEx SS99 -> ok
+        order -> 1 2 3 end
+        nick bob -> nobody
+        nick rob -> 2
+        nick ana -> 1
+        totals -> 3 124 5
+    ",
     );
-    Ok(())
 }
 
 #[test]
-fn asks_for_room(rt: HostRuntime) -> Result<(), Fail> {
-    asks_for_room_in(&rt, rt.alloc(), &three::<PlainUsers>(rt.alloc())?)?;
-    asks_for_room_in(&rt, rt.alloc(), &three::<IndexedUsers>(rt.alloc())?)
-}
-
-fn asks_for_room_in<U: Users>(rt: &impl Abort, alloc: Global, users: &U) -> Result<(), Fail> {
-    let said = update(alloc, "NIrob")?;
-    assert!(rt; takes_update(users, sid(2)?, &said));
-    assert!(rt; !takes_update(users, sid(4)?, &said));
-    Ok(())
+fn asks_for_room(rt: HostRuntime) {
+    play_users(
+        &rt,
+        "
+        takes 2 NIrob -> yes
+        takes 4 NIrob -> no
+    ",
+    );
 }

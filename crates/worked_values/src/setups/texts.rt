@@ -1,184 +1,239 @@
 use super::*;
+use crate::fields::{merged, update};
+use crate::lines::line;
+use crate::rows::{Part, pair, play, say, small, twenty_four};
 use adc_base32::Sid;
 use hub_setup::{
-    Account, Options, challenge_line, denial_line, done_line, hub_line, identifier_line,
-    passed_line, ping_fields, removal_line, support_line, topic_line, update_line, user_line,
+    challenge_line, denial_line, done_line, hub_line, identifier_line, passed_line, ping_fields,
+    removal_line, support_line, topic_line, update_line, user_line,
 };
 use login_state::Deny;
-use std::test::Fail;
+use second_try::again;
+use std::alloc::AllocError;
 use user_table::Totals;
 
-fn sid(text: &[u8]) -> Result<Sid, Fail> {
-    match Sid::parse(text) {
-        Some(sid) => Ok(sid),
-        None => Err(Fail::new("no session identifier")),
+/// The lines of a hub where ana is an operator and bob is registered.
+#[derive(Drop)]
+pub(crate) struct Texts;
+
+impl Part for Texts {
+    fn call<R: Abort + AllocGlobal + Print>(
+        &mut self,
+        rt: &R,
+        name: &str,
+        text: &str,
+        bytes: &[u8],
+        said: &mut Vec<u8>,
+    ) {
+        match name {
+            "support" => say_line(rt, said, &again!(rt; support_line(rt.alloc()))),
+            "done" => say_line(rt, said, &again!(rt; done_line(rt.alloc()))),
+            "ping" => say(rt, said, &ping(rt)),
+            "hub" => hub(rt, text, said),
+            "user" => user(rt, text, said),
+            "removal" => removal(rt, text, said),
+            _ => say_line(rt, said, &short(rt, name, text, bytes)),
+        }
     }
 }
 
-fn update(alloc: Global, words: &[&str]) -> Result<Update, InfFault> {
-    match Update::read(alloc, words) {
-        Err(InfFault::Memory) => Update::read(alloc, words),
-        answer => answer,
+/// A line that is told by few words.
+fn short(rt: &(impl Abort + AllocGlobal + Print), name: &str, text: &str, bytes: &[u8]) -> Bytes {
+    let made = match name {
+        "identifier" => identifier(rt, sid(rt, text)),
+        "topic" => twice!(rt; "hub_setup::topic_line", AllocError, topic_line(rt.alloc(), text)),
+        "challenge" => challenge(rt, bytes),
+        "password" =>
+            twice!(rt; "hub_setup::denial_line", AllocError, denial_line(rt.alloc(), Deny::Password)),
+        "passed" => passed(rt, bytes),
+        "update" => updated(rt, text),
+        _ => unknown(rt, name),
+    };
+    match made {
+        Ok(line) => line,
+        Err(_) => unknown(rt, name),
     }
 }
 
-/// What is known after one update.
-fn fields(alloc: Global, words: &[&str]) -> Result<Fields, Fail> {
-    let said = update(alloc, words)?;
-    let mut fields = Fields::new(alloc);
-    if fields.merge(&said) == Err(InfFault::Memory) {
-        fields.merge(&said)?;
+fn sid(rt: &impl Abort, text: &str) -> Sid {
+    match Sid::parse(text.as_bytes()) {
+        Some(sid) => sid,
+        None => unknown(rt, text),
     }
-    Ok(fields)
 }
 
-fn is_text(line: &Bytes, text: &[u8]) -> bool {
-    line.as_slice() == text
+fn identifier(rt: &(impl Abort + AllocGlobal + Print), sid: Sid) -> Result<Bytes, AllocError> {
+    twice!(rt; "hub_setup::identifier_line", AllocError, identifier_line(rt.alloc(), sid))
 }
 
-#[test]
-fn writes_what_never_changes(rt: HostRuntime) -> Result<(), Fail> {
-    let alloc = rt.alloc();
-    let support = again!(support_line(alloc))?;
-    assert!(rt; is_text(&support, b"ISUP ADBASE ADTIGR ADPING ADUCMD\n"));
-    let done = again!(done_line(alloc))?;
-    assert!(rt; is_text(&done, b"ISTA 000 Done\n"));
-    Ok(())
+fn challenge(rt: &(impl Abort + AllocGlobal + Print), bytes: &[u8]) -> Result<Bytes, AllocError> {
+    let Some(challenge) = twenty_four(bytes) else {
+        unknown(rt, "challenge")
+    };
+    twice!(rt; "hub_setup::challenge_line", AllocError, challenge_line(rt.alloc(), challenge))
 }
 
-#[test]
-fn writes_the_greeting(rt: HostRuntime) -> Result<(), Fail> {
-    let alloc = rt.alloc();
-    let identifier = again!(identifier_line(alloc, sid(b"AAAC")?))?;
-    assert!(rt; is_text(&identifier, b"ISID AAAC\n"));
-    let setup = set_up(alloc, &options("Hub"))?;
+fn passed(rt: &(impl Abort + AllocGlobal + Print), bytes: &[u8]) -> Result<Bytes, AllocError> {
+    let line = line(rt, bytes);
+    twice!(rt; "hub_setup::passed_line", AllocError, passed_line(rt.alloc(), &line))
+}
+
+fn updated(rt: &(impl Abort + AllocGlobal + Print), text: &str) -> Result<Bytes, AllocError> {
+    let (who, words) = pair(text, ' ');
+    let (sid, update) = (sid(rt, who), update(rt, words));
+    twice!(rt; "hub_setup::update_line", AllocError, update_line(rt.alloc(), sid, &update))
+}
+
+/// What a hub for 512 users says to who asks, 90 seconds after it opened, where one is present.
+fn ping(rt: &(impl Abort + AllocGlobal + Print)) -> String {
     let totals = Totals {
         users: 1,
         ss: 10,
         sf: 2,
     };
-    let ping = again!(ping_fields(alloc, &totals, 512, 90))?;
-    for (topic, ping, text) in [
-        ("", "", b"IINF CT32 NIHub VEadc-hub\\s1.0\n".as_slice()),
-        (
-            "new one",
-            "",
-            b"IINF CT32 NIHub VEadc-hub\\s1.0 DEnew\\sone\n",
-        ),
-        (
-            "",
-            ping.as_str(),
-            b"IINF CT32 NIHub VEadc-hub\\s1.0 UC1 SS10 SF2 MC512 UP90\n",
-        ),
-        (
-            "new one",
-            ping.as_str(),
-            b"IINF CT32 NIHub VEadc-hub\\s1.0 DEnew\\sone UC1 SS10 SF2 MC512 UP90\n",
-        ),
-    ] {
-        let line = again!(hub_line(alloc, &setup, topic, ping))?;
-        assert!(rt; is_text(&line, text), "{topic:?}, {ping:?}");
+    match twice!(rt; "hub_setup::ping_fields", AllocError, ping_fields(rt.alloc(), &totals, 512, 90))
+    {
+        Ok(text) => text,
+        Err(_) => unknown(rt, "ping"),
     }
-    let named = set_up(alloc, &options("My Hub"))?;
-    let line = again!(hub_line(alloc, &named, "", ""))?;
-    assert!(rt; is_text(&line, b"IINF CT32 NIMy\\sHub VEadc-hub\\s1.0\n"));
-    Ok(())
 }
 
-#[test]
-fn writes_a_new_topic(rt: HostRuntime) -> Result<(), Fail> {
-    let alloc = rt.alloc();
-    for (topic, text) in [
-        ("new one", b"IINF DEnew\\sone\n".as_slice()),
-        ("", b"IINF DE\n"),
-    ] {
-        let line = again!(topic_line(alloc, topic))?;
-        assert!(rt; is_text(&line, text), "{topic:?}");
+/// The line of a hub with a name and a topic, to who asks or to another.
+fn hub(rt: &(impl Abort + AllocGlobal + Print), text: &str, said: &mut Vec<u8>) {
+    let (name, rest) = pair(text, ';');
+    let (topic, asked) = pair(rest, ';');
+    let setup = setup(rt, &options(name));
+    let ping = ping(rt);
+    let ping = if asked == "ping" { ping.as_str() } else { "" };
+    match twice!(rt; "hub_setup::hub_line", AllocError, hub_line(rt.alloc(), &setup, topic, ping)) {
+        Ok(line) => say_line(rt, said, &line),
+        Err(_) => unknown(rt, "hub"),
     }
-    Ok(())
 }
 
-#[test]
-fn writes_a_challenge(rt: HostRuntime) -> Result<(), Fail> {
-    let alloc = rt.alloc();
-    for (challenge, text) in [
-        (
-            [0; 24],
-            b"IGPA AAAAAAAAAAAAAAAAAAAAAAAAAAAAAAAAAAAAAAA\n".as_slice(),
-        ),
-        (
-            *b"foobarfoobarfoobarfoobar",
-            b"IGPA MZXW6YTBOJTG633CMFZGM33PMJQXEZTPN5RGC4Q\n",
-        ),
-    ] {
-        let line = again!(challenge_line(alloc, challenge))?;
-        assert!(rt; is_text(&line, text), "{challenge:?}");
-    }
-    Ok(())
-}
-
-#[test]
-fn writes_users(rt: HostRuntime) -> Result<(), Fail> {
-    let alloc = rt.alloc();
+/// The line of a user who is AAAC, with the account of a nick, and said some words.
+fn user(rt: &(impl Abort + AllocGlobal + Print), text: &str, said: &mut Vec<u8>) {
+    let (nick, words) = pair(text, ' ');
     let accounts = [
-        operator("ana", "secret"),
-        Account {
-            operator: false,
-            ..operator("bob", "secret")
-        },
+        account("ana", "secret", true),
+        account("bob", "secret", false),
     ];
-    let setup = set_up(
-        alloc,
-        &Options {
-            accounts: &accounts,
-            ..options("Hub")
-        },
-    )?;
-    let known = fields(alloc, &["NIana", "DE", "SS10"])?;
-    for (nick, text) in [
-        ("ana", b"BINF AAAC NIana SS10 CT4\n".as_slice()),
-        ("bob", b"BINF AAAC NIana SS10 CT2\n"),
-        ("carl", b"BINF AAAC NIana SS10\n"),
-    ] {
-        let line = again!(user_line(alloc, sid(b"AAAC")?, &known, setup.account(nick)))?;
-        assert!(rt; is_text(&line, text), "{nick}");
+    let options = Options {
+        accounts: &accounts,
+        ..options("Hub")
+    };
+    let (setup, known, sid) = (setup(rt, &options), merged(rt, words), sid(rt, "AAAC"));
+    match twice!(rt; "hub_setup::user_line", AllocError, user_line(rt.alloc(), sid, &known, setup.account(nick)))
+    {
+        Ok(line) => say_line(rt, said, &line),
+        Err(_) => unknown(rt, "user"),
     }
-    let change = update(alloc, &["DE", "SS11"])?;
-    let line = again!(update_line(alloc, sid(b"AAAC")?, &change))?;
-    assert!(rt; is_text(&line, b"BINF AAAC DE SS11\n"));
-    Ok(())
+}
+
+/// The line for AAAC whom AAAB removes for so many seconds, `-` where none are told, for a reason.
+fn removal(rt: &(impl Abort + AllocGlobal + Print), text: &str, said: &mut Vec<u8>) {
+    let (seconds, reason) = pair(text, ' ');
+    let seconds = match seconds {
+        "-" => None,
+        _ => Some(small(rt, seconds)),
+    };
+    let (target, operator) = (sid(rt, "AAAC"), sid(rt, "AAAB"));
+    match twice!(rt; "hub_setup::removal_line", AllocError, removal_line(rt.alloc(), target, operator, seconds, reason))
+    {
+        Ok(line) => say_line(rt, said, &line),
+        Err(_) => unknown(rt, "removal"),
+    }
 }
 
 #[test]
-fn writes_removals(rt: HostRuntime) -> Result<(), Fail> {
-    let alloc = rt.alloc();
-    for (seconds, reason, text) in [
-        (None, "rude", b"IQUI AAAC IDAAAB MSrude\n".as_slice()),
-        (None, "", b"IQUI AAAC IDAAAB\n"),
-        (Some(60), "", b"IQUI AAAC IDAAAB TL60\n"),
-        (Some(0), "", b"IQUI AAAC IDAAAB TL-1\n"),
-        (
-            Some(60),
-            "very rude",
-            b"IQUI AAAC IDAAAB TL60 MSvery\\srude\n",
-        ),
-    ] {
-        let line = again!(removal_line(alloc, sid(b"AAAC")?, sid(b"AAAB")?, seconds, reason))?;
-        assert!(rt; is_text(&line, text), "{seconds:?}, {reason:?}");
-    }
-    Ok(())
+fn writes_what_never_changes(rt: HostRuntime) {
+    play(
+        &rt,
+        &mut Texts,
+        "
+        support -> ISUP ADBASE ADTIGR ADPING ADUCMD
+        done -> ISTA 000 Done
+    ",
+    );
 }
 
 #[test]
-fn writes_denials_and_passes_lines_on(rt: HostRuntime) -> Result<(), Fail> {
-    let alloc = rt.alloc();
-    let denial = again!(denial_line(alloc, Deny::Password))?;
-    assert!(rt; is_text(&denial, b"ISTA 223 Invalid\\spassword\n"));
-    let message = match Line::parse(alloc, b"BMSG AAAB hello\\sall") {
-        Err(LineFault::Memory) => Line::parse(alloc, b"BMSG AAAB hello\\sall"),
-        answer => answer,
-    }?;
-    let passed = again!(passed_line(alloc, &message))?;
-    assert!(rt; is_text(&passed, b"BMSG AAAB hello\\sall\n"));
-    Ok(())
+fn writes_the_greeting(rt: HostRuntime) {
+    play(
+        &rt,
+        &mut Texts,
+        r"
+        identifier AAAC -> ISID AAAC
+        hub Hub -> IINF CT32 NIHub VEadc-hub\s1.0
+        hub Hub;new one -> IINF CT32 NIHub VEadc-hub\s1.0 DEnew\sone
+        hub Hub;;ping -> IINF CT32 NIHub VEadc-hub\s1.0 UC1 SS10 SF2 MC512 UP90
+        hub Hub;new one;ping -> IINF CT32 NIHub VEadc-hub\s1.0 DEnew\sone UC1 SS10 SF2 MC512 UP90
+        hub My Hub -> IINF CT32 NIMy\sHub VEadc-hub\s1.0
+    ",
+    );
+}
+
+#[test]
+fn writes_a_new_topic(rt: HostRuntime) {
+    play(
+        &rt,
+        &mut Texts,
+        r"
+        topic new one -> IINF DEnew\sone
+        topic <> -> IINF DE
+    ",
+    );
+}
+
+#[test]
+fn writes_a_challenge(rt: HostRuntime) {
+    play(
+        &rt,
+        &mut Texts,
+        "
+        challenge <24*x00> -> IGPA <39*A>
+        challenge <4*foobar> -> IGPA MZXW6YTBOJTG633CMFZGM33PMJQXEZTPN5RGC4Q
+    ",
+    );
+}
+
+#[test]
+fn writes_users(rt: HostRuntime) {
+    play(
+        &rt,
+        &mut Texts,
+        "
+        user ana NIana DE SS10 -> BINF AAAC NIana SS10 CT4
+        user bob NIana DE SS10 -> BINF AAAC NIana SS10 CT2
+        user carl NIana DE SS10 -> BINF AAAC NIana SS10
+        update AAAC DE SS11 -> BINF AAAC DE SS11
+    ",
+    );
+}
+
+#[test]
+fn writes_removals(rt: HostRuntime) {
+    play(
+        &rt,
+        &mut Texts,
+        r"
+        removal - rude -> IQUI AAAC IDAAAB MSrude
+        removal - -> IQUI AAAC IDAAAB
+        removal 60 -> IQUI AAAC IDAAAB TL60
+        removal 0 -> IQUI AAAC IDAAAB TL-1
+        removal 60 very rude -> IQUI AAAC IDAAAB TL60 MSvery\srude
+    ",
+    );
+}
+
+#[test]
+fn writes_denials_and_passes_lines_on(rt: HostRuntime) {
+    play(
+        &rt,
+        &mut Texts,
+        r"
+        password -> ISTA 223 Invalid\spassword
+        passed BMSG AAAB hello\sall -> BMSG AAAB hello\sall
+    ",
+    );
 }

@@ -1,22 +1,21 @@
 // Commands that a small generator draws, the same from the same seed.
-use super::samples::{nick, update, user};
-use adc_base32::Sid;
+use super::samples::{sid, user};
+use crate::fields::update;
+use crate::identities::nick;
 use adc_ids::Cid;
-use std::alloc::{AllocError, Global};
-use std::test::Fail;
+use second_try::again;
+use std::alloc::{AllocError, AllocGlobal, Global};
+use std::io::Print;
+use std::process::Abort;
 use user_table::Command;
 
 /// A linear congruential generator with Knuth's constants; the high bits are used.
 #[derive(Drop)]
-pub struct Draws {
-    state: u64,
+pub(crate) struct Draws {
+    pub(crate) state: u64,
 }
 
 impl Draws {
-    pub(crate) fn new(seed: u64) -> Draws {
-        Draws { state: seed }
-    }
-
     /// A number from 0 to 255.
     fn byte(&mut self) -> u32 {
         self.state = self
@@ -27,72 +26,56 @@ impl Draws {
     }
 }
 
-/// So many commands on at most 60 users with 40 nicks and 48 client identifiers.
-pub(crate) fn commands(
-    alloc: Global,
-    draws: &mut Draws,
-    count: usize,
-) -> Result<Vec<Command>, Fail> {
-    let mut commands = with_room(alloc, count)?;
-    for _ in 0..count {
-        commands
-            .push(command(alloc, draws)?)
-            .map_err(|_| AllocError)?;
-    }
-    Ok(commands)
-}
-
-fn with_room(alloc: Global, count: usize) -> Result<Vec<Command>, AllocError> {
-    match Vec::with_capacity(alloc, count) {
-        Err(AllocError) => Vec::with_capacity(alloc, count),
-        answer => answer,
-    }
-}
-
-fn command(alloc: Global, draws: &mut Draws) -> Result<Command, Fail> {
+/// A command on one of at most 60 users with 40 nicks and 48 client identifiers.
+pub(crate) fn command(rt: &(impl Abort + AllocGlobal + Print), draws: &mut Draws) -> Command {
     let kind = draws.byte();
     let number = draws.byte() % 60;
-    let sid = Sid::from_u32(number).ok_or("no identifier")?;
-    let name = name(alloc, draws.byte() % 40)?;
-    let cid = draws.byte() % 48;
+    let name = again!(rt; name(rt.alloc(), draws.byte() % 40));
+    let cid = (draws.byte() % 48) as u8;
     let amount = draws.byte();
-    Ok(match kind % 16 {
+    match kind % 16 {
         0..=5 => {
-            let line = text(alloc, &name, amount)?;
-            Command::Insert(user(alloc, number, cid as u8, &name, &line)?)
+            let line = again!(rt; text(rt.alloc(), &name, amount));
+            Command::Insert(user(rt, number, cid, &name, &line))
         }
-        6 | 7 => Command::Remove(sid),
         8 | 9 => {
-            let line = text(alloc, &name, amount)?;
-            let given = Some(nick(alloc, &name)?);
-            Command::MergeInfo(sid, update(alloc, &line)?, given)
+            let line = again!(rt; text(rt.alloc(), &name, amount));
+            renewal(rt, number, &line, &name)
         }
-        10 => Command::MergeInfo(sid, update(alloc, "SS7 SF7 DEhere")?, None),
-        11 => Command::MergeInfo(sid, update(alloc, "NIother")?, Some(nick(alloc, &name)?)),
-        12 => Command::BySid(sid),
-        13 => Command::ByCid(Cid::from_bytes([cid as u8; 24])),
+        10 => renewal(rt, number, "SS7 SF7 DEhere", ""),
+        11 => renewal(rt, number, "NIother", &name),
         14 => Command::ByNick(name),
-        _ => last(number, amount),
-    })
+        kind => look(rt, kind, number, cid, amount),
+    }
 }
 
-fn last(number: u32, amount: u32) -> Command {
-    if amount % 2 == 0 {
-        Command::At(number as usize)
+/// The update that a line says, with a nick unless that is empty.
+pub(crate) fn renewal(
+    rt: &(impl Abort + AllocGlobal + Print),
+    number: u32,
+    line: &str,
+    name: &str,
+) -> Command {
+    let given = if name.is_empty() {
+        None
     } else {
-        Command::Count
+        Some(nick(rt, name))
+    };
+    Command::MergeInfo(sid(rt, number), update(rt, line), given)
+}
+
+fn look(rt: &impl Abort, kind: u32, number: u32, cid: u8, amount: u32) -> Command {
+    match kind {
+        6 | 7 => Command::Remove(sid(rt, number)),
+        12 => Command::BySid(sid(rt, number)),
+        13 => Command::ByCid(Cid::from_bytes([cid; 24])),
+        _ if amount % 2 == 0 => Command::At(number as usize),
+        _ => Command::Count,
     }
 }
 
 /// A nick that differs by its number; every third has a letter with an accent, in two code points.
 fn name(alloc: Global, number: u32) -> Result<String, AllocError> {
-    match name_once(alloc, number) {
-        Err(AllocError) => name_once(alloc, number),
-        answer => answer,
-    }
-}
-
-fn name_once(alloc: Global, number: u32) -> Result<String, AllocError> {
     if number % 3 == 0 {
         format!(in alloc; "e\u{301}{number}")
     } else {
@@ -101,12 +84,5 @@ fn name_once(alloc: Global, number: u32) -> Result<String, AllocError> {
 }
 
 fn text(alloc: Global, name: &str, amount: u32) -> Result<String, AllocError> {
-    match text_once(alloc, name, amount) {
-        Err(AllocError) => text_once(alloc, name, amount),
-        answer => answer,
-    }
-}
-
-fn text_once(alloc: Global, name: &str, amount: u32) -> Result<String, AllocError> {
     format!(in alloc; "NI{name} SS{amount}000000000000000000 SF{amount}")
 }

@@ -1,0 +1,122 @@
+use super::say_denial;
+use crate::rows::{Part, number, pair, play, unknown};
+use login_state::{Deny, InfField, Severity};
+use std::alloc::AllocGlobal;
+use std::io::Print;
+use std::process::Abort;
+
+/// What a client is told that is refused something.
+#[derive(Drop)]
+pub(crate) struct Denials;
+
+impl Part for Denials {
+    fn call<R: Abort + AllocGlobal + Print>(
+        &mut self,
+        rt: &R,
+        name: &str,
+        text: &str,
+        _bytes: &[u8],
+        said: &mut Vec<u8>,
+    ) {
+        let deny = match name {
+            "fatal" => denied(rt, Severity::Fatal, text),
+            "recoverable" => denied(rt, Severity::Recoverable, text),
+            "login" => login_denied(rt, text),
+            _ => act_denied(rt, text),
+        };
+        say_denial(rt, said, deny);
+    }
+}
+
+/// A denial of either severity.
+fn denied(rt: &impl Abort, severity: Severity, text: &str) -> Deny {
+    match pair(text, ' ') {
+        ("BadField", name) => Deny::BadField(severity, field(rt, name)),
+        ("BadNick", _) => Deny::BadNick(severity),
+        ("NickTaken", _) => Deny::NickTaken(severity),
+        ("Address", "127.0.0.1") => Deny::Address(severity, [127, 0, 0, 1]),
+        ("Address", "255.100.9.10") => Deny::Address(severity, [255, 100, 9, 10]),
+        _ => unknown(rt, text),
+    }
+}
+
+fn field(rt: &impl Abort, name: &str) -> InfField {
+    match name {
+        "Id" => InfField::Id,
+        "Pid" => InfField::Pid,
+        "Nick" => InfField::Nick,
+        "ShareSize" => InfField::ShareSize,
+        "SharedFiles" => InfField::SharedFiles,
+        _ => unknown(rt, name),
+    }
+}
+
+fn login_denied(rt: &impl Abort, text: &str) -> Deny {
+    match pair(text, ' ') {
+        ("WrongSid", _) => Deny::WrongSid,
+        ("NoBase", _) => Deny::NoBase,
+        ("NoHash", _) => Deny::NoHash,
+        ("Missing", name) => Deny::Missing(field(rt, name)),
+        ("BadPid", _) => Deny::BadPid,
+        ("BannedEver", _) => Deny::BannedEver,
+        ("BannedFor", seconds) => Deny::BannedFor(number(rt, seconds)),
+        ("Registered", _) => Deny::Registered,
+        ("CidTaken", _) => Deny::CidTaken,
+        ("Password", _) => Deny::Password,
+        _ => unknown(rt, text),
+    }
+}
+
+fn act_denied(rt: &impl Abort, text: &str) -> Deny {
+    match text {
+        "Protocol" => Deny::Protocol,
+        "BadStage BMSG" => Deny::BadStage(*b"BMSG"),
+        "Access HMSG" => Deny::Access(*b"HMSG"),
+        "SearchSoon" => Deny::SearchSoon,
+        "BadCommand" => Deny::BadCommand,
+        "NoUser" => Deny::NoUser,
+        "NoBan" => Deny::NoBan,
+        "BansFull" => Deny::BansFull,
+        _ => unknown(rt, text),
+    }
+}
+
+#[test]
+fn writes_each_denial(rt: HostRuntime) {
+    play(
+        &rt,
+        &mut Denials,
+        r"
+        act Protocol -> ISTA 140 Protocol\serror
+        login WrongSid -> ISTA 240 Wrong\sSID
+        act BadStage BMSG -> ISTA 144 Invalid\sstate FCBMSG
+        login NoBase -> ISTA 245 Feature\smissing FCBASE
+        login NoHash -> ISTA 247 No\scommon\shash
+        login Missing Nick -> ISTA 243 INF\sfield\smissing FMNI
+        login Missing Id -> ISTA 243 INF\sfield\smissing FMID
+        fatal BadField Pid -> ISTA 243 INF\sfield\sbad FBPD
+        login BadPid -> ISTA 227 Invalid\sPID
+        fatal BadNick -> ISTA 221 Invalid\snick
+        login BannedEver -> ISTA 231 Banned
+        login BannedFor 1 -> ISTA 232 Banned TL1
+        login BannedFor 18446744073709551615 -> ISTA 232 Banned TL18446744073709551615
+        fatal Address 127.0.0.1 -> ISTA 246 Wrong\saddress I4127.0.0.1
+        fatal Address 255.100.9.10 -> ISTA 246 Wrong\saddress I4255.100.9.10
+        login Registered -> ISTA 226 Registered\susers\sonly
+        fatal NickTaken -> ISTA 222 Nick\staken
+        login CidTaken -> ISTA 224 CID\staken
+        login Password -> ISTA 223 Invalid\spassword
+        act Access HMSG -> ISTA 125 Access\sdenied FCHMSG
+        act SearchSoon -> ISTA 100 Search\stoo\ssoon
+        act BadCommand -> ISTA 100 Bad\scommand
+        act NoUser -> ISTA 100 No\ssuch\suser
+        act NoBan -> ISTA 100 No\ssuch\sban
+        act BansFull -> ISTA 100 Ban\slist\sfull
+        recoverable BadField ShareSize -> ISTA 143 INF\sfield\sbad FBSS
+        recoverable BadField SharedFiles -> ISTA 143 INF\sfield\sbad FBSF
+        recoverable BadNick -> ISTA 121 Invalid\snick
+        recoverable Address 127.0.0.1 -> ISTA 146 Wrong\saddress I4127.0.0.1
+        recoverable NickTaken -> ISTA 122 Nick\staken
+    ",
+    );
+}

@@ -1,0 +1,233 @@
+use super::say_check;
+use crate::lines::line;
+use crate::rows::{Part, pair, play, refused, say, say_bytes, say_whether, small, unknown};
+use login_state::{Feature, Features, SupFault, check_sup};
+use second_try::again;
+use std::alloc::{AllocError, AllocGlobal, Global};
+use std::io::Print;
+use std::process::Abort;
+
+/// The features that a client says it supports.
+#[derive(Drop)]
+pub(crate) struct Supports {
+    features: Features,
+}
+
+impl Part for Supports {
+    fn call<R: Abort + AllocGlobal + Print>(
+        &mut self,
+        rt: &R,
+        name: &str,
+        text: &str,
+        _bytes: &[u8],
+        said: &mut Vec<u8>,
+    ) {
+        match name {
+            "none" => self.features = Features::new(rt.alloc()),
+            "says" => self.says(rt, text, said),
+            "many" => self.says(rt, &many(rt, text), said),
+            "ends" => say_check(rt, said, check_sup(&self.features)),
+            "has" => say_whether(rt, said, self.features.has(feature(rt, text))),
+            "named" => say_feature(rt, said, named(text)),
+            "known" => say_bytes(rt, said, &known(rt, text).name()),
+            _ => unknown(rt, name),
+        }
+    }
+}
+
+impl Supports {
+    /// Another line SUP. Where it is refused, the features are those before.
+    fn says(&mut self, rt: &(impl Abort + AllocGlobal + Print), text: &str, said: &mut Vec<u8>) {
+        let line = line(rt, text.as_bytes());
+        let base = self.features.has(Feature::base());
+        let answer = match self.features.apply(rt.alloc(), line.params()) {
+            Err(SupFault::Memory) => {
+                let same = self.features.has(Feature::base()) == base;
+                refused(rt, "login_state::Features::apply", same);
+                self.features.apply(rt.alloc(), line.params())
+            }
+            answer => answer,
+        };
+        match answer {
+            Ok(features) => self.features = features,
+            Err(SupFault::Bad) => say(rt, said, "Bad"),
+            Err(SupFault::TooMany) => say(rt, said, "TooMany"),
+            Err(SupFault::Memory) => say(rt, said, "Memory"),
+        }
+    }
+}
+
+/// A SUP that adds so many features, `X000` and so on, with these words behind it.
+fn many(rt: &(impl Abort + AllocGlobal), text: &str) -> String {
+    let (count, words) = pair(text, ' ');
+    again!(rt; sup(rt.alloc(), small(rt, count), words))
+}
+
+fn sup(alloc: Global, count: u32, words: &str) -> Result<String, AllocError> {
+    let mut text = String::new(alloc);
+    text.push_str("HSUP")?;
+    for number in 0..count {
+        let word = format!(in alloc; " ADX{number:03}")?;
+        text.push_str(&word)?;
+    }
+    if !words.is_empty() {
+        text.push_str(" ")?;
+        text.push_str(words)?;
+    }
+    Ok(text)
+}
+
+fn named(text: &str) -> Option<Feature> {
+    match text.as_bytes() {
+        [a, b, c, d] => Feature::named([*a, *b, *c, *d]),
+        _ => None,
+    }
+}
+
+fn feature(rt: &impl Abort, text: &str) -> Feature {
+    match named(text) {
+        Some(feature) => feature,
+        None => unknown(rt, text),
+    }
+}
+
+fn known(rt: &impl Abort, text: &str) -> Feature {
+    match text {
+        "base" => Feature::base(),
+        "tigr" => Feature::tigr(),
+        "ping" => Feature::ping(),
+        "ucmd" => Feature::ucmd(),
+        _ => unknown(rt, text),
+    }
+}
+
+fn say_feature(rt: &impl Abort, said: &mut Vec<u8>, feature: Option<Feature>) {
+    match feature {
+        Some(feature) => say_bytes(rt, said, &feature.name()),
+        None => say(rt, said, "none"),
+    }
+}
+
+pub(crate) fn play_supports<R: Abort + AllocGlobal + Print>(rt: &R, rows: &str) {
+    play(
+        rt,
+        &mut Supports {
+            features: Features::new(rt.alloc()),
+        },
+        rows,
+    );
+}
+
+#[test]
+fn greets_who_supports_base_and_tiger(rt: HostRuntime) {
+    play_supports(
+        &rt,
+        r"
+        says HSUP ADBASE ADTIGR -> <>
+        ends -> Go
+        none -> <>
+        says HSUP ADBASE -> <>
+        ends -> ISTA 247 No\scommon\shash
+        none -> <>
+        says HSUP ADTIGR -> <>
+        ends -> ISTA 245 Feature\smissing FCBASE
+        none -> <>
+        says HSUP -> <>
+        ends -> ISTA 245 Feature\smissing FCBASE
+        none -> <>
+        says HSUP ADBAS0 ADTIGR ADUCM0 ADZLIF -> <>
+        ends -> Go
+        none -> <>
+        says HSUP ADBASE ADTIGR RMBAS0 -> <>
+        ends -> ISTA 245 Feature\smissing FCBASE
+        none -> <>
+        says HSUP RMBASE ADTIGR ADBASE RMTIGR ADTIGR -> <>
+        ends -> Go
+        none -> <>
+        says HSUP ADBASE ADTIGR -> <>
+        says HSUP RMTIGR -> <>
+        ends -> ISTA 247 No\scommon\shash
+        none -> <>
+        says HSUP ADTIGR -> <>
+        says HSUP ADBASE ADPING -> <>
+        says HSUP RMPING -> <>
+        ends -> Go
+        none -> <>
+        says HSUP ADBASE ADTIGR -> <>
+        says HSUP RMBASE -> <>
+        says HSUP ADBASE -> <>
+        ends -> Go
+    ",
+    );
+}
+
+#[test]
+fn refuses_words_that_mention_nothing(rt: HostRuntime) {
+    play_supports(
+        &rt,
+        r"
+        says HSUP ADBASE TIGR -> Bad
+        says HSUP AD -> Bad
+        says HSUP ADBAS -> Bad
+        says HSUP ADBASEX -> Bad
+        says HSUP ADbase -> Bad
+        says HSUP AD1ASE -> Bad
+        says HSUP XXBASE -> Bad
+        says HSUP adBASE -> Bad
+        says HSUP DABASE -> Bad
+        says HSUP AMBASE -> Bad
+        says HSUP ADBA\s -> Bad
+    ",
+    );
+}
+
+#[test]
+fn counts_after_the_whole_line(rt: HostRuntime) {
+    play_supports(
+        &rt,
+        "
+        many 65 -> TooMany
+        many 64 -> <>
+        has X000 -> yes
+        has X063 -> yes
+        says HSUP ADBASE -> TooMany
+        says HSUP ADX001 -> <>
+        none -> <>
+        many 66 RMX000 RMX065 RMX001 -> <>
+        has X000 -> no
+        has X063 -> yes
+        says HSUP ADX000 -> <>
+        has X000 -> yes
+        has X063 -> yes
+    ",
+    );
+}
+
+#[test]
+fn names_features(rt: HostRuntime) {
+    play_supports(
+        &rt,
+        "
+        known base -> BASE
+        known tigr -> TIGR
+        known ping -> PING
+        known ucmd -> UCMD
+        named BASE -> BASE
+        named TIGR -> TIGR
+        named PING -> PING
+        named UCMD -> UCMD
+        named BAS0 -> BASE
+        named UCM0 -> UCMD
+        named bas0 -> none
+        has BASE -> no
+        has TIGR -> no
+        has PING -> no
+        has UCMD -> no
+        says HSUP ADBAS0 ADTIGR ADUCM0 ADPING -> <>
+        has BASE -> yes
+        has TIGR -> yes
+        has PING -> yes
+        has UCMD -> yes
+    ",
+    );
+}

@@ -1,0 +1,8 @@
+//! Each public call that takes memory, below the hub, is refused it once: .ci/fallible names the test of each.
+mod acts;
+mod fields;
+mod lines;
+mod queues;
+mod setup;
+mod texts;
+mod users;

@@ -1,0 +1,294 @@
+use super::*;
+use crate::queues::outbox;
+use crate::rows::{Part, byte, pair, play, say, say_number, say_whether, small};
+use hub_rules::Topic;
+use hub_setup::done_line;
+use outboxes::Batch;
+use second_try::again;
+use std::alloc::AllocError;
+
+/// What a hub is set up with.
+#[derive(Drop)]
+pub(crate) struct Given;
+
+impl Part for Given {
+    fn call<R: Abort + AllocGlobal + Print>(
+        &mut self,
+        rt: &R,
+        name: &str,
+        text: &str,
+        _bytes: &[u8],
+        said: &mut Vec<u8>,
+    ) {
+        match name {
+            "max_users" => max_users(rt, small(rt, text), said),
+            "lists" => lists(rt, text, said),
+            "accounts" => accounts(rt, text, said),
+            "command" => command(rt, text, said),
+            "faults" => faults(rt, text, said),
+            "tells" => tells(rt, text, said),
+            "menu" => menu(rt, said),
+            "topic" => topic(rt, text, said),
+            _ => unknown(rt, name),
+        }
+    }
+}
+
+/// Why the options are refused.
+fn say_refusal(rt: &(impl Abort + AllocGlobal + Print), said: &mut Vec<u8>, options: &Options<'_>) {
+    say(
+        rt,
+        said,
+        match set_up(rt, options) {
+            Ok(_) => "ok",
+            Err(SetupRefused::Limit) => "Limit",
+            Err(SetupRefused::Name) => "Name",
+            Err(SetupRefused::Account) => "Account",
+            Err(SetupRefused::Command) => "Command",
+            Err(SetupRefused::Memory) => "Memory",
+        },
+    );
+}
+
+fn max_users(rt: &(impl Abort + AllocGlobal + Print), max_users: u32, said: &mut Vec<u8>) {
+    let options = Options {
+        max_users,
+        ..options("Hub")
+    };
+    say_refusal(rt, said, &options);
+}
+
+/// An account for each letter, and so many lines between menu entries.
+fn lists(rt: &(impl Abort + AllocGlobal + Print), text: &str, said: &mut Vec<u8>) {
+    let (nicks, count) = pair(text, ' ');
+    let mut accounts = Vec::new(rt.alloc());
+    for nick in nicks.split(',') {
+        again!(rt; accounts.extend_from_slice(&[account(nick, "secret", true)]));
+    }
+    let mut commands = Vec::new(rt.alloc());
+    for _ in 0..small(rt, count) {
+        again!(rt; commands.extend_from_slice(&[entry("Help", 1, MenuItem::Separator)]));
+    }
+    let options = Options {
+        accounts: &accounts,
+        commands: &commands,
+        ..options("Hub")
+    };
+    say_refusal(rt, said, &options);
+}
+
+/// Two accounts, `nick=password` each.
+fn accounts(rt: &(impl Abort + AllocGlobal + Print), text: &str, said: &mut Vec<u8>) {
+    let (first, second) = pair(text, ';');
+    let ((nick, password), (other, word)) = (pair(first, '='), pair(second, '='));
+    let accounts = [account(nick, password, true), account(other, word, true)];
+    let options = Options {
+        accounts: &accounts,
+        ..options("Hub")
+    };
+    say_refusal(rt, said, &options);
+}
+
+fn command(rt: &(impl Abort + AllocGlobal + Print), text: &str, said: &mut Vec<u8>) {
+    let (context, name) = pair(text, ' ');
+    let commands = [entry(name, byte(rt, context), MenuItem::Text("HMSG !help\n"))];
+    let options = Options {
+        commands: &commands,
+        ..options("Hub")
+    };
+    say_refusal(rt, said, &options);
+}
+
+/// A setup with some of the faults.
+fn faults(rt: &(impl Abort + AllocGlobal + Print), text: &str, said: &mut Vec<u8>) {
+    let bad_accounts = [account("a b", "secret", true)];
+    let bad_commands = [entry("", 0, MenuItem::Separator)];
+    let name = if text.contains("name") { "" } else { "Hub" };
+    let options = Options {
+        accounts: if text.contains("account") {
+            &bad_accounts
+        } else {
+            &[]
+        },
+        commands: if text.contains("command") {
+            &bad_commands
+        } else {
+            &[]
+        },
+        max_users: if text.contains("limit") { 0 } else { 1 },
+        ..options(name)
+    };
+    say_refusal(rt, said, &options);
+}
+
+/// What a setup tells of what it was given.
+fn tells(rt: &(impl Abort + AllocGlobal + Print), text: &str, said: &mut Vec<u8>) {
+    let accounts = [
+        account("\u{e9}", "secret", true),
+        account("bob", "another", false),
+    ];
+    let options = Options {
+        topic: "new one",
+        accounts: &accounts,
+        registered_only: true,
+        search_interval: 7,
+        max_users: 512,
+        opening: 1_000,
+        ..options("Hub")
+    };
+    let setup = setup(rt, &options);
+    match text {
+        "name" => say(rt, said, setup.name()),
+        "topic" => say(rt, said, setup.topic()),
+        "registered_only" => say_whether(rt, said, setup.registered_only()),
+        "search_interval" => say_number(rt, said, setup.search_interval() as u128),
+        "max_users" => say_number(rt, said, setup.max_users() as u128),
+        "opening" => say_number(rt, said, setup.opening() as u128),
+        nick => match setup.account(nick) {
+            Some(account) if account.is_operator() => say(rt, said, "an operator"),
+            Some(_) => say(rt, said, "a user"),
+            None => say(rt, said, "nobody"),
+        },
+    }
+}
+
+/// The lines of a menu of two entries behind another line, each with its line feed.
+fn menu(rt: &(impl Abort + AllocGlobal + Print), said: &mut Vec<u8>) {
+    let commands = [
+        entry("Help", 1, MenuItem::Text("HMSG !help\n")),
+        entry("Sep", 2, MenuItem::Separator),
+    ];
+    let options = Options {
+        commands: &commands,
+        ..options("Hub")
+    };
+    let setup = setup(rt, &options);
+    let lines = twice!(rt; "hub_setup::Setup::menu", AllocError, setup.menu(done(rt)));
+    let mut queue = outbox(rt, 8, 1000);
+    match lines {
+        Ok(lines) => queue.give(lines),
+        Err(_) => unknown(rt, "menu"),
+    }
+    again!(rt; queue.take(8, said));
+}
+
+fn done(rt: &(impl Abort + AllocGlobal)) -> Batch {
+    let mut batch = Batch::new(rt.alloc());
+    let line = again!(rt; done_line(rt.alloc()));
+    if batch.push(line).is_err() {
+        let line = again!(rt; done_line(rt.alloc()));
+        assert!(rt; batch.push(line).is_ok(), "refused twice");
+    }
+    batch
+}
+
+fn topic(rt: &(impl Abort + AllocGlobal + Print), text: &str, said: &mut Vec<u8>) {
+    match twice!(rt; "hub_rules::Topic::new", AllocError, Topic::new(rt.alloc(), text)) {
+        Ok(topic) => say(rt, said, topic.as_str()),
+        Err(_) => unknown(rt, "topic"),
+    }
+}
+
+#[test]
+fn has_room_for_1_to_900_users(rt: HostRuntime) {
+    play(
+        &rt,
+        &mut Given,
+        "
+        max_users 0 -> Limit
+        max_users 1 -> ok
+        max_users 900 -> ok
+        max_users 901 -> Limit
+    ",
+    );
+}
+
+#[test]
+fn takes_32_accounts_and_64_commands(rt: HostRuntime) {
+    play(
+        &rt,
+        &mut Given,
+        "
+        lists a,b,c,d,e,f,g,h,i,j,k,l,m,n,o,p,q,r,s,t,u,v,w,x,y,z,A,B,C,D,E,F 64 -> ok
+        lists a,b,c,d,e,f,g,h,i,j,k,l,m,n,o,p,q,r,s,t,u,v,w,x,y,z,A,B,C,D,E,F,G 64 -> Limit
+        lists a,b,c,d,e,f,g,h,i,j,k,l,m,n,o,p,q,r,s,t,u,v,w,x,y,z,A,B,C,D,E,F 65 -> Limit
+    ",
+    );
+}
+
+#[test]
+fn refuses_accounts(rt: HostRuntime) {
+    play(
+        &rt,
+        &mut Given,
+        "
+        accounts ana=secret;bob=secret -> ok
+        accounts Ana=secret;ana=secret -> ok
+        accounts ana=secret;a b=secret -> Account
+        accounts =secret;ana=secret -> Account
+        accounts ana=secret;bob= -> Account
+        accounts op=secret;op=another -> Account
+        accounts \u{e9}=secret;e\u{301}=secret -> Account
+    ",
+    );
+}
+
+#[test]
+fn refuses_commands(rt: HostRuntime) {
+    play(
+        &rt,
+        &mut Given,
+        "
+        command 1 Help -> ok
+        command 15 Help -> ok
+        command 1 -> Command
+        command 0 Help -> Command
+        command 16 Help -> Command
+    ",
+    );
+}
+
+#[test]
+fn looks_for_faults_in_order(rt: HostRuntime) {
+    play(
+        &rt,
+        &mut Given,
+        "
+        faults limit name account command -> Limit
+        faults name account command -> Name
+        faults account command -> Account
+        faults command -> Command
+    ",
+    );
+}
+
+#[test]
+fn tells_what_it_was_given(rt: HostRuntime) {
+    play(
+        &rt,
+        &mut Given,
+        "
+        tells name -> Hub
+        tells topic -> new one
+        tells registered_only -> yes
+        tells search_interval -> 7
+        tells max_users -> 512
+        tells opening -> 1000
+        tells \u{e9} -> an operator
+        tells bob -> a user
+        tells Bob -> nobody
+        tells e\u{301} -> nobody
+    ",
+    );
+}
+
+#[test]
+fn tells_of_the_menu(rt: HostRuntime) {
+    play(
+        &rt,
+        &mut Given,
+        r"
+        menu -> ISTA 000 Done<x0a>ICMD Help CT1 TTHMSG\s!help\n<x0a>ICMD Sep CT2 SP1<x0a>
+    ",
+    );
+}

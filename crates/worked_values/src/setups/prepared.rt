@@ -1,0 +1,165 @@
+use super::*;
+use crate::rows::{Part, play, say};
+use hub_setup::{LineRefused, Prepared, Says, prepare};
+use inf_fields::FieldName;
+use session_hash::First24;
+
+/// Lines that are made ready for a hub where ana has the password `secret` and \u{e9} has `another`.
+#[derive(Drop)]
+pub(crate) struct Lines {
+    setup: Setup,
+}
+
+impl Part for Lines {
+    fn call<R: Abort + AllocGlobal + Print>(
+        &mut self,
+        rt: &R,
+        name: &str,
+        _text: &str,
+        bytes: &[u8],
+        said: &mut Vec<u8>,
+    ) {
+        let challenge = match name {
+            "challenged" => *b"foobarfoobarfoobarfoobar",
+            _ => [0; 24],
+        };
+        let line = ready(rt, &self.setup, challenge, bytes);
+        match name {
+            "says" => say_command(rt, said, &line),
+            "nick" => say_nick(rt, said, &line),
+            "owner" => say_digest(rt, said, line.owner()),
+            "password" | "challenged" => say_digest(rt, said, line.password()),
+            _ => unknown(rt, name),
+        }
+    }
+}
+
+fn ready(
+    rt: &(impl Abort + AllocGlobal + Print),
+    setup: &Setup,
+    challenge: [u8; 24],
+    bytes: &[u8],
+) -> Prepared {
+    match twice!(rt; "hub_setup::prepare", LineRefused::Memory, prepare(rt.alloc(), setup, &First24, challenge, bytes))
+    {
+        Ok(line) => line,
+        Err(_) => unknown(rt, "prepare"),
+    }
+}
+
+fn say_command(rt: &impl Abort, said: &mut Vec<u8>, line: &Prepared) {
+    match line.says() {
+        Says::Nothing => say(rt, said, "nothing"),
+        Says::Message(line) => say_bytes(rt, said, &line.command()),
+        Says::NoMessage => say(rt, said, "no message"),
+    }
+}
+
+fn say_nick(rt: &impl Abort, said: &mut Vec<u8>, line: &Prepared) {
+    match line.update() {
+        Some(update) => {
+            say(rt, said, "update ");
+            say(rt, said, update.get(FieldName::nick()).unwrap_or(""));
+        }
+        None => say(rt, said, "no update"),
+    }
+}
+
+fn say_digest(rt: &impl Abort, said: &mut Vec<u8>, digest: Option<[u8; 24]>) {
+    match digest {
+        Some(digest) => say_bytes(rt, said, &digest),
+        None => say(rt, said, "none"),
+    }
+}
+
+fn hub(rt: &(impl Abort + AllocGlobal + Print)) -> Setup {
+    let accounts = [
+        account("ana", "secret", true),
+        account("\u{e9}", "another", true),
+    ];
+    setup(
+        rt,
+        &Options {
+            accounts: &accounts,
+            ..options("Hub")
+        },
+    )
+}
+
+pub(crate) fn play_lines<R: Abort + AllocGlobal + Print>(rt: &R, rows: &str) {
+    play(rt, &mut Lines { setup: hub(rt) }, rows);
+}
+
+#[test]
+fn reads_lines(rt: HostRuntime) {
+    play_lines(
+        &rt,
+        r"
+        says <> -> nothing
+        nick <> -> no update
+        says <x20> -> no message
+        nick <x20> -> no update
+        says BINF -> no message
+        nick BINF -> no update
+        says BINF AAAB NIa\b -> no message
+        nick BINF AAAB NIa\b -> no update
+        says HSUP ADBASE ADTIGR -> SUP
+        nick HSUP ADBASE ADTIGR -> no update
+        says BMSG AAAB NIana -> MSG
+        nick BMSG AAAB NIana -> no update
+        says DINF AAAB AAAC NIana -> INF
+        nick DINF AAAB AAAC NIana -> no update
+        says BINF AAAB 1Iana -> INF
+        nick BINF AAAB 1Iana -> no update
+        says BINF AAAB NIana SS10 -> INF
+        nick BINF AAAB NIana SS10 -> update ana
+        says BINF AAAB SS10 -> INF
+        nick BINF AAAB SS10 -> update <>
+    ",
+    );
+}
+
+#[test]
+fn makes_digests(rt: HostRuntime) {
+    play_lines(
+        &rt,
+        "
+        owner BINF AAAB NIana -> none
+        password BINF AAAB NIana -> secret<18*x00>
+        owner BINF AAAB NIbob -> none
+        password BINF AAAB NIbob -> none
+        owner BINF AAAB NI<xc3><xa9> -> none
+        password BINF AAAB NI<xc3><xa9> -> another<17*x00>
+        owner BINF AAAB NIe<xcc><x81> -> none
+        password BINF AAAB NIe<xcc><x81> -> another<17*x00>
+        owner BINF AAAB SS10 -> none
+        password BINF AAAB SS10 -> none
+        owner BINF AAAB PDMZXW6YTBOJTG633CMFZGM33PMJQXEZTPN5RGC4Q NIbob -> <4*foobar>
+        password BINF AAAB PDMZXW6YTBOJTG633CMFZGM33PMJQXEZTPN5RGC4Q NIbob -> none
+        owner BINF AAAB PDMZXW6YTBOJTG633CMFZGM33PMJQXEZTPN5RGC4Q NIana -> <4*foobar>
+        password BINF AAAB PDMZXW6YTBOJTG633CMFZGM33PMJQXEZTPN5RGC4Q NIana -> secret<18*x00>
+        owner BINF AAAB PDMZXW6YTB NIana -> none
+        password BINF AAAB PDMZXW6YTB NIana -> secret<18*x00>
+        owner DINF AAAB AAAC PDMZXW6YTBOJTG633CMFZGM33PMJQXEZTPN5RGC4Q NIana -> none
+        password DINF AAAB AAAC PDMZXW6YTBOJTG633CMFZGM33PMJQXEZTPN5RGC4Q NIana -> none
+        owner <> -> none
+        password <> -> none
+    ",
+    );
+}
+
+#[test]
+fn hashes_the_password_before_the_challenge(rt: HostRuntime) {
+    play_lines(&rt, "challenged BINF AAAB NIana -> secret<3*foobar>");
+}
+
+fn is_shared<T: Send + Sync>(_value: &T) -> bool {
+    true
+}
+
+#[test]
+fn threads_may_share_them(rt: HostRuntime) {
+    let setup = hub(&rt);
+    let line = ready(&rt, &setup, [0; 24], b"BINF AAAB NIana");
+    assert!(rt; is_shared(&setup) && is_shared(&line));
+}
