@@ -264,12 +264,21 @@ fn each_fault_of_a_list_is_named_by_its_key(rt: HostRuntime) {
 }
 
 #[test]
-fn lists_have_a_limit(rt: HostRuntime) {
+fn accounts_have_a_limit(rt: HostRuntime) {
     play_file(
         &rt,
         "
         list 32 accounts -> ok
         list 33 accounts -> key account
+    ",
+    );
+}
+
+#[test]
+fn commands_have_a_limit(rt: HostRuntime) {
+    play_file(
+        &rt,
+        "
         list 64 commands -> ok
         list 65 commands -> key command
     ",

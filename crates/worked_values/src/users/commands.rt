@@ -30,7 +30,8 @@ impl Draws {
 pub(crate) fn command(rt: &(impl Abort + AllocGlobal + Print), draws: &mut Draws) -> Command {
     let kind = draws.byte();
     let number = draws.byte() % 60;
-    let name = again!(rt; name(rt.alloc(), draws.byte() % 40));
+    let which = draws.byte() % 40;
+    let name = again!(rt; name(rt.alloc(), which));
     let cid = (draws.byte() % 48) as u8;
     let amount = draws.byte();
     match kind % 16 {
