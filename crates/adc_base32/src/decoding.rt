@@ -98,7 +98,7 @@ fn are_digits(text: &[u8]) -> bool
     true
 }
 
-/// Whether the bits of the text behind those of n bytes are zero.
+/// Tests that the bits of the text behind those of n bytes are zero.
 fn are_low_bits_zero(text: &[u8], n: usize) -> bool
     requires { length text.now ≡ text_len n }
     ensures { Decides result (drop (8 * n) (text_bits text.now) ≡ replicate (5 * length text.now - 8 * n) 0) }

@@ -1,6 +1,6 @@
 use std::alloc::AllocError;
 
-/// Why a text is not encoded or decoded. The tests are made in the order 2, 3, 4, 1.
+/// The reasons for which a text is not encoded or decoded. The tests are made in the order 2, 3, 4, 1.
 #[derive(Clone, Copy, Debug, PartialEq, Eq)]
 pub enum B32 {
     /// Memory ran out.

@@ -7,7 +7,7 @@ use crate::digit::{character, value};
 use crate::window::{WINDOW, WINDOWS, first_free};
 use std::marker::Model;
 
-/// How many session identifiers there are.
+/// The count of session identifiers.
 const COUNT: u32 = 1_048_576;
 
 /// A session identifier: the number by which a hub names a connection, from 0 to 1,048,575

@@ -6,11 +6,11 @@ ghost use Rattle.adc_base32.specs.Turns.{following, IsNextFree};
 
 use crate::Sid;
 
-/// How many numbers are looked at together. It is above the number of connections of any hub in use,
+/// The count of numbers that are looked at together. It is above the number of connections of any hub in use,
 /// so that one pass over the taken numbers nearly always answers; and it divides 1,048,575.
 pub(crate) const WINDOW: u32 = 1_025;
 
-/// How many windows there are.
+/// The count of windows.
 pub(crate) const WINDOWS: u32 = 1_023;
 
 /// The first free number of a window of those that follow `last`; `base` are passed over before it.

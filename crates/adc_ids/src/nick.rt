@@ -7,7 +7,7 @@ use std::alloc::{AllocError, Global};
 use std::marker::Model;
 use unicode_normalization::to_nfc;
 
-/// Why a text is no nick. The tests are made in the order 2, 1.
+/// The reasons for which a text is no nick. The tests are made in the order 2, 1.
 #[derive(Clone, Copy, Debug, PartialEq, Eq)]
 pub enum NickFault {
     /// Memory ran out.
@@ -58,7 +58,7 @@ impl Nick {
         })
     }
 
-    /// What tells whether two nicks are the same: the text in Unicode's normal form C. Letters keep
+    /// Gives what two nicks that are the same share: the text in Unicode's normal form C. Letters keep
     /// their case. Refused only where memory runs out.
     pub fn key(&self, alloc: Global) -> Result<String, AllocError>
         ensures { IfOk result (λ key. string_bytes key ≡ encode_utf8_all (nfc self.now)) }
@@ -74,7 +74,7 @@ fn is_nick(text: &str) -> bool
     tells_nick(text)
 }
 
-/// Whether a text is a nick, by its code points.
+/// Tests whether a text is a nick, by its code points.
 fn tells_nick(text: &str) -> bool
     ensures { Decides result (IsNick (chars text.now)) }
 {

@@ -71,7 +71,7 @@ fn unescape_runs(alloc: Global, word: &str) -> Result<String, UnescapeFault>
     }
 }
 
-/// What the escape stands for whose backslash is before the text, and what follows it.
+/// Reads the escape whose backslash is before the text; gives what it stands for, and what follows it.
 fn first_meant(text: &str) -> Option<(char, &str)>
     ensures some { IfSome result (λ x. unescaped (backslash ∷ text.now) ≡ option_map (λ rest. x.0 ∷ rest) (unescaped x.1.now)) }
     ensures ascii { IfSome result (λ x. x.0 < 128) }

@@ -1,6 +1,6 @@
 use std::alloc::AllocError;
 
-/// Why bytes are no line (ADC 1.0, "Message syntax"). The tests are made in the order 2 to 6.
+/// The reasons for which bytes are no line (ADC 1.0, "Message syntax"). The tests are made in the order 2 to 6.
 #[derive(Clone, Copy, Debug, PartialEq, Eq)]
 pub enum LineFault {
     /// Memory ran out.
@@ -28,7 +28,7 @@ impl From<AllocError> for LineFault {
     }
 }
 
-/// Why a text is not unescaped (ADC 1.0, "Message syntax").
+/// The reasons for which a text is not unescaped (ADC 1.0, "Message syntax").
 #[derive(Clone, Copy, Debug, PartialEq, Eq)]
 pub enum UnescapeFault {
     /// Memory ran out.
@@ -48,7 +48,7 @@ impl From<AllocError> for UnescapeFault {
     }
 }
 
-/// Why bytes or a line were not taken.
+/// The reasons for which bytes or a line were not taken.
 #[derive(Clone, Copy, Debug, PartialEq, Eq)]
 pub enum FrameFault {
     /// Memory ran out; the framer and the vector are as before.

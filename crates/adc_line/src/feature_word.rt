@@ -19,7 +19,7 @@ fn is_sign(byte: u8) -> bool
     matches!(byte, b'+' | b'-')
 }
 
-/// Whether a word is a feature word, by which a message of type F chooses who hears it: one or more parts, each a sign, `+` or
+/// Tests whether a word is a feature word, by which a message of type F chooses who hears it: one or more parts, each a sign, `+` or
 /// `-`, and a feature's name (ADC 1.0, "Message types").
 #[tactic(auto, unfolding(crate::specs::Header::is_feature_word))]
 pub fn is_feature_word(word: &[u8]) -> bool
@@ -55,7 +55,7 @@ fn is_named(a: u8, b: u8, c: u8, d: u8) -> bool
     is_letter(a) && is_letter_or_digit(b) && is_letter_or_digit(c) && is_letter_or_digit(d)
 }
 
-/// Whether these bytes are a feature's name: a letter A to Z, and three letters or digits (ADC 1.0, "Message syntax").
+/// Tests whether these bytes are a feature's name: a letter A to Z, and three letters or digits (ADC 1.0, "Message syntax").
 #[tactic(auto, unfolding(crate::specs::Header::is_feature_name))]
 pub fn is_feature_name(name: &[u8]) -> bool
     ensures { result ≡ is_feature_name name.now }

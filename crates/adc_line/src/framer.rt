@@ -7,7 +7,7 @@ use memchr::memchr;
 use std::alloc::{AllocError, Global};
 use std::marker::Model;
 
-/// What a framer says of the bytes that were fed and did not come out yet.
+/// An answer of a framer about the bytes that were fed and did not come out yet.
 #[derive(Clone, Copy, Debug, PartialEq, Eq)]
 pub enum Next {
     /// A line came out, without its line feed.

@@ -8,7 +8,7 @@ use crate::kind::Kind;
 use crate::words::Words;
 use adc_base32::Sid;
 
-/// What the first word of a line says.
+/// The first word of a line, read.
 #[derive(Clone, Copy, Debug)]
 pub(crate) struct Head {
     pub(crate) kind: Kind,
@@ -29,7 +29,7 @@ impl Head {
     }
 }
 
-/// What the words before the parameters say.
+/// The words before the parameters, read.
 #[derive(Clone, Copy, Debug)]
 pub(crate) struct Header {
     pub(crate) head: Head,
@@ -37,7 +37,7 @@ pub(crate) struct Header {
     pub(crate) target: Option<Sid>,
 }
 
-/// How many words the header of a type has.
+/// Counts the words that the header of a type has.
 pub(crate) fn header_words(kind: Kind) -> usize
     ensures { result ≡ header_words kind }
 {

@@ -8,7 +8,7 @@ ghost use Rattle.adc_line.specs.WordsLeft.{words_left};
 use crate::fault::LineFault;
 use crate::words::Words;
 
-/// Whether words are parameters, and then whether each is escaped.
+/// Tests whether words are parameters, and then whether each is escaped.
 #[tactic(auto, unfolding(crate::specs::Parameters::params_fault))]
 pub(crate) fn check_params(words: Words<'_>) -> Result<(), LineFault>
     ensures { MatchResult result (λ _. params_fault (words_left words.entry) ≡ None) (λ fault. params_fault (words_left words.entry) ≡ Some fault) }

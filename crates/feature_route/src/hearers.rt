@@ -22,7 +22,7 @@ pub enum Audience<'a> {
 }
 
 impl<'a> Audience<'a> {
-    /// Whether a message is for the user with this identifier and this text of the field SU, which is
+    /// Tests whether a message is for the user with this identifier and this text of the field SU, which is
     /// empty for a user without that field (ADC 1.0, "INF").
     #[tactic(auto, unfolding(crate::specs::Audiences::holds_words))]
     pub fn holds(&self, sid: Sid, su: &str) -> bool
@@ -37,7 +37,7 @@ impl<'a> Audience<'a> {
         }
     }
 
-    /// Whether a message is for the user with this identifier and these features, as
+    /// Tests whether a message is for the user with this identifier and these features, as
     /// [`Audience::holds`] says of the text that they were read from.
     #[tactic(auto, unfolding(crate::specs::Audiences::holds_words))]
     pub fn holds_set(&self, sid: Sid, set: &FeatureSet) -> bool

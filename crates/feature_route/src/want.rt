@@ -9,7 +9,7 @@ use crate::su::Su;
 use adc_line::is_feature_word;
 use std::marker::Model;
 
-/// What a message of type F asks of those who hear it: features that they have, and features that they
+/// The wish of a message of type F about those who hear it: features that they have, and features that they
 /// have not (ADC 1.0, "Message types"). It borrows the feature word.
 #[derive(Debug, Drop)]
 pub struct Want<'a> {
@@ -27,7 +27,7 @@ impl<'a> Model for Want<'a> {
 }
 
 impl<'a> Want<'a> {
-    /// What a feature word wants. `None` where the text is none: a feature word is one or more parts,
+    /// Reads a feature word. `None` where the text is none: a feature word is one or more parts,
     /// each a sign, `+` or `-`, and a feature's name, a letter A to Z and three letters or digits
     /// (ADC 1.0, "Message types").
     #[tactic(auto, unfolding(crate::specs::Wants::want_at))]
@@ -41,14 +41,14 @@ impl<'a> Want<'a> {
         Some(Want::of(text))
     }
 
-    /// What a text wants that is known to be a feature word.
+    /// Reads a text that is known to be a feature word.
     pub(crate) fn of(text: &'a str) -> Want<'a>
         ensures { result ≡ wants_of text.now }
     {
         Want { text }
     }
 
-    /// Whether a user whose field SU is this text is asked: the words between its commas hold every
+    /// Tests whether a user whose field SU is this text is asked: the words between its commas hold every
     /// feature that is wanted, and none that is not. A user without that field has the empty text, and
     /// no feature.
     pub fn matches(&self, su: &str) -> bool
@@ -57,7 +57,7 @@ impl<'a> Want<'a> {
         meets(self.text.as_bytes(), &Su { text: su })
     }
 
-    /// Whether a user with these features is asked, as [`Want::matches`] says of the text that they
+    /// Tests whether a user with these features is asked, as [`Want::matches`] says of the text that they
     /// were read from.
     pub fn matches_set(&self, set: &FeatureSet) -> bool
         ensures exact { result ≡ meets self.now set.now }
@@ -67,7 +67,7 @@ impl<'a> Want<'a> {
     }
 }
 
-/// Whether the features are as a feature word wants them.
+/// Tests whether the features are as a feature word wants them.
 fn meets<F: Features>(word: &[u8], features: &F) -> bool
     ensures { result ≡ meets (wants_of word.now) (F.words features.now) }
 {
@@ -82,7 +82,7 @@ fn meets<F: Features>(word: &[u8], features: &F) -> bool
     true
 }
 
-/// Whether a feature that is had or not is as its sign asks.
+/// Tests whether a feature that is had or not is as its sign asks.
 fn suits(sign: u8, had: bool) -> bool
     ensures { result ≡ suits sign had }
 {

@@ -6,7 +6,7 @@ use flushed_writes::write_and_flush;
 use std::alloc::{AllocError, AllocFailed};
 use std::io::Write;
 
-/// How the program ends.
+/// The ends of the program.
 #[derive(Clone, Copy, Debug, PartialEq, Eq)]
 pub enum Ending {
     /// The input or the connection ended, or the server closed.
@@ -49,7 +49,7 @@ impl Ending {
         }
     }
 
-    /// What is said on standard error: nothing, or one line.
+    /// Gives what is said on standard error: nothing, or one line.
     #[tactic(auto, unfolding(crate::specs::Endings::message_of))]
     fn message(self) -> &'static str
         ensures { result.now ≡ message_of self }

@@ -1,6 +1,6 @@
 use std::alloc::{AllocError, AllocFailed};
 
-/// Why words make no update, or an update was not merged. They are looked for in the order 2, 3, 1.
+/// The reasons for which words make no update, or an update was not merged. They are looked for in the order 2, 3, 1.
 #[derive(Clone, Copy, Debug, PartialEq, Eq)]
 pub enum InfFault {
     /// Memory ran out.

@@ -13,7 +13,7 @@ use indexmap::IndexMap;
 use std::alloc::Global;
 use std::marker::Model;
 
-/// What is known of a user: the merge of all updates (ADC 1.0, "INF"). No value is empty, and there
+/// The fields that are known of a user: the merge of all updates (ADC 1.0, "INF"). No value is empty, and there
 /// are at most 40 fields.
 #[derive(Debug, Drop)]
 pub struct Fields {
@@ -43,7 +43,7 @@ impl Fields {
         }
     }
 
-    /// Whether there are at most 40 fields once the update is merged. Takes no memory.
+    /// Tests whether there are at most 40 fields once the update is merged. Takes no memory.
     pub fn fits(&self, update: &Update) -> bool
         ensures { result ≡ fits self.now update.now }
     {

@@ -17,7 +17,7 @@ use indexmap::IndexMap;
 use std::alloc::Global;
 use std::marker::Model;
 
-/// What an INF message says: fields in order, each name once. A value may be empty (ADC 1.0, "INF").
+/// The fields that an INF message names, in order, each name once. A value may be empty (ADC 1.0, "INF").
 #[derive(Debug, Drop)]
 pub struct Update {
     pub(crate) entries: Entries,
@@ -35,7 +35,7 @@ impl Model for Update {
 }
 
 impl Update {
-    /// What words say, each of which is a name of two characters and a value (ADC 1.0, "INF"). A
+    /// Reads words, each of which is a name of two characters and a value (ADC 1.0, "INF"). A
     /// name that stands twice keeps its first place and has its last value.
     ///
     /// Refused with the first of these that applies: `BadName` where a word begins with no name,
@@ -56,7 +56,7 @@ impl Update {
         Ok(Update { entries })
     }
 
-    /// What of it a hub passes on: all but the private identifier (PD), what only a hub may say (CT)
+    /// Gives what a hub passes on of it: all but the private identifier (PD), what only a hub may say (CT)
     /// and what it cannot check (I6, U6), with the client's address in place of an I4 of `0.0.0.0`
     /// (ADC 1.0, "INF"). Refused only where memory runs out.
     pub fn clean(&self, alloc: Global, peer: [u8; 4]) -> Result<Update, InfFault>
@@ -74,7 +74,7 @@ impl Update {
         Ok(Update { entries })
     }
 
-    /// Whether it has no field.
+    /// Tests whether it has no field.
     pub fn is_empty(&self) -> bool
         ensures { result ≡ nat_eq (length self.now) 0 }
     {
@@ -98,7 +98,7 @@ impl Update {
     }
 }
 
-/// Whether no other client may see the field: PD, CT, I6 and U6.
+/// Tests whether no other client may see the field: PD, CT, I6 and U6.
 fn is_held_back(name: FieldName) -> bool
     ensures { (value : List ℕ) → result ≡ is_held_back (field name value) }
 {

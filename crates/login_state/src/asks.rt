@@ -2,7 +2,7 @@ use crate::findings::{
     Account, Address, Admission, Ban, Claim, Identity, Required, Size, Validity,
 };
 
-/// What was found of a login, one finding for each check (ADC 1.0, "INF").
+/// The findings of a login, one finding for each check (ADC 1.0, "INF").
 #[derive(Clone, Copy, Debug)]
 pub struct InfAsk {
     /// The words: good where each begins with a field's name and they name at most 40 fields.
@@ -17,17 +17,17 @@ pub struct InfAsk {
     pub share_size: Validity,
     /// SF, how many files are shared: as SS.
     pub shared_files: Validity,
-    /// Whether the identifier is the hash of the private one.
+    /// The identifier is the hash of the private one, or not.
     pub identity: Identity,
     /// I4: right where it is missing, empty, `0.0.0.0` or the peer's.
     pub address: Address,
-    /// Whether the hub lets this nick in.
+    /// The hub lets this nick in, or not.
     pub admission: Admission,
-    /// What is looked at once more where a password follows.
+    /// The findings that are looked for once more where a password follows.
     pub entry: EntryAsk,
 }
 
-/// What was found of an update by a user who is present, one finding for each check (ADC 1.0, "INF").
+/// The findings of an update by a user who is present, one finding for each check (ADC 1.0, "INF").
 #[derive(Clone, Copy, Debug)]
 pub struct UpdateAsk {
     /// The words: good where each begins with a field's name and they name at most 40 fields.
@@ -40,24 +40,24 @@ pub struct UpdateAsk {
     pub shared_files: Validity,
     /// NI: bad where it is given, and is empty or no nick.
     pub nick: Validity,
-    /// Whether the change of nick concerns an account.
+    /// The change of nick concerns an account, or not.
     pub account: Account,
     /// I4: right where it is missing, empty, `0.0.0.0` or the peer's.
     pub address: Address,
-    /// How many fields the user has once the update is merged.
+    /// The fields that the user has once the update is merged are few enough, or not.
     pub size: Size,
-    /// Whether another present user has the nick.
+    /// Another present user has the nick, or not.
     pub nick_claim: Claim,
 }
 
-/// What was found of a client that wants to enter, one finding for each check: at its login and, since it may have
+/// The findings of a client that wants to enter, one finding for each check: at its login and, since it may have
 /// changed by then, again once its password was right.
 #[derive(Clone, Copy, Debug)]
 pub struct EntryAsk {
-    /// Whether the identifier is shut out.
+    /// The identifier is shut out, or not.
     pub ban: Ban,
-    /// Whether a present user has the nick.
+    /// A present user has the nick, or not.
     pub nick_claim: Claim,
-    /// Whether a present user has the identifier.
+    /// A present user has the identifier, or not.
     pub cid_claim: Claim,
 }

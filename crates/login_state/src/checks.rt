@@ -13,7 +13,7 @@ use crate::rules::{
     wrong_words,
 };
 
-/// What a check answers.
+/// The answer of a check.
 #[derive(Clone, Copy, Debug, PartialEq, Eq)]
 pub enum Check {
     /// Nothing speaks against it.
@@ -22,7 +22,7 @@ pub enum Check {
     Deny(Deny),
 }
 
-/// Whether a client with these features may go on after its SUP: without BASE it may not (245), nor without TIGR (247)
+/// Checks whether a client with these features may go on after its SUP: without BASE it may not (245), nor without TIGR (247)
 /// (ADC 1.0, "SUP"). Takes no memory.
 pub fn check_sup(features: &Features) -> Check
     ensures exact { result ≡ first_denial (sup_rules features.now) }
@@ -34,7 +34,7 @@ pub fn check_sup(features: &Features) -> Check
     ])
 }
 
-/// Whether a login is accepted (ADC 1.0, "INF"). The checks, in their order: the words (140); ID, PD and NI are there
+/// Checks a login (ADC 1.0, "INF"). The checks, in their order: the words (140); ID, PD and NI are there
 /// (243 FM); ID, PD, SS and SF are valid (243 FB); ID is the hash of PD (227); the nick is one (221); the identifier is
 /// not shut out for good (231) or for a time (232); the address (246); accounts alone are let in (226); the nick is free
 /// (222); the identifier is free (224). Takes no memory.
@@ -61,7 +61,7 @@ pub fn check_inf(ask: &InfAsk) -> Check
     ])
 }
 
-/// Whether an update of a present user is accepted (ADC 1.0, "INF"). The checks, in their order, all of severity 1: the
+/// Checks an update of a present user (ADC 1.0, "INF"). The checks, in their order, all of severity 1: the
 /// words (140); ID (143 FBID); SS and SF (143 FB); the nick is one (121); the change of nick concerns no account (125
 /// FCBINF); the address (146); at most 40 fields once merged (140); the nick is free (122). Takes no memory.
 pub fn check_update(ask: &UpdateAsk) -> Check
@@ -85,7 +85,7 @@ pub fn check_update(ask: &UpdateAsk) -> Check
     ])
 }
 
-/// Whether the digest that a client gave for its password is the expected one, else 223 (ADC 1.0, "PAS"). `None` stands
+/// Checks that the digest that a client gave for its password is the expected one, else 223 (ADC 1.0, "PAS"). `None` stands
 /// for words that give no digest. A client has one try, so the comparison need not take the same time for each answer.
 /// What may have changed since the login is left to [`check_entry`]. Takes no memory.
 pub fn check_pass(expected: &[u8; 24], given: Option<[u8; 24]>) -> Check
@@ -95,7 +95,7 @@ pub fn check_pass(expected: &[u8; 24], given: Option<[u8; 24]>) -> Check
     first_denial(&[wrong_password(expected, given)])
 }
 
-/// Whether a client whose password was right may still enter, for things may have changed since its login. The checks,
+/// Checks whether a client whose password was right may still enter, for things may have changed since its login. The checks,
 /// in their order: the identifier is not shut out for good (231) or for a time (232); the nick is free (222); the
 /// identifier is free (224). Takes no memory.
 pub fn check_entry(ask: &EntryAsk) -> Check

@@ -5,7 +5,7 @@ ghost use Rattle.login_state.specs.Statuses.{severity_digit, error_text, detail}
 use inf_fields::dotted;
 use std::alloc::{AllocError, Global};
 
-/// How severe a status is (ADC 1.0, "STA").
+/// The severity of a status (ADC 1.0, "STA").
 #[derive(Clone, Copy, Debug, PartialEq, Eq)]
 pub enum Severity {
     /// 1: the line is refused, and the connection stays as it was.
@@ -29,7 +29,7 @@ pub enum InfField {
     SharedFiles,
 }
 
-/// Why a line is refused (ADC 1.0, "STA"). The severity stands where a login and an update differ in it.
+/// The reasons for which a line is refused (ADC 1.0, "STA"). The severity stands where a login and an update differ in it.
 #[derive(Clone, Copy, Debug, PartialEq, Eq)]
 pub enum Deny {
     /// 140: it is no line, its type or command is not for clients, or its words are wrong.
@@ -94,7 +94,7 @@ impl InfField {
 }
 
 impl Deny {
-    /// How severe it is.
+    /// Gives its severity.
     pub fn severity(self) -> Severity
         ensures { result ≡ severity_of self }
     {
@@ -124,7 +124,7 @@ impl Deny {
         }
     }
 
-    /// Whether it shuts the connection out.
+    /// Tests whether it shuts the connection out.
     pub fn is_fatal(self) -> bool
         ensures { result ≡ is_fatal self }
     {

@@ -1,6 +1,6 @@
 use std::alloc::AllocError;
 
-/// Why the words of a SUP change nothing. The tests are made in the order 2, 3, 1.
+/// The reasons for which the words of a SUP change nothing. The tests are made in the order 2, 3, 1.
 #[derive(Clone, Copy, Debug, PartialEq, Eq)]
 pub enum SupFault {
     /// Memory ran out.

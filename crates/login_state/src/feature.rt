@@ -75,7 +75,7 @@ impl Feature {
     }
 }
 
-/// What one word of a SUP says of a feature.
+/// A word of a SUP, read.
 #[derive(Clone, Copy, Debug)]
 pub enum Mention {
     /// `AD`: the client supports it.
@@ -84,7 +84,7 @@ pub enum Mention {
     Removes(Feature),
 }
 
-/// What a word says: `AD` or `RM`, and a feature's name.
+/// Reads a word: `AD` or `RM`, and a feature's name.
 #[tactic(auto, unfolding(crate::specs::Mentions::mention_at))]
 pub(crate) fn mention_at(word: &[u8]) -> Option<Mention>
     ensures { result ≡ mention_at word.now }

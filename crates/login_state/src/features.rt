@@ -13,7 +13,7 @@ use std::alloc::{AllocError, Global};
 use std::collections::BTreeSet;
 use std::marker::Model;
 
-/// How many features a client may have.
+/// The most features that a client may have.
 const MOST: usize = 64;
 
 /// The features that a client supports (ADC 1.0, "SUP"): those whose last mention adds them, each once, the latest of
@@ -44,7 +44,7 @@ impl Features {
         }
     }
 
-    /// What is supported once the words of a SUP were read, each `AD` or `RM` and a feature's name; `BAS0` is read as
+    /// Gives what is supported once the words of a SUP were read, each `AD` or `RM` and a feature's name; `BAS0` is read as
     /// BASE, and `UCM0` as UCMD (ADC 1.0, "SUP"). These features stay as they are.
     ///
     /// `line_by_line`: if these are the features of a client that sent some SUP, the answer is those after this one too.
@@ -73,7 +73,7 @@ impl Features {
         Ok(Features { names })
     }
 
-    /// Whether it has this feature. Takes no memory.
+    /// Tests whether it has this feature. Takes no memory.
     ///
     /// `last`: a client that sent some SUP has the features whose last mention in any of them adds them. `once`: each is
     /// listed, and so counted, once.
@@ -92,7 +92,7 @@ impl Features {
     }
 }
 
-/// Whether each word says something of a feature.
+/// Tests whether each word says something of a feature.
 fn are_mentions(words: Words<'_>) -> bool
     ensures { result ≡ are_mentions (words_left words.entry) }
 {
@@ -104,7 +104,7 @@ fn are_mentions(words: Words<'_>) -> bool
     true
 }
 
-/// What the words say, one after another.
+/// Reads the words, one after another.
 #[tactic(auto, unfolding(crate::specs::Support::said))]
 fn mentions(alloc: Global, words: Words<'_>) -> Result<Vec<Mention>, AllocError>
     ensures { IfOk result (λ mentions. mentions.items ≡ said (words_left words.entry)) }

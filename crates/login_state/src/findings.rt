@@ -1,4 +1,4 @@
-/// What was found of a field that a login must have.
+/// The finding on a field that a login must have.
 #[derive(Clone, Copy, Debug, PartialEq, Eq)]
 pub enum Required {
     /// It is not there, or empty.
@@ -9,7 +9,7 @@ pub enum Required {
     Good,
 }
 
-/// Whether what was sent is valid. A field that need not be there is valid where it is not.
+/// The finding on the validity of what was sent. A field that need not be there is valid where it is not.
 #[derive(Clone, Copy, Debug, PartialEq, Eq)]
 pub enum Validity {
     /// It is not.
@@ -27,7 +27,7 @@ pub enum Identity {
     Foreign,
 }
 
-/// How long a client is shut out.
+/// The time for which a client is shut out.
 #[derive(Clone, Copy, Debug, PartialEq, Eq)]
 pub enum Ban {
     /// It is not.
@@ -47,7 +47,7 @@ pub enum Address {
     Wrong([u8; 4]),
 }
 
-/// Whom the hub lets in.
+/// The users whom the hub lets in.
 #[derive(Clone, Copy, Debug, PartialEq, Eq)]
 pub enum Admission {
     /// This client.
@@ -56,7 +56,7 @@ pub enum Admission {
     RegisteredOnly,
 }
 
-/// Whether another user has what a client wants.
+/// The finding on whether another user has what a client wants.
 #[derive(Clone, Copy, Debug, PartialEq, Eq)]
 pub enum Claim {
     /// Nobody has it.
@@ -65,7 +65,7 @@ pub enum Claim {
     Taken,
 }
 
-/// Whether a change of nick leaves the nick of an account, or takes one.
+/// The finding on a change of nick: that it leaves the nick of an account, or takes one, or neither.
 #[derive(Clone, Copy, Debug, PartialEq, Eq)]
 pub enum Account {
     /// Neither.
@@ -74,7 +74,7 @@ pub enum Account {
     Touched,
 }
 
-/// Whether a user's fields, once an update is merged, are as many as a user may have.
+/// The finding on how many fields a user has once an update is merged.
 #[derive(Clone, Copy, Debug, PartialEq, Eq)]
 pub enum Size {
     /// They are at most 40.

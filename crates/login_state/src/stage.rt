@@ -3,7 +3,7 @@ ghost use Rattle.login_state.specs.Stages.{allows};
 
 use adc_line::Kind;
 
-/// How far a connection has come (ADC 1.0, "States").
+/// The stages through which a connection goes (ADC 1.0, "States").
 #[derive(Clone, Copy, Debug, PartialEq, Eq)]
 pub enum Stage {
     /// It joined, and has not yet said what it supports.
@@ -19,7 +19,7 @@ pub enum Stage {
 }
 
 impl Stage {
-    /// Whether a line of this type with this command, the three characters of its name, may be sent at this stage
+    /// Tests whether a line of this type with this command, the three characters of its name, may be sent at this stage
     /// (ADC 1.0, "States"). Before it has entered, a connection may send what leads to the next stage and a status:
     /// HSUP at `Protocol`, BINF at `Identify`, HPAS at `Verify`, and HSTA at each. At `Normal` it may send lines of the
     /// types B, D, E, F and H with every command but HPAS; of these [`is_hub_command`](crate::is_hub_command) tells those

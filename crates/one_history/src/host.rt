@@ -29,14 +29,14 @@ impl<T, E, A> Model for Host<T, E, A> {
 }
 
 impl<T, E, A> Host<T, E, A> {
-    /// How many callers were admitted.
+    /// Counts the callers who were admitted.
     pub fn admitted(&self) -> u64
         ensures { result ≡ self.now.admitted }
     {
         self.admitted
     }
 
-    /// How many have given their seats back.
+    /// Counts those who have given their seats back.
     pub fn gathered(&self) -> u64
         ensures { result ≡ length self.now.gathered }
     {

@@ -10,7 +10,7 @@ pub trait Recorded<E, A> {
     /// The number of the caller who made an entry.
     ghost by: { E → ℕ };
 
-    /// Which histories are legal. They are written newest first.
+    /// The histories that are legal. They are written newest first.
     ghost legal: { A → List E → Type 0 };
 
     /// The value is what this history makes of it.

@@ -31,7 +31,7 @@ impl<T, E, A> Seat<T, E, A> {
     }
 }
 
-/// What a caller's seat can be taken out of.
+/// A value that a caller's seat can be taken out of.
 pub trait Seated<T, E, A> {
     ghost use Rattle.one_history.specs.States.{SeatState};
 

@@ -9,18 +9,18 @@ pub struct Claim<E> {
     pub since: LinkedList<E>,
 }
 
-// What a seat knows. No value of it is made: it exists in proofs alone. A caller's seat has one
+// The knowledge of a seat. No value of it is made: it exists in proofs alone. A caller's seat has one
 // claim, that of two callers both, and the host's has one for each caller that gave its seat back.
 // A seat that was joined to another has none, and knows nothing.
 #[derive(Drop)]
 pub struct View<E, A> {
-    // What the lock's values are about.
+    // The subject of the lock's values.
     pub about: Option<A>,
     // The beginning of the history that was seen.
     pub seen: LinkedList<E>,
     pub claims: LinkedList<Claim<E>>,
     // It holds the value.
     pub busy: bool,
-    // How many callers the host has admitted.
+    // The count of callers whom the host has admitted.
     pub count: u64,
 }

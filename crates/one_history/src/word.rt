@@ -22,7 +22,7 @@ const TAKEN: u64 = 1;
 
 const AWAITED: u64 = 2;
 
-// How often a thread looks at the word before it sleeps. Most holders are done sooner than a sleep
+// The looks of a thread at the word before it sleeps. Most holders are done sooner than a sleep
 // and a wake take.
 const LOOKS: u32 = 100;
 

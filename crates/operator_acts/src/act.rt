@@ -9,7 +9,7 @@ use crate::seconds::seconds_at;
 use adc_ids::{Cid, Nick};
 use std::alloc::Global;
 
-/// What an operator asks of the hub, by a text that begins with `!`.
+/// An act that an operator asks of the hub, by a text that begins with `!`.
 #[derive(Debug, Drop)]
 pub enum Act<'a> {
     /// To send a user away, for a reason that may be empty.

@@ -13,7 +13,7 @@ pub struct Ban {
 }
 
 impl Ban {
-    /// What is left of it at a moment.
+    /// Gives what is left of it at a moment.
     pub(crate) fn left(&self, now: u64) -> Left
         ensures { result ≡ left_of (Some self.now) now }
     {

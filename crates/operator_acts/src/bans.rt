@@ -9,7 +9,7 @@ use std::alloc::Global;
 use std::collections::BTreeMap;
 use std::marker::Model;
 
-/// How many client identifiers may have a ban.
+/// The most client identifiers that may have a ban.
 const MAX_BANS: usize = 1_024;
 
 /// The bans that are held, at most one on each client identifier and on at most 1,024 of them. A ban
@@ -75,7 +75,7 @@ impl Bans {
         self.held.remove(&cid).is_some()
     }
 
-    /// What is left at the moment `now` of the ban on a client identifier. A ban of s seconds from a
+    /// Gives what is left at the moment `now` of the ban on a client identifier. A ban of s seconds from a
     /// moment m on, with s above 0, refuses at moments below m + s, which is at most 2^64 - 1. It takes
     /// no memory.
     #[tactic(auto, unfolding(crate::specs::Bans::left))]
@@ -88,7 +88,7 @@ impl Bans {
         }
     }
 
-    /// How many client identifiers have a ban.
+    /// Counts the client identifiers that have a ban.
     pub fn count(&self) -> usize
         ensures count { result ≡ length self.now }
         ensures few { result ≤ max_bans }

@@ -3,7 +3,7 @@ ghost use Rattle.std.specs.Prelude.{◌≡◌};
 use adc_ids::NickFault;
 use std::alloc::AllocError;
 
-/// Why a text is no act. The tests are made in the order 2, 1.
+/// The reasons for which a text is no act. The tests are made in the order 2, 1.
 #[derive(Clone, Copy, Debug, PartialEq, Eq)]
 pub enum ActFault {
     /// Memory ran out.
@@ -25,7 +25,7 @@ impl From<NickFault> for ActFault {
     }
 }
 
-/// Why a ban was not taken up. The tests are made in the order 2, 1.
+/// The reasons for which a ban was not taken up. The tests are made in the order 2, 1.
 #[derive(Clone, Copy, Debug, PartialEq, Eq)]
 pub enum BanRefused {
     /// Memory ran out.

@@ -4,7 +4,7 @@ ghost use Rattle.operator_acts.specs.Acts.{rest_of, words_after};
 
 use std::marker::Model;
 
-/// What follows the words of an act, as it was written: a reason, or a topic. It is empty where
+/// The text that follows the words of an act, as it was written: a reason, or a topic. It is empty where
 /// nothing follows, and also where a blank follows with nothing behind it.
 #[derive(Debug, Drop)]
 pub struct FreeText<'a> {
@@ -37,7 +37,7 @@ impl<'a> FreeText<'a> {
         self.text
     }
 
-    /// Whether there is none.
+    /// Tests whether there is none.
     pub fn is_empty(&self) -> bool
         ensures { result ≡ nat_eq (length self.now) 0 }
     {

@@ -1,4 +1,4 @@
-/// What is left of a ban.
+/// The rest of a ban.
 #[derive(Clone, Copy, Debug, PartialEq, Eq)]
 pub enum Left {
     /// Nothing: there is none, or its time has run out.

@@ -2,7 +2,7 @@ ghost use Rattle.std.specs.Prelude.{◌≡◌};
 ghost use Rattle.std.specs.Str.{all_ascii_digits};
 ghost use Rattle.operator_acts.specs.Acts.{seconds_at};
 
-/// How many digits a number of seconds has at most.
+/// The most digits that a number of seconds has.
 const MAX_DIGITS: usize = 10;
 
 /// The number of seconds that one to ten digits write, up to 4,294,967,295.

@@ -52,7 +52,7 @@ impl Batch {
         Ok(())
     }
 
-    /// Whether it has no line.
+    /// Tests whether it has no line.
     pub fn is_empty(&self) -> bool
         ensures { IsTrue result ↔ self.now ≡ [] }
     {

@@ -118,14 +118,14 @@ impl Outbox {
         })
     }
 
-    /// How many lines wait.
+    /// Counts the lines that wait.
     pub fn waiting(&self) -> u64
         ensures { result ≡ length self.now.lines }
     {
         self.places.len() as u64
     }
 
-    /// Whether a share has not fitted: then nothing goes in any more.
+    /// Tests whether a share has not fitted: then nothing goes in any more.
     pub fn lagging(&self) -> bool
         ensures { result ≡ self.now.lags }
     {

@@ -20,7 +20,7 @@ pub enum Place {
     Quit(Sid),
 }
 
-/// How many bytes each place of an outbox takes, whether a line waits there or not.
+/// The bytes that each place of an outbox takes, whether a line waits there or not.
 pub const PLACE_BYTES: usize = size_of::<Place>();
 
 /// The line by which a user's leaving is told.
@@ -31,7 +31,7 @@ pub(crate) fn quit_text(sid: Sid) -> [u8; 10]
     [b'I', b'Q', b'U', b'I', b' ', a, b, c, d, b'\n']
 }
 
-/// How many bytes the lines have together, where these are no more than there is room for.
+/// Counts the bytes that the lines have together, where these are no more than there is room for.
 pub(crate) fn size_within(lines: &[Box<Bytes>], room: usize) -> Option<usize>
     ensures some { IfSome result (λ size. (size ≡ size_of (map (λ line. line.value) lines.now)) × (size ≤ room)) }
     ensures none { IfNone result (room < size_of (map (λ line. line.value) lines.now)) }

@@ -1,20 +1,20 @@
 use std::alloc::{AllocError, AllocFailed};
 
-/// Why no outbox was made.
+/// The reasons for which no outbox was made.
 #[derive(Clone, Copy, Debug, PartialEq, Eq)]
 pub enum OutboxRefused {
     /// Memory ran out.
     Memory = 1,
 }
 
-/// Why a line was not added to a batch. The batch is as before.
+/// The reasons for which a line was not added to a batch. The batch is as before.
 #[derive(Clone, Copy, Debug, PartialEq, Eq)]
 pub enum PushRefused {
     /// Memory ran out.
     Memory = 1,
 }
 
-/// Why no lines were taken. The outbox and the vector are as before.
+/// The reasons for which no lines were taken. The outbox and the vector are as before.
 #[derive(Clone, Copy, Debug, PartialEq, Eq)]
 pub enum TakeRefused {
     /// Memory ran out.

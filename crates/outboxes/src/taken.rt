@@ -1,8 +1,8 @@
-/// What a take gave.
+/// The answer to a take.
 #[derive(Clone, Copy, Debug, PartialEq, Eq)]
 pub struct Taken {
-    /// How many lines.
+    /// The count of lines.
     pub lines: u64,
-    /// Whether nothing waits any more, and nothing will.
+    /// Nothing waits any more, and nothing will.
     pub ended: bool,
 }

@@ -1,7 +1,7 @@
 ghost use Rattle.std.specs.Prelude.{◌≡◌};
 ghost use Rattle.search_pass.specs.Searches.{may_search};
 
-/// Whether a connection may search at the moment `now`, where `last` is the moment of its last search
+/// Tests whether a connection may search at the moment `now`, where `last` is the moment of its last search
 /// that was let through, and two searches stand at least `interval` apart. All three are in seconds.
 ///
 /// A connection that has not searched yet may. A moment before the last one counts as no time passed,

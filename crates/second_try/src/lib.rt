@@ -5,7 +5,7 @@ mod said;
 
 pub use said::tell;
 
-/// What a test needs beside the calls that it is about, once more where memory was refused.
+/// Makes a call that a test needs beside those that it is about, once more where memory was refused.
 #[macro_export]
 macro_rules! again {
     ($rt:expr; $call:expr) => {

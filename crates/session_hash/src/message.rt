@@ -8,7 +8,7 @@ use crate::tiger::{Registers, compress};
 use crate::words::block_words;
 use arrayvec::ArrayVec;
 
-/// How many bytes a block has.
+/// The bytes of a block.
 const BLOCK: usize = 64;
 
 /// The digest of a message. `tables` has 1,024 words.
@@ -71,7 +71,7 @@ fn absorb_tail(tables: &[u64], registers: Registers, tail: &[u8]) -> Registers
     compress(tables, registers, block_words(second))
 }
 
-/// What is left of a message of `total` bytes behind its whole blocks, with the padding.
+/// Pads what is left of a message of `total` bytes behind its whole blocks.
 fn tail(rest: &[u8], total: usize) -> ArrayVec<u8, 128>
     requires { length rest.now ≡ total % 64 }
     ensures { result.items ≡ rest.now ++ padding total }

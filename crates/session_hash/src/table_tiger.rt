@@ -9,7 +9,7 @@ use crate::words::first_word;
 use std::alloc::{AllocError, AllocFailed, Global};
 use std::marker::Model;
 
-/// Why bytes are no tables, looked for in the order 2, 1.
+/// The reasons for which bytes are no tables, looked for in the order 2, 1.
 #[derive(Clone, Copy, Debug, PartialEq, Eq)]
 pub enum TablesFault {
     /// Memory ran out.

@@ -3,7 +3,7 @@ ghost use Rattle.session_hash.specs.Tables.{entry};
 ghost use Rattle.session_hash.specs.Tiger.{even_entries, odd_entries, turned, pass, crossed, added, less_key, less_up, less_down, first_half, second_half, passes, fed_forward, compressed};
 ghost use Rattle.session_hash.specs.Words.{add64, sub64, mul64, not_up, not_down, byte_of};
 
-/// How many words the four tables have together.
+/// The words of the four tables together.
 pub const TABLE_WORDS: usize = 1024;
 
 /// The three registers of Tiger.
@@ -15,7 +15,7 @@ pub struct Registers {
 }
 
 impl Registers {
-    /// What they hold before the first block.
+    /// The values before the first block.
     pub const START: Registers = Registers {
         a: 0x0123_4567_89AB_CDEF,
         b: 0xFEDC_BA98_7654_3210,

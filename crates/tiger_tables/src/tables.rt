@@ -6,10 +6,10 @@ use std::alloc::{AllocError, AllocFailed, Global};
 /// The block that stirs the tables, by its makers.
 const TITLE: &[u8; 64] = b"Tiger - A Fast New Hash Function, by Ross Anderson and Eli Biham";
 
-/// How often the tables are gone through.
+/// The count of times that the tables are gone through.
 const TIMES: u8 = 5;
 
-/// How many words a table has.
+/// The words of a table.
 const TABLE: usize = 256;
 
 /// The bytes of Tiger's four tables, the lowest byte of each word first: made from nothing by the
@@ -45,11 +45,11 @@ fn words(alloc: Global) -> Result<Vec<u64>, AllocError>
     Ok(words)
 }
 
-/// Where the bytes that tell what to swap come from.
+/// The source of the bytes that tell what to swap.
 #[derive(Drop)]
 struct Stirred {
     registers: Registers,
-    // Which register was used last.
+    // The register that was used last.
     used: u8,
 }
 

@@ -7,7 +7,7 @@ use std::alloc::{AllocError, Global};
 use std::collections::BTreeMap;
 use std::marker::Model;
 
-/// Who has a client identifier: session identifiers by client identifiers. Strangers choose the
+/// The users by client identifier: session identifiers by client identifiers. Strangers choose the
 /// latter, so they are held in order, where no choice of them makes look-ups slow.
 #[derive(Debug, Drop)]
 pub(crate) struct CidIndex {
@@ -34,7 +34,7 @@ impl CidIndex {
         }
     }
 
-    /// Who has the client identifier. Takes no memory.
+    /// Finds who has the client identifier. Takes no memory.
     pub(crate) fn get(&self, cid: Cid) -> Option<Sid>
         ensures { result ≡ sid_at self.now cid }
     {

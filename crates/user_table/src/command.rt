@@ -27,7 +27,7 @@ pub enum Command {
     Count,
 }
 
-/// How a [`Command`] was answered.
+/// The answer to a [`Command`].
 #[derive(Clone, Copy, Debug, PartialEq, Eq)]
 pub enum Answer {
     /// The command was not made, since its condition did not hold.
@@ -38,6 +38,6 @@ pub enum Answer {
     Refused(TableRefused),
     /// The session identifier of the user who was found or taken out.
     Found(Option<Sid>),
-    /// How many users are present, and what they share together.
+    /// The count of users who are present, and what they share together.
     Counted(Totals),
 }

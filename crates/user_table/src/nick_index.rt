@@ -6,7 +6,7 @@ use std::alloc::{AllocError, Global};
 use std::collections::BTreeMap;
 use std::marker::Model;
 
-/// Who has a nick: session identifiers by the nicks' keys. Strangers choose the nicks, so the keys are
+/// The users by nick: session identifiers by the nicks' keys. Strangers choose the nicks, so the keys are
 /// held in order, where no choice of them makes look-ups slow.
 #[derive(Debug, Drop)]
 pub(crate) struct NickIndex {
@@ -33,7 +33,7 @@ impl NickIndex {
         }
     }
 
-    /// Who has the key. Takes no memory.
+    /// Finds who has the key. Takes no memory.
     pub(crate) fn get(&self, key: &str) -> Option<Sid>
         ensures { result ≡ sid_at self.now key.now }
     {

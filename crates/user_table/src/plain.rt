@@ -96,14 +96,14 @@ impl Users for PlainUsers {
     }
 }
 
-/// Whether somebody has the nick of a user.
+/// Tests whether somebody has the nick of a user.
 fn is_nick_taken(users: &[User], user: &User) -> bool
     ensures { result ≡ nick_taken user.now.key users.now }
 {
     by_key(users, user.key()).is_some()
 }
 
-/// Whether somebody has the client identifier of a user.
+/// Tests whether somebody has the client identifier of a user.
 fn is_cid_taken(users: &[User], user: &User) -> bool
     ensures { result ≡ cid_taken user.now.cid users.now }
 {
@@ -120,7 +120,7 @@ fn key_of(alloc: Global, nick: &Option<Nick>) -> Result<Option<String>, AllocErr
     }
 }
 
-/// Whether a user other than this one has the key that is given.
+/// Tests whether a user other than this one has the key that is given.
 fn is_held_by_other(users: &[User], sid: Sid, key: &Option<String>) -> bool
     ensures { result ≡ held_by_other sid (option_map string_bytes key.now) users.now }
 {
@@ -151,7 +151,7 @@ fn change(
     users[place].change(update, key)
 }
 
-/// How many users there are, and what they share together.
+/// Counts the users, and adds up what they share.
 fn totals(users: &[User]) -> Totals
     ensures { result ≡ totals_of users.now }
 {

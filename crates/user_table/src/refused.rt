@@ -3,7 +3,7 @@ ghost use Rattle.user_table.specs.declared.refused.TableRefused.TheVariants.{Mem
 
 use std::alloc::AllocError;
 
-/// Why a table does not take a user or an update. The tests are made in the order 2, 3, 1.
+/// The reasons for which a table does not take a user or an update. The tests are made in the order 2, 3, 1.
 #[derive(Clone, Copy, Debug, PartialEq, Eq)]
 pub enum TableRefused {
     /// Memory ran out.

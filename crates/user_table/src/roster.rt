@@ -50,7 +50,7 @@ impl Roster {
         }
     }
 
-    /// What allocates for it.
+    /// Gives what allocates for it.
     pub(crate) fn allocator(&self) -> Global {
         *self.users.allocator()
     }
@@ -72,7 +72,7 @@ impl Roster {
         }
     }
 
-    /// How many users there are, and what they share together. Takes no memory.
+    /// Counts the users, and adds up what they share. Takes no memory.
     pub(crate) fn totals(&self) -> Totals
         ensures { result ≡ totals_of self.now }
     {

@@ -17,7 +17,7 @@ use inf_fields::{FieldName, Update};
 use std::alloc::{AllocError, Global};
 use unicode_normalization::to_nfc;
 
-/// Why commands were not begun.
+/// The reasons for which commands were not begun.
 #[derive(Clone, Copy, Debug, PartialEq, Eq)]
 pub enum RunRefused {
     /// Memory ran out before the first command; no command was made.
@@ -128,7 +128,7 @@ fn merge_info<U: Users>(
     }
 }
 
-/// Whether a nick that is given is the one that an update says.
+/// Tests whether a nick that is given is the one that an update says.
 fn says_nick(alloc: Global, update: &Update, nick: &Option<Nick>) -> Result<bool, AllocError>
     ensures { IfOk result (λ says. says ≡ says_nick nick.now update.now) }
 {

@@ -1,18 +1,18 @@
 ghost use Rattle.std.specs.Prelude.{◌≡◌, ◌+◌, ◌<◌, ◌≤◌, ◌^◌};
 ghost use Rattle.user_table.specs.Shares.{lowered, raised};
 
-/// How many users are present, and what they share together.
+/// The count of users who are present, and what they share together.
 #[derive(Clone, Copy, Debug, PartialEq, Eq)]
 pub struct Totals {
-    /// How many users.
+    /// The count of users.
     pub users: u64,
-    /// How many bytes they share: the sum of their fields SS.
+    /// The bytes that they share: the sum of their fields SS.
     pub ss: u128,
-    /// How many files they share: the sum of their fields SF.
+    /// The files that they share: the sum of their fields SF.
     pub sf: u128,
 }
 
-/// What one user shares: bytes by the field SS, files by the field SF.
+/// The share of one user: bytes by the field SS, files by the field SF.
 #[derive(Clone, Copy, Debug, PartialEq, Eq)]
 pub(crate) struct Shared {
     pub(crate) ss: u64,

@@ -73,28 +73,28 @@ impl User {
         &self.key
     }
 
-    /// What is known of the user.
+    /// Gives what is known of the user.
     pub fn fields(&self) -> &Fields
         ensures { result.now ≡ self.now.fields }
     {
         &self.fields
     }
 
-    /// How many bytes the user shares, by the field SS; 0 where there is none or it is no number.
+    /// Gives how many bytes the user shares, by the field SS; 0 where there is none or it is no number.
     pub(crate) fn share_size(&self) -> u64
         ensures { result ≡ amount share_size_name self.now.fields }
     {
         amount(&self.fields, FieldName::share_size())
     }
 
-    /// How many files the user shares, by the field SF; 0 where there is none or it is no number.
+    /// Gives how many files the user shares, by the field SF; 0 where there is none or it is no number.
     pub(crate) fn shared_files(&self) -> u64
         ensures { result ≡ amount shared_files_name self.now.fields }
     {
         amount(&self.fields, FieldName::shared_files())
     }
 
-    /// What the user shares.
+    /// Gives what the user shares.
     pub(crate) fn shared(&self) -> Shared
         ensures { result ≡ shared_by self.now }
     {

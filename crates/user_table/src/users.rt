@@ -75,12 +75,12 @@ pub trait Users: Drop {
     fn at(&self, place: usize) -> Option<&User>
         ensures { option_copied result ≡ slice_get (listed self.now) place };
 
-    /// How many users are present, and what they share together. Takes no memory.
+    /// Counts the users who are present, and adds up what they share. Takes no memory.
     fn totals(&self) -> Totals
         ensures { result ≡ totals_of (listed self.now) };
 }
 
-/// Whether the user with a session identifier is present, and has room for an update: what
+/// Tests whether the user with a session identifier is present, and has room for an update: what
 /// `Users::merge_info` asks. Takes no memory.
 pub fn takes_update<U: Users>(users: &U, sid: Sid, update: &Update) -> bool
     ensures { result ≡ takes_update sid update.now (U.listed users.now) }
