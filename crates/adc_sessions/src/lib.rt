@@ -15,4 +15,3 @@ pub use ending::{End, SessionRefused};
 pub use incoming::{Incoming, Peer, Starter};
 pub use port::Port;
 pub use session::Session;
-
