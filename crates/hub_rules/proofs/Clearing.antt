@@ -1,11 +1,8 @@
 -- What a line leaves of its connection is no other present user's nick or identifier.
-use Rattle.std.proofs.Common.{◌≡◌, ◌∙◌, sym, ap, ap₂, refl, ℕ, Bool, true, false, not, ◌&&◌, ◌||◌, ◌==◌, ◌⊎◌, inl, inr, List, [], ◌∷◌, length, Option, Some, None, Result, Ok, Err, unwrap_or}
-use Rattle.std.specs.Prelude.{if◌then◌else◌}
+use Rattle.std.proofs.Common.{◌≡◌, ◌∙◌, sym, ap, ap₂, refl, ℕ, Bool, true, false, not, ◌&&◌, ◌||◌, ◌⊎◌, inl, inr, List, [], ◌∷◌, Option, None, Result, Ok, Err, unwrap_or}
 use Rattle.std.specs.List.{list_any}
 use Rattle.std.proofs.lemmas.Bool.{false≢true}
 use Rattle.adc_base32.specs.Spelled.{spelled}
-use Rattle.adc_line.specs.declared.fault.LineFault.{LineFault}
-use Rattle.adc_line.specs.Lines as lines
 use Rattle.adc_line.specs.Lines.{Reading}
 use Rattle.inf_fields.specs.Cleaning.{clean}
 use Rattle.inf_fields.specs.Field.{Field, value_of}
@@ -21,9 +18,6 @@ use Rattle.login_state.specs.Checks.{first_denial}
 use Rattle.login_state.specs.Denials.{is_fatal}
 use Rattle.login_state.specs.Orders.{pass_rules}
 use Rattle.login_state.specs.SupportAnswers.{applied}
-use Rattle.operator_acts.specs.Acts.{act_at}
-use Rattle.operator_acts.specs.declared.act.Act.{Act}
-use Rattle.operator_acts.specs.declared.act.Act.TheVariants as acts
 use Rattle.user_table.specs.Listed.{Listed}
 use Rattle.user_table.specs.Tables.{has_cid, has_key, has_sid}
 use Rattle.hub_rules.specs.declared.effect.Effect.{Effect}
@@ -33,14 +27,14 @@ use Rattle.hub_rules.specs.declared.request.Request.TheVariants as requests
 use Rattle.hub_rules.specs.Acts.{act_effect, carried}
 use Rattle.login_state.specs.declared.asks.EntryAsk.{EntryAsk}
 use Rattle.hub_rules.specs.Asks.{entry_ask, login_ask, own_if_given, taken_if, update_ask}
-use Rattle.hub_rules.specs.Denied.{denial_of, denied, digest_given, login_denied, or_else, password_denied, request_denied, update_denied}
-use Rattle.hub_rules.specs.Effects.{accepted, admits, denial, fall_if, greets, heard, is_over, is_present, learns, line_effect, logs_in, unless_denied, updates_user}
+use Rattle.hub_rules.specs.Denied.{denial_of, digest_given, login_denied, password_denied, request_denied, update_denied}
+use Rattle.hub_rules.specs.Effects.{accepted, admits, denial, fall_if, greets, is_present, learns, line_effect, logs_in, updates_user}
 use Rattle.hub_rules.specs.Identities.{cid_in, given, key_in, listed}
 use Rattle.hub_rules.specs.Quiet.{nothing}
-use Rattle.hub_rules.specs.Requests.{refused, request_of}
+use Rattle.hub_rules.specs.Requests.{request_of}
 use Rattle.hub_rules.specs.Shares.{fields_after, stage_after}
 use Rattle.hub_rules.specs.Sights.{Own, PreparedLine, Sight, another_has_key, is_account, is_here, user_after}
-use Rattle.hub_rules.proofs.Claims.{entry-free, go, is_denied, id-known, login-free, update-free}
+use Rattle.hub_rules.proofs.Claims.{entry-free, go, id-known, login-free, update-free}
 use Rattle.hub_rules.proofs.Members.{or-parts}
 use Rattle.hub_rules.proofs.Merges.{given-after, id-clean}
 use Rattle.hub_rules.proofs.Outcomes.{by_act, by_line, later-none}

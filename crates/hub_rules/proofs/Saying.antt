@@ -1,8 +1,7 @@
 -- Features and fields are what the accepted lines of a connection say, taken together.
-use Rattle.std.proofs.Common.{◌≡◌, ◌∙◌, sym, ap, refl, subst, ℕ, ◌+◌, ◌<◌, Bool, true, false, not, ◌&&◌, ◌==◌, List, [], ◌∷◌, ◌++◌, length, append-nil, Option, Some, None, Result, Ok, Err, arith}
+use Rattle.std.proofs.Common.{◌≡◌, ◌∙◌, sym, ap, refl, subst, ℕ, ◌+◌, ◌<◌, Bool, true, false, ◌&&◌, ◌==◌, List, [], ◌∷◌, ◌++◌, length, append-nil, Option, Some, None, Result, Ok, Err, arith}
 use Rattle.std.specs.Prelude.{if◌then◌else◌}
 use Rattle.std.proofs.lemmas.Bool.{eqb-true}
-use Rattle.adc_line.specs.declared.fault.LineFault.{LineFault}
 use Rattle.adc_line.specs.Lines as lines
 use Rattle.adc_line.specs.Lines.{Reading}
 use Rattle.inf_fields.specs.Cleaning.{clean}
@@ -18,10 +17,6 @@ use Rattle.login_state.specs.Support.{features_of, said, supported_after}
 use Rattle.login_state.specs.SupportAnswers.{applied}
 use Rattle.login_state.proofs.LineByLine.{applied-ok}
 use Rattle.login_state.proofs.Mentioned.{features_of-nil, features_of-push}
-use Rattle.operator_acts.specs.Acts.{act_at}
-use Rattle.operator_acts.specs.declared.act.Act.{Act}
-use Rattle.operator_acts.specs.declared.act.Act.TheVariants as acts
-use Rattle.user_table.specs.Listed.{Listed}
 use Rattle.hub_rules.specs.declared.effect.Effect.{Effect}
 use Rattle.hub_rules.specs.declared.history.Call.{Call}
 use Rattle.hub_rules.specs.declared.history.Call.TheVariants.{Join, Line, Quit, Take}
@@ -30,14 +25,13 @@ use Rattle.hub_rules.specs.declared.request.Request.{Request}
 use Rattle.hub_rules.specs.declared.request.Request.TheVariants as requests
 use Rattle.hub_rules.specs.Acts.{act_effect, carried}
 use Rattle.hub_rules.specs.Configured.{Configured}
-use Rattle.hub_rules.specs.Denied.{denied}
-use Rattle.hub_rules.specs.Effects.{accepted, admits, denial, departure, fall_if, greets, heard, is_over, learns, line_effect, logs_in, unless_denied, updates_user}
+use Rattle.hub_rules.specs.Effects.{accepted, admits, denial, departure, fall_if, greets, is_over, learns, line_effect, logs_in, updates_user}
 use Rattle.hub_rules.specs.Facts.{Facts, facts, about_after, after, closed, effect_of_line, given, happens, has_joins, has_place, joined, newcomer, next_sid, own_of, sight_of}
 use Rattle.hub_rules.specs.Identities.{listed}
 use Rattle.hub_rules.specs.Prepared.{prepared}
 use Rattle.hub_rules.specs.Quiet.{nothing}
 use Rattle.hub_rules.specs.Requests.{request_of}
-use Rattle.hub_rules.specs.Said.{FeaturesAreLastAdded, InfoIsMerged, accepted_line, cleaned, inf_update, infs, kept_unless, listed_if, read_by, said_in, sup_words, sups, unless_refused, words_if}
+use Rattle.hub_rules.specs.Said.{FeaturesAreLastAdded, InfoIsMerged, accepted_line, cleaned, inf_update, infs, listed_if, read_by, said_in, sup_words, sups, unless_refused, words_if}
 use Rattle.hub_rules.specs.Shares.{About, chosen, features_after, fields_after, given_share, has_room, owes, removed_if, turned, with_share}
 use Rattle.hub_rules.specs.Sights.{Own, PreparedLine, Sight, is_account, user_after}
 use Rattle.hub_rules.proofs.Calls.{above, over-unless, sound_of}

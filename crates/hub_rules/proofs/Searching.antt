@@ -1,13 +1,10 @@
 -- A connection's last search is the last of its accepted searches.
-use Rattle.std.proofs.Common.{◌≡◌, ◌∙◌, sym, ap, ap₂, refl, subst, ℕ, ◌+◌, ◌<◌, Bool, true, false, not, ◌&&◌, ◌==◌, List, [], ◌∷◌, length, map, Option, Some, None, Result, Ok, Err, arith}
-use Rattle.std.specs.Prelude.{if◌then◌else◌}
+use Rattle.std.proofs.Common.{◌≡◌, ◌∙◌, sym, ap, ap₂, refl, subst, ℕ, ◌+◌, ◌<◌, Bool, true, false, ◌&&◌, ◌==◌, List, [], ◌∷◌, length, map, Option, None, Result, Ok, Err, arith}
 use Rattle.std.specs.List.{sum_by}
 use Rattle.std.specs.Option.{option_or}
 use Rattle.std.proofs.lemmas.Bool.{eqb-true}
 use Rattle.std.proofs.lemmas.List.{length-map}
 use Rattle.std.proofs.lemmas.List.Sums.{sum_by-cons}
-use Rattle.adc_line.specs.declared.fault.LineFault.{LineFault}
-use Rattle.adc_line.specs.Lines as lines
 use Rattle.adc_line.specs.Lines.{Reading}
 use Rattle.inf_fields.specs.Field.{Field}
 use Rattle.inf_fields.specs.FieldNames.{share_size_name, shared_files_name}
@@ -16,9 +13,6 @@ use Rattle.inf_fields.specs.declared.fault.InfFault.{InfFault}
 use Rattle.login_state.specs.declared.deny.Deny.{Deny}
 use Rattle.login_state.specs.declared.fault.SupFault.{SupFault}
 use Rattle.login_state.specs.SupportAnswers.{applied}
-use Rattle.operator_acts.specs.Acts.{act_at}
-use Rattle.operator_acts.specs.declared.act.Act.{Act}
-use Rattle.operator_acts.specs.declared.act.Act.TheVariants as acts
 use Rattle.user_table.specs.Listed.{Listed}
 use Rattle.user_table.specs.Tables.{amount}
 use Rattle.user_table.specs.declared.totals.Totals.{Totals}
@@ -30,14 +24,12 @@ use Rattle.hub_rules.specs.declared.request.Request.{Request}
 use Rattle.hub_rules.specs.declared.request.Request.TheVariants as requests
 use Rattle.hub_rules.specs.Acts.{act_effect}
 use Rattle.hub_rules.specs.Configured.{Configured}
-use Rattle.hub_rules.specs.Denied.{denied}
-use Rattle.hub_rules.specs.Effects.{accepted, admits, denial, departure, greets, heard, is_over, learns, line_effect, logs_in, unless_denied, updates_user}
+use Rattle.hub_rules.specs.Effects.{accepted, admits, denial, departure, greets, is_over, learns, line_effect, logs_in, updates_user}
 use Rattle.hub_rules.specs.Facts.{Facts, facts, about_after, after, closed, effect_of_line, given, happens, has_joins, has_place, joined, newcomer, next_sid, own_of, sight_of, user_of}
 use Rattle.hub_rules.specs.Identities.{listed}
 use Rattle.hub_rules.specs.Prepared.{prepared}
-use Rattle.hub_rules.specs.Quiet.{nothing}
 use Rattle.hub_rules.specs.Requests.{request_of}
-use Rattle.hub_rules.specs.Said.{accepted_line, kept_unless, unless_refused}
+use Rattle.hub_rules.specs.Said.{accepted_line}
 use Rattle.hub_rules.specs.Searched.{SearchIsTheLast, TotalsAreSums, is_search, last_search, moment_if, search_in, searches}
 use Rattle.hub_rules.specs.Shares.{About, chosen, given_share, has_room, owes, removed_if, searched_after, turned, with_share}
 use Rattle.hub_rules.specs.Sights.{Own, PreparedLine, Sight, is_account, user_after}

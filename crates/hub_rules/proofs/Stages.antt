@@ -1,5 +1,5 @@
 -- The stage of a connection is what the last entry that changes it made it.
-use Rattle.std.proofs.Common.{◌≡◌, ◌∙◌, sym, ap, refl, subst, ℕ, ◌+◌, Bool, true, false, not, ◌&&◌, ◌==◌, List, [], ◌∷◌, length, Option, Some, None, Result, Ok, Err, unwrap_or}
+use Rattle.std.proofs.Common.{◌≡◌, ◌∙◌, sym, ap, refl, subst, ℕ, ◌+◌, Bool, true, false, ◌&&◌, ◌==◌, List, [], ◌∷◌, length, Option, Some, None, Result, Ok, Err, unwrap_or}
 use Rattle.std.specs.Prelude.{if◌then◌else◌}
 use Rattle.std.specs.Option.{option_or}
 use Rattle.std.proofs.lemmas.Bool.{eqb-true}
@@ -15,9 +15,6 @@ use Rattle.login_state.specs.declared.stage.Stage.{Stage}
 use Rattle.login_state.specs.declared.stage.Stage.TheVariants as stages
 use Rattle.login_state.specs.Denials.{is_fatal}
 use Rattle.login_state.specs.SupportAnswers.{applied}
-use Rattle.operator_acts.specs.Acts.{act_at}
-use Rattle.operator_acts.specs.declared.act.Act.{Act}
-use Rattle.operator_acts.specs.declared.act.Act.TheVariants as acts
 use Rattle.user_table.specs.Listed.{Listed}
 use Rattle.hub_rules.specs.declared.effect.Effect.{Effect}
 use Rattle.hub_rules.specs.declared.effect.Turn.{Turn}

@@ -1,13 +1,9 @@
 -- What a line leads to is of a kind that a hub can carry out: a turn of its connection's stage, with users as they are listed.
-use Rattle.std.proofs.Common.{◌≡◌, ◌∙◌, sym, ap, ap₂, refl, ℕ, Bool, true, false, not, ◌==◌, List, length, Option, Some, None, Result, Ok, Err, unwrap_or}
-use Rattle.std.specs.Prelude.{if◌then◌else◌, codes}
+use Rattle.std.proofs.Common.{◌≡◌, ◌∙◌, sym, ap, ap₂, refl, ℕ, Bool, true, false, ◌==◌, List, Option, Some, None, Result, Ok, Err, unwrap_or}
 use Rattle.std.specs.Option.{option_map}
-use Rattle.std.specs.Str.{bytes_eq}
 use Rattle.std.proofs.lemmas.Bool.{false≢true}
-use Rattle.adc_line.specs.declared.fault.LineFault.{LineFault}
 use Rattle.adc_line.specs.declared.kind.Kind.{Kind}
 use Rattle.adc_line.specs.declared.kind.Kind.TheVariants as kinds
-use Rattle.adc_line.specs.Lines as lines
 use Rattle.adc_line.specs.Lines.{Reading}
 use Rattle.feature_route.specs.Audiences.{audience, both, both_if, by_kind, direct, echoed, featured, holds, holds_words}
 use Rattle.feature_route.specs.Matching.{feature_set}
@@ -20,15 +16,10 @@ use Rattle.inf_fields.specs.Merging.{merged, merged_with}
 use Rattle.inf_fields.specs.Updates as updates
 use Rattle.inf_fields.specs.declared.fault.InfFault.{InfFault}
 use Rattle.login_state.specs.declared.deny.Deny.{Deny}
-use Rattle.login_state.specs.declared.deny.Deny.TheVariants as denials
 use Rattle.login_state.specs.declared.fault.SupFault.{SupFault}
-use Rattle.login_state.specs.declared.stage.Stage.{Stage}
 use Rattle.login_state.specs.declared.stage.Stage.TheVariants as stages
 use Rattle.login_state.specs.Denials.{is_fatal}
 use Rattle.login_state.specs.SupportAnswers.{applied}
-use Rattle.operator_acts.specs.Acts.{act_at}
-use Rattle.operator_acts.specs.declared.act.Act.{Act}
-use Rattle.operator_acts.specs.declared.act.Act.TheVariants as acts
 use Rattle.user_table.specs.Changes.{given_key}
 use Rattle.user_table.specs.Listed.{Listed}
 use Rattle.user_table.specs.Tables.{changed_key, updated}
@@ -41,12 +32,12 @@ use Rattle.hub_rules.specs.declared.effect.World.{World}
 use Rattle.hub_rules.specs.declared.effect.World.TheVariants as worlds
 use Rattle.hub_rules.specs.declared.request.Request.{Request}
 use Rattle.hub_rules.specs.declared.request.Request.TheVariants as requests
-use Rattle.hub_rules.specs.Acts.{act_effect, asked_effect, ban_effect, is_command, kick_effect, text_in, user_called}
-use Rattle.hub_rules.specs.Denied.{denied, request_denied, update_denied}
-use Rattle.hub_rules.specs.Effects.{accepted, admits, denial, entrant, fall_if, greets, heard, is_over, is_target_here, learns, line_effect, logs_in, nick_points, passes_on, unless_denied, updates_user}
+use Rattle.hub_rules.specs.Acts.{act_effect}
+use Rattle.hub_rules.specs.Denied.{request_denied, update_denied}
+use Rattle.hub_rules.specs.Effects.{accepted, admits, denial, entrant, fall_if, greets, is_target_here, learns, line_effect, logs_in, nick_points, passes_on, updates_user}
 use Rattle.hub_rules.specs.Identities.{cid_in, given, key_in, key_of, listed, meaning, su_in}
 use Rattle.hub_rules.specs.Quiet.{nothing}
-use Rattle.hub_rules.specs.Requests.{refused, request_of, to_users}
+use Rattle.hub_rules.specs.Requests.{request_of}
 use Rattle.hub_rules.specs.Sights.{Own, PreparedLine, Sight, is_account, user_after}
 use Rattle.hub_rules.specs.Asks.{update_ask}
 use Rattle.hub_rules.proofs.Claims.{go, update-free}
