@@ -1,11 +1,8 @@
 -- What a line leaves of its connection is no other present user's nick or identifier.
-use Rattle.std.proofs.Common.{◌≡◌, ◌∙◌, sym, ap, ap₂, refl, ℕ, Bool, true, false, not, ◌&&◌, ◌||◌, ◌==◌, ◌⊎◌, inl, inr, List, [], ◌∷◌, length, Option, Some, None, Result, Ok, Err, unwrap_or}
-use Rattle.std.specs.Prelude.{if◌then◌else◌}
+use Rattle.std.proofs.Common.{◌≡◌, ◌∙◌, sym, ap, ap₂, refl, ℕ, Bool, true, false, not, ◌&&◌, ◌||◌, ◌⊎◌, inl, inr, List, [], ◌∷◌, Option, None, Result, Ok, Err, unwrap_or}
 use Rattle.std.specs.List.{list_any}
 use Rattle.std.proofs.lemmas.Bool.{false≢true}
 use Rattle.adc_base32.specs.Spelled.{spelled}
-use Rattle.adc_line.specs.declared.fault.LineFault.{LineFault}
-use Rattle.adc_line.specs.Lines as lines
 use Rattle.adc_line.specs.Lines.{Reading}
 use Rattle.inf_fields.specs.Cleaning.{clean}
 use Rattle.inf_fields.specs.Field.{Field, value_of}
@@ -21,28 +18,26 @@ use Rattle.login_state.specs.Checks.{first_denial}
 use Rattle.login_state.specs.Denials.{is_fatal}
 use Rattle.login_state.specs.Orders.{pass_rules}
 use Rattle.login_state.specs.SupportAnswers.{applied}
-use Rattle.operator_acts.specs.Acts.{act_at}
-use Rattle.operator_acts.specs.declared.act.Act.{Act}
-use Rattle.operator_acts.specs.declared.act.Act.TheVariants as acts
 use Rattle.user_table.specs.Listed.{Listed}
 use Rattle.user_table.specs.Tables.{has_cid, has_key, has_sid}
 use Rattle.hub_rules.specs.declared.effect.Effect.{Effect}
 use Rattle.hub_rules.specs.declared.effect.Turn.TheVariants as turns
 use Rattle.hub_rules.specs.declared.request.Request.{Request}
 use Rattle.hub_rules.specs.declared.request.Request.TheVariants as requests
-use Rattle.hub_rules.specs.Acts.{act_effect, asked_effect, ban_effect, is_command, kick_effect, text_in, user_called}
+use Rattle.hub_rules.specs.Acts.{act_effect, carried}
 use Rattle.login_state.specs.declared.asks.EntryAsk.{EntryAsk}
 use Rattle.hub_rules.specs.Asks.{entry_ask, login_ask, own_if_given, taken_if, update_ask}
-use Rattle.hub_rules.specs.Denied.{denial_of, denied, digest_given, login_denied, or_else, password_denied, request_denied, update_denied}
-use Rattle.hub_rules.specs.Effects.{accepted, admits, denial, fall_if, greets, heard, is_over, is_present, learns, line_effect, logs_in, unless_denied, updates_user}
+use Rattle.hub_rules.specs.Denied.{denial_of, digest_given, login_denied, password_denied, request_denied, update_denied}
+use Rattle.hub_rules.specs.Effects.{accepted, admits, denial, fall_if, greets, is_present, learns, line_effect, logs_in, updates_user}
 use Rattle.hub_rules.specs.Identities.{cid_in, given, key_in, listed}
 use Rattle.hub_rules.specs.Quiet.{nothing}
-use Rattle.hub_rules.specs.Requests.{refused, request_of}
+use Rattle.hub_rules.specs.Requests.{request_of}
 use Rattle.hub_rules.specs.Shares.{fields_after, stage_after}
 use Rattle.hub_rules.specs.Sights.{Own, PreparedLine, Sight, another_has_key, is_account, is_here, user_after}
-use Rattle.hub_rules.proofs.Claims.{entry-free, go, is_denied, id-known, login-free, update-free}
+use Rattle.hub_rules.proofs.Claims.{entry-free, go, id-known, login-free, update-free}
 use Rattle.hub_rules.proofs.Members.{or-parts}
 use Rattle.hub_rules.proofs.Merges.{given-after, id-clean}
+use Rattle.hub_rules.proofs.Outcomes.{by_act, by_line, later-none}
 
 -- another user than the one with this session identifier passes the test
 abbrev pub another : (Listed → Bool) → Sight → ℕ → Bool
@@ -155,10 +150,6 @@ clear-login hub own line now (Ok u) none =
     (go _ none))
 clear-login hub own line now (Err fault) none = clear-nothing hub own
 
-pub later-none : (first later : Option Deny) → or_else first later ≡ None → later ≡ None
-later-none None later none = none
-later-none (Some deny) later none = absurd (false≢true (sym (ap is_denied none)))
-
 clear-password : (hub : Sight) (own : Own) (now : ℕ) (params : List (List ℕ)) (effect : Effect) → effect.turn ≡ turns.Enters → password_denied hub own now params ≡ None → Clear hub own effect
 clear-password hub own now params effect enters none =
     clear-entering hub own effect own.fields (ap (λ turn. fields_after turn own.fields) enters)
@@ -205,28 +196,9 @@ clear-learns : (hub : Sight) (own : Own) (r : Result (List (List ℕ)) SupFault)
 clear-learns hub own (Ok features) = clear-kept hub own _ refl (λ here. here)
 clear-learns hub own (Err fault) = clear-nothing hub own
 
-clear-kick : (hub : Sight) (own : Own) (reason : List ℕ) (target : Option Listed) → Clear hub own (kick_effect own reason target)
-clear-kick hub own reason None = clear-nothing hub own
-clear-kick hub own reason (Some target) = clear-kept hub own _ refl (λ here. here)
-
-clear-ban : (hub : Sight) (own : Own) (now seconds : ℕ) (reason : List ℕ) (target : Option Listed) → Clear hub own (ban_effect own now seconds reason target)
-clear-ban hub own now seconds reason None = clear-nothing hub own
-clear-ban hub own now seconds reason (Some target) = clear-kept hub own _ refl (λ here. here)
-
-clear-asked : (hub : Sight) (own : Own) (now : ℕ) (act : Option Act) → Clear hub own (asked_effect hub own now act)
-clear-asked hub own now None = clear-nothing hub own
-clear-asked hub own now (Some (acts.Kick nick reason)) = clear-kick hub own reason (user_called hub nick)
-clear-asked hub own now (Some (acts.Ban nick seconds reason)) = clear-ban hub own now seconds reason (user_called hub nick)
-clear-asked hub own now (Some (acts.Unban cid)) = clear-kept hub own _ refl (λ here. here)
-clear-asked hub own now (Some (acts.Topic text)) = clear-kept hub own _ refl (λ here. here)
-
-clear-if : (hub : Sight) (own : Own) (b : Bool) (x y : Effect) → Clear hub own x → Clear hub own y → Clear hub own (if b then x else y)
-clear-if hub own true x y here there = here
-clear-if hub own false x y here there = there
-
 clear-act : (hub : Sight) (own : Own) (now : ℕ) (params : List (List ℕ)) → Clear hub own (act_effect hub own now params)
-unfolding act_effect
-clear-act hub own now params = clear-if hub own (not (is_command (text_in params))) nothing _ (clear-nothing hub own) (clear-asked hub own now (act_at (text_in params)))
+clear-act hub own now params =
+    by_act hub own now params (Clear hub own) (clear-nothing hub own) (λ others world. clear-kept hub own (carried others world) refl (λ here. here))
 
 clear-accepted : (hub : Sight) (own : Own) (line : PreparedLine) (now : ℕ) (reading : Reading) (request : Request) (infs : List (List Field)) → own.fields ≡ merged infs
     → request_denied hub own line now reading request ≡ None → Clear hub own (accepted hub own line now reading request)
@@ -241,20 +213,7 @@ clear-accepted hub own line now reading requests.Search infs known none = clear-
 clear-accepted hub own line now reading requests.Message infs known none = clear-kept hub own _ refl (λ here. here)
 clear-accepted hub own line now reading requests.Nothing infs known none = clear-nothing hub own
 
-clear-unless : (hub : Sight) (own : Own) (refusal : Option Deny) (effect : Effect) → (refusal ≡ None → Clear hub own effect) → Clear hub own (unless_denied own refusal effect)
-clear-unless hub own (Some deny) effect clear = clear-denial hub own deny
-clear-unless hub own None effect clear = clear refl
-
-clear-heard : (hub : Sight) (own : Own) (line : PreparedLine) (now : ℕ) (infs : List (List Field)) (r : Result Reading LineFault) → own.fields ≡ merged infs
-    → Clear hub own (heard hub own line now r)
-clear-heard hub own line now infs (Ok reading) known =
-    clear-unless hub own (denied hub own line now reading) _
-    (λ none. clear-accepted hub own line now reading (request_of own.stage reading.kind reading.command) infs known
-    (later-none (refused own.stage own.sid reading) _ none))
-clear-heard hub own line now infs (Err fault) known = clear-denial hub own _
-
 pub clear-line : (hub : Sight) (own : Own) (line : PreparedLine) (now : ℕ) (infs : List (List Field)) → own.fields ≡ merged infs → Clear hub own (line_effect hub own line now)
-unfolding line_effect
 clear-line hub own line now infs known =
-    clear-if hub own (is_over own.stage) nothing _ (clear-nothing hub own)
-    (clear-if hub own (length line.bytes == 0) nothing _ (clear-nothing hub own) (clear-heard hub own line now infs (lines.reading line.bytes) known))
+    by_line hub own line now (Clear hub own) (clear-nothing hub own) (λ deny still. clear-denial hub own deny)
+    (λ reading still none. clear-accepted hub own line now reading (request_of own.stage reading.kind reading.command) infs known none)

@@ -14,6 +14,7 @@ pub mod Lines
 pub mod Members
 pub mod Merges
 pub mod Open
+pub mod Outcomes
 pub mod Saying
 pub mod Searching
 pub mod Sids

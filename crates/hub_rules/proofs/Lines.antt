@@ -1,44 +1,33 @@
 -- What a line leads to suits the stage of its connection.
-use Rattle.std.proofs.Common.{◌≡◌, ◌∙◌, sym, refl, ℕ, Bool, true, false, not, ◌==◌, List, length, Option, Some, None, Result, Ok, Err}
-use Rattle.std.specs.Prelude.{if◌then◌else◌, codes}
-use Rattle.std.specs.Str.{bytes_eq}
+use Rattle.std.proofs.Common.{◌≡◌, ◌∙◌, sym, ap, refl, ℕ, Bool, true, false, List, Result, Ok, Err}
 use Rattle.std.proofs.lemmas.Bool.{false≢true}
-use Rattle.adc_line.specs.declared.fault.LineFault.{LineFault}
-use Rattle.adc_line.specs.declared.kind.Kind.{Kind}
-use Rattle.adc_line.specs.declared.kind.Kind.TheVariants as kinds
-use Rattle.adc_line.specs.Lines as lines
 use Rattle.adc_line.specs.Lines.{Reading}
 use Rattle.inf_fields.specs.Field.{Field}
 use Rattle.inf_fields.specs.Updates as updates
 use Rattle.inf_fields.specs.declared.fault.InfFault.{InfFault}
 use Rattle.login_state.specs.declared.deny.Deny.{Deny}
-use Rattle.login_state.specs.declared.deny.Deny.TheVariants as denials
 use Rattle.login_state.specs.declared.fault.SupFault.{SupFault}
 use Rattle.login_state.specs.declared.stage.Stage.{Stage}
-use Rattle.login_state.specs.declared.stage.Stage.TheVariants as stages
 use Rattle.login_state.specs.Denials.{is_fatal}
 use Rattle.login_state.specs.SupportAnswers.{applied}
-use Rattle.operator_acts.specs.Acts.{act_at}
-use Rattle.operator_acts.specs.declared.act.Act.{Act}
-use Rattle.operator_acts.specs.declared.act.Act.TheVariants as acts
 use Rattle.user_table.specs.Listed.{Listed}
 use Rattle.hub_rules.specs.declared.effect.Effect.{Effect}
 use Rattle.hub_rules.specs.declared.effect.Turn.{Turn}
 use Rattle.hub_rules.specs.declared.effect.Turn.TheVariants as turns
 use Rattle.hub_rules.specs.declared.request.Request.{Request}
 use Rattle.hub_rules.specs.declared.request.Request.TheVariants as requests
-use Rattle.hub_rules.specs.Acts.{act_effect, asked_effect, ban_effect, is_command, kick_effect, text_in, user_called}
+use Rattle.hub_rules.specs.Acts.{act_effect, carried}
 use Rattle.hub_rules.specs.Configured.{Configured}
-use Rattle.hub_rules.specs.Denied.{denied}
-use Rattle.hub_rules.specs.Effects.{accepted, admits, denial, enters, fall_if, greets, heard, is_over, is_present, learns, line_effect, logs_in, unless_denied, updates_user}
+use Rattle.hub_rules.specs.Effects.{accepted, admits, denial, enters, fall_if, greets, is_over, is_present, learns, line_effect, logs_in, updates_user}
 use Rattle.hub_rules.specs.Facts as facts
 use Rattle.hub_rules.specs.Facts.{Facts, effect_of_line, own_of, sight_of}
 use Rattle.hub_rules.specs.Identities.{listed}
 use Rattle.hub_rules.specs.Prepared.{prepared}
 use Rattle.hub_rules.specs.Quiet.{nothing}
-use Rattle.hub_rules.specs.Requests.{request_of, to_users}
+use Rattle.hub_rules.specs.Requests.{request_of}
 use Rattle.hub_rules.specs.Sights.{Own, PreparedLine, Sight, is_account, user_after}
 use Rattle.hub_rules.proofs.Fits.{Fits, fits-quiet}
+use Rattle.hub_rules.proofs.Outcomes.{asked, asked_at, at-identify, at-verify, by_act, by_line}
 
 fits-nothing : (stage : Stage) → Fits stage nothing
 fits-nothing stage = fits-quiet stage nothing refl (λ over. over)
@@ -46,10 +35,6 @@ fits-nothing stage = fits-quiet stage nothing refl (λ over. over)
 -- where the connection is not shut out, an effect by which nobody enters suits it
 fits-turn : (stage : Stage) (effect : Effect) → is_over stage ≡ false → facts.enters effect.turn ≡ false → Fits stage effect
 fits-turn stage effect heard_still quiet = fits-quiet stage effect quiet (λ over. absurd (false≢true (sym heard_still ∙ over)))
-
-fits-if : (stage : Stage) (b : Bool) (x y : Effect) → (b ≡ true → Fits stage x) → (b ≡ false → Fits stage y) → Fits stage (if b then x else y)
-fits-if stage true x y first second = first refl
-fits-if stage false x y first second = second refl
 
 quiet-denial : (b : Bool) → facts.enters (fall_if b) ≡ false
 quiet-denial true = refl
@@ -59,39 +44,7 @@ fits-denial : (own : Own) (deny : Deny) → is_over own.stage ≡ false → Fits
 unfolding denial
 fits-denial own deny heard_still = fits-turn own.stage _ heard_still (quiet-denial (is_fatal deny))
 
--- ---- by what a line asks for
-
-abbrev enters_by : Request → Bool
-enters_by requests.Login = true
-enters_by requests.Password = true
-enters_by request = false
-
-not-by : (b : Bool) (x y : Request) → enters_by x ≡ false → enters_by y ≡ false → enters_by (if b then x else y) ≡ false
-not-by true x y first second = first
-not-by false x y first second = second
-
-to-users : (command : List ℕ) → enters_by (to_users command) ≡ false
-to-users command = not-by (bytes_eq command (codes "SCH")) requests.Search requests.Message refl refl
-
-at-normal : (kind : Kind) (command : List ℕ) → enters_by (request_of stages.Normal kind command) ≡ false
-unfolding request_of
-at-normal kinds.Broadcast command = not-by (bytes_eq command (codes "INF")) requests.Update (to_users command) refl (to-users command)
-at-normal kinds.Client command = refl
-at-normal kinds.Direct command = to-users command
-at-normal kinds.Echo command = to-users command
-at-normal kinds.Feature command = to-users command
-at-normal kinds.Hub command =
-    not-by (bytes_eq command (codes "SUP")) requests.Support _ refl (not-by (bytes_eq command (codes "MSG")) requests.Act requests.Nothing refl refl)
-at-normal kinds.Info command = refl
-at-normal kinds.Udp command = refl
-
--- nobody who is present asks to enter
-absent : (stage : Stage) (kind : Kind) (command : List ℕ) → enters_by (request_of stage kind command) ≡ true → is_present stage ≡ false
-absent stages.Protocol kind command asks = refl
-absent stages.Identify kind command asks = refl
-absent stages.Verify kind command asks = refl
-absent stages.Normal kind command asks = absurd (false≢true (sym (at-normal kind command) ∙ asks))
-absent stages.Gone kind command asks = refl
+-- ---- by what a line asks for; nobody who is present asks to enter
 
 fits-greets : (hub : Sight) (own : Own) (now : ℕ) (r : Result (List (List ℕ)) SupFault) → is_over own.stage ≡ false → Fits own.stage (greets hub own now r)
 fits-greets hub own now (Ok features) still = fits-turn own.stage _ still refl
@@ -122,55 +75,29 @@ fits-login : (hub : Sight) (own : Own) (line : PreparedLine) (r : Result (List F
 fits-login hub own line (Ok u) still new = fits-admits hub own line (is_account hub (user_after own u).key) (user_after own u) still new
 fits-login hub own line (Err fault) still new = fits-nothing own.stage
 
-fits-kick : (own : Own) (reason : List ℕ) (target : Option Listed) → is_over own.stage ≡ false → Fits own.stage (kick_effect own reason target)
-fits-kick own reason None still = fits-nothing own.stage
-fits-kick own reason (Some target) still = fits-turn own.stage _ still refl
-
-fits-ban : (own : Own) (now seconds : ℕ) (reason : List ℕ) (target : Option Listed) → is_over own.stage ≡ false → Fits own.stage (ban_effect own now seconds reason target)
-fits-ban own now seconds reason None still = fits-nothing own.stage
-fits-ban own now seconds reason (Some target) still = fits-turn own.stage _ still refl
-
-fits-asked : (hub : Sight) (own : Own) (now : ℕ) (act : Option Act) → is_over own.stage ≡ false → Fits own.stage (asked_effect hub own now act)
-fits-asked hub own now None still = fits-nothing own.stage
-fits-asked hub own now (Some (acts.Kick nick reason)) still = fits-kick own reason (user_called hub nick) still
-fits-asked hub own now (Some (acts.Ban nick seconds reason)) still = fits-ban own now seconds reason (user_called hub nick) still
-fits-asked hub own now (Some (acts.Unban cid)) still = fits-turn own.stage _ still refl
-fits-asked hub own now (Some (acts.Topic text)) still = fits-turn own.stage _ still refl
-
 fits-act : (hub : Sight) (own : Own) (now : ℕ) (params : List (List ℕ)) → is_over own.stage ≡ false → Fits own.stage (act_effect hub own now params)
-unfolding act_effect
 fits-act hub own now params still =
-    fits-if own.stage (not (is_command (text_in params))) nothing _ (λ no_command. fits-nothing own.stage) (λ command. fits-asked hub own now (act_at (text_in params)) still)
+    by_act hub own now params (Fits own.stage) (fits-nothing own.stage) (λ others world. fits-turn own.stage (carried others world) still refl)
 
 fits-accepted : (hub : Sight) (own : Own) (line : PreparedLine) (now : ℕ) (reading : Reading) (request : Request) → is_over own.stage ≡ false
-    → (enters_by request ≡ true → is_present own.stage ≡ false) → Fits own.stage (accepted hub own line now reading request)
+    → asked_at own.stage request ≡ true → Fits own.stage (accepted hub own line now reading request)
 unfolding accepted
-fits-accepted hub own line now reading requests.Greeting still new = fits-greets hub own now (applied own.features reading.params) still
-fits-accepted hub own line now reading requests.Login still new = fits-login hub own line (updates.reading reading.params) still (new refl)
-fits-accepted hub own line now reading requests.Password still new = fits-enters hub own (listed own.sid own.fields) turns.Enters still (new refl)
-fits-accepted hub own line now reading requests.Update still new = fits-updates own (updates.reading reading.params) still
-fits-accepted hub own line now reading requests.Support still new = fits-learns own (applied own.features reading.params) still
-fits-accepted hub own line now reading requests.Act still new = fits-act hub own now reading.params still
-fits-accepted hub own line now reading requests.Search still new = fits-turn own.stage _ still refl
-fits-accepted hub own line now reading requests.Message still new = fits-turn own.stage _ still refl
-fits-accepted hub own line now reading requests.Nothing still new = fits-nothing own.stage
-
-fits-unless : (own : Own) (refusal : Option Deny) (effect : Effect) → is_over own.stage ≡ false → Fits own.stage effect → Fits own.stage (unless_denied own refusal effect)
-fits-unless own (Some deny) effect still suits = fits-denial own deny still
-fits-unless own None effect still suits = suits
-
-fits-heard : (hub : Sight) (own : Own) (line : PreparedLine) (now : ℕ) (r : Result Reading LineFault) → is_over own.stage ≡ false → Fits own.stage (heard hub own line now r)
-fits-heard hub own line now (Ok reading) still =
-    fits-unless own (denied hub own line now reading) _ still
-    (fits-accepted hub own line now reading (request_of own.stage reading.kind reading.command) still (absent own.stage reading.kind reading.command))
-fits-heard hub own line now (Err fault) still = fits-denial own denials.Protocol still
+fits-accepted hub own line now reading requests.Greeting still at = fits-greets hub own now (applied own.features reading.params) still
+fits-accepted hub own line now reading requests.Login still at = fits-login hub own line (updates.reading reading.params) still (ap is_present (at-identify own.stage at))
+fits-accepted hub own line now reading requests.Password still at =
+    fits-enters hub own (listed own.sid own.fields) turns.Enters still (ap is_present (at-verify own.stage at))
+fits-accepted hub own line now reading requests.Update still at = fits-updates own (updates.reading reading.params) still
+fits-accepted hub own line now reading requests.Support still at = fits-learns own (applied own.features reading.params) still
+fits-accepted hub own line now reading requests.Act still at = fits-act hub own now reading.params still
+fits-accepted hub own line now reading requests.Search still at = fits-turn own.stage _ still refl
+fits-accepted hub own line now reading requests.Message still at = fits-turn own.stage _ still refl
+fits-accepted hub own line now reading requests.Nothing still at = fits-nothing own.stage
 
 fits-effect : (hub : Sight) (own : Own) (line : PreparedLine) (now : ℕ) → Fits own.stage (line_effect hub own line now)
-unfolding line_effect
 fits-effect hub own line now =
-    fits-if own.stage (is_over own.stage) nothing _ (λ over. fits-nothing own.stage)
-    (λ still. fits-if own.stage (length line.bytes == 0) nothing _ (λ empty. fits-nothing own.stage)
-    (λ some. fits-heard hub own line now (lines.reading line.bytes) still))
+    by_line hub own line now (Fits own.stage) (fits-nothing own.stage) (λ deny still. fits-denial own deny still)
+    (λ reading still none.
+    fits-accepted hub own line now reading (request_of own.stage reading.kind reading.command) still (asked own.stage reading.kind reading.command))
 
 pub fits-line : (setup : Configured) (hash : List ℕ → List ℕ) (f : Facts) (c : ℕ) (bytes : List ℕ) (now : ℕ) → Fits (f.about c).stage (effect_of_line setup hash f c bytes now)
 fits-line setup hash f c bytes now = fits-effect (sight_of setup f) (own_of (f.about c)) (prepared setup hash (f.about c).challenge bytes) now

@@ -1,8 +1,7 @@
 -- Features and fields are what the accepted lines of a connection say, taken together.
-use Rattle.std.proofs.Common.{◌≡◌, ◌∙◌, sym, ap, refl, subst, ℕ, ◌+◌, ◌<◌, Bool, true, false, not, ◌&&◌, ◌==◌, List, [], ◌∷◌, ◌++◌, length, append-nil, Option, Some, None, Result, Ok, Err, arith}
+use Rattle.std.proofs.Common.{◌≡◌, ◌∙◌, sym, ap, refl, subst, ℕ, ◌+◌, ◌<◌, Bool, true, false, ◌&&◌, ◌==◌, List, [], ◌∷◌, ◌++◌, length, append-nil, Option, Some, None, Result, Ok, Err, arith}
 use Rattle.std.specs.Prelude.{if◌then◌else◌}
 use Rattle.std.proofs.lemmas.Bool.{eqb-true}
-use Rattle.adc_line.specs.declared.fault.LineFault.{LineFault}
 use Rattle.adc_line.specs.Lines as lines
 use Rattle.adc_line.specs.Lines.{Reading}
 use Rattle.inf_fields.specs.Cleaning.{clean}
@@ -18,31 +17,27 @@ use Rattle.login_state.specs.Support.{features_of, said, supported_after}
 use Rattle.login_state.specs.SupportAnswers.{applied}
 use Rattle.login_state.proofs.LineByLine.{applied-ok}
 use Rattle.login_state.proofs.Mentioned.{features_of-nil, features_of-push}
-use Rattle.operator_acts.specs.Acts.{act_at}
-use Rattle.operator_acts.specs.declared.act.Act.{Act}
-use Rattle.operator_acts.specs.declared.act.Act.TheVariants as acts
-use Rattle.user_table.specs.Listed.{Listed}
 use Rattle.hub_rules.specs.declared.effect.Effect.{Effect}
 use Rattle.hub_rules.specs.declared.history.Call.{Call}
 use Rattle.hub_rules.specs.declared.history.Call.TheVariants.{Join, Line, Quit, Take}
 use Rattle.hub_rules.specs.declared.history.Entry.{Entry}
 use Rattle.hub_rules.specs.declared.request.Request.{Request}
 use Rattle.hub_rules.specs.declared.request.Request.TheVariants as requests
-use Rattle.hub_rules.specs.Acts.{act_effect, asked_effect, ban_effect, is_command, kick_effect, text_in, user_called}
+use Rattle.hub_rules.specs.Acts.{act_effect, carried}
 use Rattle.hub_rules.specs.Configured.{Configured}
-use Rattle.hub_rules.specs.Denied.{denied}
-use Rattle.hub_rules.specs.Effects.{accepted, admits, denial, departure, fall_if, greets, heard, is_over, learns, line_effect, logs_in, unless_denied, updates_user}
+use Rattle.hub_rules.specs.Effects.{accepted, admits, denial, departure, fall_if, greets, is_over, learns, line_effect, logs_in, updates_user}
 use Rattle.hub_rules.specs.Facts.{Facts, facts, about_after, after, closed, effect_of_line, given, happens, has_joins, has_place, joined, newcomer, next_sid, own_of, sight_of}
 use Rattle.hub_rules.specs.Identities.{listed}
 use Rattle.hub_rules.specs.Prepared.{prepared}
 use Rattle.hub_rules.specs.Quiet.{nothing}
 use Rattle.hub_rules.specs.Requests.{request_of}
-use Rattle.hub_rules.specs.Said.{FeaturesAreLastAdded, InfoIsMerged, accepted_line, cleaned, inf_update, infs, kept_unless, listed_if, read_by, said_in, sup_words, sups, unless_refused, words_if}
+use Rattle.hub_rules.specs.Said.{FeaturesAreLastAdded, InfoIsMerged, accepted_line, cleaned, inf_update, infs, listed_if, read_by, said_in, sup_words, sups, unless_refused, words_if}
 use Rattle.hub_rules.specs.Shares.{About, chosen, features_after, fields_after, given_share, has_room, owes, removed_if, turned, with_share}
 use Rattle.hub_rules.specs.Sights.{Own, PreparedLine, Sight, is_account, user_after}
 use Rattle.hub_rules.proofs.Calls.{above, over-unless, sound_of}
 use Rattle.hub_rules.proofs.Kept.{joins-grow}
 use Rattle.hub_rules.proofs.Members.{has}
+use Rattle.hub_rules.proofs.Outcomes.{by_act, by_said}
 use Rattle.hub_rules.proofs.Sound.{Sound}
 
 -- ---- what one line says, and what its turn does
@@ -63,10 +58,6 @@ pub record Says (own : Own) (effect : Effect) (sup : Option (List (List ℕ))) (
 -- a turn by which nothing is said
 says-nothing : (own : Own) (effect : Effect) → features_after effect.turn own.features ≡ own.features → fields_after effect.turn own.fields ≡ own.fields → Says own effect None None
 says-nothing own effect same_features same_fields = record { supports = same_features; tells = same_fields }
-
-says-if : (own : Own) (b : Bool) (x y : Effect) → Says own x None None → Says own y None None → Says own (if b then x else y) None None
-says-if own true x y first second = first
-says-if own false x y first second = second
 
 fall-features : (b : Bool) (features : List (List ℕ)) → features_after (fall_if b) features ≡ features
 fall-features true features = refl
@@ -105,25 +96,9 @@ says-update : (own : Own) (r : Result (List Field) InfFault) → Says own (updat
 says-update own (Ok u) = record { supports = refl; tells = refl }
 says-update own (Err fault) = record { supports = refl; tells = refl }
 
-says-kick : (own : Own) (reason : List ℕ) (target : Option Listed) → Says own (kick_effect own reason target) None None
-says-kick own reason None = record { supports = refl; tells = refl }
-says-kick own reason (Some target) = record { supports = refl; tells = refl }
-
-says-ban : (own : Own) (now seconds : ℕ) (reason : List ℕ) (target : Option Listed) → Says own (ban_effect own now seconds reason target) None None
-says-ban own now seconds reason None = record { supports = refl; tells = refl }
-says-ban own now seconds reason (Some target) = record { supports = refl; tells = refl }
-
-says-asked : (hub : Sight) (own : Own) (now : ℕ) (act : Option Act) → Says own (asked_effect hub own now act) None None
-says-asked hub own now None = record { supports = refl; tells = refl }
-says-asked hub own now (Some (acts.Kick nick reason)) = says-kick own reason (user_called hub nick)
-says-asked hub own now (Some (acts.Ban nick seconds reason)) = says-ban own now seconds reason (user_called hub nick)
-says-asked hub own now (Some (acts.Unban cid)) = record { supports = refl; tells = refl }
-says-asked hub own now (Some (acts.Topic text)) = record { supports = refl; tells = refl }
-
 says-act : (hub : Sight) (own : Own) (now : ℕ) (params : List (List ℕ)) → Says own (act_effect hub own now params) None None
-unfolding act_effect
 says-act hub own now params =
-    says-if own (not (is_command (text_in params))) nothing _ (says-nothing own nothing refl refl) (says-asked hub own now (act_at (text_in params)))
+    by_act hub own now params (λ effect. Says own effect None None) (says-nothing own nothing refl refl) (λ others world. says-nothing own (carried others world) refl refl)
 
 says-accepted : (hub : Sight) (own : Own) (line : PreparedLine) (now : ℕ) (reading : Reading) (request : Request)
     → Says own (accepted hub own line now reading request) (sup_words own request reading) (inf_update own request reading)
@@ -138,29 +113,11 @@ says-accepted hub own line now reading requests.Search = record { supports = ref
 says-accepted hub own line now reading requests.Message = record { supports = refl; tells = refl }
 says-accepted hub own line now reading requests.Nothing = record { supports = refl; tells = refl }
 
-says-unless : (hub : Sight) (own : Own) (line : PreparedLine) (now : ℕ) (reading : Reading) (refusal : Option Deny)
-    → Says own (unless_denied own refusal (accepted hub own line now reading (request_of own.stage reading.kind reading.command)))
-    (read_by sup_words own (kept_unless refusal reading)) (read_by inf_update own (kept_unless refusal reading))
-says-unless hub own line now reading (Some deny) = says-denial own deny
-says-unless hub own line now reading None = says-accepted hub own line now reading (request_of own.stage reading.kind reading.command)
-
-says-heard : (hub : Sight) (own : Own) (line : PreparedLine) (now : ℕ) (r : Result Reading LineFault)
-    → Says own (heard hub own line now r) (read_by sup_words own (unless_refused hub own line now r)) (read_by inf_update own (unless_refused hub own line now r))
-says-heard hub own line now (Ok reading) = says-unless hub own line now reading (denied hub own line now reading)
-says-heard hub own line now (Err fault) = says-denial own _
-
-says-choice : (own : Own) (b : Bool) (x y : Effect) (first second : Option Reading)
-    → Says own x (read_by sup_words own first) (read_by inf_update own first) → Says own y (read_by sup_words own second) (read_by inf_update own second)
-    → Says own (if b then x else y) (read_by sup_words own (if b then first else second)) (read_by inf_update own (if b then first else second))
-says-choice own true x y first second here there = here
-says-choice own false x y first second here there = there
-
 says-line : (hub : Sight) (own : Own) (line : PreparedLine) (now : ℕ)
     → Says own (line_effect hub own line now) (read_by sup_words own (accepted_line hub own line now)) (read_by inf_update own (accepted_line hub own line now))
-unfolding line_effect accepted_line
 says-line hub own line now =
-    says-choice own (is_over own.stage) nothing _ None _ (says-nothing own nothing refl refl)
-    (says-choice own (length line.bytes == 0) nothing _ None _ (says-nothing own nothing refl refl) (says-heard hub own line now (lines.reading line.bytes)))
+    by_said hub own line now (λ said effect. Says own effect (read_by sup_words own said) (read_by inf_update own said)) (says-nothing own nothing refl refl)
+    (λ deny still. says-denial own deny) (λ reading still none. says-accepted hub own line now reading (request_of own.stage reading.kind reading.command))
 
 -- ---- what an effect does to the features and fields of a connection
 

@@ -1,13 +1,10 @@
 -- A connection's last search is the last of its accepted searches.
-use Rattle.std.proofs.Common.{◌≡◌, ◌∙◌, sym, ap, ap₂, refl, subst, ℕ, ◌+◌, ◌<◌, Bool, true, false, not, ◌&&◌, ◌==◌, List, [], ◌∷◌, length, map, Option, Some, None, Result, Ok, Err, arith}
-use Rattle.std.specs.Prelude.{if◌then◌else◌}
+use Rattle.std.proofs.Common.{◌≡◌, ◌∙◌, sym, ap, ap₂, refl, subst, ℕ, ◌+◌, ◌<◌, Bool, true, false, ◌&&◌, ◌==◌, List, [], ◌∷◌, length, map, Option, None, Result, Ok, Err, arith}
 use Rattle.std.specs.List.{sum_by}
 use Rattle.std.specs.Option.{option_or}
 use Rattle.std.proofs.lemmas.Bool.{eqb-true}
 use Rattle.std.proofs.lemmas.List.{length-map}
 use Rattle.std.proofs.lemmas.List.Sums.{sum_by-cons}
-use Rattle.adc_line.specs.declared.fault.LineFault.{LineFault}
-use Rattle.adc_line.specs.Lines as lines
 use Rattle.adc_line.specs.Lines.{Reading}
 use Rattle.inf_fields.specs.Field.{Field}
 use Rattle.inf_fields.specs.FieldNames.{share_size_name, shared_files_name}
@@ -16,9 +13,6 @@ use Rattle.inf_fields.specs.declared.fault.InfFault.{InfFault}
 use Rattle.login_state.specs.declared.deny.Deny.{Deny}
 use Rattle.login_state.specs.declared.fault.SupFault.{SupFault}
 use Rattle.login_state.specs.SupportAnswers.{applied}
-use Rattle.operator_acts.specs.Acts.{act_at}
-use Rattle.operator_acts.specs.declared.act.Act.{Act}
-use Rattle.operator_acts.specs.declared.act.Act.TheVariants as acts
 use Rattle.user_table.specs.Listed.{Listed}
 use Rattle.user_table.specs.Tables.{amount}
 use Rattle.user_table.specs.declared.totals.Totals.{Totals}
@@ -28,29 +22,24 @@ use Rattle.hub_rules.specs.declared.history.Call.TheVariants.{Join, Line, Quit, 
 use Rattle.hub_rules.specs.declared.history.Entry.{Entry}
 use Rattle.hub_rules.specs.declared.request.Request.{Request}
 use Rattle.hub_rules.specs.declared.request.Request.TheVariants as requests
-use Rattle.hub_rules.specs.Acts.{act_effect, asked_effect, ban_effect, is_command, kick_effect, text_in, user_called}
+use Rattle.hub_rules.specs.Acts.{act_effect}
 use Rattle.hub_rules.specs.Configured.{Configured}
-use Rattle.hub_rules.specs.Denied.{denied}
-use Rattle.hub_rules.specs.Effects.{accepted, admits, denial, departure, greets, heard, is_over, learns, line_effect, logs_in, unless_denied, updates_user}
+use Rattle.hub_rules.specs.Effects.{accepted, admits, denial, departure, greets, is_over, learns, line_effect, logs_in, updates_user}
 use Rattle.hub_rules.specs.Facts.{Facts, facts, about_after, after, closed, effect_of_line, given, happens, has_joins, has_place, joined, newcomer, next_sid, own_of, sight_of, user_of}
 use Rattle.hub_rules.specs.Identities.{listed}
 use Rattle.hub_rules.specs.Prepared.{prepared}
-use Rattle.hub_rules.specs.Quiet.{nothing}
 use Rattle.hub_rules.specs.Requests.{request_of}
-use Rattle.hub_rules.specs.Said.{accepted_line, kept_unless, unless_refused}
+use Rattle.hub_rules.specs.Said.{accepted_line}
 use Rattle.hub_rules.specs.Searched.{SearchIsTheLast, TotalsAreSums, is_search, last_search, moment_if, search_in, searches}
 use Rattle.hub_rules.specs.Shares.{About, chosen, given_share, has_room, owes, removed_if, searched_after, turned, with_share}
 use Rattle.hub_rules.specs.Sights.{Own, PreparedLine, Sight, is_account, user_after}
 use Rattle.hub_rules.proofs.Calls.{sound_of}
 use Rattle.hub_rules.proofs.Kept.{joins-grow}
+use Rattle.hub_rules.proofs.Outcomes.{by_act, by_said}
 use Rattle.hub_rules.proofs.Saying.{over-beyond, unheard}
 use Rattle.hub_rules.proofs.Sound.{Sound}
 
 -- ---- one line
-
-quiet-if : (b : Bool) (x y : Effect) → x.searched ≡ None → y.searched ≡ None → (if b then x else y).searched ≡ None
-quiet-if true x y first second = first
-quiet-if false x y first second = second
 
 quiet-denial : (own : Own) (deny : Deny) → (denial own deny).searched ≡ None
 unfolding denial
@@ -76,24 +65,8 @@ quiet-update : (own : Own) (r : Result (List Field) InfFault) → (updates_user 
 quiet-update own (Ok u) = refl
 quiet-update own (Err fault) = refl
 
-quiet-kick : (own : Own) (reason : List ℕ) (target : Option Listed) → (kick_effect own reason target).searched ≡ None
-quiet-kick own reason None = refl
-quiet-kick own reason (Some target) = refl
-
-quiet-ban : (own : Own) (now seconds : ℕ) (reason : List ℕ) (target : Option Listed) → (ban_effect own now seconds reason target).searched ≡ None
-quiet-ban own now seconds reason None = refl
-quiet-ban own now seconds reason (Some target) = refl
-
-quiet-asked : (hub : Sight) (own : Own) (now : ℕ) (act : Option Act) → (asked_effect hub own now act).searched ≡ None
-quiet-asked hub own now None = refl
-quiet-asked hub own now (Some (acts.Kick nick reason)) = quiet-kick own reason (user_called hub nick)
-quiet-asked hub own now (Some (acts.Ban nick seconds reason)) = quiet-ban own now seconds reason (user_called hub nick)
-quiet-asked hub own now (Some (acts.Unban cid)) = refl
-quiet-asked hub own now (Some (acts.Topic text)) = refl
-
 quiet-act : (hub : Sight) (own : Own) (now : ℕ) (params : List (List ℕ)) → (act_effect hub own now params).searched ≡ None
-unfolding act_effect
-quiet-act hub own now params = quiet-if (not (is_command (text_in params))) nothing _ refl (quiet-asked hub own now (act_at (text_in params)))
+quiet-act hub own now params = by_act hub own now params (λ effect. effect.searched ≡ None) refl (λ others world. refl)
 
 searched-accepted : (hub : Sight) (own : Own) (line : PreparedLine) (now : ℕ) (reading : Reading) (request : Request)
     → (accepted hub own line now reading request).searched ≡ moment_if (is_search request) now
@@ -108,28 +81,11 @@ searched-accepted hub own line now reading requests.Search = refl
 searched-accepted hub own line now reading requests.Message = refl
 searched-accepted hub own line now reading requests.Nothing = refl
 
-searched-unless : (hub : Sight) (own : Own) (line : PreparedLine) (now : ℕ) (reading : Reading) (refusal : Option Deny)
-    → (unless_denied own refusal (accepted hub own line now reading (request_of own.stage reading.kind reading.command))).searched
-    ≡ moment_if (searches own (kept_unless refusal reading)) now
-searched-unless hub own line now reading (Some deny) = quiet-denial own deny
-searched-unless hub own line now reading None = searched-accepted hub own line now reading (request_of own.stage reading.kind reading.command)
-
-searched-heard : (hub : Sight) (own : Own) (line : PreparedLine) (now : ℕ) (r : Result Reading LineFault)
-    → (heard hub own line now r).searched ≡ moment_if (searches own (unless_refused hub own line now r)) now
-searched-heard hub own line now (Ok reading) = searched-unless hub own line now reading (denied hub own line now reading)
-searched-heard hub own line now (Err fault) = quiet-denial own _
-
-searched-choice : (own : Own) (now : ℕ) (b : Bool) (y : Effect) (second : Option Reading) → y.searched ≡ moment_if (searches own second) now
-    → (if b then nothing else y).searched ≡ moment_if (searches own (if b then None else second)) now
-searched-choice own now true y second there = refl
-searched-choice own now false y second there = there
-
 searched-line : (hub : Sight) (own : Own) (line : PreparedLine) (now : ℕ)
     → (line_effect hub own line now).searched ≡ moment_if (searches own (accepted_line hub own line now)) now
-unfolding line_effect accepted_line
 searched-line hub own line now =
-    searched-choice own now (is_over own.stage) _ _
-    (searched-choice own now (length line.bytes == 0) _ _ (searched-heard hub own line now (lines.reading line.bytes)))
+    by_said hub own line now (λ said effect. effect.searched ≡ moment_if (searches own said) now) refl (λ deny still. quiet-denial own deny)
+    (λ reading still none. searched-accepted hub own line now reading (request_of own.stage reading.kind reading.command))
 
 -- ---- what an effect does to the last search of a connection
 

@@ -1,5 +1,5 @@
 -- The stage of a connection is what the last entry that changes it made it.
-use Rattle.std.proofs.Common.{◌≡◌, ◌∙◌, sym, ap, refl, subst, ℕ, ◌+◌, Bool, true, false, not, ◌&&◌, ◌==◌, List, [], ◌∷◌, length, Option, Some, None, Result, Ok, Err, unwrap_or}
+use Rattle.std.proofs.Common.{◌≡◌, ◌∙◌, sym, ap, refl, subst, ℕ, ◌+◌, Bool, true, false, ◌&&◌, ◌==◌, List, [], ◌∷◌, length, Option, Some, None, Result, Ok, Err, unwrap_or}
 use Rattle.std.specs.Prelude.{if◌then◌else◌}
 use Rattle.std.specs.Option.{option_or}
 use Rattle.std.proofs.lemmas.Bool.{eqb-true}
@@ -15,9 +15,6 @@ use Rattle.login_state.specs.declared.stage.Stage.{Stage}
 use Rattle.login_state.specs.declared.stage.Stage.TheVariants as stages
 use Rattle.login_state.specs.Denials.{is_fatal}
 use Rattle.login_state.specs.SupportAnswers.{applied}
-use Rattle.operator_acts.specs.Acts.{act_at}
-use Rattle.operator_acts.specs.declared.act.Act.{Act}
-use Rattle.operator_acts.specs.declared.act.Act.TheVariants as acts
 use Rattle.user_table.specs.Listed.{Listed}
 use Rattle.hub_rules.specs.declared.effect.Effect.{Effect}
 use Rattle.hub_rules.specs.declared.effect.Turn.{Turn}
@@ -26,7 +23,7 @@ use Rattle.hub_rules.specs.declared.history.Call.{Call}
 use Rattle.hub_rules.specs.declared.history.Call.TheVariants.{Join, Line, Quit, Take}
 use Rattle.hub_rules.specs.declared.request.Request.{Request}
 use Rattle.hub_rules.specs.declared.request.Request.TheVariants as requests
-use Rattle.hub_rules.specs.Acts.{act_effect, asked_effect, ban_effect, is_command, kick_effect, text_in, user_called}
+use Rattle.hub_rules.specs.Acts.{act_effect}
 use Rattle.hub_rules.specs.Configured.{Configured}
 use Rattle.hub_rules.specs.Denied.{denied}
 use Rattle.hub_rules.specs.Effects.{accepted, admits, denial, departure, fall_if, greets, heard, is_over, is_present, learns, line_effect, logs_in, unless_denied, updates_user}
@@ -38,6 +35,7 @@ use Rattle.hub_rules.specs.Shares.{About, chosen, stage_after}
 use Rattle.hub_rules.specs.Sights.{Own, PreparedLine, Sight, is_account, user_after}
 use Rattle.hub_rules.specs.Stepping.{StageIsLastMade, entry_stage, accepted_stage, decided_stage, gone_if, greeted, heard_stage, last_made, line_stage, logged_in, only_if, stage_made}
 use Rattle.hub_rules.proofs.Members.{and-false}
+use Rattle.hub_rules.proofs.Outcomes.{by_act}
 use Rattle.hub_rules.proofs.Sound.{about-stage, removed_by, stage_next}
 
 -- ---- one line
@@ -77,28 +75,8 @@ makes-update : (own : Own) (r : Result (List Field) InfFault) → Makes own (upd
 makes-update own (Ok u) = refl
 makes-update own (Err fault) = refl
 
-makes-kick : (own : Own) (reason : List ℕ) (target : Option Listed) → Makes own (kick_effect own reason target) None
-makes-kick own reason None = refl
-makes-kick own reason (Some target) = refl
-
-makes-ban : (own : Own) (now seconds : ℕ) (reason : List ℕ) (target : Option Listed) → Makes own (ban_effect own now seconds reason target) None
-makes-ban own now seconds reason None = refl
-makes-ban own now seconds reason (Some target) = refl
-
-makes-asked : (hub : Sight) (own : Own) (now : ℕ) (act : Option Act) → Makes own (asked_effect hub own now act) None
-makes-asked hub own now None = refl
-makes-asked hub own now (Some (acts.Kick nick reason)) = makes-kick own reason (user_called hub nick)
-makes-asked hub own now (Some (acts.Ban nick seconds reason)) = makes-ban own now seconds reason (user_called hub nick)
-makes-asked hub own now (Some (acts.Unban cid)) = refl
-makes-asked hub own now (Some (acts.Topic text)) = refl
-
-makes-none-if : (own : Own) (b : Bool) (x y : Effect) → Makes own x None → Makes own y None → Makes own (if b then x else y) None
-makes-none-if own true x y here there = here
-makes-none-if own false x y here there = there
-
 makes-act : (hub : Sight) (own : Own) (now : ℕ) (params : List (List ℕ)) → Makes own (act_effect hub own now params) None
-unfolding act_effect
-makes-act hub own now params = makes-none-if own (not (is_command (text_in params))) nothing _ refl (makes-asked hub own now (act_at (text_in params)))
+makes-act hub own now params = by_act hub own now params (λ effect. Makes own effect None) refl (λ others world. refl)
 
 makes-accepted : (hub : Sight) (own : Own) (line : PreparedLine) (now : ℕ) (reading : Reading) (request : Request)
     → Makes own (accepted hub own line now reading request) (accepted_stage hub own reading request)

@@ -1,13 +1,9 @@
 -- What a line leads to is of a kind that a hub can carry out: a turn of its connection's stage, with users as they are listed.
-use Rattle.std.proofs.Common.{◌≡◌, ◌∙◌, sym, ap, ap₂, refl, ℕ, Bool, true, false, not, ◌==◌, List, length, Option, Some, None, Result, Ok, Err, unwrap_or}
-use Rattle.std.specs.Prelude.{if◌then◌else◌, codes}
+use Rattle.std.proofs.Common.{◌≡◌, ◌∙◌, sym, ap, ap₂, refl, ℕ, Bool, true, false, ◌==◌, List, Option, Some, None, Result, Ok, Err, unwrap_or}
 use Rattle.std.specs.Option.{option_map}
-use Rattle.std.specs.Str.{bytes_eq}
 use Rattle.std.proofs.lemmas.Bool.{false≢true}
-use Rattle.adc_line.specs.declared.fault.LineFault.{LineFault}
 use Rattle.adc_line.specs.declared.kind.Kind.{Kind}
 use Rattle.adc_line.specs.declared.kind.Kind.TheVariants as kinds
-use Rattle.adc_line.specs.Lines as lines
 use Rattle.adc_line.specs.Lines.{Reading}
 use Rattle.feature_route.specs.Audiences.{audience, both, both_if, by_kind, direct, echoed, featured, holds, holds_words}
 use Rattle.feature_route.specs.Matching.{feature_set}
@@ -20,15 +16,10 @@ use Rattle.inf_fields.specs.Merging.{merged, merged_with}
 use Rattle.inf_fields.specs.Updates as updates
 use Rattle.inf_fields.specs.declared.fault.InfFault.{InfFault}
 use Rattle.login_state.specs.declared.deny.Deny.{Deny}
-use Rattle.login_state.specs.declared.deny.Deny.TheVariants as denials
 use Rattle.login_state.specs.declared.fault.SupFault.{SupFault}
-use Rattle.login_state.specs.declared.stage.Stage.{Stage}
 use Rattle.login_state.specs.declared.stage.Stage.TheVariants as stages
 use Rattle.login_state.specs.Denials.{is_fatal}
 use Rattle.login_state.specs.SupportAnswers.{applied}
-use Rattle.operator_acts.specs.Acts.{act_at}
-use Rattle.operator_acts.specs.declared.act.Act.{Act}
-use Rattle.operator_acts.specs.declared.act.Act.TheVariants as acts
 use Rattle.user_table.specs.Changes.{given_key}
 use Rattle.user_table.specs.Listed.{Listed}
 use Rattle.user_table.specs.Tables.{changed_key, updated}
@@ -41,17 +32,18 @@ use Rattle.hub_rules.specs.declared.effect.World.{World}
 use Rattle.hub_rules.specs.declared.effect.World.TheVariants as worlds
 use Rattle.hub_rules.specs.declared.request.Request.{Request}
 use Rattle.hub_rules.specs.declared.request.Request.TheVariants as requests
-use Rattle.hub_rules.specs.Acts.{act_effect, asked_effect, ban_effect, is_command, kick_effect, text_in, user_called}
-use Rattle.hub_rules.specs.Denied.{denied, request_denied, update_denied}
-use Rattle.hub_rules.specs.Effects.{accepted, admits, denial, entrant, fall_if, greets, heard, is_over, is_target_here, learns, line_effect, logs_in, nick_points, passes_on, unless_denied, updates_user}
+use Rattle.hub_rules.specs.Acts.{act_effect}
+use Rattle.hub_rules.specs.Denied.{request_denied, update_denied}
+use Rattle.hub_rules.specs.Effects.{accepted, admits, denial, entrant, fall_if, greets, is_target_here, learns, line_effect, logs_in, nick_points, passes_on, updates_user}
 use Rattle.hub_rules.specs.Identities.{cid_in, given, key_in, key_of, listed, meaning, su_in}
 use Rattle.hub_rules.specs.Quiet.{nothing}
-use Rattle.hub_rules.specs.Requests.{refused, request_of, to_users}
+use Rattle.hub_rules.specs.Requests.{request_of}
 use Rattle.hub_rules.specs.Sights.{Own, PreparedLine, Sight, is_account, user_after}
 use Rattle.hub_rules.specs.Asks.{update_ask}
 use Rattle.hub_rules.proofs.Claims.{go, update-free}
-use Rattle.hub_rules.proofs.Clearing.{ask-identity, ask-update, later-none, same-cid}
+use Rattle.hub_rules.proofs.Clearing.{ask-identity, ask-update, same-cid}
 use Rattle.hub_rules.proofs.Merges.{given-after}
+use Rattle.hub_rules.proofs.Outcomes.{asked, asked_at, at-identify, at-normal, at-protocol, at-verify, by_act, by_line}
 
 -- a user who may enter is listed as its fields say
 abbrev pub IsListed : Own → Listed → Type 0
@@ -134,99 +126,6 @@ routed-all : Routed (Those audiences.All)
 unfolding holds_words
 routed-all sid su = refl
 
--- ---- what is asked at which stage
-
-abbrev asked_at : Stage → Request → Bool
-asked_at stages.Protocol requests.Greeting = true
-asked_at stages.Protocol requests.Nothing = true
-asked_at stages.Protocol request = false
-asked_at stages.Identify requests.Login = true
-asked_at stages.Identify requests.Nothing = true
-asked_at stages.Identify request = false
-asked_at stages.Verify requests.Password = true
-asked_at stages.Verify requests.Nothing = true
-asked_at stages.Verify request = false
-asked_at stages.Normal requests.Greeting = false
-asked_at stages.Normal requests.Login = false
-asked_at stages.Normal requests.Password = false
-asked_at stages.Normal request = true
-asked_at stages.Gone requests.Nothing = true
-asked_at stages.Gone request = false
-
-asked-if : (stage : Stage) (b : Bool) (x y : Request) → asked_at stage x ≡ true → asked_at stage y ≡ true → asked_at stage (if b then x else y) ≡ true
-asked-if stage true x y first second = first
-asked-if stage false x y first second = second
-
-asked-users : (command : List ℕ) → asked_at stages.Normal (to_users command) ≡ true
-asked-users command = asked-if stages.Normal (bytes_eq command (codes "SCH")) requests.Search requests.Message refl refl
-
-asked : (stage : Stage) (kind : Kind) (command : List ℕ) → asked_at stage (request_of stage kind command) ≡ true
-unfolding request_of
-asked stages.Protocol kinds.Hub command = asked-if stages.Protocol (bytes_eq command (codes "SUP")) requests.Greeting requests.Nothing refl refl
-asked stages.Protocol kinds.Broadcast command = refl
-asked stages.Protocol kinds.Client command = refl
-asked stages.Protocol kinds.Direct command = refl
-asked stages.Protocol kinds.Echo command = refl
-asked stages.Protocol kinds.Feature command = refl
-asked stages.Protocol kinds.Info command = refl
-asked stages.Protocol kinds.Udp command = refl
-asked stages.Identify kinds.Broadcast command = asked-if stages.Identify (bytes_eq command (codes "INF")) requests.Login requests.Nothing refl refl
-asked stages.Identify kinds.Hub command = refl
-asked stages.Identify kinds.Client command = refl
-asked stages.Identify kinds.Direct command = refl
-asked stages.Identify kinds.Echo command = refl
-asked stages.Identify kinds.Feature command = refl
-asked stages.Identify kinds.Info command = refl
-asked stages.Identify kinds.Udp command = refl
-asked stages.Verify kinds.Hub command = asked-if stages.Verify (bytes_eq command (codes "PAS")) requests.Password requests.Nothing refl refl
-asked stages.Verify kinds.Broadcast command = refl
-asked stages.Verify kinds.Client command = refl
-asked stages.Verify kinds.Direct command = refl
-asked stages.Verify kinds.Echo command = refl
-asked stages.Verify kinds.Feature command = refl
-asked stages.Verify kinds.Info command = refl
-asked stages.Verify kinds.Udp command = refl
-asked stages.Normal kinds.Broadcast command =
-    asked-if stages.Normal (bytes_eq command (codes "INF")) requests.Update (to_users command) refl (asked-users command)
-asked stages.Normal kinds.Direct command = asked-users command
-asked stages.Normal kinds.Echo command = asked-users command
-asked stages.Normal kinds.Feature command = asked-users command
-asked stages.Normal kinds.Hub command =
-    asked-if stages.Normal (bytes_eq command (codes "SUP")) requests.Support _ refl
-    (asked-if stages.Normal (bytes_eq command (codes "MSG")) requests.Act requests.Nothing refl refl)
-asked stages.Normal kinds.Client command = refl
-asked stages.Normal kinds.Info command = refl
-asked stages.Normal kinds.Udp command = refl
-asked stages.Gone kind command = refl
-
-at-protocol : (stage : Stage) → asked_at stage requests.Greeting ≡ true → stage ≡ stages.Protocol
-at-protocol stages.Protocol is = refl
-at-protocol stages.Identify is = absurd (false≢true is)
-at-protocol stages.Verify is = absurd (false≢true is)
-at-protocol stages.Normal is = absurd (false≢true is)
-at-protocol stages.Gone is = absurd (false≢true is)
-
-at-identify : (stage : Stage) → asked_at stage requests.Login ≡ true → stage ≡ stages.Identify
-at-identify stages.Protocol is = absurd (false≢true is)
-at-identify stages.Identify is = refl
-at-identify stages.Verify is = absurd (false≢true is)
-at-identify stages.Normal is = absurd (false≢true is)
-at-identify stages.Gone is = absurd (false≢true is)
-
-at-verify : (stage : Stage) → asked_at stage requests.Password ≡ true → stage ≡ stages.Verify
-at-verify stages.Protocol is = absurd (false≢true is)
-at-verify stages.Identify is = absurd (false≢true is)
-at-verify stages.Verify is = refl
-at-verify stages.Normal is = absurd (false≢true is)
-at-verify stages.Gone is = absurd (false≢true is)
-
-at-normal : (stage : Stage) → asked_at stage requests.Update ≡ true → stage ≡ stages.Normal
-at-normal stages.Protocol is = absurd (false≢true is)
-at-normal stages.Identify is = absurd (false≢true is)
-at-normal stages.Verify is = absurd (false≢true is)
-at-normal stages.Normal is = refl
-at-normal stages.Gone is = absurd (false≢true is)
-
 -- ---- what each request leads to
 
 true-false : true ≡ false → ⊥
@@ -299,28 +198,9 @@ suits-update hub own infs (Ok u) at known none =
     }
 suits-update hub own infs (Err fault) at known none = suits-nothing own
 
-suits-kick : (own : Own) (reason : List ℕ) (target : Option Listed) → Suits own (kick_effect own reason target)
-suits-kick own reason None = suits-nothing own
-suits-kick own reason (Some target) = record { turn = tt; routed = routed-all; lone = λ other. refl }
-
-suits-ban : (own : Own) (now seconds : ℕ) (reason : List ℕ) (target : Option Listed) → Suits own (ban_effect own now seconds reason target)
-suits-ban own now seconds reason None = suits-nothing own
-suits-ban own now seconds reason (Some target) = record { turn = tt; routed = routed-all; lone = λ other. refl }
-
-suits-asked : (hub : Sight) (own : Own) (now : ℕ) (act : Option Act) → Suits own (asked_effect hub own now act)
-suits-asked hub own now None = suits-nothing own
-suits-asked hub own now (Some (acts.Kick nick reason)) = suits-kick own reason (user_called hub nick)
-suits-asked hub own now (Some (acts.Ban nick seconds reason)) = suits-ban own now seconds reason (user_called hub nick)
-suits-asked hub own now (Some (acts.Unban cid)) = record { turn = tt; routed = routed-all; lone = λ other. refl }
-suits-asked hub own now (Some (acts.Topic text)) = record { turn = tt; routed = routed-all; lone = λ other. refl }
-
-suits-if : (own : Own) (b : Bool) (x y : Effect) → Suits own x → Suits own y → Suits own (if b then x else y)
-suits-if own true x y here there = here
-suits-if own false x y here there = there
-
 suits-act : (hub : Sight) (own : Own) (now : ℕ) (params : List (List ℕ)) → Suits own (act_effect hub own now params)
-unfolding act_effect
-suits-act hub own now params = suits-if own (not (is_command (text_in params))) nothing _ (suits-nothing own) (suits-asked hub own now (act_at (text_in params)))
+suits-act hub own now params =
+    by_act hub own now params (Suits own) (suits-nothing own) (λ others world. record { turn = tt; routed = routed-all; lone = λ other. refl })
 
 suits-message : (hub : Sight) (own : Own) (line : Reading) (searched : Option ℕ) → Suits own (passes_on hub line searched)
 suits-message hub own line searched =
@@ -340,20 +220,8 @@ suits-accepted hub own line now reading requests.Search infs at known none = sui
 suits-accepted hub own line now reading requests.Message infs at known none = suits-message hub own reading None
 suits-accepted hub own line now reading requests.Nothing infs at known none = suits-nothing own
 
-suits-unless : (own : Own) (refusal : Option Deny) (effect : Effect) → (refusal ≡ None → Suits own effect) → Suits own (unless_denied own refusal effect)
-suits-unless own (Some deny) effect suits = suits-denial own deny
-suits-unless own None effect suits = suits refl
-
-suits-heard : (hub : Sight) (own : Own) (line : PreparedLine) (now : ℕ) (infs : List (List Field)) (r : Result Reading LineFault) → own.fields ≡ merged infs
-    → Suits own (heard hub own line now r)
-suits-heard hub own line now infs (Ok reading) known =
-    suits-unless own (denied hub own line now reading) _
-    (λ none. suits-accepted hub own line now reading (request_of own.stage reading.kind reading.command) infs (asked own.stage reading.kind reading.command) known
-    (later-none (refused own.stage own.sid reading) _ none))
-suits-heard hub own line now infs (Err fault) known = suits-denial own denials.Protocol
-
 pub suits-line : (hub : Sight) (own : Own) (line : PreparedLine) (now : ℕ) (infs : List (List Field)) → own.fields ≡ merged infs → Suits own (line_effect hub own line now)
-unfolding line_effect
 suits-line hub own line now infs known =
-    suits-if own (is_over own.stage) nothing _ (suits-nothing own)
-    (suits-if own (length line.bytes == 0) nothing _ (suits-nothing own) (suits-heard hub own line now infs (lines.reading line.bytes) known))
+    by_line hub own line now (Suits own) (suits-nothing own) (λ deny still. suits-denial own deny)
+    (λ reading still none.
+    suits-accepted hub own line now reading (request_of own.stage reading.kind reading.command) infs (asked own.stage reading.kind reading.command) known none)
