@@ -1,7 +1,7 @@
 // Guests in threads of their own.
 ghost use Rattle.std.specs.Prelude.{◌≡◌};
 
-use crate::shared::guests::{Guest, Hall, hears, looks, says};
+use crate::shared::guests::{Guest, Hall, hears, looks, says, sends, takes};
 use hub_core::Verdict;
 use second_try::again;
 use std::alloc::Global;
@@ -90,6 +90,25 @@ fn numbered(letter: u8, number: u8) -> [u8; 12] {
     line
 }
 
+/// Says a line, and hears what is there. Where memory is refused, nothing is asked of what the guest then sees, since the other may have
+/// said something.
+fn chats_once<R: Wait + Abort>(
+    rt: &R,
+    alloc: Global,
+    hall: &Hall,
+    guest: &mut Guest,
+    line: &[u8],
+) -> Vec<u8>
+    requires { guest.old.pass.home ≡ hall.now.hub.home }
+    ensures { guest.new.pass.home ≡ hall.now.hub.home }
+{
+    let said = again!(rt; sends(rt, alloc, hall, guest, line));
+    assert!(rt; said == Verdict::Kept, "{said:?}");
+    let mut heard = Vec::new(alloc);
+    again!(rt; takes(rt, hall, guest, &mut heard));
+    heard
+}
+
 // Says a hundred lines, and hears after each what is there.
 fn chats<R: Wait + Abort + Print>(
     rt: &R,
@@ -104,15 +123,8 @@ fn chats<R: Wait + Abort + Print>(
     let mut guest = guest;
     let mut heard = Vec::new(alloc);
     for number in 0..LINES {
-        says(
-            rt,
-            alloc,
-            hall,
-            &mut guest,
-            &numbered(letter, number),
-            Verdict::Kept,
-        );
-        let more = hears(rt, alloc, hall, &mut guest);
+        let line = numbered(letter, number);
+        let more = chats_once(rt, alloc, hall, &mut guest, &line);
         again!(rt; heard.extend_from_slice(&more));
     }
     (guest, heard)

@@ -160,7 +160,8 @@ pub(crate) fn says<R: Wait + Abort + Print>(
     assert!(rt; said == verdict, "{said:?}, not {verdict:?}");
 }
 
-fn takes<R: Wait>(
+/// Takes what waits, up to 256 lines, once.
+pub(crate) fn takes<R: Wait>(
     rt: &R,
     hall: &Hall,
     guest: &mut Guest,
