@@ -1,4 +1,5 @@
-use crate::refused::halls::{LOGINS, set_up};
+use crate::refused::halls::LOGINS;
+use crate::shared::guests::setup_for;
 use hub_core::{
     Answer, Ask, Asked, Conn, Core, JoinRefused, LineRefused, OpenRefused, Setup, Stage,
     TakeRefused, Totals, Verdict, prepare, run_calls,
@@ -38,7 +39,7 @@ fn seen(hall: &Hall) -> (Totals, u64, [Option<(Stage, u64, u64)>; 3]) {
 }
 
 fn opened(rt: &(impl Abort + Print), alloc: Global) -> Hall {
-    let setup = set_up(rt, alloc);
+    let setup = setup_for(rt, alloc, 3);
     let core =
         once!(rt; "hub_core::Core::open", OpenRefused::Memory, Core::open(alloc, again!(rt; setup.clone())));
     Hall {
@@ -125,7 +126,7 @@ fn asks<'a>(rt: &impl Abort, alloc: Global) -> Vec<Asked<'a>> {
 fn calls(rt: HostRuntime) {
     let rt = &rt;
     let alloc = rt.alloc();
-    let setup = set_up(rt, alloc);
+    let setup = setup_for(rt, alloc, 3);
     let call = "hub_core::run_calls";
     let run =
         once!(rt; call, OpenRefused::Memory, run_calls(alloc, again!(rt; setup.clone()), asks(rt, alloc)));

@@ -32,7 +32,8 @@ pub(crate) struct Guest {
     pub(crate) ghost challenged: { pass.challenge ≡ challenge },
 }
 
-fn setup_for(rt: &impl Abort, alloc: Global, max_users: u32) -> Arc<Setup> {
+/// A hub's setup for so many users.
+pub(crate) fn setup_for(rt: &impl Abort, alloc: Global, max_users: u32) -> Arc<Setup> {
     let options = Options {
         name: "Hub",
         topic: "",
