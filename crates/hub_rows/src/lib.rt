@@ -20,6 +20,8 @@ mod limits;
 #[cfg(test)]
 mod lists;
 #[cfg(test)]
+mod lock;
+#[cfg(test)]
 mod login;
 #[cfg(test)]
 mod many;

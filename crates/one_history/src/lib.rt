@@ -17,6 +17,3 @@ pub use host::Host;
 pub use lock::Lock;
 pub use rule::{Recorded, Told};
 pub use seat::{Seat, Seated};
-
-#[cfg(test)]
-mod tests;

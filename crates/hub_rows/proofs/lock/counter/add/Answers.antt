@@ -1,8 +1,8 @@
 use Rattle.std.proofs.Common.{◌≡◌, ℕ, ◌+◌, List, [], ◌∷◌, arith, subst, ⊎_elim}
 use Rattle.one_history.specs.Histories.{Begins, total}
-use Rattle.one_history.specs.declared.tests.counter.Line.{Line}
+use Rattle.hub_rows.specs.declared.lock.counter.Line.{Line}
 use Rattle.one_history.proofs.Beginnings.{begins_last}
-use Rattle.one_history.proofs.tests.counter.add.Goals as goal
+use Rattle.hub_rows.proofs.lock.counter.add.Goals as goal
 
 abbrev IsRight : ℕ → List Line → Type 0
 IsRight start [] = Unit {0}

@@ -3,11 +3,11 @@ mod worker;
 
 ghost use Rattle.std.specs.Prelude.{◌≡◌, ◌∷◌, [], IfOk};
 
-use crate::close::NotAlone;
-use crate::tests::counter::{CountersSeat, add, opened};
-use crate::tests::worker::{
+use crate::lock::counter::{CountersSeat, add, opened};
+use crate::lock::worker::{
     Worker, both, disband, eight, hired, interrupt, is_one_run, leave, team,
 };
+use one_history::NotAlone;
 use std::alloc::{AllocError, AllocFailed, Global};
 use std::test::Fail;
 

@@ -1,5 +1,5 @@
 use Rattle.one_history.proofs.Beginnings.{begins_none}
-use Rattle.one_history.proofs.tests.counter.opened.Goals as goal
+use Rattle.hub_rows.proofs.lock.counter.opened.Goals as goal
 
 pub open-requires-clause-legal : goal.open-requires-clause-legal
 open-requires-clause-legal c = λ e s b. absurd (begins_none e s b)

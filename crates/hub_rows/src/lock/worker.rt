@@ -3,8 +3,8 @@ ghost use Rattle.std.specs.Prelude.{◌≡◌, ◌+◌, ◌^◌, ◌<◌, ◌∷
 ghost use Rattle.std.specs.List.{All};
 ghost use Rattle.one_history.specs.States.{IsIdleAt, gone, home_of};
 
-use crate::seat::Seated;
-use crate::tests::counter::{Counter, Counters, CountersHost, CountersSeat, Line, add};
+use crate::lock::counter::{Counter, Counters, CountersHost, CountersSeat, Line, add};
+use one_history::Seated;
 use std::sync::Wait;
 use std::thread;
 use std::thread::{Threads, join};

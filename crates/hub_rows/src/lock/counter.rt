@@ -2,10 +2,7 @@
 ghost use Rattle.std.specs.Prelude.{◌≡◌, ◌∷◌, false, IfOk, IfSome, IfNone};
 ghost use Rattle.one_history.specs.States.{IsIdleAt, IsHolderAt, first_host};
 
-use crate::host::Host;
-use crate::lock::Lock;
-use crate::rule::{Recorded, Told};
-use crate::seat::Seat;
+use one_history::{Host, Lock, Recorded, Seat, Told};
 use std::alloc::{AllocFailed, Global};
 use std::marker::Brand;
 use std::sync::Wait;
@@ -29,7 +26,7 @@ pub struct Line {
 impl Recorded<Line, u64> for Counter {
     ghost use Rattle.std.specs.Prelude.{◌≡◌, ◌+◌, List, ◌∷◌};
     ghost use Rattle.one_history.specs.Histories.{Begins, total};
-    ghost use Rattle.one_history.specs.declared.tests.counter.Line.{Line};
+    ghost use Rattle.hub_rows.specs.declared.lock.counter.Line.{Line};
 
     ghost by = { λ e. e.caller };
 
