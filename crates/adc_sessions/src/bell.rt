@@ -14,4 +14,11 @@ pub trait Bell: Drop {
     fn wait(&mut self, cx: &mut Context<'_>) -> bool
         ensures registered { result ≡ false → IsArmed cx.new }
         ensures kept { Keeps cx.old cx.new };
+
+    /// Whether a line may be handed over now. It is asked before each. Where it may not, the session goes on to write
+    /// and to take, hands over and reads nothing, and asks again once the bell is rung: so a bell that has said no
+    /// has to be rung later, whatever happens.
+    fn may_hand(&mut self) -> bool {
+        true
+    }
 }

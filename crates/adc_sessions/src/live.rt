@@ -57,6 +57,8 @@ pub(crate) struct Live<S, P, B> {
     reads_next: bool,
     // The bell was not rung when it was last heard, so that it wakes the task.
     is_listening: bool,
+    // Bytes were read since the framer last had no whole line.
+    may_have_line: bool,
     ghost in_range: { written ≤ length output.items },
     ghost has_room: { 0 < length input.items },
 }
@@ -86,6 +88,7 @@ impl<S: AsyncRead + AsyncWrite, P: Port, B: Bell> Live<S, P, B> {
             owes_take: true,
             reads_next: false,
             is_listening: false,
+            may_have_line: false,
         }
     }
 
@@ -131,11 +134,38 @@ impl<S: AsyncRead + AsyncWrite, P: Port, B: Bell> Live<S, P, B> {
             return self.take();
         }
         if self.is_over {
-            return self.wait_for_end(cx);
+            return self.wait_to_take(cx);
         }
+        if self.is_held() {
+            return self.wait_to_take(cx);
+        }
+        self.advance(cx)
+    }
+
+    /// Whether a line may be there that may not be handed over yet.
+    fn is_held(&mut self) -> bool
+        ensures { self.new ≡ record self.old { bell = self.new.bell } }
+    {
+        if !self.may_have_line {
+            return false;
+        }
+        !self.bell.may_hand()
+    }
+
+    /// Hands over the next line, or looks for what else there is to do.
+    fn advance(&mut self, cx: &mut Context<'_>) -> Turn
+        requires written { length self.old.output.items ≤ self.old.written }
+        requires heard { self.old.is_over ≡ false }
+        ensures turned { Turned (StreamStep S.reads S.is_at_end S.AsyncRead.fails S.writes S.is_full S.AsyncWrite.fails) P.step (state_of self.old) result (state_of self.new) }
+        ensures registered { result ≡ Turn.Rest → IsArmed cx.new }
+        ensures kept { Keeps cx.old cx.new }
+    {
         match self.framer.next(&mut self.line) {
             Ok(Next::Line) => self.hand(),
-            Ok(Next::More) => self.seek(cx),
+            Ok(Next::More) => {
+                self.may_have_line = false;
+                self.seek(cx)
+            }
             Ok(Next::TooLong) => Turn::Over(End::TooLong),
             Err(_) => Turn::Over(End::Memory),
         }
@@ -189,8 +219,8 @@ impl<S: AsyncRead + AsyncWrite, P: Port, B: Bell> Live<S, P, B> {
         }
     }
 
-    /// The port hears nothing more: what it still gives is written until it says that it was all.
-    fn wait_for_end(&mut self, cx: &mut Context<'_>) -> Turn
+    /// The port is to hear nothing now, or nothing more: what it still gives is written.
+    fn wait_to_take(&mut self, cx: &mut Context<'_>) -> Turn
         requires { length self.old.output.items ≤ self.old.written }
         ensures turned { Turned (StreamStep S.reads S.is_at_end S.AsyncRead.fails S.writes S.is_full S.AsyncWrite.fails) P.step (state_of self.old) result (state_of self.new) }
         ensures registered { result ≡ Turn.Rest → IsArmed cx.new }
@@ -264,10 +294,13 @@ impl<S: AsyncRead + AsyncWrite, P: Port, B: Bell> Live<S, P, B> {
                 self.owes_take = true;
                 Turn::Again
             }
-            Poll::Ready(Ok(count)) => match self.framer.feed(&self.input[..count]) {
-                Ok(()) => Turn::Again,
-                Err(_) => Turn::Over(End::Memory),
-            },
+            Poll::Ready(Ok(count)) => {
+                self.may_have_line = true;
+                match self.framer.feed(&self.input[..count]) {
+                    Ok(()) => Turn::Again,
+                    Err(_) => Turn::Over(End::Memory),
+                }
+            }
             Poll::Ready(Err(_)) => Turn::Over(End::ReadFailed),
             Poll::Pending => {
                 // It rests only where the bell wakes it, and where no more waits than one take gave: nobody

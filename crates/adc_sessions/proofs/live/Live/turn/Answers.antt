@@ -8,11 +8,3 @@ pub returns-then-has_ended-clause-turned : goal.returns-then-has_ended-clause-tu
 returns-then-has_ended-clause-turned g c =
     let none = drop_all c.args.self.now.written c.args.self.now.output.items (omega arith) in
     ends_here _ _ ends.Ended _ (none, c.has_ended.ensures c.if-has_ended.true)
-
-pub returns-in-Ok-TooLong-clause-turned : goal.returns-in-Ok-TooLong-clause-turned
-returns-in-Ok-TooLong-clause-turned g c =
-    let said = rw c.in-Ok-TooLong.field-0-is at c.in-Ok-TooLong.ensures.ok in
-    ends_here _ _ ends.TooLong _ (said.2, said.3)
-
-pub returns-in-Err-clause-turned : goal.returns-in-Err-clause-turned
-returns-in-Err-clause-turned g c = ends_here _ _ ends.Memory _ (tt {0})

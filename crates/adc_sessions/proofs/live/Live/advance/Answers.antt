@@ -1,0 +1,11 @@
+use Rattle.adc_sessions.specs.declared.ending.End.TheVariants as ends
+use Rattle.adc_sessions.proofs.Steps.{ends_here}
+use Rattle.adc_sessions.proofs.live.Live.advance.Goals as goal
+
+pub returns-in-Ok-TooLong-clause-turned : goal.returns-in-Ok-TooLong-clause-turned
+returns-in-Ok-TooLong-clause-turned g c =
+    let said = rw c.in-Ok-TooLong.field-0-is at c.in-Ok-TooLong.ensures.ok in
+    ends_here _ _ ends.TooLong _ (said.2, said.3)
+
+pub returns-in-Err-clause-turned : goal.returns-in-Err-clause-turned
+returns-in-Err-clause-turned g c = ends_here _ _ ends.Memory _ (tt {0})
