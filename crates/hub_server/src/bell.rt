@@ -1,4 +1,5 @@
 use crate::board::Board;
+use crate::pace::Courtesy;
 use adc_sessions::Bell;
 use futures::task::Context;
 
@@ -7,11 +8,16 @@ use futures::task::Context;
 pub(crate) struct SeatBell<'a> {
     board: &'a Board,
     place: usize,
+    courtesy: Courtesy,
 }
 
 impl<'a> SeatBell<'a> {
     pub(crate) fn new(board: &'a Board, place: usize) -> SeatBell<'a> {
-        SeatBell { board, place }
+        SeatBell {
+            board,
+            place,
+            courtesy: Courtesy::new(),
+        }
     }
 }
 
@@ -22,5 +28,16 @@ impl Bell for SeatBell<'_> {
 
     fn wait(&mut self, cx: &mut Context<'_>) -> bool {
         self.board.wait(self.place, cx)
+    }
+
+    fn may_hand(&mut self) -> bool {
+        if !self.board.is_behind() {
+            self.courtesy = Courtesy::new();
+            return true;
+        }
+        if self.courtesy.spend() {
+            return true;
+        }
+        self.board.may_hand(self.place, &mut self.courtesy)
     }
 }

@@ -1,117 +1,93 @@
 ghost use Rattle.std.specs.Prelude.{◌≡◌, false};
 ghost use Rattle.futures.specs.Task.{IsArmed, Keeps};
 
+use crate::pace::{Courtesy, STEP};
+use crate::seats::Seats;
 use adc_base32::Sid;
 use futures::spin::lock;
-use futures::task::{Context, Poll, Source, Waker};
+use futures::task::{Context, Poll, Source};
 use hub_core::Touched;
 use std::alloc::{AllocError, Global};
 use std::sync::Mutex;
+use std::sync::atomic::{AtomicBool, AtomicU64, Ordering};
 
 /// The bells of all sessions. A ring wakes those whom a call concerned, and nobody else.
 ///
 /// One more bell is the accepting task's. Where a call may be long, it wakes that task: so another
 /// thread comes to look for what the sockets have, while the one of the call does not.
+///
+/// The board also knows, roughly, how many lines wait for whom: those who speak give way while a client that reads is far
+/// behind. No promise of a session rests on it.
 #[derive(Drop)]
 pub(crate) struct Board {
     source: Source,
     seats: Mutex<Seats>,
-}
-
-/// What is known of a session, which has a seat.
-#[derive(Drop)]
-struct Seat {
-    // By whom it is rung alone. Nobody can mean it before it has a session identifier that others know.
-    sid: Option<Sid>,
-    // How many rings for everybody it has heard.
-    heard: u64,
-    is_rung: bool,
-    waker: Option<Waker>,
-    // It is among those that wait.
-    waits: bool,
-}
-
-#[derive(Drop)]
-struct Seats {
-    seats: Vec<Seat>,
-    // How many rings were for everybody.
-    rings: u64,
-    // The seats that have left a waker, and maybe some that were woken since.
-    waiting: Vec<usize>,
-    helper: Option<Waker>,
-    // Nobody is accepted any more.
-    is_alone: bool,
+    // How many lines were said to everybody.
+    said: AtomicU64,
+    // Somebody is behind, so that those who speak ask before each line.
+    is_behind: AtomicBool,
 }
 
 impl Board {
     /// A board with so many seats.
     pub(crate) fn new(alloc: Global, count: usize) -> Result<Board, AllocError> {
-        let mut seats = Vec::with_capacity(alloc, count)?;
-        for _seat in 0..count {
-            seats.push(Seat {
-                sid: None,
-                heard: 0,
-                is_rung: false,
-                waker: None,
-                waits: false,
-            })?;
-        }
         Ok(Board {
             source: Source::new(),
-            seats: Mutex::new(Seats {
-                seats,
-                rings: 0,
-                waiting: Vec::with_capacity(alloc, count)?,
-                helper: None,
-                is_alone: false,
-            }),
+            seats: Mutex::new(Seats::new(alloc, count)?),
+            said: AtomicU64::new(0),
+            is_behind: AtomicBool::new(false),
         })
     }
 
     /// A session takes this seat.
     pub(crate) fn occupy(&self, place: usize) {
         if let Some(mut seats) = lock(&self.seats) {
-            seats.clear(place);
+            seats.clear(place, self.said.load(Ordering::SeqCst));
         }
     }
 
     /// The session of this seat is known by this identifier.
     pub(crate) fn name(&self, place: usize, sid: Sid) {
-        if let Some(mut seats) = lock(&self.seats)
-            && let Some(seat) = seats.seats.get_mut(place)
-        {
-            seat.sid = Some(sid);
+        if let Some(mut seats) = lock(&self.seats) {
+            seats.name(place, sid);
         }
     }
 
     /// The session of this seat is over.
     pub(crate) fn vacate(&self, place: usize) {
         self.occupy(place);
+        if self.is_behind() {
+            self.look();
+        }
     }
 
     /// Rings for those whom a call of the session at this seat concerned, but not for itself: a session takes
     /// what waits after each of its calls.
     pub(crate) fn ring(&self, touched: Touched, own: usize) {
         if let Some(mut seats) = lock(&self.seats) {
-            match touched {
-                Touched::Nobody => {}
-                Touched::One(sid) => seats.ring(sid, own),
+            let said = self.said.load(Ordering::SeqCst);
+            let is_behind = match touched {
+                Touched::Nobody => false,
+                Touched::One(sid) => seats.ring(sid, own, said),
                 Touched::Two(one, other) => {
-                    seats.ring(one, own);
-                    seats.ring(other, own);
+                    let is_behind = seats.ring(one, own, said);
+                    seats.ring(other, own, said) | is_behind
                 }
-                Touched::Everybody => seats.ring_all(own),
+                Touched::Everybody => {
+                    seats.ring_all(own);
+                    false
+                }
+            };
+            if is_behind {
+                self.is_behind.store(true, Ordering::SeqCst);
             }
         }
     }
 
     /// Rings for one seat.
     pub(crate) fn ring_seat(&self, place: usize) {
-        if let Some(mut seats) = lock(&self.seats)
-            && let Some(seat) = seats.seats.get_mut(place)
-        {
-            seat.is_rung = true;
-            seat.waker = None;
+        if let Some(mut seats) = lock(&self.seats) {
+            seats.ring_seat(place);
         }
     }
 
@@ -129,15 +105,88 @@ impl Board {
         }
     }
 
+    /// A line was said to everybody. Now and then it is looked who is behind.
+    pub(crate) fn say(&self) {
+        let before = self.said.fetch_add(1, Ordering::SeqCst);
+        if before % STEP == 0 {
+            self.look();
+        }
+    }
+
+    /// So many lines were taken for the session at this seat, and no more are left or some may be.
+    pub(crate) fn took(&self, place: usize, lines: u64, has_more: bool) {
+        if let Some(mut seats) = lock(&self.seats) {
+            let said = self.said.load(Ordering::SeqCst);
+            seats.take(place, said, lines, has_more);
+        }
+        if self.is_behind() {
+            self.look();
+        }
+    }
+
+    /// Whether somebody is behind.
+    pub(crate) fn is_behind(&self) -> bool {
+        self.is_behind.load(Ordering::SeqCst)
+    }
+
+    /// Whether the session at this seat may hand over a line although somebody is behind. Where it may not, it is rung
+    /// once nobody is, and at the next tick.
+    pub(crate) fn may_hand(&self, place: usize, courtesy: &mut Courtesy) -> bool {
+        match lock(&self.seats) {
+            Some(mut seats) => {
+                // It may be that nobody is any more.
+                if self.is_behind() {
+                    seats.may_hand(place, courtesy)
+                } else {
+                    true
+                }
+            }
+            None => true,
+        }
+    }
+
+    /// Looks who is behind, and lets those go who gave way where nobody is.
+    fn look(&self) {
+        if let Some(mut seats) = lock(&self.seats) {
+            let is_behind = seats.is_behind(self.said.load(Ordering::SeqCst));
+            self.is_behind.store(is_behind, Ordering::SeqCst);
+            if !is_behind {
+                seats.let_go();
+            }
+        }
+    }
+
+    /// A tick passed: those who give way ask again, and those for whom they do are waited for once more.
+    pub(crate) fn tick(&self) {
+        if let Some(mut seats) = lock(&self.seats) {
+            let said = self.said.load(Ordering::SeqCst);
+            seats.tick(said);
+            self.is_behind.store(seats.is_behind(said), Ordering::SeqCst);
+            seats.let_go();
+        }
+    }
+
+    /// Whether somebody gives way. Where nobody does, the task is woken once somebody will.
+    pub(crate) fn has_held(&self, cx: &mut Context<'_>) -> bool
+        ensures registered { result ≡ false → IsArmed cx.new }
+        ensures kept { Keeps cx.old cx.new }
+    {
+        match lock(&self.seats) {
+            Some(mut seats) => seats.has_held(cx, &self.source),
+            None => {
+                let _: Poll<()> = cx.yield_now();
+                false
+            }
+        }
+    }
+
     /// The accepting task waits, and is woken where help is called.
     pub(crate) fn wait_to_help(&self, cx: &mut Context<'_>)
         ensures registered { IsArmed cx.new }
         ensures kept { Keeps cx.old cx.new }
     {
         match lock(&self.seats) {
-            Some(mut seats) => {
-                let _: Poll<()> = cx.register(&self.source, &mut seats.helper);
-            }
+            Some(mut seats) => seats.helper.wait(cx, &self.source),
             None => {
                 let _: Poll<()> = cx.yield_now();
             }
@@ -147,88 +196,44 @@ impl Board {
     /// Nobody is accepted any more, so that the accepting task is no help.
     pub(crate) fn end_help(&self) {
         if let Some(mut seats) = lock(&self.seats) {
-            seats.helper = None;
-            seats.is_alone = true;
+            seats.helper.leave();
         }
     }
 
     /// Wakes the accepting task, or everybody where there is none. The session at this seat makes the call.
     pub(crate) fn call_for_help(&self, own: usize) {
+        if let Some(mut seats) = lock(&self.seats)
+            && !seats.helper.call()
+        {
+            seats.ring_all(own);
+        }
+    }
+
+    /// The door begins to rest.
+    pub(crate) fn rest(&self) {
         if let Some(mut seats) = lock(&self.seats) {
-            seats.helper = None;
-            if seats.is_alone {
-                seats.ring_all(own);
-            }
-        }
-    }
-}
-
-impl Seats {
-    fn clear(&mut self, place: usize) {
-        let rings = self.rings;
-        if let Some(seat) = self.seats.get_mut(place) {
-            seat.sid = None;
-            seat.heard = rings;
-            seat.is_rung = false;
-            seat.waker = None;
+            seats.helper.rest();
         }
     }
 
-    fn ring(&mut self, sid: Sid, own: usize) {
-        for (place, seat) in self.seats.iter_mut().enumerate() {
-            if place != own && seat.sid == Some(sid) {
-                seat.is_rung = true;
-                seat.waker = None;
-            }
+    /// A socket was closed, so that another may be had.
+    pub(crate) fn make_room(&self) {
+        if let Some(mut seats) = lock(&self.seats) {
+            seats.helper.make_room();
         }
     }
 
-    fn ring_all(&mut self, own: usize) {
-        let before = self.rings;
-        self.rings = before.wrapping_add(1);
-        let mut own_waits = false;
-        while let Some(place) = self.waiting.pop() {
-            if place == own {
-                own_waits = true;
-            } else if let Some(seat) = self.seats.get_mut(place) {
-                seat.waits = false;
-                seat.waker = None;
-            }
-        }
-        let is_kept = own_waits && self.waiting.push(own).is_ok();
-        let rings = self.rings;
-        if let Some(seat) = self.seats.get_mut(own) {
-            seat.waits = is_kept;
-            if !is_kept {
-                seat.waker = None;
-            }
-            if seat.heard == before {
-                seat.heard = rings;
-            }
-        }
-    }
-
-    fn wait(&mut self, place: usize, cx: &mut Context<'_>, source: &Source) -> bool
+    /// Whether a socket was closed since the door began to rest. Where none was, the task is woken once one is.
+    pub(crate) fn wait_for_room(&self, cx: &mut Context<'_>) -> bool
         ensures registered { result ≡ false → IsArmed cx.new }
         ensures kept { Keeps cx.old cx.new }
     {
-        let Some(seat) = self.seats.get_mut(place) else {
-            let _: Poll<()> = cx.yield_now();
-            return false;
-        };
-        if seat.is_rung || seat.heard != self.rings {
-            seat.is_rung = false;
-            seat.heard = self.rings;
-            return true;
-        }
-        if !seat.waits {
-            // With no room to be found again, the session looks for itself.
-            if self.waiting.push(place).is_err() {
-                return true;
+        match lock(&self.seats) {
+            Some(mut seats) => seats.helper.wait_for_room(cx, &self.source),
+            None => {
+                let _: Poll<()> = cx.yield_now();
+                false
             }
-            seat.waits = true;
         }
-        let _: Poll<()> = cx.register(source, &mut seat.waker);
-        false
     }
 }

@@ -1,49 +1,145 @@
-use crate::bell::SeatBell;
+ghost use Rattle.std.specs.Prelude.{◌≡◌, false};
+ghost use Rattle.futures.specs.Task.{IsArmed, Keeps};
+ghost use Rattle.futures.specs.Poll.{OnPending};
+
 use crate::board::Board;
-use crate::clock::moment;
-use crate::guest::{Guest, Names};
-use crate::hall::Hall;
-use crate::port::HubPort;
-use adc_sessions::{Incoming, Peer, Port, Starter};
-use futures::channel::mpsc::UnboundedSender;
+use crate::refusal::{Refusal, refusal_of};
+use adc_sessions::{Incoming, Peer};
 use futures::task::{Context, Poll};
-use hub_challenges::Challenges;
-use session_hash::SessionHash;
-use std::alloc::AllocGlobal;
+use log::{Log, warn};
 use std::io;
 use std::net::SocketAddr;
-use std::sync::Wait;
-use std::time::Clock;
+use std::time::{Clock, Duration, Instant};
 use tokio::net::{TcpListener, TcpStream};
+use tokio::time::Sleep;
 
-/// Where connections come in.
-#[derive(Drop)]
-pub(crate) struct Door<'a> {
-    listener: TcpListener,
-    board: &'a Board,
+/// For how many milliseconds the door rests at most.
+const REST: u64 = 100;
+
+/// How often one poll looks whether somebody is there, where those who were are gone.
+const ATTEMPTS: u8 = 16;
+
+/// What listens: a listening socket.
+pub(crate) trait Listens: Drop {
+    /// The next connection, and where it comes from.
+    fn poll_accept(&mut self, cx: &mut Context<'_>) -> Poll<io::Result<(TcpStream, SocketAddr)>>
+        ensures registered { OnPending result (IsArmed cx.new) }
+        ensures kept { Keeps cx.old cx.new };
+
+    /// Where it listens.
+    fn address(&self) -> io::Result<SocketAddr>;
 }
 
-impl<'a> Door<'a> {
-    pub(crate) fn new(listener: TcpListener, board: &'a Board) -> Door<'a> {
-        Door { listener, board }
+impl Listens for TcpListener {
+    fn poll_accept(&mut self, cx: &mut Context<'_>) -> Poll<io::Result<(TcpStream, SocketAddr)>> {
+        TcpListener::poll_accept(self, cx)
+    }
+
+    fn address(&self) -> io::Result<SocketAddr> {
+        self.local_addr()
     }
 }
 
-impl Incoming for Door<'_> {
+/// Where connections come in. Where the system has no room for another, the door rests until a socket is closed or a
+/// while has passed: that is no fault of the listener.
+#[derive(Drop)]
+pub(crate) struct Door<'a, R, L, I> {
+    listener: I,
+    board: &'a Board,
+    rt: &'a R,
+    log: &'a L,
+    timer: Sleep,
+    is_resting: bool,
+}
+
+impl<'a, R: Clock, L: Log, I: Listens> Door<'a, R, L, I> {
+    pub(crate) fn new(
+        listener: I,
+        board: &'a Board,
+        rt: &'a R,
+        log: &'a L,
+        timer: Sleep,
+    ) -> Door<'a, R, L, I> {
+        Door {
+            listener,
+            board,
+            rt,
+            log,
+            timer,
+            is_resting: false,
+        }
+    }
+
+    /// Whether it does not rest, or has rested for long enough. Where it has not, the task is woken once it has.
+    fn has_rested(&mut self, cx: &mut Context<'_>) -> bool
+        ensures registered { result ≡ false → IsArmed cx.new }
+        ensures kept { Keeps cx.old cx.new }
+    {
+        if !self.is_resting {
+            return true;
+        }
+        if self.board.wait_for_room(cx) {
+            self.is_resting = false;
+            return true;
+        }
+        match self.timer.poll_elapsed(cx) {
+            Poll::Pending => false,
+            Poll::Ready(_) => {
+                self.is_resting = false;
+                true
+            }
+        }
+    }
+
+    /// Begins to rest. Nothing where the time cannot be had.
+    fn rest(&mut self) -> Option<()> {
+        let now = Instant::now(self.rt).ok()?;
+        let until = now.checked_add(Duration::from_millis(REST))?;
+        self.board.rest();
+        self.timer.reset(until);
+        self.is_resting = true;
+        Some(())
+    }
+
+    /// Whether the listener may be asked again after this fault.
+    fn goes_on(&mut self, error: &io::Error) -> bool {
+        match refusal_of(error) {
+            Refusal::Memory => {
+                warn!(self.log; "a connection was lost by {}", "Memory");
+                self.rest().is_some()
+            }
+            Refusal::Room => self.rest().is_some(),
+            Refusal::Gone => true,
+            Refusal::Listener => false,
+        }
+    }
+}
+
+impl<R: Clock, L: Log, I: Listens> Incoming for Door<'_, R, L, I> {
     type Stream = TcpStream;
 
     fn poll_incoming(&mut self, cx: &mut Context<'_>) -> Poll<io::Result<(TcpStream, Peer)>> {
-        match self.listener.poll_accept(cx) {
-            Poll::Ready(Ok(accepted)) => {
-                let (stream, address) = accepted;
-                Poll::Ready(come(stream, &address))
+        for attempt in 0..ATTEMPTS {
+            if !self.has_rested(cx) {
+                return Poll::Pending;
             }
-            Poll::Ready(Err(error)) => Poll::Ready(Err(error)),
-            Poll::Pending => {
-                self.board.wait_to_help(cx);
-                Poll::Pending
+            match self.listener.poll_accept(cx) {
+                Poll::Ready(Ok(accepted)) => {
+                    let (stream, address) = accepted;
+                    return Poll::Ready(come(stream, &address));
+                }
+                Poll::Ready(Err(error)) => {
+                    if !self.goes_on(&error) {
+                        return Poll::Ready(Err(error));
+                    }
+                }
+                Poll::Pending => {
+                    self.board.wait_to_help(cx);
+                    return Poll::Pending;
+                }
             }
         }
+        cx.yield_now()
     }
 }
 
@@ -57,94 +153,5 @@ fn come(stream: TcpStream, address: &SocketAddr) -> io::Result<(TcpStream, Peer)
             Ok((stream, peer))
         }
         SocketAddr::V6(_) => Err(io::ErrorKind::Unsupported.into()),
-    }
-}
-
-/// A connection that was accepted.
-#[derive(Drop)]
-pub(crate) enum Arrival<'a, B: Names<H>, H: SessionHash, R> {
-    /// It has joined the hub.
-    Joined(Joined<'a, B, H, R>),
-    /// The hub has no room for it.
-    Refused(TcpStream),
-}
-
-/// What a session is made of.
-#[derive(Drop)]
-pub(crate) struct Joined<'a, B: Names<H>, H: SessionHash, R> {
-    pub(crate) stream: TcpStream,
-    pub(crate) port: HubPort<'a, B, H, R>,
-    pub(crate) bell: SeatBell<'a>,
-}
-
-/// Lets those who come join the hub.
-#[derive(Drop)]
-pub(crate) struct Porter<'a, B: Names<H>, H: SessionHash, R> {
-    hall: &'a Hall<'a, B, H, R>,
-    challenges: Challenges,
-    arrivals: UnboundedSender<Arrival<'a, B, H, R>>,
-}
-
-impl<'a, B: Names<H>, H: SessionHash, R: Wait + Clock + AllocGlobal> Porter<'a, B, H, R> {
-    pub(crate) fn new(
-        hall: &'a Hall<'a, B, H, R>,
-        challenges: Challenges,
-        arrivals: UnboundedSender<Arrival<'a, B, H, R>>,
-    ) -> Porter<'a, B, H, R> {
-        Porter {
-            hall,
-            challenges,
-            arrivals,
-        }
-    }
-
-    fn join(&self, peer: Peer, challenge: [u8; 24]) -> Option<HubPort<'a, B, H, R>> {
-        let hall = self.hall;
-        let guest = hall.call_guest()?;
-        let Guest { visitor, place, .. } = guest;
-        let now = moment(hall.rt);
-        match hall.hub.join(
-            hall.rt,
-            hall.rt.alloc(),
-            visitor,
-            peer.address,
-            challenge,
-            now,
-        ) {
-            Ok(pass) => Some(HubPort::new(hall, pass, challenge, place)),
-            Err((_, visitor)) => {
-                hall.take_back(Guest::new(visitor, place));
-                None
-            }
-        }
-    }
-}
-
-impl<'a, B: Names<H>, H: SessionHash, R: Wait + Clock + AllocGlobal> Starter<TcpStream>
-    for Porter<'a, B, H, R> {
-    ghost use Rattle.std.specs.Prelude.{⊤};
-
-    ghost starts = { λ _ _ _. ⊤ };
-
-    ghost starts_nothing = { λ _. tt };
-
-    ghost starts_in_order = { λ _ _ _ _ _ _ _. tt };
-
-    fn start(&mut self, stream: TcpStream, peer: Peer) {
-        let challenge = self.challenges.next();
-        // Lines are written in one piece each, so that waiting for more would only delay them.
-        let _ = stream.set_nodelay(true);
-        let arrival = match self.join(peer, challenge) {
-            Some(port) => {
-                let bell = port.bell();
-                Arrival::Joined(Joined { stream, port, bell })
-            }
-            None => Arrival::Refused(stream),
-        };
-        if let Err(refused) = self.arrivals.unbounded_send(arrival)
-            && let Arrival::Joined(joined) = refused.into_inner()
-        {
-            self.hall.take_back(joined.port.quit());
-        }
     }
 }

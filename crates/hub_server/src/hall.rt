@@ -1,11 +1,39 @@
 ghost use Rattle.std.specs.Prelude.{◌≡◌, Some};
+ghost use Rattle.futures.specs.Task.{IsArmed, Keeps};
+ghost use Rattle.futures.specs.Poll.{OnPending};
 
 use crate::board::Board;
+use crate::exits::Exits;
 use crate::guest::{Guest, Names};
+use crate::mailboxes::Mailboxes;
+use crate::stage::{Fault, Stage};
+use futures::task::{Context, Poll};
 use hub_core::Setup;
 use hub_shared::Hub;
 use session_hash::SessionHash;
+use std::alloc::{AllocError, Global};
 use std::sync::{Mutex, Wait};
+
+/// The parts of the hall that are the same for each hub: all that tasks need of memory to find one another.
+#[derive(Drop)]
+pub(crate) struct Rooms<B: Names<H>, H> {
+    pub(crate) board: Board,
+    pub(crate) mailboxes: Mailboxes<B, H>,
+    pub(crate) exits: Exits,
+    pub(crate) stage: Stage,
+}
+
+impl<B: Names<H>, H> Rooms<B, H> {
+    /// Rooms for so many connections.
+    pub(crate) fn new(alloc: Global, count: usize) -> Result<Rooms<B, H>, AllocError> {
+        Ok(Rooms {
+            board: Board::new(alloc, count)?,
+            mailboxes: Mailboxes::new(alloc, count)?,
+            exits: Exits::new(alloc)?,
+            stage: Stage::new(),
+        })
+    }
+}
 
 /// What all tasks share.
 #[derive(Drop)]
@@ -14,10 +42,9 @@ pub(crate) struct Hall<'a, B: Names<H>, H: SessionHash, R> {
     pub(crate) hub: &'a Hub<H>,
     pub(crate) hash: &'a H,
     pub(crate) setup: &'a Setup,
-    pub(crate) board: Board,
+    pub(crate) rooms: Rooms<B, H>,
     // Those without a connection. There is room for all, so that coming back takes no memory.
     guests: Mutex<Vec<Guest<B, H>>>,
-    has_failed: Mutex<bool>,
     pub(crate) ghost set: { hub.now.setup ≡ setup.now },
     pub(crate) ghost hashed: { hub.now.hash ≡ hash.now },
     pub(crate) ghost here: { B.home ≡ Some hub.now.home },
@@ -29,7 +56,7 @@ impl<'a, B: Names<H>, H: SessionHash, R: Wait> Hall<'a, B, H, R> {
         hub: &'a Hub<H>,
         hash: &'a H,
         setup: &'a Setup,
-        board: Board,
+        rooms: Rooms<B, H>,
         guests: Vec<Guest<B, H>>,
     ) -> Hall<'a, B, H, R>
         requires set { hub.now.setup ≡ setup.now }
@@ -41,9 +68,8 @@ impl<'a, B: Names<H>, H: SessionHash, R: Wait> Hall<'a, B, H, R> {
             hub,
             hash,
             setup,
-            board,
+            rooms,
             guests: Mutex::new(guests),
-            has_failed: Mutex::new(false),
         }
     }
 
@@ -54,19 +80,49 @@ impl<'a, B: Names<H>, H: SessionHash, R: Wait> Hall<'a, B, H, R> {
 
     /// One who has no connection any more.
     pub(crate) fn take_back(&self, guest: Guest<B, H>) {
-        self.board.vacate(guest.place);
+        self.rooms.board.vacate(guest.place);
         // There is room; else the hub could not be closed, which would be seen.
         let _ = self.guests.lock(self.rt).push(guest);
     }
 
-    /// No more connections come, because accepting failed.
-    pub(crate) fn fail(&self) {
-        *self.has_failed.lock(self.rt) = true;
+    /// All tasks came to be.
+    pub(crate) fn open(&self) {
+        self.rooms.stage.open();
     }
 
-    /// Whether accepting failed.
-    pub(crate) fn has_failed(&self) -> bool {
-        *self.has_failed.lock(self.rt)
+    /// No more connections come, because of this where it is a fault. All tasks end once their sessions have.
+    pub(crate) fn close(&self, fault: Option<Fault>) {
+        self.rooms.stage.close(fault);
+        self.rooms.board.end_help();
+        self.rooms.mailboxes.close(self.rt);
+        self.rooms.exits.call_keeper(self.rt);
+    }
+
+    /// Waits until all tasks came to be, and answers whether they did.
+    pub(crate) fn poll_open(&self, cx: &mut Context<'_>) -> Poll<bool>
+        ensures registered { OnPending result (IsArmed cx.new) }
+        ensures kept { Keeps cx.old cx.new }
+    {
+        self.rooms.stage.poll_open(cx)
+    }
+
+    /// A task that serves one place after another's session has ended.
+    pub(crate) fn end_one(&self) {
+        self.rooms.mailboxes.end_one(self.rt);
+        self.rooms.exits.call_keeper(self.rt);
+    }
+
+    /// Whether nobody is served any more, and nobody will be.
+    pub(crate) fn is_over(&self) -> bool {
+        match self.rooms.stage.fault() {
+            Some(Fault::Start) => true,
+            _ => self.rooms.mailboxes.are_over(self.rt),
+        }
+    }
+
+    /// Why no more connections came, where that was a fault.
+    pub(crate) fn fault(&self) -> Option<Fault> {
+        self.rooms.stage.fault()
     }
 
     /// Those who have no connection, once all tasks are over.

@@ -38,7 +38,7 @@ impl<'a, B: Names<H>, H: SessionHash, R: Wait + Clock> HubPort<'a, B, H, R> {
         requires here { pass.home ≡ hall.now.hub.now.home }
         requires challenged { pass.challenge ≡ challenge }
     {
-        hall.board.occupy(place);
+        hall.rooms.board.occupy(place);
         HubPort {
             hall,
             pass,
@@ -51,7 +51,7 @@ impl<'a, B: Names<H>, H: SessionHash, R: Wait + Clock> HubPort<'a, B, H, R> {
 
     /// What rings for it.
     pub(crate) fn bell(&self) -> SeatBell<'a> {
-        SeatBell::new(&self.hall.board, self.place)
+        SeatBell::new(&self.hall.rooms.board, self.place)
     }
 
     /// Rings for those whom the last line concerned. A client's lines often come together, so where one is for
@@ -62,13 +62,14 @@ impl<'a, B: Names<H>, H: SessionHash, R: Wait + Clock> HubPort<'a, B, H, R> {
         if !self.is_named
             && let Touched::One(sid) = touched
         {
-            self.hall.board.name(self.place, sid);
+            self.hall.rooms.board.name(self.place, sid);
             self.is_named = true;
         }
         if let Touched::Everybody = touched {
+            self.hall.rooms.board.say();
             self.owes_ring = true;
         } else {
-            self.hall.board.ring(touched, self.place);
+            self.hall.rooms.board.ring(touched, self.place);
         }
     }
 
@@ -76,7 +77,7 @@ impl<'a, B: Names<H>, H: SessionHash, R: Wait + Clock> HubPort<'a, B, H, R> {
     fn ring_all(&mut self) {
         if self.owes_ring {
             self.owes_ring = false;
-            self.hall.board.ring(Touched::Everybody, self.place);
+            self.hall.rooms.board.ring(Touched::Everybody, self.place);
         }
     }
 }
@@ -108,7 +109,7 @@ impl<B: Names<H>, H: SessionHash, R: Wait + Clock> Port for HubPort<'_, B, H, R>
         // Their digests may take long.
         if line.starts_with(b"BINF") || line.starts_with(b"HPAS") {
             self.ring_all();
-            self.hall.board.call_for_help(self.place);
+            self.hall.rooms.board.call_for_help(self.place);
         }
         let hall = self.hall;
         let prepared = ready(alloc, hall.setup, hall.hash, self.challenge, line)?;
@@ -122,7 +123,11 @@ impl<B: Names<H>, H: SessionHash, R: Wait + Clock> Port for HubPort<'_, B, H, R>
 
     fn take(&mut self, count: usize, out: &mut Vec<u8>) -> Result<Taken, TakeRefused> {
         self.ring_all();
-        self.hall.hub.take(self.hall.rt, &mut self.pass, count, out)
+        let hall = self.hall;
+        let taken = hall.hub.take(hall.rt, &mut self.pass, count, out)?;
+        let has_more = taken.lines >= count as u64;
+        hall.rooms.board.took(self.place, taken.lines, has_more);
+        Ok(taken)
     }
 
     fn quit(mut self) -> Guest<B, H> {
@@ -136,7 +141,7 @@ impl<B: Names<H>, H: SessionHash, R: Wait + Clock> Port for HubPort<'_, B, H, R>
             owes_ring: _,
         } = self;
         let visitor = hall.hub.quit(hall.rt, pass);
-        hall.board.ring(visitor.touched(), place);
+        hall.rooms.board.ring(visitor.touched(), place);
         Guest::new(visitor, place)
     }
 }

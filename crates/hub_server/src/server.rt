@@ -3,54 +3,46 @@ ghost use Rattle.std.specs.List.{All};
 ghost use Rattle.one_history.specs.States.{Home};
 ghost use Rattle.hub_shared.specs.declared.about.About.{About};
 
-use crate::board::Board;
-use crate::door::{Door, Porter};
+use crate::descriptors::{allowed, needed};
+use crate::door::{Door, Listens};
+use crate::entrance::Entrance;
 use crate::guest::{Guest, Names};
-use crate::hall::Hall;
-use crate::task::Tasks;
+use crate::hall::{Hall, Rooms};
+use crate::keeper::Keeper;
+use crate::opening::Opening;
+use crate::porter::Porter;
+use crate::stage::Fault;
+use crate::task::Accepting;
+use crate::tasks::Tasks;
 use adc_sessions::Accept;
-use futures::channel::mpsc::unbounded;
 use hub_challenges::Challenges;
 use hub_endings::Ending;
 use hub_settings::Settings;
 use hub_shared::{Host, Hub, Report, Visitor};
 use log::sink::Locked;
-use log::{Level, Log, Logged};
+use log::{Level, Log, Logged, warn};
 use session_hash::SessionHash;
 use std::alloc::{AllocGlobal, Global};
 use std::io;
 use std::io::Write;
 use std::marker::Brand;
-use std::net::{Net, SocketAddr, SocketAddrV4};
+use std::net::Net;
 use std::random::RandomSource;
 use std::sync::{Arc, Wait};
 use std::thread::Threads;
-use std::time::Clock;
-use tokio::net::TcpListener;
-use tokio::reactor::Handle;
+use std::time::{Clock, Duration};
 use tokio::runtime::Runtime;
-
-/// Where a server's connections come from.
-pub(crate) trait Entrance: Drop {
-    /// What listens there. It fails where the system does not give it.
-    fn opens<R: Net>(self, rt: &R, handle: &Handle) -> io::Result<TcpListener>;
-}
-
-impl Entrance for SocketAddrV4 {
-    fn opens<R: Net>(self, rt: &R, handle: &Handle) -> io::Result<TcpListener> {
-        TcpListener::bind(rt, SocketAddr::V4(self), handle)
-    }
-}
 
 /// Serves a hub with these settings, this hash, and challenges of this seed, and gives the exit status.
 ///
-/// On `output` it says `listening` and the address that was bound, as `a.b.c.d:port`, and at the end
-/// `joins`, the number of joins that were accepted, `present 0`. On `errors` goes a warning for each session that ends
-/// by a fault of its connection or for want of memory.
+/// On `output` it says `listening` and the address that was bound, as `a.b.c.d:port`, once all of its tasks came to be, and
+/// at the end `joins`, the number of joins that were accepted, `present 0`. On `errors` goes a warning for each session that
+/// ends by a fault of its connection or for want of memory, and one at the start where the system allows fewer
+/// descriptors than as many users need as the settings admit.
 ///
 /// The status is 0 once as many connections were accepted as the settings say, and all are over; 3 where the address
-/// cannot be had, or accepting failed 64 times in a row; 4 where memory ran out; 5 where the output failed. What went wrong
-/// is one line on `errors`.
+/// cannot be had, or accepting failed 64 times in a row by a fault of the listener; 4 where memory or threads cannot be had
+/// at the start, or the runtime cannot go on; 5 where the output failed. What went wrong is one line on `errors`.
 pub fn serve_on<H, R, W, E>(
     rt: &R,
     settings: &Settings,
@@ -112,7 +104,7 @@ where
     let (hub, host) = open(rt.alloc(), settings, hash)?;
     // Settings ask for one at least.
     let threads = settings.threads().max(1) as usize;
-    let mut runtime = Runtime::with_worker_threads(rt, threads).map_err(|error| ending_of(&error))?;
+    let mut runtime = Runtime::with_worker_threads(rt, threads).map_err(|_| Ending::Memory)?;
     let (host, visitors) = run::<Brand, H, R, A, W, E>(
         rt,
         &mut runtime,
@@ -173,53 +165,85 @@ where
     ensures visitors { IfOk result (λ r. All (λ v. v.home ≡ hub.now.home) r.1.items) }
 {
     let alloc = rt.alloc();
-    let count = settings.setup().max_users() as usize + 1;
+    let users = settings.setup().max_users();
+    // One more joins where the hub is full, to be told so.
+    let count = users as usize + 1;
     let mut host = host;
     let guests = admit::<B, H>(alloc, &mut host, hub, count)?;
     let visitors = Vec::with_capacity(alloc, count)?;
-    let board = Board::new(alloc, count)?;
-    let hall = Hall::new(rt, hub, hash, settings.setup(), board, guests);
-    let listener = listen(rt, runtime, entrance, output)?;
+    let rooms = Rooms::new(alloc, count)?;
+    let hall = Hall::new(rt, hub, hash, settings.setup(), rooms, guests);
     let log = Logged::new((), Level::Warn, Locked::new(rt, errors));
+    warn_of_descriptors(&log, users);
+    let listener = match entrance.opens(rt, runtime.handle().reactor()) {
+        Ok(listener) => listener,
+        Err(error) => return Err(ending_of(&error)),
+    };
     serve_all(
         runtime,
         &hall,
         &log,
         listener,
         Challenges::from_seed(seed),
-        settings.stop_after(),
+        settings,
+        output,
     )?;
-    if hall.has_failed() {
-        return Err(Ending::Address);
-    }
     Ok((host, leave(hall.into_guests(), visitors)))
 }
 
 /// Has all connections served that come.
-fn serve_all<B, H, R, L>(
+fn serve_all<'a, B, H, R, L, I, W>(
     runtime: &mut Runtime,
-    hall: &Hall<'_, B, H, R>,
-    log: &L,
-    listener: TcpListener,
+    hall: &'a Hall<'a, B, H, R>,
+    log: &'a L,
+    listener: I,
     challenges: Challenges,
-    stop_after: u32,
+    settings: &Settings,
+    output: &'a mut W,
 ) -> Result<(), Ending>
 where
     B: Names<H> + Send + Sync,
     H: SessionHash + Send + Sync,
     R: Wait + Threads + Clock + Net + RandomSource + AllocGlobal + Sync,
     L: Log + Sync,
+    I: Listens + Send,
+    W: Write,
 {
-    let (arrivals, arrived) = unbounded(hall.rt.alloc())?;
-    let stop_after = match stop_after {
+    let stop_after = match settings.stop_after() {
         0 => None,
         count => Some(u64::from(count)),
     };
-    let door = Door::new(listener, &hall.board);
-    let accept = Accept::new(door, Porter::new(hall, challenges, arrivals), stop_after);
-    match runtime.run_all(hall.rt, Tasks::new(accept, arrived, hall, log)) {
-        Ok(()) => Ok(()),
-        Err(error) => Err(ending_of(&error)),
+    let address = listener.address().map_err(|error| ending_of(&error))?;
+    let time = runtime.handle().time();
+    let timer = time.sleep(hall.rt, Duration::ZERO).map_err(|_| Ending::Memory)?;
+    let keeper = Keeper::new(hall, timer);
+    let timer = time.sleep(hall.rt, Duration::ZERO).map_err(|_| Ending::Memory)?;
+    let door = Door::new(listener, &hall.rooms.board, hall.rt, log, timer);
+    let accept = Accept::new(door, Porter::new(hall, challenges, log), stop_after);
+    let tasks = Tasks::new(
+        keeper,
+        settings.setup().max_users() as usize + 1,
+        Accepting::new(accept, hall),
+        Opening::new(hall, output, address),
+        hall,
+        log,
+    );
+    let served = runtime.run_all(hall.rt, tasks);
+    match (served, hall.fault()) {
+        (Ok(()), None) => Ok(()),
+        (Ok(()), Some(Fault::Accepting)) => Err(Ending::Address),
+        (Ok(()), Some(Fault::Output)) => Err(Ending::Transfer),
+        (Ok(()), Some(Fault::Start)) | (Err(_), _) => Err(Ending::Memory),
+    }
+}
+
+/// Says where the system allows fewer descriptors than so many users need.
+fn warn_of_descriptors<L: Log>(log: &L, users: u32) {
+    let needed = needed(users);
+    if let Some(allowed) = allowed()
+        && allowed < needed
+    {
+        warn!(log; "{} users need {} descriptors, and the system allows {}", users, needed, allowed);
     }
 }
 
@@ -257,25 +281,6 @@ fn leave<B: Names<H>, H>(guests: Vec<Guest<B, H>>, visitors: Vec<Visitor<H>>) ->
     visitors
 }
 
-/// Listens at the entrance, and says where that is.
-fn listen<R: Net, A: Entrance, W: Write>(
-    rt: &R,
-    runtime: &Runtime,
-    entrance: A,
-    output: &mut W,
-) -> Result<TcpListener, Ending> {
-    let listener = match entrance.opens(rt, runtime.handle().reactor()) {
-        Ok(listener) => listener,
-        Err(error) => return Err(ending_of(&error)),
-    };
-    let address = listener.local_addr().map_err(|error| ending_of(&error))?;
-    match writeln!(output, "listening {address}") {
-        Ok(()) => flush(output)?,
-        Err(_) => return Err(Ending::Transfer),
-    }
-    Ok(listener)
-}
-
 fn say_report<W: Write>(report: &Report, output: &mut W) -> Result<(), Ending> {
     match writeln!(output, "joins {} present {}", report.joins, report.present) {
         Ok(()) => flush(output),
@@ -290,7 +295,7 @@ fn flush<W: Write>(output: &mut W) -> Result<(), Ending> {
     }
 }
 
-/// How the server ends where sockets or its threads cannot be had.
+/// How the server ends where its address cannot be had.
 fn ending_of(error: &io::Error) -> Ending {
     if error.kind() == io::ErrorKind::OutOfMemory {
         return Ending::Memory;

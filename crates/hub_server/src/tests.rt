@@ -1,8 +1,12 @@
 mod boards;
 mod client;
 mod conversation;
+mod doors;
+mod flaky;
 mod gate;
 mod listening;
 mod over_memory;
+mod paces;
 mod run;
 mod scenes;
+mod warnings;

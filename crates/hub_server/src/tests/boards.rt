@@ -1,6 +1,9 @@
 // Who is woken by a ring.
+use crate::bell::SeatBell;
 use crate::board::Board;
+use crate::pace::{HALF, PATIENCE, STEP};
 use adc_base32::Sid;
+use adc_sessions::Bell;
 use futures::test::MockTask;
 use hub_core::Touched;
 use std::alloc::AllocGlobal;
@@ -137,4 +140,82 @@ fn a_call_for_help_wakes_the_accepting_task(rt: HostRuntime) {
     waiters.board.end_help();
     waiters.board.call_for_help(0);
     waiters.are_woken(&rt, [false, true, true, true]);
+}
+
+/// Says so many lines to everybody.
+fn says(waiters: &Waiters, count: u64) {
+    for _line in 0..count {
+        waiters.board.say();
+    }
+}
+
+#[test]
+fn who_speaks_gives_way_to_who_is_behind(rt: HostRuntime) {
+    let waiters = Waiters::new(&rt);
+    let mut bell = SeatBell::new(&waiters.board, 0);
+    says(&waiters, HALF);
+    assert!(&rt; bell.may_hand());
+    says(&waiters, STEP);
+    // All are behind. It gives way, and is rung for once nobody is.
+    assert!(&rt; !bell.may_hand());
+    waiters.are_woken(&rt, [false; COUNT]);
+    for place in 0..COUNT {
+        assert!(&rt; !bell.may_hand());
+        waiters.board.took(place, 256, false);
+    }
+    assert!(&rt; bell.may_hand());
+    waiters.are_woken(&rt, [true, false, false, false]);
+}
+
+#[test]
+fn who_speaks_gives_way_for_a_while(rt: HostRuntime) {
+    let waiters = Waiters::new(&rt);
+    let mut bell = SeatBell::new(&waiters.board, 0);
+    says(&waiters, 2 * HALF);
+    for _tick in 0..PATIENCE - 1 {
+        assert!(&rt; !bell.may_hand());
+        // Some of them move, so that they are waited for; they have as much waiting as before.
+        waiters.board.took(1, 1, true);
+        waiters.board.tick();
+        waiters.are_woken(&rt, [true, false, false, false]);
+    }
+    assert!(&rt; !bell.may_hand());
+    waiters.board.took(1, 1, true);
+    waiters.board.tick();
+    waiters.are_woken(&rt, [true, false, false, false]);
+    // It has waited for long, and may hand over some.
+    for _line in 0..STEP {
+        assert!(&rt; bell.may_hand());
+    }
+    assert!(&rt; !bell.may_hand());
+}
+
+#[test]
+fn who_never_moves_holds_up_nobody(rt: HostRuntime) {
+    let waiters = Waiters::new(&rt);
+    let mut bell = SeatBell::new(&waiters.board, 0);
+    says(&waiters, 2 * HALF);
+    for _tick in 0..PATIENCE {
+        assert!(&rt; !bell.may_hand());
+        waiters.board.tick();
+    }
+    assert!(&rt; !waiters.board.is_behind());
+    for _line in 0..10 * STEP {
+        assert!(&rt; bell.may_hand());
+        waiters.board.say();
+    }
+}
+
+#[test]
+fn who_leaves_is_not_waited_for(rt: HostRuntime) {
+    let waiters = Waiters::new(&rt);
+    let mut bell = SeatBell::new(&waiters.board, 0);
+    // Lines for one alone.
+    for _line in 0..HALF + 1 {
+        assert!(&rt; bell.may_hand());
+        waiters.board.ring(Touched::One(sid(&rt, 3)), 0);
+    }
+    assert!(&rt; !bell.may_hand());
+    waiters.board.vacate(2);
+    assert!(&rt; bell.may_hand());
 }

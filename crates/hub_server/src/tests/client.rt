@@ -18,6 +18,11 @@ const PIECE: usize = 4_096;
 /// How many long lines are said to one who does not read: more than the system keeps for it.
 const MANY: usize = 300;
 
+/// How many letters a whispered line has, and how many are whispered: more than a socket takes that nobody reads.
+const WHISPER: usize = 2_000;
+
+const WHISPERS: usize = 200;
+
 /// What a client does, or waits for.
 #[derive(Clone, Copy)]
 pub enum Act<'a> {
@@ -29,6 +34,10 @@ pub enum Act<'a> {
     Hears(&'a [u8]),
     /// Under this header says long lines, so many that who does not read them is shut out, and hears each.
     ChatsLong(&'a [u8]),
+    /// Under this header says many lines of 2,000 letters.
+    Whispers(&'a [u8]),
+    /// Reads these.
+    HearsWhispers(&'a [u8]),
     /// Sends 65,537 bytes `x`, or as many as are taken.
     Floods,
     /// Reads to the end, and something comes before, but not all that was said in long lines.
@@ -66,6 +75,8 @@ impl<S: Read + Write + OpenStream + Drop> Client<S> {
             Act::SaysSlowly(line) => self.says_slowly(line),
             Act::Hears(line) => self.hears(line),
             Act::ChatsLong(header) => self.chats_long(header),
+            Act::Whispers(header) => self.whispers(header),
+            Act::HearsWhispers(header) => self.hears_whispers(header),
             Act::Floods => self.floods(),
             Act::HearsAPart => self.hears_a_part(),
             Act::HearsTheEnd => self.hears_the_end(),
@@ -128,6 +139,32 @@ impl<S: Read + Write + OpenStream + Drop> Client<S> {
             }
         }
         self.hears(b"")
+    }
+
+    fn whispers(&mut self, header: &[u8]) -> Option<()> {
+        for _line in 0..WHISPERS {
+            self.stream.write_all(header).ok()?;
+            self.stream.write_all(&[b'x'; WHISPER]).ok()?;
+            self.stream.write_all(b"\n").ok()?;
+        }
+        Some(())
+    }
+
+    fn hears_whispers(&mut self, header: &[u8]) -> Option<()> {
+        let mut bytes = [0; WHISPER];
+        for _line in 0..WHISPERS {
+            let front = bytes.get_mut(..header.len())?;
+            self.stream.read_exact(front).ok()?;
+            if *front != *header {
+                return None;
+            }
+            self.stream.read_exact(&mut bytes).ok()?;
+            if bytes != [b'x'; WHISPER] {
+                return None;
+            }
+            self.hears(b"")?;
+        }
+        Some(())
     }
 
     fn floods(&mut self) -> Option<()> {

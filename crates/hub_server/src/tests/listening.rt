@@ -1,5 +1,6 @@
 // Servers that cannot be had, or not for long.
-use crate::server::{Entrance, serve_at};
+use crate::entrance::Entrance;
+use crate::server::serve_at;
 use crate::tests::run::settings;
 use session_hash::First24;
 use std::alloc::AllocGlobal;
@@ -18,6 +19,8 @@ use tokio::reactor::Handle;
 struct Connected(TcpListener);
 
 impl Entrance for Connected {
+    type Listener = tokio::net::TcpListener;
+
     fn opens<R: Net>(self, _rt: &R, handle: &Handle) -> io::Result<tokio::net::TcpListener> {
         tokio::net::TcpListener::from_std(self.0, handle)
     }
@@ -76,7 +79,7 @@ where
         + AllocGlobal
         + Sync,
 {
-    let settings = settings(rt.alloc(), "hash = \"first24\"\n")?;
+    let settings = settings(rt.alloc(), "hash = \"first24\"\nmax_users = 4\n")?;
     let hash = Arc::new(rt.alloc(), First24)?;
     let got = Vec::with_capacity(rt.alloc(), 64)?;
     let mut output = Output { got, is_broken };

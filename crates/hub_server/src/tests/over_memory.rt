@@ -1,9 +1,8 @@
 // A session over memory, with the port of the server.
 ghost use Rattle.std.specs.Prelude.{◌≡◌, Some, ⊤};
 
-use crate::board::Board;
 use crate::guest::Names;
-use crate::hall::Hall;
+use crate::hall::{Hall, Rooms};
 use crate::port::HubPort;
 use adc_sessions::{End, Session};
 use futures::task::{Context, Poll};
@@ -89,9 +88,9 @@ fn session<B: Names<First24>, R: Wait + Clock + RandomSource + AllocGlobal>(
     let Ok(pass) = joined else {
         return None;
     };
-    let board = Board::new(rt.alloc(), 1).ok()?;
+    let rooms = Rooms::new(rt.alloc(), 1).ok()?;
     let guests = Vec::new(rt.alloc());
-    let hall = Hall::<B, First24, R>::new(rt, hub, &First24, setup, board, guests);
+    let hall = Hall::<B, First24, R>::new(rt, hub, &First24, setup, rooms, guests);
     let port = HubPort::new(&hall, pass, CHALLENGE, 0);
     let bell = port.bell();
     let written = Vec::with_capacity(rt.alloc(), 1024).ok()?;

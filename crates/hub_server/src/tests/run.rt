@@ -1,6 +1,7 @@
 // A server over loopback sockets, and the clients that it serves.
-use crate::server::serve_on;
+use crate::server::{serve_at, serve_on};
 use crate::tests::conversation::{Step, plays};
+use crate::tests::flaky::Flaky;
 use crate::tests::gate::GateHash;
 use futures::spin::lock;
 use hub_settings::{Settings, read_settings};
@@ -171,10 +172,20 @@ pub fn settings(alloc: Global, text: &str) -> Result<Settings, AllocError> {
     }
 }
 
+/// How a server listens.
+#[derive(Clone, Copy, PartialEq, Eq)]
+pub enum Way {
+    /// As its settings say.
+    AsSet,
+    /// There, but at first it accepts nobody.
+    Flaky,
+}
+
 /// Serves while the clients play these parts.
 fn attempt<R>(
     rt: &R,
     text: &str,
+    way: Way,
     hash: &Arc<GateHash>,
     parts: &[&[Step<'_>]],
 ) -> Result<Ran, AllocError>
@@ -198,7 +209,13 @@ where
             move || heard.sees(rt, gate, parts),
             move || {
                 let mut output = Told { rt, heard };
-                let status = serve_on(rt, settings, served, [0; 32], &mut output, errors);
+                let status = match way {
+                    Way::AsSet => serve_on(rt, settings, served, [0; 32], &mut output, errors),
+                    Way::Flaky => {
+                        let entrance = Flaky(settings.listen());
+                        serve_at(rt, settings, served, [0; 32], entrance, &mut output, errors)
+                    }
+                };
                 heard.end();
                 status
             },
@@ -214,7 +231,7 @@ where
 }
 
 /// Serves while the clients play these parts, and once more where memory was refused.
-pub fn runs<R>(rt: &R, text: &str, hash: &Arc<GateHash>, parts: &[&[Step<'_>]]) -> Ran
+pub fn runs<R>(rt: &R, text: &str, way: Way, hash: &Arc<GateHash>, parts: &[&[Step<'_>]]) -> Ran
 where
     R: Wait
         + Threads
@@ -225,12 +242,12 @@ where
         + Abort
         + Sync,
 {
-    if let Ok(ran) = attempt(rt, text, hash, parts)
+    if let Ok(ran) = attempt(rt, text, way, hash, parts)
         && !ran.met_memory()
     {
         return ran;
     }
-    match attempt(rt, text, hash, parts) {
+    match attempt(rt, text, way, hash, parts) {
         Ok(ran) => ran,
         Err(_) => panic!(rt; "refused twice"),
     }

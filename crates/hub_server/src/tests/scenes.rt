@@ -3,7 +3,7 @@ use crate::tests::client::Act;
 use crate::tests::conversation::Step::{self, Connects, DigestBegins, DigestEnds, Does};
 use crate::tests::conversation::Who::{Ana, Bob};
 use crate::tests::gate::GateHash;
-use crate::tests::run::{Ran, runs};
+use crate::tests::run::{Ran, Way, runs};
 use std::alloc::AllocGlobal;
 use std::net::{Net, TcpListener, TcpStream};
 use std::process::Abort;
@@ -71,9 +71,9 @@ const ANA_CHATS: [Step<'static>; 2] = [
 ];
 
 /// The settings of hubs for two connections, and for one.
-const TWO: &str = "listen = \"127.0.0.1:0\"\nhash = \"first24\"\nstop_after = 2\n";
+const TWO: &str = "listen = \"127.0.0.1:0\"\nhash = \"first24\"\nstop_after = 2\nmax_users = 4\n";
 
-const ONE: &str = "listen = \"127.0.0.1:0\"\nhash = \"first24\"\nstop_after = 1\n";
+const ONE: &str = "listen = \"127.0.0.1:0\"\nhash = \"first24\"\nstop_after = 1\nmax_users = 4\n";
 
 const TWO_JOINED: &[u8] = b"\njoins 2 present 0\n";
 
@@ -92,7 +92,14 @@ fn gate(rt: &(impl AllocGlobal + Abort), is_open: bool) -> Arc<GateHash> {
 
 /// A server of these settings, once the clients have played these parts. Stops the test where they did not hear what they
 /// should, or it does not end well and as it is to.
-fn ran<R>(rt: &R, text: &str, gate: &Arc<GateHash>, parts: &[&[Step<'_>]], said: &[u8]) -> Ran
+fn ran<R>(
+    rt: &R,
+    text: &str,
+    way: Way,
+    gate: &Arc<GateHash>,
+    parts: &[&[Step<'_>]],
+    said: &[u8],
+) -> Ran
 where
     R: Wait
         + Threads
@@ -103,7 +110,7 @@ where
         + Abort
         + Sync,
 {
-    let ran = runs(rt, text, gate, parts);
+    let ran = runs(rt, text, way, gate, parts);
     assert!(rt; ran.went_well);
     assert!(rt; ran.status == 0, "{}", ran.status);
     assert!(rt; ran.output.starts_with(b"listening 127.0.0.1:") && ran.output.ends_with(said));
@@ -122,7 +129,7 @@ where
         + Abort
         + Sync,
 {
-    let ran = ran(rt, text, &gate(rt, true), parts, said);
+    let ran = ran(rt, text, Way::AsSet, &gate(rt, true), parts, said);
     assert!(rt; ran.errors.is_empty());
 }
 
@@ -138,7 +145,7 @@ where
         + Abort
         + Sync,
 {
-    let ran = ran(rt, text, &gate(rt, true), parts, said);
+    let ran = ran(rt, text, Way::AsSet, &gate(rt, true), parts, said);
     let lines = ran.errors.iter().filter(|byte| **byte == b'\n').count();
     assert!(rt; lines == 1 && ran.errors.ends_with(b"\n"), "{lines}");
     assert!(rt; ran.says(end));
@@ -260,31 +267,33 @@ const OPERATOR: Act<'static> = Act::Hears(
 
 const KICKED: Act<'static> = Act::Hears(b"IQUI AAAC IDAAAB MSbe\\skind");
 
+const WITH_OPERATOR: &str = "listen = \"127.0.0.1:0\"\nhash = \"first24\"\nstop_after = 2\nmax_users = 4\n\
+[[account]]\nnick = \"op\"\npassword = \"sesame\"\noperator = true\n";
+
+/// An operator comes in Ana's place, and Bob after her.
+const OPERATOR_AND_BOB_ENTER: [Step<'static>; 18] = [
+    Connects(Ana),
+    Does(Ana, GREETS),
+    Does(Ana, GREETED),
+    Does(Ana, FIRST),
+    Does(Ana, HUB),
+    Does(Ana, OPERATOR_LOGS_IN),
+    Does(Ana, CHALLENGE),
+    Does(Ana, PASSWORD),
+    Does(Ana, OPERATOR),
+    Connects(Bob),
+    Does(Bob, GREETS),
+    Does(Bob, GREETED),
+    Does(Bob, SECOND),
+    Does(Bob, HUB),
+    Does(Bob, Act::Says(BOB_LOGS_IN)),
+    Does(Bob, OPERATOR),
+    Does(Bob, BOB),
+    Does(Ana, BOB),
+];
+
 #[test]
 fn an_operator_kicks_a_user(rt: HostRuntime) {
-    let text = "listen = \"127.0.0.1:0\"\nhash = \"first24\"\nstop_after = 2\n\
-[[account]]\nnick = \"op\"\npassword = \"sesame\"\noperator = true\n";
-    // The operator comes in Ana's place.
-    let both_enter = [
-        Connects(Ana),
-        Does(Ana, GREETS),
-        Does(Ana, GREETED),
-        Does(Ana, FIRST),
-        Does(Ana, HUB),
-        Does(Ana, OPERATOR_LOGS_IN),
-        Does(Ana, CHALLENGE),
-        Does(Ana, PASSWORD),
-        Does(Ana, OPERATOR),
-        Connects(Bob),
-        Does(Bob, GREETS),
-        Does(Bob, GREETED),
-        Does(Bob, SECOND),
-        Does(Bob, HUB),
-        Does(Bob, Act::Says(BOB_LOGS_IN)),
-        Does(Bob, OPERATOR),
-        Does(Bob, BOB),
-        Does(Ana, BOB),
-    ];
     let kick = [
         Does(Ana, Act::Says(b"HMSG !kick\\sbob\\sbe\\skind")),
         Does(Bob, KICKED),
@@ -293,12 +302,35 @@ fn an_operator_kicks_a_user(rt: HostRuntime) {
         Does(Ana, Act::Hears(b"ISTA 000 Done")),
         Does(Ana, Act::Leaves),
     ];
-    serves(&rt, text, &[both_enter.as_slice(), &kick], TWO_JOINED);
+    let parts = [OPERATOR_AND_BOB_ENTER.as_slice(), &kick];
+    serves(&rt, WITH_OPERATOR, &parts, TWO_JOINED);
+}
+
+#[test]
+fn a_last_line_arrives(rt: HostRuntime) {
+    // What Bob sends last is not read by his session any more, and what he is told waits in his socket.
+    let last = [
+        Does(Ana, Act::Whispers(b"DMSG AAAB AAAC ")),
+        Does(Bob, Act::Says(b"")),
+        Does(Ana, Act::Says(b"HMSG !kick\\sbob\\sbe\\skind")),
+        Does(Ana, KICKED),
+        Does(Ana, Act::Hears(b"ISTA 000 Done")),
+        Does(Bob, Act::Says(b"")),
+        Does(Bob, Act::HearsWhispers(b"DMSG AAAB AAAC ")),
+        Does(Bob, KICKED),
+        Does(Bob, Act::HearsTheEnd),
+        Does(Bob, Act::Leaves),
+        Does(Ana, Act::Leaves),
+    ];
+    let parts = [OPERATOR_AND_BOB_ENTER.as_slice(), &last];
+    for _time in 0..5 {
+        serves(&rt, WITH_OPERATOR, &parts, TWO_JOINED);
+    }
 }
 
 #[test]
 fn who_enters_gets_the_menu(rt: HostRuntime) {
-    let text = "listen = \"127.0.0.1:0\"\nhash = \"first24\"\nstop_after = 1\n\
+    let text = "listen = \"127.0.0.1:0\"\nhash = \"first24\"\nstop_after = 1\nmax_users = 4\n\
 [[command]]\nname = \"Help\"\ncontext = 1\ntext = \"HMSG !help\\n\"\n";
     let menu = [
         Connects(Ana),
@@ -378,10 +410,19 @@ fn a_digest_holds_up_nobody_else(rt: HostRuntime) {
     let ran = ran(
         &rt,
         TWO,
+        Way::AsSet,
         &gate,
         &[gated.as_slice(), &BOTH_LEAVE],
         TWO_JOINED,
     );
     assert!(&rt; !gate.gave_up());
+    assert!(&rt; ran.errors.is_empty());
+}
+
+#[test]
+fn a_door_that_rests_opens_again(rt: HostRuntime) {
+    let leaves = [Does(Ana, Act::Leaves)];
+    let parts = [ANA_ENTERS.as_slice(), &ANA_CHATS, &leaves];
+    let ran = ran(&rt, ONE, Way::Flaky, &gate(&rt, true), &parts, ONE_JOINED);
     assert!(&rt; ran.errors.is_empty());
 }

@@ -1,4 +1,4 @@
-use Rattle.hub_server.proofs.board.Seats.ring_all.Given as goal
+use Rattle.hub_server.proofs.seats.Seats.ring_all.Given as goal
 
 abbrev pub decreases-loop-place : goal.decreases-loop-place
 decreases-loop-place l = goal.left-loop-place l
