@@ -161,7 +161,8 @@ impl Board {
         if let Some(mut seats) = lock(&self.seats) {
             let said = self.said.load(Ordering::SeqCst);
             seats.tick(said);
-            self.is_behind.store(seats.is_behind(said), Ordering::SeqCst);
+            self.is_behind
+                .store(seats.is_behind(said), Ordering::SeqCst);
             seats.let_go();
         }
     }

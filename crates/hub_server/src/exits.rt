@@ -51,10 +51,7 @@ impl Exits {
         let Some(until) = now.checked_add(Duration::from_secs(SECONDS)) else {
             return;
         };
-        let oldest = self
-            .leaving
-            .lock(rt)
-            .replace(Lingering::new(stream, until));
+        let oldest = self.leaving.lock(rt).replace(Lingering::new(stream, until));
         // It is closed here, and not under the lock.
         drop(oldest);
     }

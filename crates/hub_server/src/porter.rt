@@ -26,8 +26,13 @@ pub(crate) struct Porter<'a, B: Names<H>, H: SessionHash, R, L> {
     log: &'a L,
 }
 
-impl<'a, B: Names<H>, H: SessionHash, R: Wait + Clock + AllocGlobal, L: Log>
-    Porter<'a, B, H, R, L> {
+impl<'a, B: Names<H>, H: SessionHash, R: Wait + Clock + AllocGlobal, L: Log> Porter<
+    'a,
+    B,
+    H,
+    R,
+    L,
+> {
     pub(crate) fn new(
         hall: &'a Hall<'a, B, H, R>,
         challenges: Challenges,

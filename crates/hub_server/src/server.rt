@@ -215,9 +215,13 @@ where
     };
     let address = listener.address().map_err(|error| ending_of(&error))?;
     let time = runtime.handle().time();
-    let timer = time.sleep(hall.rt, Duration::ZERO).map_err(|_| Ending::Memory)?;
+    let timer = time
+        .sleep(hall.rt, Duration::ZERO)
+        .map_err(|_| Ending::Memory)?;
     let keeper = Keeper::new(hall, timer);
-    let timer = time.sleep(hall.rt, Duration::ZERO).map_err(|_| Ending::Memory)?;
+    let timer = time
+        .sleep(hall.rt, Duration::ZERO)
+        .map_err(|_| Ending::Memory)?;
     let door = Door::new(listener, &hall.rooms.board, hall.rt, log, timer);
     let accept = Accept::new(door, Porter::new(hall, challenges, log), stop_after);
     let tasks = Tasks::new(

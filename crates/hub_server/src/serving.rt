@@ -28,8 +28,13 @@ pub(crate) struct Serving<'a, B: Names<H>, H: SessionHash, R, L> {
     log: &'a L,
 }
 
-impl<'a, B: Names<H>, H: SessionHash, R: Wait + Clock + AllocGlobal, L: Log>
-    Serving<'a, B, H, R, L> {
+impl<'a, B: Names<H>, H: SessionHash, R: Wait + Clock + AllocGlobal, L: Log> Serving<
+    'a,
+    B,
+    H,
+    R,
+    L,
+> {
     pub(crate) fn new(
         hall: &'a Hall<'a, B, H, R>,
         place: usize,

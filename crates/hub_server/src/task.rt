@@ -60,8 +60,14 @@ impl<B: Names<H>, H: SessionHash, R: Wait + Clock + AllocGlobal, L: Log, I: List
     }
 }
 
-impl<'a, B: Names<H>, H: SessionHash, R: Wait + Clock + AllocGlobal, L: Log, I: Listens>
-    Accepting<'a, B, H, R, L, I> {
+impl<'a, B: Names<H>, H: SessionHash, R: Wait + Clock + AllocGlobal, L: Log, I: Listens> Accepting<
+    'a,
+    B,
+    H,
+    R,
+    L,
+    I,
+> {
     pub(crate) fn new(
         reception: Reception<'a, B, H, R, L, I>,
         hall: &'a Hall<'a, B, H, R>,

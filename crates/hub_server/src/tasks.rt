@@ -28,8 +28,15 @@ pub(crate) struct Tasks<'a, B: Names<H>, H: SessionHash, R: Wait, L, I, W> {
     log: &'a L,
 }
 
-impl<'a, B: Names<H>, H: SessionHash, R: Wait + Clock + AllocGlobal, L: Log, I: Listens, W: Write>
-    Tasks<'a, B, H, R, L, I, W> {
+impl<
+    'a,
+    B: Names<H>,
+    H: SessionHash,
+    R: Wait + Clock + AllocGlobal,
+    L: Log,
+    I: Listens,
+    W: Write,
+> Tasks<'a, B, H, R, L, I, W> {
     /// The tasks for so many places.
     pub(crate) fn new(
         keeper: Keeper<'a, B, H, R>,
@@ -51,8 +58,15 @@ impl<'a, B: Names<H>, H: SessionHash, R: Wait + Clock + AllocGlobal, L: Log, I: 
     }
 }
 
-impl<'a, B: Names<H>, H: SessionHash, R: Wait + Clock + AllocGlobal, L: Log, I: Listens, W: Write> Stream
-    for Tasks<'a, B, H, R, L, I, W> {
+impl<
+    'a,
+    B: Names<H>,
+    H: SessionHash,
+    R: Wait + Clock + AllocGlobal,
+    L: Log,
+    I: Listens,
+    W: Write,
+> Stream for Tasks<'a, B, H, R, L, I, W> {
     type Item = Task<'a, B, H, R, L, I>;
 
     /// It ends once all tasks came to be; then the server opens.

@@ -267,7 +267,8 @@ const OPERATOR: Act<'static> = Act::Hears(
 
 const KICKED: Act<'static> = Act::Hears(b"IQUI AAAC IDAAAB MSbe\\skind");
 
-const WITH_OPERATOR: &str = "listen = \"127.0.0.1:0\"\nhash = \"first24\"\nstop_after = 2\nmax_users = 4\n\
+const WITH_OPERATOR: &str =
+    "listen = \"127.0.0.1:0\"\nhash = \"first24\"\nstop_after = 2\nmax_users = 4\n\
 [[account]]\nnick = \"op\"\npassword = \"sesame\"\noperator = true\n";
 
 /// An operator comes in Ana's place, and Bob after her.
