@@ -253,8 +253,9 @@ class Hub:
             env |= {"LD_PRELOAD": os.path.abspath("refuse.so"), "REFUSE_REPORT": str(self.shared)}
         env |= {f"REFUSE_{name}": str(value) for name, value in refuse.items()}
         limit = lambda: [resource.setrlimit(which, (value, value)) for which, value in limits]
-        self.said = open("said", "w+b")
-        self.warned = open("warned", "w+b")
+        # What the hub says is read by a handle of its own: one that both had would have one place in the file.
+        self.said, self.reader = open("said", "wb"), open("said", "rb")
+        self.warned = open("warned", "wb")
         how = {"env": env, "preexec_fn": limit, "stdin": subprocess.DEVNULL, "stdout": self.said, "stderr": self.warned}
         self.process = subprocess.Popen(words, pass_fds=[self.shared], **how)
         self.port = port
@@ -264,8 +265,8 @@ class Hub:
         until = time.monotonic() + seconds
         while time.monotonic() < until and self.process.poll() is None:
             if self.port is None:
-                self.said.seek(0)
-                said = self.said.read()
+                self.reader.seek(0)
+                said = self.reader.read()
                 if said.startswith(b"listening ") and said.endswith(b"\n"):
                     self.port = int(said.split(b":")[1])
                     return True
@@ -292,7 +293,7 @@ class Hub:
         if self.process.poll() is None:
             self.process.kill()
         self.process.wait()
-        for it in (self.said, self.warned):
+        for it in (self.said, self.reader, self.warned):
             it.close()
         os.close(self.shared)
 
@@ -570,9 +571,9 @@ def refused(table, each, threads):
     first.listens()
     begin = first.report().counted + 20
     first.stop()
-    window = max(300, each * (8 if table.options.short else 40))
+    window = max(120, each * (8 if table.options.short else 40))
     hub = start(table.options, FROM=begin, TO=begin + window, EACH=each)
-    number, until = 400_000, time.monotonic() + (3 if table.options.short else 20)
+    number, until = 400_000, time.monotonic() + 20
     try:
         listened = hub.listens()
         while listened and hub.status() is None and hub.report().counted <= begin + window and time.monotonic() < until:
