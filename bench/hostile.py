@@ -67,15 +67,15 @@ def tiger_schedule(x):
     x[7] = x[7] - (x[6] ^ 0x0123456789ABCDEF) & WORD
 
 
-def tiger(message, tables):
-    """Tiger of 24 bytes, which are one block."""
+def tiger(message):
+    """Tiger of up to 55 bytes, which are one block."""
     start = (0x0123456789ABCDEF, 0xFEDCBA9876543210, 0xF096A5B4C3B2E187)
-    x = [*struct.unpack("<3Q", message), 1, 0, 0, 0, 24 * 8]
+    x = [*struct.unpack("<8Q", message + b"\1" + bytes(55 - len(message)) + struct.pack("<Q", 8 * len(message)))]
     a, b, c = start
     for turn in range(3):
         if turn:
             tiger_schedule(x)
-        a, b, c = tiger_pass(a, b, c, x, 5 + 2 * turn, tables)
+        a, b, c = tiger_pass(a, b, c, x, 5 + 2 * turn, TABLES)
     return struct.pack("<3Q", a ^ start[0], b - start[1] & WORD, c + start[2] & WORD)
 
 
@@ -90,7 +90,7 @@ TABLES = read_tables()
 def login_line(sid, number, nick=None):
     pid = number.to_bytes(4, "little") + bytes(19) + b"\1"
     nick = nick or b"u%d" % number
-    return b"BINF %s ID%s PD%s NI%s SL1 FS1 SS1 SF1 HN1 HR0 HO0 SUTCP4 VEx\\s1\n" % (sid, base32(tiger(pid, TABLES)), base32(pid), nick)
+    return b"BINF %s ID%s PD%s NI%s SL1 FS1 SS1 SF1 HN1 HR0 HO0 SUTCP4 VEx\\s1\n" % (sid, base32(tiger(pid)), base32(pid), nick)
 
 
 HELLO = b"HSUP ADBASE ADTIGR\n"
@@ -635,21 +635,9 @@ def operator(port):
     client.greet()
     client.say(login_line(client.sid, 500_000, b"op"))
     challenge = decoded(client.hear(b"IGPA ")[5:].decode())
-    client.say(b"HPAS %s\n" % base32(tiger_of(b"sesame" + challenge)))
+    client.say(b"HPAS %s\n" % base32(tiger(b"sesame" + challenge)))
     client.hear(b"BINF " + client.sid)
     return client
-
-
-def tiger_of(message):
-    """Tiger of up to 55 bytes."""
-    start_of = (0x0123456789ABCDEF, 0xFEDCBA9876543210, 0xF096A5B4C3B2E187)
-    block = message + b"\1" + bytes(55 - len(message)) + struct.pack("<Q", 8 * len(message))
-    x, (a, b, c) = list(struct.unpack("<8Q", block)), start_of
-    for turn in range(3):
-        if turn:
-            tiger_schedule(x)
-        a, b, c = tiger_pass(a, b, c, x, 5 + 2 * turn, TABLES)
-    return struct.pack("<3Q", a ^ start_of[0], b - start_of[1] & WORD, c + start_of[2] & WORD)
 
 
 def kicked(port, number):
