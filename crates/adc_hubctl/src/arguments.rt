@@ -1,0 +1,255 @@
+use crate::checking::check;
+use crate::ending::Ending;
+use crate::operating::{Deed, Login, operate};
+use crate::pinging::ping;
+use adc_ids::NickFault;
+use clap::{Arg, ArgAction, ArgMatches, Command, value_parser};
+use hub_client::{NickText, Request};
+use std::alloc::{AllocError, AllocGlobal, Global};
+use std::fs::Files;
+use std::net::Net;
+use std::random::RandomSource;
+use std::time::Clock;
+
+const STATUSES: &str =
+    "Statuses: 0 done, 1 arguments or settings are at fault, 2 no Tiger's tables, 3 the address cannot be reached, \
+4 memory ran out, 5 the connection failed, 6 wrong password, 7 banned, 8 refused by the hub, 9 no answer in time";
+
+/// The tool's command line.
+pub(crate) fn commands<'a>(alloc: Global) -> Result<Command<'a>, AllocError> {
+    let whole = Command::new(alloc, "adc_hubctl")
+        .about("The tool of a hub's operator")
+        .version("1.0")
+        .propagate_version(true)
+        .subcommand_required(true)
+        .after_help(STATUSES)
+        .subcommand(check_command(alloc)?)?;
+    let whole = with_acts(alloc, whole)?;
+    whole
+        .subcommand(who_command(alloc)?)?
+        .subcommand(say_command(alloc)?)?
+        .subcommand(ping_command(alloc)?)
+}
+
+/// With what operators do.
+fn with_acts<'a>(alloc: Global, whole: Command<'a>) -> Result<Command<'a>, AllocError> {
+    whole
+        .subcommand(kick_command(alloc)?)?
+        .subcommand(ban_command(alloc)?)?
+        .subcommand(unban_command(alloc)?)?
+        .subcommand(topic_command(alloc)?)
+}
+
+fn check_command<'a>(alloc: Global) -> Result<Command<'a>, AllocError> {
+    subcommand(
+        alloc,
+        "check",
+        "Tells what a hub would read in a settings file",
+    )
+    .arg(word(alloc, "SETTINGS", "The settings file"))
+}
+
+fn kick_command<'a>(alloc: Global) -> Result<Command<'a>, AllocError> {
+    login(alloc, "kick", "Sends a user away")?
+        .arg(word(alloc, "USER", "The user's nick"))?
+        .arg(text(alloc, "REASON", "What all are told"))
+}
+
+fn ban_command<'a>(alloc: Global) -> Result<Command<'a>, AllocError> {
+    login(alloc, "ban", "Sends a user away and keeps its client out")?
+        .arg(word(alloc, "USER", "The user's nick"))?
+        .arg(word(alloc, "SECONDS", "For how long; 0 is for good").value_parser(value_parser!(
+            u32
+        )))?
+        .arg(text(alloc, "REASON", "What all are told"))
+}
+
+fn unban_command<'a>(alloc: Global) -> Result<Command<'a>, AllocError> {
+    login(alloc, "unban", "Takes a ban back")?.arg(word(
+        alloc,
+        "CID",
+        "The client identifier that is banned",
+    ))
+}
+
+fn topic_command<'a>(alloc: Global) -> Result<Command<'a>, AllocError> {
+    login(alloc, "topic", "Sets the topic, or none")?.arg(text(alloc, "TOPIC", "The topic"))
+}
+
+fn who_command<'a>(alloc: Global) -> Result<Command<'a>, AllocError> {
+    login(alloc, "who", "Lists who is present")?.arg(json(alloc))
+}
+
+fn say_command<'a>(alloc: Global) -> Result<Command<'a>, AllocError> {
+    login(alloc, "say", "Says something to all")?.arg(word(alloc, "TEXT", "What to say"))
+}
+
+fn ping_command<'a>(alloc: Global) -> Result<Command<'a>, AllocError> {
+    subcommand(alloc, "ping", "Tells what a hub says of itself")
+        .arg(address(alloc))?
+        .arg(json(alloc))?
+        .arg(seconds(alloc))
+}
+
+fn subcommand<'a>(alloc: Global, name: &'a str, about: &'a str) -> Command<'a> {
+    Command::new(alloc, name).about(about).after_help(STATUSES)
+}
+
+/// A subcommand that logs in.
+fn login<'a>(alloc: Global, name: &'a str, about: &'a str) -> Result<Command<'a>, AllocError> {
+    let nick = Arg::new(alloc, "nick")
+        .long("nick")
+        .value_name("NICK")
+        .required(true)
+        .help("As whom to log in");
+    let file = Arg::new(alloc, "password-file")
+        .long("password-file")
+        .value_name("FILE")
+        .help(
+            "The file whose first line is the password; else it is that of standard input, once the hub asks",
+        );
+    let hash = Arg::new(alloc, "hash")
+        .long("hash")
+        .value_name("HASH")
+        .value_parser(["tiger", "first24"].as_slice())
+        .default_value("tiger")
+        .help("The hub's hash");
+    let tables = Arg::new(alloc, "tables")
+        .long("tables")
+        .value_name("FILE")
+        .default_value("tiger.bin")
+        .help("The file of Tiger's tables");
+    Command::new(alloc, name)
+        .about(about)
+        .after_help(STATUSES)
+        .arg(address(alloc))?
+        .arg(nick)?
+        .arg(file)?
+        .arg(hash)?
+        .arg(tables)?
+        .arg(seconds(alloc))
+}
+
+fn word<'a>(alloc: Global, name: &'a str, help: &'a str) -> Arg<'a> {
+    Arg::new(alloc, name)
+        .required(true)
+        .action(ArgAction::Set)
+        .help(help)
+}
+
+fn text<'a>(alloc: Global, name: &'a str, help: &'a str) -> Arg<'a> {
+    Arg::new(alloc, name)
+        .action(ArgAction::Set)
+        .default_value("")
+        .hide_default_value(true)
+        .help(help)
+}
+
+fn address<'a>(alloc: Global) -> Arg<'a> {
+    word(alloc, "ADDRESS", "The hub: HOST:PORT or adc://HOST:PORT")
+}
+
+fn json<'a>(alloc: Global) -> Arg<'a> {
+    Arg::new(alloc, "json")
+        .long("json")
+        .action(ArgAction::SetTrue)
+        .help("Print JSON")
+}
+
+fn seconds<'a>(alloc: Global) -> Arg<'a> {
+    Arg::new(alloc, "seconds")
+        .long("seconds")
+        .value_name("N")
+        .value_parser(value_parser!(u32))
+        .default_value("10")
+        .help("How long to wait for each answer")
+}
+
+/// Does what a command line asks for.
+pub(crate) fn run_matches<R>(rt: &R, matches: &ArgMatches<'_>) -> Result<(), Ending>
+where
+    R: Net + Clock + Files + RandomSource + Input + Print + Eprint + AllocGlobal,
+{
+    match matches.subcommand() {
+        Some(("check", words)) => check(rt, text_of(words, "SETTINGS")),
+        Some(("ping", words)) => ping(
+            rt,
+            text_of(words, "ADDRESS"),
+            seconds_of(words),
+            words.get_flag("json"),
+        ),
+        Some((name, words)) => {
+            let deed = deed_of(rt.alloc(), name, words)?;
+            operate(rt, &login_of(rt.alloc(), words)?, &deed)
+        }
+        None => Err(Ending::Arguments("a subcommand is missing")),
+    }
+}
+
+/// The value of an argument that is required or has a default.
+fn text_of<'a>(words: &ArgMatches<'a>, name: &str) -> &'a str {
+    words.get_str(name).unwrap_or("")
+}
+
+fn seconds_of(words: &ArgMatches<'_>) -> u32 {
+    words.get_one::<u32>("seconds").unwrap_or(10)
+}
+
+fn deed_of<'a>(alloc: Global, name: &str, words: &ArgMatches<'a>) -> Result<Deed<'a>, Ending> {
+    match name {
+        "kick" => kick_of(alloc, words),
+        "ban" => ban_of(alloc, words),
+        "unban" => match Request::unban(text_of(words, "CID")) {
+            Some(request) => Ok(Deed::Ask(request)),
+            None => Err(Ending::Arguments("CID is no client identifier")),
+        },
+        "topic" => Ok(Deed::Ask(Request::topic(text_of(words, "TOPIC")))),
+        "say" => Ok(Deed::Say(text_of(words, "TEXT"))),
+        _ => Ok(Deed::ListUsers {
+            is_json: words.get_flag("json"),
+        }),
+    }
+}
+
+fn kick_of<'a>(alloc: Global, words: &ArgMatches<'a>) -> Result<Deed<'a>, Ending> {
+    match Request::kick(alloc, text_of(words, "USER"), text_of(words, "REASON")) {
+        Ok(request) => Ok(Deed::Ask(request)),
+        Err(fault) => Err(no_user(fault)),
+    }
+}
+
+fn ban_of<'a>(alloc: Global, words: &ArgMatches<'a>) -> Result<Deed<'a>, Ending> {
+    let Some(seconds) = words.get_one::<u32>("SECONDS") else {
+        return Err(Ending::Arguments("SECONDS is a number below 4294967296"));
+    };
+    let (user, reason) = (text_of(words, "USER"), text_of(words, "REASON"));
+    match Request::ban(alloc, user, seconds, reason) {
+        Ok(request) => Ok(Deed::Ask(request)),
+        Err(fault) => Err(no_user(fault)),
+    }
+}
+
+fn login_of<'a>(alloc: Global, words: &ArgMatches<'a>) -> Result<Login<'a>, Ending> {
+    let nick = match NickText::parse(alloc, text_of(words, "nick")) {
+        Ok(nick) => nick,
+        Err(NickFault::Memory) => return Err(Ending::Memory),
+        Err(NickFault::Invalid) => return Err(Ending::Arguments("NICK is no nick")),
+    };
+    Ok(Login {
+        address: text_of(words, "ADDRESS"),
+        nick,
+        password_file: words.get_str("password-file"),
+        tables: match text_of(words, "hash") {
+            "first24" => None,
+            _ => Some(text_of(words, "tables")),
+        },
+        seconds: seconds_of(words),
+    })
+}
+
+fn no_user(fault: NickFault) -> Ending {
+    match fault {
+        NickFault::Memory => Ending::Memory,
+        NickFault::Invalid => Ending::Arguments("USER is no nick"),
+    }
+}

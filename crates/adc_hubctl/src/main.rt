@@ -1,0 +1,46 @@
+//! The tool of a hub's operator: checks settings, acts on a running hub as an operator's client does, and looks at hubs.
+#![tactic(auto)]
+
+mod arguments;
+mod checking;
+mod ending;
+mod operating;
+mod pinging;
+mod showing;
+mod stream;
+
+use arguments::{commands, run_matches};
+use clap::error::ErrorKind;
+use ending::Ending;
+use std::alloc::Global;
+use std::env;
+use std::process::ExitCode;
+
+fn main(rt: HostRuntime) -> ExitCode {
+    match run(&rt) {
+        Ok(()) => ExitCode::SUCCESS,
+        Err(ending) => ExitCode::from(ending.tell(&rt)),
+    }
+}
+
+fn run(rt: &HostRuntime) -> Result<(), Ending> {
+    let words = words(rt, rt.alloc())?;
+    match commands(rt.alloc())?.try_get_matches_from(words.as_slice()) {
+        Ok(matches) => run_matches(rt, &matches),
+        Err(error) => {
+            if error.kind() == ErrorKind::OutOfMemory {
+                return Err(Ending::Memory);
+            }
+            error.print(rt)?;
+            if error.use_stderr() {
+                return Err(Ending::Told);
+            }
+            Ok(())
+        }
+    }
+}
+
+fn words(rt: &HostRuntime, alloc: Global) -> Result<Vec<String>, Ending> {
+    let words = env::args(rt)?;
+    Ok(words.collect(alloc)?)
+}

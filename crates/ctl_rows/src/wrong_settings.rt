@@ -1,0 +1,194 @@
+use second_try::again;
+use settings_report::{Report, report_file};
+use std::alloc::{AllocError, AllocGlobal, Global};
+use std::process::Abort;
+
+/// What is said of settings, in which `;` stands for the end of a line.
+pub(crate) fn said(alloc: Global, text: &str) -> Result<String, AllocError> {
+    let mut lines = String::with_capacity(alloc, text.len())?;
+    for c in text.chars() {
+        lines.push(if c == ';' { '\n' } else { c })?;
+    }
+    said_of_bytes(alloc, lines.as_bytes())
+}
+
+fn said_of_bytes(alloc: Global, bytes: &[u8]) -> Result<String, AllocError> {
+    match report_file(alloc, bytes)? {
+        Report::Well(summary) => {
+            let (listen, hash) = (summary.listen, summary.hash_name());
+            let (accounts, commands) = (summary.accounts, summary.commands);
+            let descriptors = summary.descriptors;
+            format!(in alloc; "{listen} {hash} {accounts} {commands} {descriptors}").map_err(
+                |_| AllocError,
+            )
+        }
+        Report::Faulty(fault) => fault.to_string(alloc).map_err(|_| AllocError),
+    }
+}
+
+/// Compares what is said of each text with what is wanted.
+pub(crate) fn play(rt: &(impl Abort + AllocGlobal), rows: &[(&str, &str)]) {
+    for (text, wanted) in rows {
+        let got = again!(rt; said(rt.alloc(), text));
+        assert_eq!(rt; got.as_str(), *wanted, "{text}");
+    }
+}
+
+#[test]
+fn nothing_is_wrong(rt: HostRuntime) {
+    play(
+        &rt,
+        &[
+            ("", "127.0.0.1:4111 tiger 0 0 544"),
+            (
+                "hash = \"first24\";listen = \"0.0.0.0:511\";max_users = 900",
+                "0.0.0.0:511 first24 0 0 932",
+            ),
+            (
+                "[[account]];nick = \"op\";password = \"p\";operator = true;[[command]];name = \"Topic\";context = 3;text = \"t\"",
+                "127.0.0.1:4111 tiger 1 1 544",
+            ),
+        ],
+    );
+}
+
+#[test]
+fn texts_are_wrong(rt: HostRuntime) {
+    play(
+        &rt,
+        &[
+            (
+                "name = \"\"",
+                "1:1: name: found \"\"; allowed: a text that is not empty",
+            ),
+            (
+                "name = 7",
+                "1:1: name: found 7; allowed: a text that is not empty",
+            ),
+            ("topic = true", "1:1: topic: found true; allowed: a text"),
+            (
+                ";  listen = \"localhost:4111\"",
+                "2:3: listen: found \"localhost:4111\"; allowed: an IPv4 address and a port, as 127.0.0.1:4111",
+            ),
+            (
+                "listen = \"127.0.0.1\"",
+                "1:1: listen: found \"127.0.0.1\"; allowed: an IPv4 address and a port, as 127.0.0.1:4111",
+            ),
+            (
+                "hash = \"md5\"",
+                "1:1: hash: found \"md5\"; allowed: tiger or first24",
+            ),
+            ("tables = 8192", "1:1: tables: found 8192; allowed: a text"),
+            (
+                "seed_file = []",
+                "1:1: seed_file: found a list; allowed: a text",
+            ),
+        ],
+    );
+}
+
+#[test]
+fn numbers_are_wrong(rt: HostRuntime) {
+    play(
+        &rt,
+        &[
+            (
+                "registered_only = \"yes\"",
+                "1:1: registered_only: found \"yes\"; allowed: true or false",
+            ),
+            (
+                "registered_only = 1",
+                "1:1: registered_only: found 1; allowed: true or false",
+            ),
+            (
+                "search_interval = -1",
+                "1:1: search_interval: found -1; allowed: a whole number from 0 to 4294967295",
+            ),
+            (
+                "search_interval = 4294967296",
+                "1:1: search_interval: found 4294967296; allowed: a whole number from 0 to 4294967295",
+            ),
+            (
+                "max_users = 0",
+                "1:1: max_users: found 0; allowed: a whole number from 1 to 900",
+            ),
+            (
+                "max_users = 901",
+                "1:1: max_users: found 901; allowed: a whole number from 1 to 900",
+            ),
+            (
+                "max_users = 12.5",
+                "1:1: max_users: found 12.5; allowed: a whole number from 1 to 900",
+            ),
+            (
+                "threads = 65",
+                "1:1: threads: found 65; allowed: a whole number from 1 to 64",
+            ),
+            (
+                "threads = \"2\"",
+                "1:1: threads: found \"2\"; allowed: a whole number from 1 to 64",
+            ),
+            (
+                "stop_after = 65537",
+                "1:1: stop_after: found 65537; allowed: a whole number from 0 to 65536",
+            ),
+        ],
+    );
+}
+
+#[test]
+fn keys_are_unknown_and_statements_long(rt: HostRuntime) {
+    play(
+        &rt,
+        &[
+            (
+                "name = \"Hub\";nam = \"x\"",
+                "2:1: nam: found an unknown key; allowed: name, topic, listen, hash, tables, registered_only, search_interval, max_users, threads, stop_after, seed_file, account, command",
+            ),
+            (
+                "max_users = 0;name = \"\"",
+                "2:1: name: found \"\"; allowed: a text that is not empty",
+            ),
+            (
+                "# a comment;;topic = \"\"\";two lines;\"\"\";max_users = 901",
+                "6:1: max_users: found 901; allowed: a whole number from 1 to 900",
+            ),
+            (
+                ";# é;stop_after = [;1,;2 ]",
+                "3:1: stop_after: found a list; allowed: a whole number from 0 to 65536",
+            ),
+        ],
+    );
+}
+
+#[test]
+fn texts_are_no_toml(rt: HostRuntime) {
+    play(
+        &rt,
+        &[
+            (
+                "name \"Hub\"",
+                "1:6: no TOML: key with no value, expected `=`",
+            ),
+            (
+                "max_users = 5;name = \"Hub\" \"x\"",
+                "2:14: no TOML: unexpected key or value, expected newline, `#`",
+            ),
+            (
+                "[[account]",
+                "1:11: no TOML: unclosed array table, expected `]]`",
+            ),
+            (
+                ";= 5",
+                "2:1: no TOML: invalid key, expected letters, numbers, `-`, `_` or a quoted key",
+            ),
+            (
+                "topic = \"é\" x",
+                "1:13: no TOML: unexpected key or value, expected newline, `#`",
+            ),
+            ("max_users = 5;max_users = 6", "2:1: no TOML: duplicate key"),
+        ],
+    );
+    let got = again!(&rt; said_of_bytes(rt.alloc(), b"\nname = \"\xff\""));
+    assert_eq!(rt; got.as_str(), "2:9: no TOML: a byte that is not UTF-8");
+}

@@ -1,0 +1,69 @@
+-- What an operator asks of a hub, and the message that asks for it.
+use Rattle.std.specs.Prelude.{◌≡◌, ℕ, ◌<◌, List, [], ◌∷◌, ◌++◌, codes, chars, length, Some}
+use Rattle.std.specs.Fmt.{decimal}
+use Rattle.adc_line.specs.Escapes.{escaped}
+use Rattle.adc_line.specs.Frames.{max_line}
+use Rattle.adc_line.specs.Lines.{Reading}
+use Rattle.adc_line.specs.declared.fault.LineFault.{LineFault}
+use Rattle.adc_line.specs.declared.fault.LineFault.TheVariants as faults
+use Rattle.adc_line.specs.declared.kind.Kind.TheVariants as kinds
+use Rattle.operator_acts.specs.Acts.{act_at, kick_word, ban_word, unban_word, topic_word}
+use Rattle.operator_acts.specs.declared.act.Act.{Act}
+use Rattle.operator_acts.specs.declared.act.Act.TheVariants as acts
+use Rattle.hub_client.specs.declared.cid_text.CidText.{CidText}
+use Rattle.hub_client.specs.declared.nick_text.NickText.{NickText}
+use Rattle.hub_client.specs.declared.request.Request.{Request}
+use Rattle.hub_client.specs.declared.request.Request.TheVariants.{Kick, Ban, Unban, Topic}
+
+abbrev pub nick_bytes : NickText → List ℕ
+nick_bytes nick = nick.text.now
+
+abbrev pub cid_bytes : CidText → List ℕ
+cid_bytes cid = cid.text.now
+
+-- the act that is asked for
+abbrev pub asked : Request → Act
+asked (Kick nick reason) = acts.Kick (chars (nick_bytes nick)) reason.now
+asked (Ban nick seconds reason) = acts.Ban (chars (nick_bytes nick)) seconds reason.now
+asked (Unban cid) = acts.Unban cid.cid
+asked (Topic text) = acts.Topic text.now
+
+-- what stands behind the words of a text, with a blank before it where it is not empty
+abbrev pub behind : List ℕ → List ℕ
+behind [] = []
+behind (b ∷ bs) = 32 ∷ b ∷ bs
+
+-- the text that asks for it
+unfoldable pub request_bytes : Request → List ℕ
+request_bytes (Kick nick reason) = kick_word ++ 32 ∷ (nick_bytes nick ++ behind reason.now)
+request_bytes (Ban nick seconds reason) = (ban_word ++ 32 ∷ (nick_bytes nick ++ 32 ∷ decimal seconds)) ++ behind reason.now
+request_bytes (Unban cid) = unban_word ++ 32 ∷ cid_bytes cid
+request_bytes (Topic text) = topic_word ++ behind text.now
+
+-- the seconds are a number of 32 bits
+abbrev pub SecondsFit : Request → Type 0
+SecondsFit (Kick nick reason) = Unit {0}
+SecondsFit (Ban nick seconds reason) = seconds < 4_294_967_296
+SecondsFit (Unban cid) = Unit {0}
+SecondsFit (Topic text) = Unit {0}
+
+-- the message is one to the hub, with this text
+abbrev pub Says : Reading → List ℕ → Type 0
+Says line text = (line.kind ≡ kinds.Hub) × (line.command ≡ codes "MSG") × (line.params ≡ escaped text ∷ [])
+
+-- the message is one to the hub, whose text asks for this act
+abbrev pub AsksFor : Reading → Act → Type 0
+AsksFor line act = (text : List ℕ) × Says line text × (act_at text ≡ Some act)
+
+-- the message as it is written
+abbrev pub written : List ℕ → List ℕ
+written text = codes "HMSG " ++ escaped text
+
+-- memory ran out, or the message with this text has too many bytes
+abbrev pub IsOverlong : LineFault → List ℕ → Type 0
+IsOverlong faults.Memory text = Unit {0}
+IsOverlong faults.TooLong text = max_line < length (written text)
+IsOverlong faults.NotUtf8 text = ⊥
+IsOverlong faults.Header text = ⊥
+IsOverlong faults.Parameter text = ⊥
+IsOverlong faults.Escape text = ⊥

@@ -1,0 +1,84 @@
+use crate::status::Status;
+use adc_line::{FrameFault, LineFault, UnescapeFault};
+use std::alloc::{AllocError, AllocFailed};
+use std::io;
+use thiserror::Error;
+
+/// A reason why a conversation with a hub ended before its purpose was reached.
+#[derive(Debug, Drop, Error)]
+pub enum ClientFault {
+    /// Memory ran out.
+    #[error("memory ran out")]
+    Memory,
+    /// The text to be said is empty, or longer than a message may be.
+    #[error("what is to be said is empty or too long")]
+    Unsayable,
+    /// A wait took longer than the stream allows.
+    #[error("the hub did not answer in time")]
+    TimedOut,
+    /// The hub closed the connection.
+    #[error("the hub closed the connection")]
+    Closed,
+    /// A read or a write failed.
+    #[error("the connection failed")]
+    Broken,
+    /// A line came that is no message of ADC.
+    #[error("this is no ADC hub")]
+    NotAdc,
+    /// The hub refused it, and said why.
+    #[error("the hub refused")]
+    Refused(Status),
+}
+
+impl From<AllocError> for ClientFault {
+    fn from(_: AllocError) -> ClientFault {
+        ClientFault::Memory
+    }
+}
+
+impl<T: Drop> From<AllocFailed<T>> for ClientFault {
+    fn from(_: AllocFailed<T>) -> ClientFault {
+        ClientFault::Memory
+    }
+}
+
+impl From<FrameFault> for ClientFault {
+    fn from(_: FrameFault) -> ClientFault {
+        ClientFault::Memory
+    }
+}
+
+impl From<io::Error> for ClientFault {
+    fn from(error: io::Error) -> ClientFault {
+        match error.kind() {
+            io::ErrorKind::OutOfMemory => ClientFault::Memory,
+            io::ErrorKind::WouldBlock | io::ErrorKind::TimedOut => ClientFault::TimedOut,
+            _ => ClientFault::Broken,
+        }
+    }
+}
+
+/// Gives the fault of a line that was to be sent and is none.
+pub(crate) fn unsayable(fault: LineFault) -> ClientFault {
+    match fault {
+        LineFault::Memory => ClientFault::Memory,
+        _ => ClientFault::Unsayable,
+    }
+}
+
+/// Gives the fault of a line that came and is none.
+pub(crate) fn not_adc(fault: LineFault) -> ClientFault {
+    match fault {
+        LineFault::Memory => ClientFault::Memory,
+        _ => ClientFault::NotAdc,
+    }
+}
+
+impl From<UnescapeFault> for ClientFault {
+    fn from(fault: UnescapeFault) -> ClientFault {
+        match fault {
+            UnescapeFault::Memory => ClientFault::Memory,
+            UnescapeFault::Escape => ClientFault::NotAdc,
+        }
+    }
+}

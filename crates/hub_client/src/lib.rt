@@ -1,0 +1,24 @@
+//! A client's conversation with a hub: its messages, and the meaning of the hub's answers, over any reader and writer.
+#![tactic(auto)]
+
+mod cid_text;
+mod client;
+mod fault;
+mod fields;
+mod login;
+mod nick_text;
+mod operator_line;
+mod request;
+mod status;
+mod user;
+
+pub use cid_text::CidText;
+pub use client::{Client, Entry, Welcome};
+pub use fault::ClientFault;
+pub use fields::{field, field_text};
+pub use login::{Identity, chat_line, login_line, password_line, support_line};
+pub use nick_text::NickText;
+pub use operator_line::act_line;
+pub use request::Request;
+pub use status::{Refusal, Status};
+pub use user::User;

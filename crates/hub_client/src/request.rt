@@ -1,0 +1,61 @@
+use crate::cid_text::CidText;
+use crate::nick_text::NickText;
+use adc_ids::NickFault;
+use std::alloc::Global;
+
+/// A request of an operator to a hub.
+#[derive(Clone, Copy, Debug)]
+pub enum Request<'a> {
+    /// Sends a user away, for a reason that may be empty.
+    Kick(NickText<'a>, &'a str),
+    /// Sends a user away, and refuses its logins for so many seconds, or for good where there are 0.
+    Ban(NickText<'a>, u32, &'a str),
+    /// Lets logins of a client identifier in again.
+    Unban(CidText<'a>),
+    /// Sets the topic, which may be empty.
+    Topic(&'a str),
+}
+
+impl<'a> Request<'a> {
+    ghost use Rattle.std.specs.Prelude.{◌≡◌, Some, IfOk, IfSome, chars, option_map};
+    ghost use Rattle.adc_base32.specs.Spelled.{spelled};
+    ghost use Rattle.operator_acts.specs.declared.act.Act.TheVariants as acts;
+    ghost use Rattle.hub_client.specs.Requests.{asked};
+
+    /// Asks to kick the user of this nick. Refused: `Invalid` where the text is no nick; `Memory`.
+    pub fn kick(alloc: Global, nick: &'a str, reason: &'a str) -> Result<Request<'a>, NickFault>
+        ensures { IfOk result (λ request. asked request ≡ acts.Kick (chars nick.entry.now) reason.entry.now) }
+    {
+        Ok(Request::Kick(NickText::parse(alloc, nick)?, reason))
+    }
+
+    /// Asks to ban the user of this nick for so many seconds, or for good where there are 0. Refused: `Invalid` where the text is
+    /// no nick; `Memory`.
+    pub fn ban(
+        alloc: Global,
+        nick: &'a str,
+        seconds: u32,
+        reason: &'a str,
+    ) -> Result<Request<'a>, NickFault>
+        ensures { IfOk result (λ request. asked request ≡ acts.Ban (chars nick.entry.now) seconds reason.entry.now) }
+    {
+        Ok(Request::Ban(NickText::parse(alloc, nick)?, seconds, reason))
+    }
+
+    /// Asks to take back the ban of a client identifier; `None` where the text is none.
+    pub fn unban(cid: &'a str) -> Option<Request<'a>>
+        ensures { IfSome result (λ request. option_map acts.Unban (spelled 24 cid.entry.now) ≡ Some (asked request)) }
+    {
+        match CidText::parse(cid) {
+            Some(cid) => Some(Request::Unban(cid)),
+            None => None,
+        }
+    }
+
+    /// Asks to set the topic.
+    pub fn topic(text: &'a str) -> Request<'a>
+        ensures { asked result ≡ acts.Topic text.entry.now }
+    {
+        Request::Topic(text)
+    }
+}

@@ -1,0 +1,90 @@
+ghost use Rattle.std.specs.Prelude.{◌≡◌, Some, None, IfOk};
+ghost use Rattle.settings_report.specs.Reports.{Tells};
+
+use crate::entries::finding_at;
+use crate::fault::Fault;
+use crate::places::{Place, place_of};
+use crate::summary::Summary;
+use hub_settings::{KeyName, SettingsFault, read_settings};
+use std::alloc::{AllocError, Global};
+use std::str;
+use toml::Value;
+
+/// A report on a settings file.
+#[derive(Debug, Drop)]
+pub enum Report {
+    /// All is well.
+    Well(Summary),
+    /// This is the first fault, in the order in which a hub looks for them.
+    Faulty(Fault),
+}
+
+/// Tells what a hub reads in the bytes of a settings file, as [`report_settings`] does. Bytes that are no UTF-8 are no TOML.
+///
+/// Refused only where memory runs out.
+pub fn report_file(alloc: Global, bytes: &[u8]) -> Result<Report, AllocError> {
+    match str::from_utf8(bytes) {
+        Ok(text) => report_settings(alloc, text),
+        Err(error) => {
+            let place = Place::behind(&bytes[..error.valid_up_to()]);
+            Ok(Report::Faulty(Fault::of_text(alloc, place, "a byte that is not UTF-8")?))
+        }
+    }
+}
+
+/// Tells what a hub reads in the text of a settings file: a summary, or the key that the hub names, with the place, what stands
+/// there and what is allowed.
+///
+/// Refused only where memory runs out.
+pub fn report_settings(alloc: Global, text: &str) -> Result<Report, AllocError>
+    ensures { IfOk result (λ report. Tells text.now report) }
+{
+    match read_settings(alloc, text, 0) {
+        Ok(settings) => {
+            let table = toml::table_from_str(alloc, text).map_err(|_| AllocError)?;
+            let (accounts, commands) = (
+                count_of(table.get("account")),
+                count_of(table.get("command")),
+            );
+            Ok(Report::Well(Summary::of(&settings, accounts, commands)))
+        }
+        Err(SettingsFault::Memory) => Err(AllocError),
+        Err(SettingsFault::Text) => Ok(Report::Faulty(text_fault(alloc, text)?)),
+        Err(SettingsFault::Key(key)) => Ok(Report::Faulty(key_fault(alloc, text, key)?)),
+    }
+}
+
+/// Counts the entries of a list.
+fn count_of(list: Option<&Value>) -> usize {
+    match list.and_then(Value::as_array) {
+        Some(items) => items.len(),
+        None => 0,
+    }
+}
+
+/// The fault of a text that is no TOML.
+fn text_fault(alloc: Global, text: &str) -> Result<Fault, AllocError>
+    ensures { IfOk result (λ fault. fault.key ≡ None) }
+{
+    match toml::table_from_str(alloc, text) {
+        Ok(_) => Fault::of_text(alloc, Place::behind(b""), ""),
+        Err(error) => {
+            let Some(span) = error.span() else {
+                return Err(AllocError);
+            };
+            let before = text.as_bytes().get(..span.start).unwrap_or(b"");
+            Fault::of_text(alloc, Place::behind(before), error.message())
+        }
+    }
+}
+
+/// The fault at a key.
+fn key_fault(alloc: Global, text: &str, key: KeyName) -> Result<Fault, AllocError>
+    ensures { IfOk result (λ fault. fault.key ≡ Some key) }
+{
+    let table = toml::table_from_str(alloc, text).map_err(|_| AllocError)?;
+    let name = String::from_str(alloc, key.as_str())?;
+    let finding = finding_at(alloc, &table, &name)?;
+    let place = place_of(alloc, text, &finding)?;
+    Fault::of(alloc, key, &finding, place)
+}
