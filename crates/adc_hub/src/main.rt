@@ -23,7 +23,7 @@ fn main(rt: HostRuntime) -> ExitCode {
     ExitCode::from(status)
 }
 
-/// The words after the program's name. It fails with `Usage` where one of them is no text, and with `Memory` where
+/// Gives the words after the program's name. It fails with `Usage` where one of them is no text, and with `Memory` where
 /// memory runs out.
 fn arguments(rt: &HostRuntime, alloc: Global) -> Result<Vec<String>, Ending> {
     let words = match env::args(rt) {

@@ -19,7 +19,7 @@ const ENTERED: &[u8] =
     b"ISUP ADBASE ADTIGR ADPING ADUCMD\nISID AAAB\nIINF CT32 NIHub VEadc-hub\\s1.0\n\
 BINF AAAB IDAAAAAAAAAAAAAAAAAAAAAAAAAAAAAAAAAAAAAAA NIana SS10 SF2 I4127.0.0.1 SUTCP4,SEGA\n";
 
-/// What a run answered, and what it left of its reader and its writer.
+/// The outcome of a run: what it answered, and what it left of its reader and its writer.
 #[derive(Drop)]
 struct Ran<'a> {
     answer: Result<(), RunFault>,
@@ -27,7 +27,7 @@ struct Ran<'a> {
     output: Output,
 }
 
-/// A hub with this menu.
+/// Makes a hub with this menu.
 fn hub_with(alloc: Global, menu: &[MenuEntry<'_>]) -> Option<Arc<Setup>> {
     let options = Options {
         name: "Hub",
@@ -42,7 +42,7 @@ fn hub_with(alloc: Global, menu: &[MenuEntry<'_>]) -> Option<Arc<Setup>> {
     Arc::new(alloc, Setup::new(alloc, &options).ok()?).ok()
 }
 
-/// A run of a hub with this menu, of this reader, with a writer that takes `most` bytes a write and fails at call `bad`.
+/// Runs a hub with this menu, of this reader, with a writer that takes `most` bytes a write and fails at call `bad`.
 fn attempt<'a>(
     alloc: Global,
     menu: &[MenuEntry<'_>],
@@ -60,8 +60,8 @@ fn attempt<'a>(
     })
 }
 
-/// The same, where memory is refused once at most: a run that met that wrote the front of `whole`,
-/// and another one is made.
+/// Runs it as [`attempt`] does, where memory is refused once at most: a run that met that wrote the front of `whole`, and
+/// another one is made.
 fn run_with<'a, R: AllocGlobal + Abort>(
     rt: &R,
     menu: &[MenuEntry<'_>],
@@ -134,7 +134,7 @@ fn ends_once_the_connection_is_shut_out(rt: HostRuntime) {
             ran.input.reads
         );
     }
-    // What is too long behind that line is not looked at.
+    // A line that is too long behind that line is not looked at.
     let mut long = [b'x'; 80_000];
     long[..12].copy_from_slice(b"HSUP ADBASE\n");
     ends(&rt, Input::of(&long, 4096), Ok(()), wanted);
@@ -142,7 +142,7 @@ fn ends_once_the_connection_is_shut_out(rt: HostRuntime) {
 
 #[test]
 fn ends_once_the_connection_is_owed_too_much(rt: HostRuntime) {
-    // Who enters is owed its own line and 64 commands at once, of over 20,000 bytes each: over 1,048,576 bytes together.
+    // A newcomer is owed its own line and 64 commands at once, of over 20,000 bytes each: over 1,048,576 bytes together.
     let text = [b'x'; 20_000];
     let Ok(text) = std::str::from_utf8(&text) else {
         panic!(rt; "no text");
@@ -155,7 +155,7 @@ fn ends_once_the_connection_is_owed_too_much(rt: HostRuntime) {
     let menu = [entry; 64];
     let first = b"HSUP ADBASE ADTIGR ADUCM0\nBINF AAAB IDAAAAAAAAAAAAAAAAAAAAAAAAAAAAAAAAAAAAAAA \
 PDAAAAAAAAAAAAAAAAAAAAAAAAAAAAAAAAAAAAAAA NIana\nBMSG AAAB hi\n";
-    // What comes behind the line that is owed too much is not read.
+    // All that comes behind the line that is owed too much is not read.
     let ran = run_with(&rt, &menu, Input::of(first, 1), 4096, 0, GREETING);
     assert!(rt; ran.answer == Ok(()), "{:?}", ran.answer);
     assert!(rt; ran.output.got.as_slice() == GREETING);

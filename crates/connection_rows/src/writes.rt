@@ -3,7 +3,7 @@ use std::alloc::{AllocError, AllocGlobal, Global};
 use std::io::{self, Write};
 use std::process::Abort;
 
-/// Takes at most `most` bytes a write, and fails at the call of number `bad`, from 1 on.
+/// A writer that takes at most `most` bytes a write, and fails at the call of number `bad`, from 1 on.
 #[derive(Drop)]
 struct Taker {
     got: Vec<u8>,
@@ -13,7 +13,7 @@ struct Taker {
 }
 
 impl Taker {
-    /// A writer with room for all that these tests write, so that no write asks for memory.
+    /// Makes a writer with room for all that these tests write, so that no write asks for memory.
     fn new(alloc: Global, most: usize, bad: usize) -> Result<Taker, AllocError> {
         Ok(Taker {
             got: Vec::with_capacity(alloc, 16)?,

@@ -20,13 +20,13 @@ use std::time::Clock;
 
 /// Does what the words after the program's name ask for, and gives the exit status.
 ///
-/// `stdin` runs a hub for one connection, whose lines are `input` and whose answers go to `output`:
-/// the status is 0, or 4 where memory ran out, or 5 where the input or the output failed, a line was
-/// too long or there were too many reads. `serve` and the path of a settings file run a server: the status is
-/// 1 where the settings or the seed file are at fault, 2 where the file of Tiger's tables is, and else as
-/// [`serve_on`](hub_server::serve_on) says. With other words the status is 1, and neither is used.
+/// `stdin` runs a hub for one connection, whose lines are `input` and whose answers go to `output`. The status is 0, or 4
+/// where memory ran out, or 5 where the input or the output failed, a line was too long or there were too many reads.
+/// `serve` and the path of a settings file run a server. The status is 1 where the settings or the seed file are at fault,
+/// 2 where the file of Tiger's tables is, and else as [`serve_on`](hub_server::serve_on) says. With other words the status
+/// is 1, and neither is used.
 ///
-/// What went wrong is one line on `errors`; that it cannot be written changes nothing.
+/// One line on `errors` says what went wrong; that it cannot be written changes nothing.
 pub fn program<R, I, O, E>(
     rt: &R,
     words: &[String],
@@ -62,7 +62,7 @@ fn asks_for_stdin(words: &[String]) -> bool
     }
 }
 
-/// The settings file of a server that is asked for.
+/// Gives the settings file of a server that is asked for.
 fn settings_path(words: &[String]) -> Option<&str>
     ensures { IfSome result (λ _. AsksToServe (map string_bytes words.now)) }
 {
@@ -85,7 +85,7 @@ fn serve_stdin<I: Read, O: Write>(alloc: Global, input: &mut I, output: &mut O) 
     }
 }
 
-/// How the program ends after this fault.
+/// Tells how the program ends after this fault.
 fn ending_of(fault: RunFault) -> Ending
     ensures { result ≡ ending_of fault }
 {
@@ -95,7 +95,7 @@ fn ending_of(fault: RunFault) -> Ending
     }
 }
 
-/// The default settings. It fails where memory runs out.
+/// Makes the default settings. It fails where memory runs out.
 fn stdin_setup(alloc: Global) -> Result<Arc<Setup>, AllocError>
     ensures { IfOk result (λ setup. arc_value setup ≡ stdin_setup) }
 {
@@ -110,7 +110,7 @@ fn stdin_setup(alloc: Global) -> Result<Arc<Setup>, AllocError>
     }
 }
 
-/// What these are: a hub named `Hub` for 512 users, with nothing that settings may add.
+/// Gives the options of the default settings: a hub named `Hub` for 512 users, with nothing that settings may add.
 fn stdin_options() -> Options<'static>
     ensures { configured result ≡ Ok stdin_setup }
 {

@@ -1,4 +1,4 @@
-//! What the program does with the words of its command line: a hub for one connection, or a server.
+//! The program: what the words of its command line ask for, a hub for one connection, or a server.
 #![tactic(auto)]
 
 mod command_line;

@@ -17,14 +17,14 @@ use std::time::Clock;
 /// One byte more than tables have, so that a file is seen that has too many.
 const MOST_OF_TABLES: u64 = 8_193;
 
-/// Why no server was started.
+/// The cause for which no server was started.
 #[derive(Drop)]
 enum StartFault {
     /// The settings, or a file that they name, by this word.
     Settings(&'static str),
     /// The settings, by this key of theirs.
     Key(KeyName),
-    /// Something else.
+    /// Another cause, by which the program ends.
     Ended(Ending),
 }
 
@@ -101,7 +101,7 @@ fn settings_in<R: Clock + AllocGlobal + Files>(rt: &R, path: &str) -> Result<Set
     }
 }
 
-/// The first 32 bytes of this file.
+/// Reads the first 32 bytes of this file.
 fn seed_in<R: Files>(rt: &R, path: &str) -> Result<[u8; 32], StartFault> {
     let mut seed = [0; 32];
     let read = match fs::open(rt, path) {
@@ -117,7 +117,7 @@ fn seed_in<R: Files>(rt: &R, path: &str) -> Result<[u8; 32], StartFault> {
     }
 }
 
-/// Tiger, with the tables of this file.
+/// Makes Tiger with the tables of this file.
 fn tables_in<R: AllocGlobal + Files>(rt: &R, path: &str) -> Result<TableTiger, StartFault> {
     let mut bytes = Vec::new(rt.alloc());
     let read = match fs::open(rt, path) {
@@ -137,7 +137,7 @@ fn tables_in<R: AllocGlobal + Files>(rt: &R, path: &str) -> Result<TableTiger, S
     }
 }
 
-/// What it means that a file could not be read which this word stands for.
+/// Tells what it means that a file could not be read which this word stands for.
 fn fault_of(error: &io::Error, word: &'static str) -> StartFault {
     if error.kind() == io::ErrorKind::OutOfMemory {
         return StartFault::Ended(Ending::Memory);

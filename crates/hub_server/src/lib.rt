@@ -1,32 +1,26 @@
 //! The server of a hub: connections over TCP, served by tasks that share one hub.
 #![tactic(auto)]
 
-mod bell;
-mod board;
+mod accepted;
+mod acceptor;
+mod bind;
 mod clock;
-mod descriptors;
-mod door;
-mod entrance;
-mod exits;
-mod guest;
-mod hall;
-mod helper;
-mod keeper;
-mod lingering;
-mod mailboxes;
-mod opening;
-mod pace;
-mod port;
-mod porter;
-mod refusal;
-mod seats;
+mod connection;
+mod free_slot;
+mod listener;
+mod serve;
 mod server;
-mod serving;
-mod stage;
+mod slot_bell;
+mod slot_task;
 mod task;
 mod tasks;
-#[cfg(test)]
-mod tests;
 
+pub use bind::Bind;
 pub use clock::moment;
-pub use server::serve_on;
+pub use connection::Connection;
+pub use free_slot::{FreeSlot, OfHub};
+pub use listener::{Listener, Listens};
+pub use serve::{serve_at, serve_on};
+pub use server::Server;
+pub use slot_bell::SlotBell;
+pub use slot_task::warning_of;

@@ -1,308 +1,76 @@
-ghost use Rattle.std.specs.Prelude.{◌≡◌, ◌≤◌, [], Some, IfOk};
-ghost use Rattle.std.specs.List.{All};
-ghost use Rattle.one_history.specs.States.{Home};
-ghost use Rattle.hub_shared.specs.declared.about.About.{About};
+ghost use Rattle.std.specs.Prelude.{◌≡◌, Some};
 
-use crate::descriptors::{allowed, needed};
-use crate::door::{Door, Listens};
-use crate::entrance::Entrance;
-use crate::guest::{Guest, Names};
-use crate::hall::{Hall, Rooms};
-use crate::keeper::Keeper;
-use crate::opening::Opening;
-use crate::porter::Porter;
-use crate::stage::Fault;
-use crate::task::Accepting;
-use crate::tasks::Tasks;
-use adc_sessions::Accept;
-use hub_challenges::Challenges;
-use hub_endings::Ending;
-use hub_settings::Settings;
-use hub_shared::{Host, Hub, Report, Visitor};
-use log::sink::Locked;
-use log::{Level, Log, Logged, warn};
+use crate::accepted::Accepted;
+use crate::free_slot::{FreeSlot, OfHub};
+use connection_slots::{Fault, Shared};
+use hub_core::Setup;
+use hub_shared::Hub;
 use session_hash::SessionHash;
-use std::alloc::{AllocGlobal, Global};
-use std::io;
-use std::io::Write;
-use std::marker::Brand;
-use std::net::Net;
-use std::random::RandomSource;
-use std::sync::{Arc, Wait};
-use std::thread::Threads;
-use std::time::{Clock, Duration};
-use tokio::runtime::Runtime;
+use std::alloc::{AllocError, Global};
+use std::sync::{Mutex, Wait};
 
-/// Serves a hub with these settings, this hash, and challenges of this seed, and gives the exit status.
-///
-/// On `output` it says `listening` and the address that was bound, as `a.b.c.d:port`, once all of its tasks came to be, and
-/// at the end `joins`, the number of joins that were accepted, `present 0`. On `errors` goes a warning for each session that
-/// ends by a fault of its connection or for want of memory, and one at the start where the system allows fewer
-/// descriptors than as many users need as the settings admit.
-///
-/// The status is 0 once as many connections were accepted as the settings say, and all are over; 3 where the address
-/// cannot be had, or accepting failed 64 times in a row by a fault of the listener; 4 where memory or threads cannot be had
-/// at the start, or the runtime cannot go on; 5 where the output failed. What went wrong is one line on `errors`.
-pub fn serve_on<H, R, W, E>(
-    rt: &R,
-    settings: &Settings,
-    hash: Arc<H>,
-    seed: [u8; 32],
-    output: &mut W,
-    errors: &mut E,
-) -> u8
-where
-    H: SessionHash + Send + Sync + Drop,
-    R: Wait + Threads + Clock + Net + RandomSource + AllocGlobal + Sync,
-    W: Write,
-    E: Write + Send,
-{
-    let entrance = settings.listen();
-    serve_at(rt, settings, hash, seed, entrance, output, errors)
+/// The part of a server that all its tasks share: its hub, and what they need to find one another.
+#[derive(Drop)]
+pub struct Server<'a, B: OfHub<H>, H: SessionHash, R> {
+    pub(crate) rt: &'a R,
+    pub(crate) hub: &'a Hub<H>,
+    pub(crate) hash: &'a H,
+    pub(crate) setup: &'a Setup,
+    pub(crate) shared: Shared<Accepted<B, H>>,
+    // Those without a connection. There is room for all, so that coming back takes no memory.
+    free: Mutex<Vec<FreeSlot<B, H>>>,
+    pub(crate) ghost set: { hub.now.setup ≡ setup.now },
+    pub(crate) ghost hashed: { hub.now.hash ≡ hash.now },
+    pub(crate) ghost here: { B.home ≡ Some hub.now.home },
 }
 
-/// The same at this entrance, wherever the settings say to listen.
-pub(crate) fn serve_at<H, R, A, W, E>(
-    rt: &R,
-    settings: &Settings,
-    hash: Arc<H>,
-    seed: [u8; 32],
-    entrance: A,
-    output: &mut W,
-    errors: &mut E,
-) -> u8
-where
-    H: SessionHash + Send + Sync + Drop,
-    R: Wait + Threads + Clock + Net + RandomSource + AllocGlobal + Sync,
-    A: Entrance,
-    W: Write,
-    E: Write + Send,
-{
-    let ending = match serve(rt, settings, &*hash, seed, entrance, output, errors) {
-        Ok(()) => Ending::Served,
-        Err(ending) => ending,
-    };
-    ending.tell(errors)
-}
-
-fn serve<H, R, A, W, E>(
-    rt: &R,
-    settings: &Settings,
-    hash: &H,
-    seed: [u8; 32],
-    entrance: A,
-    output: &mut W,
-    errors: &mut E,
-) -> Result<(), Ending>
-where
-    H: SessionHash + Send + Sync,
-    R: Wait + Threads + Clock + Net + RandomSource + AllocGlobal + Sync,
-    A: Entrance,
-    W: Write,
-    E: Write + Send,
-{
-    let (hub, host) = open(rt.alloc(), settings, hash)?;
-    // Settings ask for one at least.
-    let threads = settings.threads().max(1) as usize;
-    let mut runtime = Runtime::with_worker_threads(rt, threads).map_err(|_| Ending::Memory)?;
-    let (host, visitors) = run::<Brand, H, R, A, W, E>(
-        rt,
-        &mut runtime,
-        settings,
-        hash,
-        &hub,
-        host,
-        seed,
-        entrance,
-        output,
-        errors,
-    )?;
-    match hub.close(host, visitors) {
-        Ok(report) => say_report(&report, output),
-        Err(_) => Err(Ending::Memory),
-    }
-}
-
-/// The hub of these settings, and who admits visitors to it.
-fn open<H: SessionHash>(
-    alloc: Global,
-    settings: &Settings,
-    hash: &H,
-) -> Result<(Hub<H>, Host<H>), Ending>
-    ensures set { IfOk result (λ r. r.0.setup ≡ settings.now.hub) }
-    ensures hashed { IfOk result (λ r. r.0.hash ≡ hash.now) }
-    ensures host { IfOk result (λ r. r.1 ≡ record { home = r.0.home; admitted = 0 }) }
-{
-    let setup = settings.setup().clone().map_err(|_| Ending::Memory)?;
-    Hub::open(alloc, setup, hash).map_err(|_| Ending::Memory)
-}
-
-/// Runs the server, and gives the host back with all visitors of the hub, or those that are left where memory ran out.
-fn run<B, H, R, A, W, E>(
-    rt: &R,
-    runtime: &mut Runtime,
-    settings: &Settings,
-    hash: &H,
-    hub: &Hub<H>,
-    host: Host<H>,
-    seed: [u8; 32],
-    entrance: A,
-    output: &mut W,
-    errors: &mut E,
-) -> Result<(Host<H>, Vec<Visitor<H>>), Ending>
-where
-    B: Names<H> + Send + Sync,
-    H: SessionHash + Send + Sync,
-    R: Wait + Threads + Clock + Net + RandomSource + AllocGlobal + Sync,
-    A: Entrance,
-    W: Write,
-    E: Write + Send,
-    requires here { B.home ≡ Some hub.now.home }
-    requires host { host ≡ record { home = hub.now.home; admitted = 0 } }
-    requires set { hub.now.setup ≡ settings.now.hub }
-    requires hashed { hub.now.hash ≡ hash.now }
-    ensures host { IfOk result (λ r. r.0.home ≡ hub.now.home) }
-    ensures visitors { IfOk result (λ r. All (λ v. v.home ≡ hub.now.home) r.1.items) }
-{
-    let alloc = rt.alloc();
-    let users = settings.setup().max_users();
-    // One more joins where the hub is full, to be told so.
-    let count = users as usize + 1;
-    let mut host = host;
-    let guests = admit::<B, H>(alloc, &mut host, hub, count)?;
-    let visitors = Vec::with_capacity(alloc, count)?;
-    let rooms = Rooms::new(alloc, count)?;
-    let hall = Hall::new(rt, hub, hash, settings.setup(), rooms, guests);
-    let log = Logged::new((), Level::Warn, Locked::new(rt, errors));
-    warn_of_descriptors(&log, users);
-    let listener = match entrance.opens(rt, runtime.handle().reactor()) {
-        Ok(listener) => listener,
-        Err(error) => return Err(ending_of(&error)),
-    };
-    serve_all(
-        runtime,
-        &hall,
-        &log,
-        listener,
-        Challenges::from_seed(seed),
-        settings,
-        output,
-    )?;
-    Ok((host, leave(hall.into_guests(), visitors)))
-}
-
-/// Has all connections served that come.
-fn serve_all<'a, B, H, R, L, I, W>(
-    runtime: &mut Runtime,
-    hall: &'a Hall<'a, B, H, R>,
-    log: &'a L,
-    listener: I,
-    challenges: Challenges,
-    settings: &Settings,
-    output: &'a mut W,
-) -> Result<(), Ending>
-where
-    B: Names<H> + Send + Sync,
-    H: SessionHash + Send + Sync,
-    R: Wait + Threads + Clock + Net + RandomSource + AllocGlobal + Sync,
-    L: Log + Sync,
-    I: Listens + Send,
-    W: Write,
-{
-    let stop_after = match settings.stop_after() {
-        0 => None,
-        count => Some(u64::from(count)),
-    };
-    let address = listener.address().map_err(|error| ending_of(&error))?;
-    let time = runtime.handle().time();
-    let timer = time
-        .sleep(hall.rt, Duration::ZERO)
-        .map_err(|_| Ending::Memory)?;
-    let keeper = Keeper::new(hall, timer);
-    let timer = time
-        .sleep(hall.rt, Duration::ZERO)
-        .map_err(|_| Ending::Memory)?;
-    let door = Door::new(listener, &hall.rooms.board, hall.rt, log, timer);
-    let accept = Accept::new(door, Porter::new(hall, challenges, log), stop_after);
-    let tasks = Tasks::new(
-        keeper,
-        settings.setup().max_users() as usize + 1,
-        Accepting::new(accept, hall),
-        Opening::new(hall, output, address),
-        hall,
-        log,
-    );
-    let served = runtime.run_all(hall.rt, tasks);
-    match (served, hall.fault()) {
-        (Ok(()), None) => Ok(()),
-        (Ok(()), Some(Fault::Accepting)) => Err(Ending::Address),
-        (Ok(()), Some(Fault::Output)) => Err(Ending::Transfer),
-        (Ok(()), Some(Fault::Start)) | (Err(_), _) => Err(Ending::Memory),
-    }
-}
-
-/// Says where the system allows fewer descriptors than so many users need.
-fn warn_of_descriptors<L: Log>(log: &L, users: u32) {
-    let needed = needed(users);
-    if let Some(allowed) = allowed()
-        && allowed < needed
+impl<'a, B: OfHub<H>, H: SessionHash, R: Wait> Server<'a, B, H, R> {
+    /// Makes the server of this hub, with `count` slots, numbered from 0, of which these are free. Refused only where memory
+    /// runs out.
+    pub fn new(
+        alloc: Global,
+        rt: &'a R,
+        hub: &'a Hub<H>,
+        hash: &'a H,
+        setup: &'a Setup,
+        count: usize,
+        free: Vec<FreeSlot<B, H>>,
+    ) -> Result<Server<'a, B, H, R>, AllocError>
+        requires set { hub.now.setup ≡ setup.now }
+        requires hashed { hub.now.hash ≡ hash.now }
+        requires here { B.home ≡ Some hub.now.home }
     {
-        warn!(log; "{} users need {} descriptors, and the system allows {}", users, needed, allowed);
+        let shared = Shared::new(alloc, count)?;
+        Ok(Server {
+            rt,
+            hub,
+            hash,
+            setup,
+            shared,
+            free: Mutex::new(free),
+        })
     }
-}
 
-/// Admits so many visitors, who take the seats in their order.
-fn admit<B: Names<H>, H: SessionHash>(
-    alloc: Global,
-    host: &mut Host<H>,
-    hub: &Hub<H>,
-    count: usize,
-) -> Result<Vec<Guest<B, H>>, Ending>
-    requires here { B.home ≡ Some hub.now.home }
-    requires host { host.old ≡ record { home = hub.now.home; admitted = 0 } }
-    requires few { count ≤ 65_536 }
-    ensures host { host.new.home ≡ hub.now.home }
-{
-    let mut guests = Vec::with_capacity(alloc, count)?;
-    for place in 0..count {
-        guests.push(Guest::new(host.admit(hub), place))?;
+    /// Takes a slot that has no connection.
+    pub(crate) fn take_slot(&self) -> Option<FreeSlot<B, H>> {
+        self.free.lock(self.rt).pop()
     }
-    Ok(guests)
-}
 
-/// The visitors that were guests, as many as there is room for.
-fn leave<B: Names<H>, H>(guests: Vec<Guest<B, H>>, visitors: Vec<Visitor<H>>) -> Vec<Visitor<H>>
-    requires none { visitors.items ≡ [] }
-    ensures here { (home : Home (About H)) → B.home ≡ Some home → All (λ v. v.home ≡ home) result.items }
-{
-    let mut visitors = visitors;
-    for guest in guests {
-        let Guest { visitor, .. } = guest;
-        if visitors.push(visitor).is_err() {
-            return visitors;
-        }
+    /// Takes a slot back that has no connection any more.
+    pub(crate) fn free(&self, free: FreeSlot<B, H>) {
+        self.shared.wakers.vacate(free.slot);
+        // There is room; else the hub could not be closed, which would be seen.
+        let _ = self.free.lock(self.rt).push(free);
     }
-    visitors
-}
 
-fn say_report<W: Write>(report: &Report, output: &mut W) -> Result<(), Ending> {
-    match writeln!(output, "joins {} present {}", report.joins, report.present) {
-        Ok(()) => flush(output),
-        Err(_) => Err(Ending::Transfer),
+    /// Closes the server, because of this where it is a fault. All tasks end once their sessions have.
+    pub(crate) fn close(&self, fault: Option<Fault>) {
+        self.shared.close(self.rt, fault);
     }
-}
 
-fn flush<W: Write>(output: &mut W) -> Result<(), Ending> {
-    match output.flush() {
-        Ok(()) => Ok(()),
-        Err(_) => Err(Ending::Transfer),
+    /// Gives all slots that have no connection, once all tasks are over.
+    pub(crate) fn into_free(self) -> Vec<FreeSlot<B, H>> {
+        let Server { free, .. } = self;
+        free.into_inner()
     }
-}
-
-/// How the server ends where its address cannot be had.
-fn ending_of(error: &io::Error) -> Ending {
-    if error.kind() == io::ErrorKind::OutOfMemory {
-        return Ending::Memory;
-    }
-    Ending::Address
 }

@@ -1,10 +1,10 @@
-use crate::door::Listens;
-use crate::guest::Names;
-use crate::hall::Hall;
-use crate::keeper::Keeper;
-use crate::opening::Opening;
-use crate::serving::Serving;
-use crate::task::{Accepting, Task};
+use crate::accepted::Accepted;
+use crate::free_slot::OfHub;
+use crate::listener::Listens;
+use crate::server::Server;
+use crate::slot_task::SlotTask;
+use crate::task::{AcceptTask, Task};
+use connection_slots::{Startup, Ticker};
 use futures::Stream;
 use futures::task::{Context, Poll};
 use log::Log;
@@ -14,45 +14,45 @@ use std::io::Write;
 use std::sync::Wait;
 use std::time::Clock;
 
-/// All tasks of the server, which are made before it opens: the one that keeps time, one for each place, and at last the one
+/// All tasks of the server, which are made before it opens: the one that keeps time, one for each slot, and at last the one
 /// that accepts connections. So what comes later needs no memory for a task.
 #[derive(Drop)]
-pub(crate) struct Tasks<'a, B: Names<H>, H: SessionHash, R: Wait, L, I, W> {
-    keeper: Option<Keeper<'a, B, H, R>>,
-    // The place of the next task, and how many places there are.
+pub(crate) struct Tasks<'a, B: OfHub<H>, H: SessionHash, R: Wait, L, I, W> {
+    ticker: Option<Ticker<'a, Accepted<B, H>, R>>,
+    // The slot of the next task, and how many slots there are.
     next: usize,
     count: usize,
-    accepting: Option<Accepting<'a, B, H, R, L, I>>,
-    opening: Opening<'a, B, H, R, W>,
-    hall: &'a Hall<'a, B, H, R>,
+    accept: Option<AcceptTask<'a, B, H, R, L, I>>,
+    startup: Startup<'a, Accepted<B, H>, R, W>,
+    server: &'a Server<'a, B, H, R>,
     log: &'a L,
 }
 
 impl<
     'a,
-    B: Names<H>,
+    B: OfHub<H>,
     H: SessionHash,
     R: Wait + Clock + AllocGlobal,
     L: Log,
     I: Listens,
     W: Write,
 > Tasks<'a, B, H, R, L, I, W> {
-    /// The tasks for so many places.
+    /// Makes the tasks for so many slots.
     pub(crate) fn new(
-        keeper: Keeper<'a, B, H, R>,
+        ticker: Ticker<'a, Accepted<B, H>, R>,
         count: usize,
-        accepting: Accepting<'a, B, H, R, L, I>,
-        opening: Opening<'a, B, H, R, W>,
-        hall: &'a Hall<'a, B, H, R>,
+        accept: AcceptTask<'a, B, H, R, L, I>,
+        startup: Startup<'a, Accepted<B, H>, R, W>,
+        server: &'a Server<'a, B, H, R>,
         log: &'a L,
     ) -> Tasks<'a, B, H, R, L, I, W> {
         Tasks {
-            keeper: Some(keeper),
+            ticker: Some(ticker),
             next: 0,
             count,
-            accepting: Some(accepting),
-            opening,
-            hall,
+            accept: Some(accept),
+            startup,
+            server,
             log,
         }
     }
@@ -60,7 +60,7 @@ impl<
 
 impl<
     'a,
-    B: Names<H>,
+    B: OfHub<H>,
     H: SessionHash,
     R: Wait + Clock + AllocGlobal,
     L: Log,
@@ -69,21 +69,21 @@ impl<
 > Stream for Tasks<'a, B, H, R, L, I, W> {
     type Item = Task<'a, B, H, R, L, I>;
 
-    /// It ends once all tasks came to be; then the server opens.
+    /// Gives the next task. It ends once all tasks came to be; then the server opens.
     fn poll_next(&mut self, _cx: &mut Context<'_>) -> Poll<Option<Self::Item>> {
-        if let Some(keeper) = self.keeper.take() {
-            return Poll::Ready(Some(Task::Keeping(keeper)));
+        if let Some(ticker) = self.ticker.take() {
+            return Poll::Ready(Some(Task::Ticking(ticker)));
         }
-        let place = self.next;
-        if place < self.count {
-            self.next = place + 1;
-            let serving = Serving::new(self.hall, place, self.log);
-            return Poll::Ready(Some(Task::Serving(serving)));
+        let slot = self.next;
+        if slot < self.count {
+            self.next = slot + 1;
+            let task = SlotTask::new(self.server, slot, self.log);
+            return Poll::Ready(Some(Task::Serving(task)));
         }
-        if let Some(accepting) = self.accepting.take() {
-            return Poll::Ready(Some(Task::Accepting(accepting)));
+        if let Some(accept) = self.accept.take() {
+            return Poll::Ready(Some(Task::Accepting(accept)));
         }
-        self.opening.open();
+        self.startup.open();
         Poll::Ready(None)
     }
 }

@@ -11,10 +11,10 @@ use std::sync::Wait;
 use std::thread::Threads;
 use std::time::Clock;
 
-/// Which of its files fails at each call.
+/// The file of the program that fails at each call.
 #[derive(Clone, Copy, Debug, PartialEq)]
 pub(crate) enum Broken {
-    /// None.
+    /// No file.
     Nothing,
     /// Standard input.
     Input,
@@ -49,7 +49,7 @@ struct Output {
 }
 
 impl Output {
-    /// One with room for all that these tests write, so that no write asks for memory.
+    /// Makes one with room for all that these tests write, so that no write asks for memory.
     fn new(alloc: Global, is_broken: bool) -> Result<Output, AllocError> {
         Ok(Output {
             got: Vec::with_capacity(alloc, 1024)?,
@@ -75,7 +75,7 @@ impl Write for Output {
     }
 }
 
-/// What the program left: its status, standard output, standard error.
+/// The things that the program left: its status, standard output, standard error.
 #[derive(Drop)]
 struct Left {
     status: u8,
@@ -83,7 +83,7 @@ struct Left {
     errors: Output,
 }
 
-/// These words, each a string of its own.
+/// Makes a string of each of these words.
 fn strings(alloc: Global, words: &[&str]) -> Result<Vec<String>, AllocError> {
     let mut strings = Vec::with_capacity(alloc, words.len())?;
     for word in words {
@@ -113,7 +113,7 @@ fn attempt<T: Wait + Threads + Clock + Net + RandomSource + AllocGlobal + Files 
     })
 }
 
-/// The same, and once more where memory was refused, as the program then says.
+/// Runs the program, and once more where memory was refused, as it then says.
 fn run<T: Wait + Threads + Clock + Net + RandomSource + AllocGlobal + Files + Sync + Abort>(
     rt: &T,
     words: &[&str],

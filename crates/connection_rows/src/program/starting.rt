@@ -17,7 +17,7 @@ struct Scratch {
 }
 
 impl Scratch {
-    /// A file whose name ends like this. It is not there yet.
+    /// Names a file whose name ends like this. It is not there yet.
     fn new<R: RandomSource + AllocGlobal + Abort>(rt: &R, name: &str) -> Scratch {
         let mut number = [0; 8];
         assert!(rt; rt.fill_bytes(&mut number).is_ok());
@@ -26,7 +26,7 @@ impl Scratch {
         Scratch { path }
     }
 
-    /// A file that holds this.
+    /// Makes a file that holds this.
     fn of<R: RandomSource + AllocGlobal + Files + Abort>(
         rt: &R,
         name: &str,

@@ -9,16 +9,16 @@ use std::io;
 use std::process::Abort;
 use std::sync::atomic::{AtomicU32, Ordering};
 
-/// Brings streams and faults as it is told, and then lets wait.
+/// A script that brings streams and faults as it is told, and then lets wait.
 #[derive(Drop)]
 struct Script {
-    // Whether a stream comes at its turn.
+    // The turns: true where a stream comes.
     steps: Vec<bool>,
     at: usize,
 }
 
 impl Script {
-    /// So many faults, then so many streams, and both again.
+    /// Makes a script of so many faults, then so many streams, and both again.
     fn twice(rt: &impl Abort, alloc: Global, faults: usize, streams: usize) -> Script {
         let mut steps = Vec::new(alloc);
         for _ in 0..2 {
@@ -51,7 +51,7 @@ impl Incoming for Script {
     }
 }
 
-/// Counts what it starts.
+/// A starter that counts what it starts.
 #[derive(Drop)]
 struct Count<'a> {
     started: &'a AtomicU32,

@@ -166,7 +166,7 @@ fn nothing_is_read_from_a_client_that_is_shut_out(rt: HostRuntime) {
 /// A line that everybody gets.
 const HI: &[u8] = b"BMSG AAAB hi\n";
 
-/// A login, and then this line so often.
+/// Makes a login, and then this line so often.
 fn chatter(rt: &impl Abort, alloc: Global, front: &[u8], lines: u32) -> Vec<u8> {
     let mut all = again!(rt; Vec::from_slice(alloc, front));
     for _ in 0..lines {

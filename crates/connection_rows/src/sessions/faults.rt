@@ -18,7 +18,7 @@ const ANA_GETS: &[u8] = b"ISUP ADBASE ADTIGR ADPING ADUCMD\nISID AAAC\n\
 IINF CT32 NIHub VEadc-hub\\s1.0\nBINF AAAB IDAAAAAAAAAAAAAAAAAAAAAAAAAAAAAAAAAAAAAAI NIbob SS5 SF1 SUTCP4\n\
 BINF AAAC IDAAAAAAAAAAAAAAAAAAAAAAAAAAAAAAAAAAAAAAA NIana SS10 SF2 I4127.0.0.1 SUTCP4,SEGA\nBMSG AAAC hi\n";
 
-/// Which calls go wrong.
+/// The calls that go wrong.
 #[derive(Clone, Copy, Debug, PartialEq, Eq)]
 enum Kind {
     Read,
@@ -26,22 +26,22 @@ enum Kind {
     Full,
 }
 
-/// What bob gets where ana's line was handed over.
+/// The bytes that bob gets where ana's line was handed over.
 const WHOLE: &[u8] =
     b"BINF AAAC IDAAAAAAAAAAAAAAAAAAAAAAAAAAAAAAAAAAAAAAA NIana SS10 SF2 I4127.0.0.1 \
 SUTCP4,SEGA\nBMSG AAAC hi\nIQUI AAAC\n";
 
-/// What he gets where only her login was.
+/// The bytes that he gets where only her login was.
 const LOGIN_ALONE: &[u8] =
     b"BINF AAAC IDAAAAAAAAAAAAAAAAAAAAAAAAAAAAAAAAAAAAAAA NIana SS10 SF2 I4127.0.0.1 \
 SUTCP4,SEGA\nIQUI AAAC\n";
 
-/// Whether bob was told of ana as one of three visits tells: to the end, to the login, to neither.
+/// Answers whether bob was told of ana as one of three visits tells: to the end, to the login, to neither.
 fn is_told(bob: &[u8]) -> bool {
     bob.is_empty() || bob == LOGIN_ALONE || bob == WHOLE
 }
 
-/// Bob is there; ana enters and says hi, byte by byte, and something goes wrong. Tells how it ended.
+/// Plays a visit: bob is there; ana enters and says hi, byte by byte, and something goes wrong. Tells how it ended.
 fn visit(rt: &impl Abort, alloc: Global, task: &MockTask, trouble: Trouble) -> End {
     for _ in 0..2 {
         let port = HubPort::open(rt, alloc, &[BOB]);

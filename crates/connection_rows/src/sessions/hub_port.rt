@@ -17,7 +17,7 @@ pub(crate) struct HubPort {
     first: Conn,
 }
 
-/// What a connection leaves: the hub, and who joined it first.
+/// The things that a connection leaves: the hub, and who joined it first.
 #[derive(Drop)]
 pub(crate) struct HubLeft {
     pub(crate) core: Core,
@@ -25,7 +25,7 @@ pub(crate) struct HubLeft {
 }
 
 impl HubPort {
-    /// A new hub, to which others have come, each by greeting and this login line; and one more connection.
+    /// Opens a new hub, to which others have come, each by greeting and this login line; and one more connection.
     pub(crate) fn open(rt: &impl Abort, alloc: Global, others: &[&[u8]]) -> HubPort {
         let options = Options {
             name: "Hub",

@@ -96,7 +96,7 @@ fn a_rest_without_line_feed_is_no_line(rt: HostRuntime) {
     assert!(&rt; read == (End::Closed, 0, 0), "{read:?}");
 }
 
-/// A poll hands over at most 64 lines, so 1,000 lines take 16 polls or more; each of them takes.
+/// Tests that each poll takes: it hands over at most 64 lines, so 1,000 lines take 16 polls or more.
 #[test]
 fn each_poll_takes(rt: HostRuntime) {
     let task = again!(&rt; MockTask::new(&rt));

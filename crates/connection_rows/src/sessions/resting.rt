@@ -11,7 +11,7 @@ use std::alloc::Global;
 use std::process::Abort;
 use tokio::io::{duplex, read_exact};
 
-/// How many lines wait: more than three takes give.
+/// The number of lines that wait: more than three takes give.
 const LINES: usize = 1_000;
 
 const HI: &[u8] = b"hi\n";

@@ -5,7 +5,7 @@ use std::alloc::Global;
 use std::process::Abort;
 use tokio::io::{AsyncRead, AsyncWrite};
 
-/// How often a session is polled at most.
+/// The number of times that a session is polled at most.
 const POLLS: u32 = 1_000_000;
 
 /// Makes a session, a second time of what was given back where memory was refused.

@@ -6,15 +6,15 @@ use std::io;
 use std::process::Abort;
 use tokio::io::{AsyncRead, AsyncWrite};
 
-/// Which call of a stream goes wrong, counted from 1.
+/// The call of a stream that goes wrong, counted from 1.
 #[derive(Clone, Copy, Debug, PartialEq, Eq)]
 pub(crate) enum Trouble {
     Nowhere,
-    /// This read fails.
+    /// A read that fails.
     Read(u32),
-    /// This write fails.
+    /// A write that fails.
     Write(u32),
-    /// This write takes no byte.
+    /// A write that takes no byte.
     Full(u32),
 }
 
@@ -23,7 +23,7 @@ pub(crate) enum Trouble {
 pub(crate) struct Wire {
     input: Vec<u8>,
     at: usize,
-    // How many bytes one call moves at most.
+    // The number of bytes that one call moves at most.
     room: usize,
     trouble: Trouble,
     // Every second read has to wait.
@@ -61,17 +61,17 @@ impl Wire {
         self
     }
 
-    /// What the client was sent.
+    /// Gives what the client was sent.
     pub(crate) fn written(&self) -> &[u8] {
         &self.written
     }
 
-    /// How many bytes the client has sent and nobody read.
+    /// Gives how many bytes the client has sent and nobody read.
     pub(crate) fn unread(&self) -> usize {
         self.input.len().saturating_sub(self.at)
     }
 
-    /// How many times it was written to.
+    /// Gives how many times it was written to.
     pub(crate) fn writes(&self) -> u32 {
         self.writes
     }

@@ -1,11 +1,11 @@
 use std::alloc::{AllocError, Global};
 use std::io::{self, Read, Write};
 
-/// Gives at most `most` bytes a read, and fails at the read of number `bad`, from 1 on.
+/// A reader that gives at most `most` bytes a read, and fails at the read of number `bad`, from 1 on.
 #[derive(Clone, Copy)]
 pub(crate) struct Input<'a> {
     pub(crate) rest: &'a [u8],
-    /// What it gives once the rest is read, over and over.
+    /// The bytes that it gives once the rest is read, over and over.
     pub(crate) again: &'a [u8],
     pub(crate) most: usize,
     pub(crate) bad: usize,
@@ -40,7 +40,7 @@ impl Read for Input<'_> {
     }
 }
 
-/// Takes at most `most` bytes a write, and fails at the call of number `bad`, from 1 on.
+/// A writer that takes at most `most` bytes a write, and fails at the call of number `bad`, from 1 on.
 #[derive(Drop)]
 pub(crate) struct Output {
     pub(crate) got: Vec<u8>,
@@ -50,7 +50,7 @@ pub(crate) struct Output {
 }
 
 impl Output {
-    /// A writer with room for all that these tests write, so that no write asks for memory.
+    /// Makes a writer with room for all that these tests write, so that no write asks for memory.
     pub(crate) fn new(alloc: Global, most: usize, bad: usize) -> Result<Output, AllocError> {
         Ok(Output {
             got: Vec::with_capacity(alloc, 1024)?,

@@ -1,0 +1,181 @@
+// Servers that cannot be had, or not for long.
+
+use crate::server::run::settings;
+use hub_server::{Bind, serve_at};
+use session_hash::First24;
+use std::alloc::AllocGlobal;
+use std::io::{self, Write};
+use std::net::{Ipv4Addr, Net, OpenListener, SocketAddr, SocketAddrV4, TcpListener, TcpStream};
+use std::os::fd::OwnedFd;
+use std::process::Abort;
+use std::random::RandomSource;
+use std::sync::{Arc, Wait};
+use std::thread::Threads;
+use std::time::Clock;
+use tokio::reactor::Handle;
+
+/// A socket that is connected already, so that it accepts nobody.
+#[derive(Drop)]
+struct Connected(TcpListener);
+
+impl Bind for Connected {
+    type Listener = tokio::net::TcpListener;
+
+    fn bind<R: Net>(self, _rt: &R, handle: &Handle) -> io::Result<tokio::net::TcpListener> {
+        tokio::net::TcpListener::from_std(self.0, handle)
+    }
+}
+
+/// The trouble that is there where a server is to be.
+#[derive(Clone, Copy)]
+enum Trouble {
+    /// The address is one that is kept for examples, so that no machine has it.
+    NotHere,
+    /// The address is in use: another listens there.
+    InUse,
+    /// The output is broken: what is said cannot be written.
+    Mute,
+    /// The socket is connected, so that nobody can be accepted.
+    Connected,
+}
+
+/// Standard output, which can fail.
+#[derive(Drop)]
+struct Output {
+    got: Vec<u8>,
+    is_broken: bool,
+}
+
+impl Write for Output {
+    fn write(&mut self, buf: &[u8]) -> io::Result<usize> {
+        if self.is_broken {
+            return Err(io::ErrorKind::BrokenPipe.into());
+        }
+        self.got.extend_from_slice(buf)?;
+        Ok(buf.len())
+    }
+
+    fn flush(&mut self) -> io::Result<()> {
+        Ok(())
+    }
+}
+
+/// The end of a server, and what it said.
+#[derive(Drop)]
+struct Ended {
+    status: u8,
+    output: Vec<u8>,
+    errors: Vec<u8>,
+}
+
+/// Runs a server at this address.
+fn at<R, A: Bind>(rt: &R, address: A, is_broken: bool) -> io::Result<Ended>
+where
+    R: Wait
+        + Threads
+        + Clock
+        + Net<Stream = TcpStream, Listener = TcpListener>
+        + RandomSource
+        + AllocGlobal
+        + Sync,
+{
+    let settings = settings(rt.alloc(), "hash = \"first24\"\nmax_users = 4\n")?;
+    let hash = Arc::new(rt.alloc(), First24)?;
+    let got = Vec::with_capacity(rt.alloc(), 64)?;
+    let mut output = Output { got, is_broken };
+    let mut errors = Vec::with_capacity(rt.alloc(), 64)?;
+    let status = serve_at(
+        rt,
+        &settings,
+        hash,
+        [0; 32],
+        address,
+        &mut output,
+        &mut errors,
+    );
+    Ok(Ended {
+        status,
+        output: output.got,
+        errors,
+    })
+}
+
+/// Runs a server in this trouble.
+fn in_trouble<R>(rt: &R, trouble: Trouble) -> io::Result<Ended>
+where
+    R: Wait
+        + Threads
+        + Clock
+        + Net<Stream = TcpStream, Listener = TcpListener>
+        + RandomSource
+        + AllocGlobal
+        + Sync,
+{
+    let here = TcpListener::bind(rt, "127.0.0.1:0")?;
+    let local = here.local_addr()?;
+    let any = SocketAddrV4::new(Ipv4Addr::LOCALHOST, 0);
+    let nowhere = SocketAddrV4::new(Ipv4Addr::new(203, 0, 113, 1), 4111);
+    match (trouble, local) {
+        (Trouble::InUse, SocketAddr::V4(local)) => at(rt, local, false),
+        (Trouble::InUse, SocketAddr::V6(_)) => Err(io::ErrorKind::Unsupported.into()),
+        (Trouble::NotHere, _) => at(rt, nowhere, false),
+        (Trouble::Mute, _) => at(rt, any, true),
+        (Trouble::Connected, local) => {
+            let stream = TcpStream::connect(rt, local)?;
+            at(
+                rt,
+                Connected(TcpListener::from(OwnedFd::from(stream))),
+                false,
+            )
+        }
+    }
+}
+
+/// Stops the test unless a server in this trouble ends like this, once more where memory was refused.
+fn ends<R>(rt: &R, trouble: Trouble, status: u8, output: &[u8], errors: &[u8])
+where
+    R: Wait
+        + Threads
+        + Clock
+        + Net<Stream = TcpStream, Listener = TcpListener>
+        + RandomSource
+        + AllocGlobal
+        + Abort
+        + Sync,
+{
+    for _ in 0..2 {
+        if let Ok(ended) = in_trouble(rt, trouble)
+            && ended.status != 4
+        {
+            assert!(rt; ended.status == status, "{}", ended.status);
+            assert!(rt;
+                ended.output.starts_with(output) && output.is_empty() == ended.output.is_empty()
+            );
+            assert!(rt; ended.errors.as_slice() == errors);
+            return;
+        }
+    }
+    panic!(rt; "refused twice")
+}
+
+#[test]
+fn an_address_that_cannot_be_had(rt: HostRuntime) {
+    ends(&rt, Trouble::NotHere, 3, b"", b"adc_hub: address\n");
+    ends(&rt, Trouble::InUse, 3, b"", b"adc_hub: address\n");
+}
+
+#[test]
+fn an_output_that_fails(rt: HostRuntime) {
+    ends(&rt, Trouble::Mute, 5, b"", b"adc_hub: input or output\n");
+}
+
+#[test]
+fn a_listener_that_fails_is_given_up(rt: HostRuntime) {
+    ends(
+        &rt,
+        Trouble::Connected,
+        3,
+        b"listening 127.0.0.1:",
+        b"adc_hub: address\n",
+    );
+}

@@ -1,0 +1,158 @@
+// A session over memory, with a connection of the server.
+ghost use Rattle.std.specs.Prelude.{◌≡◌, Some, ⊤};
+
+use adc_sessions::{End, Session};
+use futures::task::{Context, Poll};
+use futures::test::MockTask;
+use hub_core::{Options, Setup};
+use hub_server::{Connection, OfHub, Server};
+use hub_shared::{Host, Hub};
+use session_hash::First24;
+use std::alloc::AllocGlobal;
+use std::io;
+use std::marker::Brand;
+use std::process::Abort;
+use std::random::RandomSource;
+use std::sync::{Arc, Wait};
+use std::time::Clock;
+use tokio::io::{AsyncRead, AsyncWrite};
+
+/// The number of times that a session is polled at most.
+const POLLS: u32 = 1_000;
+
+const CHALLENGE: [u8; 24] = [0; 24];
+
+/// A stream: the bytes that a client sends, and those that it is sent.
+#[derive(Drop)]
+struct Wire<'a> {
+    rest: &'a [u8],
+    written: Vec<u8>,
+}
+
+impl AsyncRead for Wire<'_> {
+    ghost reads = { λ _ _ _. ⊤ };
+
+    ghost is_at_end = { λ _. ⊤ };
+
+    ghost reads_nothing = { λ _. tt };
+
+    ghost reads_in_order = { λ _ _ _ _ _ _ _. tt };
+
+    fn poll_read(&mut self, _cx: &mut Context<'_>, buf: &mut [u8]) -> Poll<io::Result<usize>> {
+        let count = self.rest.len().min(buf.len());
+        buf[..count].copy_from_slice(&self.rest[..count]);
+        self.rest = &self.rest[count..];
+        Poll::Ready(Ok(count))
+    }
+}
+
+impl AsyncWrite for Wire<'_> {
+    ghost writes = { λ _ _ _. ⊤ };
+
+    ghost writes_nothing = { λ _. tt };
+
+    ghost writes_in_order = { λ _ _ _ _ _ _ _. tt };
+
+    fn poll_write(&mut self, _cx: &mut Context<'_>, buf: &[u8]) -> Poll<io::Result<usize>> {
+        Poll::Ready(match self.written.extend_from_slice(buf) {
+            Ok(()) => Ok(buf.len()),
+            Err(_) => Err(io::ErrorKind::OutOfMemory.into()),
+        })
+    }
+
+    fn poll_flush(&mut self, _cx: &mut Context<'_>) -> Poll<io::Result<()>> {
+        Poll::Ready(Ok(()))
+    }
+
+    fn poll_shutdown(&mut self, _cx: &mut Context<'_>) -> Poll<io::Result<()>> {
+        Poll::Ready(Ok(()))
+    }
+}
+
+/// Tells how the session of a hub's only connection ends, and what it writes; nothing where memory was refused.
+fn session<B: OfHub<First24>, R: Wait + Clock + RandomSource + AllocGlobal>(
+    rt: &R,
+    hub: &Hub<First24>,
+    host: &mut Host<First24>,
+    setup: &Setup,
+    input: &[u8],
+) -> Option<(End, Vec<u8>)>
+    requires here { B.home ≡ Some hub.now.home }
+    requires host { host.old ≡ record { home = hub.now.home; admitted = 0 } }
+    requires set { hub.now.setup ≡ setup.now }
+{
+    let visitor = host.admit(hub);
+    let joined = hub.join(rt, rt.alloc(), visitor, [127, 0, 0, 1], CHALLENGE, 0);
+    let Ok(pass) = joined else {
+        return None;
+    };
+    let free = Vec::new(rt.alloc());
+    let server = Server::<B, First24, R>::new(rt.alloc(), rt, hub, &First24, setup, 1, free).ok()?;
+    let connection = Connection::new(&server, pass, CHALLENGE, 0);
+    let bell = connection.bell();
+    let written = Vec::with_capacity(rt.alloc(), 1024).ok()?;
+    let wire = Wire {
+        rest: input,
+        written,
+    };
+    let Ok(mut session) = Session::new(rt.alloc(), wire, connection, bell) else {
+        return None;
+    };
+    let task = MockTask::new(rt).ok()?;
+    for _poll in 0..POLLS {
+        if let Poll::Ready((end, wire, _free)) = task.poll(&mut session) {
+            return Some((end, wire.written));
+        }
+    }
+    None
+}
+
+fn attempt<R: Wait + Clock + RandomSource + AllocGlobal>(
+    rt: &R,
+    input: &[u8],
+) -> Option<(End, Vec<u8>)> {
+    let options = Options {
+        name: "Hub",
+        topic: "",
+        accounts: &[],
+        commands: &[],
+        registered_only: false,
+        search_interval: 0,
+        max_users: 512,
+        opening: 0,
+    };
+    let setup = Setup::new(rt.alloc(), &options).ok()?;
+    let setup = Arc::new(rt.alloc(), setup).ok()?;
+    let (hub, mut host) = Hub::open(rt.alloc(), setup.clone().ok()?, &First24).ok()?;
+    match session::<Brand, R>(rt, &hub, &mut host, &setup, input) {
+        Some((End::Memory, _)) | None => None,
+        Some(ended) => Some(ended),
+    }
+}
+
+#[test]
+fn a_session_over_memory_is_answered(rt: HostRuntime) {
+    let rows: [(&[u8], &[u8], End); 2] = [
+        (
+            b"HSUP ADBASE ADTIGR\n",
+            b"ISUP ADBASE ADTIGR ADPING ADUCMD\nISID AAAB\nIINF CT32 NIHub VEadc-hub\\s1.0\n",
+            End::Closed,
+        ),
+        (
+            b"HSUP ADBASE\n",
+            b"ISTA 247 No\\scommon\\shash\n",
+            End::Ended,
+        ),
+    ];
+    for (input, wanted, end) in rows {
+        let ran = match attempt(&rt, input) {
+            Some(ran) => ran,
+            None => match attempt(&rt, input) {
+                Some(ran) => ran,
+                None => panic!(&rt; "refused twice"),
+            },
+        };
+        assert!(&rt; ran.0 == end, "{:?}", ran.0);
+        assert!(&rt; ran.1.as_slice() == wanted);
+    }
+}

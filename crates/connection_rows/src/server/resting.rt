@@ -1,0 +1,101 @@
+// Tests of what a listener does where no connection can be accepted.
+use adc_sessions::Incoming;
+use connection_slots::Wakers;
+use futures::task::{Context, Poll};
+use futures::test::MockTask;
+use hub_server::{Listener, Listens};
+use log::sink::Discard;
+use log::{Level, Logged};
+use std::alloc::AllocGlobal;
+use std::io;
+use std::net::{Ipv4Addr, Net, SocketAddr, SocketAddrV4};
+use std::process::Abort;
+use std::random::RandomSource;
+use std::time::{Clock, Duration};
+use tokio::net::TcpStream;
+use tokio::runtime::Runtime;
+
+/// The number of times that a listener rests.
+const RESTS: u32 = 100;
+
+/// A socket that fails always, with one number.
+#[derive(Drop)]
+struct Failing {
+    number: i32,
+}
+
+impl Listens for Failing {
+    fn poll_accept(&mut self, _cx: &mut Context<'_>) -> Poll<io::Result<(TcpStream, SocketAddr)>> {
+        Poll::Ready(Err(io::Error::from_raw_os_error(self.number)))
+    }
+
+    fn address(&self) -> io::Result<SocketAddr> {
+        Ok(SocketAddr::V4(SocketAddrV4::new(Ipv4Addr::LOCALHOST, 0)))
+    }
+}
+
+/// The deed of a listener.
+#[derive(Clone, Copy, PartialEq, Eq)]
+enum Did {
+    /// Says that accepting failed.
+    Failed,
+    /// Asks at once for another poll.
+    Yielded,
+    /// Rests, and looks again each time a socket was closed.
+    Rested,
+}
+
+fn try_listener<R: Clock + Net + RandomSource + AllocGlobal>(rt: &R, number: i32) -> Option<Did> {
+    let runtime = Runtime::with_worker_threads(rt, 1).ok()?;
+    let timer = runtime.handle().time().sleep(rt, Duration::ZERO).ok()?;
+    let wakers = Wakers::new(rt.alloc(), 1).ok()?;
+    let log = Logged::new((), Level::Warn, Discard);
+    let task = MockTask::new(rt).ok()?;
+    let mut listener = Listener::new(Failing { number }, &wakers, rt, &log, timer);
+    for _rest in 0..RESTS {
+        match task.enter(|cx| listener.poll_incoming(cx)) {
+            Poll::Ready(_) => return Some(Did::Failed),
+            Poll::Pending if task.is_woken() => return Some(Did::Yielded),
+            Poll::Pending => wakers.make_room(),
+        }
+        if !task.is_woken() {
+            return None;
+        }
+    }
+    Some(Did::Rested)
+}
+
+/// Stops the test unless a listener does this whose socket fails with that number.
+fn does<R>(rt: &R, number: i32, did: Did)
+where
+    R: Clock + Net + RandomSource + AllocGlobal + Abort,
+{
+    for _ in 0..2 {
+        if let Some(done) = try_listener(rt, number) {
+            assert!(rt; done == did, "{number}");
+            return;
+        }
+    }
+    panic!(rt; "refused twice")
+}
+
+#[test]
+fn a_listener_rests_until_a_socket_is_closed(rt: HostRuntime) {
+    for number in [12, 23, 24, 28, 105] {
+        does(&rt, number, Did::Rested);
+    }
+}
+
+#[test]
+fn a_connection_that_is_gone_is_no_fault(rt: HostRuntime) {
+    for number in [4, 11, 64, 71, 92, 95, 100, 101, 103, 107, 112, 113] {
+        does(&rt, number, Did::Yielded);
+    }
+}
+
+#[test]
+fn a_listener_at_fault_fails(rt: HostRuntime) {
+    for number in [9, 22] {
+        does(&rt, number, Did::Failed);
+    }
+}

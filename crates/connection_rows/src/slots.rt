@@ -1,0 +1,4 @@
+// The slots of connections: who is woken, who gives way, and what a fault of the system means.
+mod backlogs;
+mod faults;
+mod waking;

@@ -1,0 +1,127 @@
+ghost use Rattle.std.specs.Prelude.{◌≡◌, false};
+ghost use Rattle.futures.specs.Task.{IsArmed, Keeps};
+
+use crate::lingering_socket::LingeringSocket;
+use futures::task::{Context, Poll, Source, Waker};
+use std::alloc::{AllocError, Global};
+use std::sync::{Mutex, Wait};
+use std::time::{Clock, Duration, Instant};
+use tokio::net::TcpStream;
+
+/// The number of sockets that linger at a time at most.
+const MOST: usize = 16;
+
+/// The number of seconds for which a socket lingers.
+const SECONDS: u64 = 2;
+
+/// The sockets whose sessions are over, or for which the hub had no room, while their last lines are on the way: 16 at most,
+/// each for 2 seconds.
+#[derive(Drop)]
+pub struct Lingering {
+    source: Source,
+    held: Mutex<Held>,
+}
+
+#[derive(Drop)]
+struct Held {
+    places: Vec<Option<LingeringSocket>>,
+    ticker: Option<Waker>,
+}
+
+impl Lingering {
+    /// Makes room for all sockets that ever linger at a time. Refused only where memory runs out.
+    pub fn new(alloc: Global) -> Result<Lingering, AllocError> {
+        let mut places = Vec::with_capacity(alloc, MOST)?;
+        for _place in 0..MOST {
+            places.push(None)?;
+        }
+        Ok(Lingering {
+            source: Source::new(),
+            held: Mutex::new(Held {
+                places,
+                ticker: None,
+            }),
+        })
+    }
+
+    /// Lets a socket go by and by, at once where the clock cannot be read. Where too many linger, the oldest of them is
+    /// closed.
+    pub fn let_out<R: Wait + Clock>(&self, rt: &R, stream: TcpStream) {
+        let Ok(now) = Instant::now(rt) else {
+            return;
+        };
+        let Some(until) = now.checked_add(Duration::from_secs(SECONDS)) else {
+            return;
+        };
+        let socket = LingeringSocket::new(stream, until);
+        let oldest = self.held.lock(rt).replace(socket);
+        // It is closed here, and not under the lock.
+        drop(oldest);
+    }
+
+    /// Drops what clients have sent, closes the sockets that are done, and answers whether some linger still. The task is
+    /// woken where there is more to do, and for the next socket.
+    pub fn linger<R: Wait + Clock>(&self, rt: &R, cx: &mut Context<'_>) -> bool
+        ensures registered { result ≡ false → IsArmed cx.new }
+        ensures kept { Keeps cx.old cx.new }
+    {
+        let Ok(now) = Instant::now(rt) else {
+            let _: Poll<()> = cx.yield_now();
+            return false;
+        };
+        self.held.lock(rt).linger(cx, &self.source, now)
+    }
+
+    /// Wakes the task that reads them.
+    pub fn wake_ticker<R: Wait>(&self, rt: &R) {
+        self.held.lock(rt).ticker = None;
+    }
+}
+
+impl Held {
+    /// Holds this one, and gives back what was held in its place.
+    fn replace(&mut self, socket: LingeringSocket) -> Option<LingeringSocket> {
+        self.ticker = None;
+        let place = self.place();
+        match self.places.get_mut(place) {
+            Some(place) => place.replace(socket),
+            None => Some(socket),
+        }
+    }
+
+    /// Finds a free place, or that of the one that is held for longest.
+    fn place(&self) -> usize {
+        let mut oldest: Option<(usize, Instant)> = None;
+        for (place, held) in self.places.iter().enumerate() {
+            let Some(held) = held else {
+                return place;
+            };
+            oldest = match oldest {
+                Some((_, until)) if until <= held.until() => oldest,
+                _ => Some((place, held.until())),
+            };
+        }
+        match oldest {
+            Some((place, _)) => place,
+            None => 0,
+        }
+    }
+
+    fn linger(&mut self, cx: &mut Context<'_>, source: &Source, now: Instant) -> bool
+        ensures registered { IsArmed cx.new }
+        ensures kept { Keeps cx.old cx.new }
+    {
+        let mut some_linger = false;
+        for place in self.places.iter_mut() {
+            if let Some(held) = place {
+                if held.lingers(cx, now) {
+                    some_linger = true;
+                } else {
+                    *place = None;
+                }
+            }
+        }
+        let _: Poll<()> = cx.register(source, &mut self.ticker);
+        some_linger
+    }
+}

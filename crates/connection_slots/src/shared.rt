@@ -1,0 +1,76 @@
+ghost use Rattle.futures.specs.Task.{IsArmed, Keeps};
+ghost use Rattle.futures.specs.Poll.{OnPending};
+
+use crate::handoff::Handoff;
+use crate::lifecycle::{Fault, Lifecycle};
+use crate::lingering::Lingering;
+use crate::wakers::Wakers;
+use futures::task::{Context, Poll};
+use std::alloc::{AllocError, Global};
+use std::sync::Wait;
+
+/// All that the tasks of a server share beside its hub: whatever they need of memory to find one another.
+#[derive(Drop)]
+pub struct Shared<T> {
+    /// The wakers of the slots.
+    pub wakers: Wakers,
+    /// The places in which accepted connections wait for the tasks of their slots.
+    pub handoff: Handoff<T>,
+    /// The sockets whose last lines are on the way.
+    pub lingering: Lingering,
+    lifecycle: Lifecycle,
+}
+
+impl<T: Drop> Shared<T> {
+    /// Makes all that is shared for `count` slots. Refused only where memory runs out.
+    pub fn new(alloc: Global, count: usize) -> Result<Shared<T>, AllocError> {
+        Ok(Shared {
+            wakers: Wakers::new(alloc, count)?,
+            handoff: Handoff::new(alloc, count)?,
+            lingering: Lingering::new(alloc)?,
+            lifecycle: Lifecycle::new(),
+        })
+    }
+}
+
+impl<T> Shared<T> {
+    /// Opens the server: all of its tasks came to be.
+    pub fn open(&self) {
+        self.lifecycle.open();
+    }
+
+    /// Lets no more connections come, because of this where it is a fault. All tasks end once their sessions have.
+    pub fn close<R: Wait>(&self, rt: &R, fault: Option<Fault>) {
+        self.lifecycle.close(fault);
+        self.wakers.end_help();
+        self.handoff.close(rt);
+        self.lingering.wake_ticker(rt);
+    }
+
+    /// Waits until the server is open or closed, and answers whether it is open.
+    pub fn poll_open(&self, cx: &mut Context<'_>) -> Poll<bool>
+        ensures registered { OnPending result (IsArmed cx.new) }
+        ensures kept { Keeps cx.old cx.new }
+    {
+        self.lifecycle.poll_open(cx)
+    }
+
+    /// Notes that the task of a slot has ended.
+    pub fn end_one<R: Wait>(&self, rt: &R) {
+        self.handoff.end_one(rt);
+        self.lingering.wake_ticker(rt);
+    }
+
+    /// Answers whether nobody is served any more, and nobody will be.
+    pub fn is_over<R: Wait>(&self, rt: &R) -> bool {
+        match self.lifecycle.fault() {
+            Some(Fault::Start) => true,
+            _ => self.handoff.is_over(rt),
+        }
+    }
+
+    /// Gives why no more connections came, where that was a fault.
+    pub fn fault(&self) -> Option<Fault> {
+        self.lifecycle.fault()
+    }
+}

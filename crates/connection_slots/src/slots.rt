@@ -1,0 +1,230 @@
+ghost use Rattle.std.specs.Prelude.{◌≡◌, false};
+ghost use Rattle.futures.specs.Task.{IsArmed, Keeps};
+
+use crate::accept_waker::AcceptWaker;
+use crate::backlog::Backlog;
+use crate::throttle::Throttle;
+use adc_base32::Sid;
+use futures::task::{Context, Poll, Source, Waker};
+use std::alloc::{AllocError, Global};
+
+/// The state of the session that has a slot, as far as its waking needs it.
+#[derive(Drop)]
+struct Slot {
+    // The identifier by which it is woken alone. Nobody can mean it before it has one that others know.
+    sid: Option<Sid>,
+    // The number of wakes of everybody that it has heard.
+    heard: u64,
+    is_called: bool,
+    waker: Option<Waker>,
+    // It is among those that wait.
+    waits: bool,
+    // It is among those that give way.
+    is_held: bool,
+    backlog: Backlog,
+}
+
+/// The slots of all sessions, under the lock of `Wakers`.
+#[derive(Drop)]
+pub(crate) struct Slots {
+    slots: Vec<Slot>,
+    // The number of wakes that were of everybody.
+    wakes: u64,
+    // The slots that have left a waker, and maybe some that were woken since.
+    waiting: Vec<usize>,
+    // Those that give way.
+    held: Vec<usize>,
+    ticks: u64,
+    ticker: Option<Waker>,
+    pub(crate) accept: AcceptWaker,
+}
+
+impl Slots {
+    /// Makes so many slots, with room for all that is ever kept of them.
+    pub(crate) fn new(alloc: Global, count: usize) -> Result<Slots, AllocError> {
+        let mut slots = Vec::with_capacity(alloc, count)?;
+        for _slot in 0..count {
+            slots.push(Slot {
+                sid: None,
+                heard: 0,
+                is_called: false,
+                waker: None,
+                waits: false,
+                is_held: false,
+                backlog: Backlog::new(0),
+            })?;
+        }
+        Ok(Slots {
+            slots,
+            wakes: 0,
+            waiting: Vec::with_capacity(alloc, count)?,
+            held: Vec::with_capacity(alloc, count)?,
+            ticks: 0,
+            ticker: None,
+            accept: AcceptWaker::new(),
+        })
+    }
+
+    /// Gives the slot to another session, or to none, once `said` lines were said to everybody.
+    pub(crate) fn clear(&mut self, slot: usize, said: u64) {
+        let wakes = self.wakes;
+        if let Some(slot) = self.slots.get_mut(slot) {
+            slot.sid = None;
+            slot.heard = wakes;
+            slot.is_called = false;
+            slot.waker = None;
+            slot.backlog = Backlog::new(said);
+        }
+    }
+
+    /// Notes the identifier by which the session of this slot is known.
+    pub(crate) fn name(&mut self, slot: usize, sid: Sid) {
+        if let Some(slot) = self.slots.get_mut(slot) {
+            slot.sid = Some(sid);
+        }
+    }
+
+    /// Wakes the session with this identifier, which was given a line. Answers whether it is behind.
+    pub(crate) fn wake_one(&mut self, sid: Sid, own: usize, said: u64) -> bool {
+        let mut is_behind = false;
+        for (place, slot) in self.slots.iter_mut().enumerate() {
+            if place != own && slot.sid == Some(sid) {
+                slot.is_called = true;
+                slot.waker = None;
+                slot.backlog.give();
+                if slot.backlog.is_behind(said) {
+                    is_behind = true;
+                }
+            }
+        }
+        is_behind
+    }
+
+    /// Wakes everybody but the session of this slot.
+    pub(crate) fn wake_everybody(&mut self, own: usize) {
+        let before = self.wakes;
+        self.wakes = before.wrapping_add(1);
+        let mut own_waits = false;
+        while let Some(place) = self.waiting.pop() {
+            if place == own {
+                own_waits = true;
+            } else if let Some(slot) = self.slots.get_mut(place) {
+                slot.waits = false;
+                slot.waker = None;
+            }
+        }
+        let is_kept = own_waits && self.waiting.push(own).is_ok();
+        let wakes = self.wakes;
+        if let Some(slot) = self.slots.get_mut(own) {
+            slot.waits = is_kept;
+            if !is_kept {
+                slot.waker = None;
+            }
+            if slot.heard == before {
+                slot.heard = wakes;
+            }
+        }
+    }
+
+    /// Wakes the session of one slot.
+    pub(crate) fn wake_slot(&mut self, slot: usize) {
+        if let Some(slot) = self.slots.get_mut(slot) {
+            slot.is_called = true;
+            slot.waker = None;
+        }
+    }
+
+    /// Answers whether this slot was woken since the last `true`. Where it was not, the next wake wakes the task.
+    pub(crate) fn wait(&mut self, slot: usize, cx: &mut Context<'_>, source: &Source) -> bool
+        ensures registered { result ≡ false → IsArmed cx.new }
+        ensures kept { Keeps cx.old cx.new }
+    {
+        let place = slot;
+        let Some(slot) = self.slots.get_mut(place) else {
+            let _: Poll<()> = cx.yield_now();
+            return false;
+        };
+        if slot.is_called || slot.heard != self.wakes {
+            slot.is_called = false;
+            slot.heard = self.wakes;
+            return true;
+        }
+        if !slot.waits {
+            // With no room to be found again, the session looks for itself.
+            if self.waiting.push(place).is_err() {
+                return true;
+            }
+            slot.waits = true;
+        }
+        let _: Poll<()> = cx.register(source, &mut slot.waker);
+        false
+    }
+
+    /// Counts `lines` taken for the session of this slot.
+    pub(crate) fn take(&mut self, slot: usize, said: u64, lines: u64, has_more: bool) {
+        if let Some(slot) = self.slots.get_mut(slot) {
+            slot.backlog.take(said, lines, has_more);
+        }
+    }
+
+    /// Answers whether somebody is behind, so that senders give way.
+    pub(crate) fn is_behind(&self, said: u64) -> bool {
+        for slot in &self.slots {
+            if slot.backlog.is_behind(said) {
+                return true;
+            }
+        }
+        false
+    }
+
+    /// Answers whether the session of this slot may hand over a line although somebody is behind. Where it may not, it is
+    /// woken once nobody is, and at the next tick.
+    pub(crate) fn may_send(&mut self, slot: usize, throttle: &mut Throttle) -> bool {
+        if throttle.is_over(self.ticks) {
+            return true;
+        }
+        let place = slot;
+        let Some(slot) = self.slots.get_mut(place) else {
+            return true;
+        };
+        if !slot.is_held {
+            if self.held.push(place).is_err() {
+                return true;
+            }
+            slot.is_held = true;
+            self.ticker = None;
+        }
+        false
+    }
+
+    /// Wakes those who give way.
+    pub(crate) fn let_go(&mut self) {
+        while let Some(place) = self.held.pop() {
+            if let Some(slot) = self.slots.get_mut(place) {
+                slot.is_held = false;
+                slot.is_called = true;
+                slot.waker = None;
+            }
+        }
+    }
+
+    /// Counts a tick for each client that is far behind.
+    pub(crate) fn tick(&mut self, said: u64) {
+        self.ticks = self.ticks.wrapping_add(1);
+        for slot in self.slots.iter_mut() {
+            slot.backlog.tick(said);
+        }
+    }
+
+    /// Answers whether somebody gives way. Where nobody does, the ticker is woken once somebody will.
+    pub(crate) fn has_held(&mut self, cx: &mut Context<'_>, source: &Source) -> bool
+        ensures registered { result ≡ false → IsArmed cx.new }
+        ensures kept { Keeps cx.old cx.new }
+    {
+        if !self.held.is_empty() {
+            return true;
+        }
+        let _: Poll<()> = cx.register(source, &mut self.ticker);
+        false
+    }
+}

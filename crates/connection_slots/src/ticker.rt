@@ -1,0 +1,68 @@
+ghost use Rattle.futures.specs.Task.{IsArmed, Keeps};
+ghost use Rattle.futures.specs.Poll.{OnPending};
+
+use crate::shared::Shared;
+use futures::task::{Context, Poll};
+use std::sync::Wait;
+use std::time::{Clock, Duration, Instant};
+use tokio::time::Sleep;
+
+/// The number of milliseconds that a tick takes.
+const TICK: u64 = 5;
+
+/// The task that keeps time while somebody gives way or lingers: every 5 ms it wakes those who give way, and closes the
+/// sockets that have lingered for long. Otherwise it rests.
+#[derive(Drop)]
+pub struct Ticker<'a, T, R> {
+    shared: &'a Shared<T>,
+    rt: &'a R,
+    timer: Sleep,
+}
+
+impl<'a, T, R: Wait + Clock> Ticker<'a, T, R> {
+    /// Makes the task, which uses this timer, whatever it is set to.
+    pub fn new(shared: &'a Shared<T>, rt: &'a R, timer: Sleep) -> Ticker<'a, T, R> {
+        Ticker { shared, rt, timer }
+    }
+
+    /// Works as a task does. It is over once nobody is served any more, and nobody lingers.
+    pub fn poll_over(&mut self, cx: &mut Context<'_>) -> Poll<()>
+        ensures registered { OnPending result (IsArmed cx.new) }
+        ensures kept { Keeps cx.old cx.new }
+    {
+        let some_linger = self.shared.lingering.linger(self.rt, cx);
+        if some_linger {
+            return self.wait(cx);
+        }
+        if self.shared.is_over(self.rt) {
+            return Poll::Ready(());
+        }
+        if self.shared.wakers.has_held(cx) {
+            return self.wait(cx);
+        }
+        Poll::Pending
+    }
+
+    /// Waits for the next tick, or makes it.
+    fn wait(&mut self, cx: &mut Context<'_>) -> Poll<()>
+        ensures registered { OnPending result (IsArmed cx.new) }
+        ensures kept { Keeps cx.old cx.new }
+    {
+        match self.timer.poll_elapsed(cx) {
+            Poll::Pending => Poll::Pending,
+            Poll::Ready(_) => {
+                self.shared.wakers.tick();
+                self.set();
+                cx.yield_now()
+            }
+        }
+    }
+
+    fn set(&mut self) {
+        if let Ok(now) = Instant::now(self.rt)
+            && let Some(next) = now.checked_add(Duration::from_millis(TICK))
+        {
+            self.timer.reset(next);
+        }
+    }
+}

@@ -1,0 +1,245 @@
+ghost use Rattle.std.specs.Prelude.{◌≡◌, false};
+ghost use Rattle.futures.specs.Task.{IsArmed, Keeps};
+
+use crate::slots::Slots;
+use crate::throttle::{BURST, Throttle};
+use adc_base32::Sid;
+use futures::spin::lock;
+use futures::task::{Context, Poll, Source};
+use std::alloc::{AllocError, Global};
+use std::sync::Mutex;
+use std::sync::atomic::{AtomicBool, AtomicU64, Ordering};
+
+/// The wakers of all sessions, one a slot. Whom a call concerned is woken, and nobody else.
+///
+/// One more waker is the accept task's. Where a call may be long, it wakes that task: so another thread comes to look for
+/// what the sockets have, while the one of the call does not.
+///
+/// Also counted, roughly, is how many lines wait for each client: senders give way while a client that reads is far behind.
+/// No promise of a session rests on it. A slot that there is not is never woken, and holds up nobody.
+#[derive(Drop)]
+pub struct Wakers {
+    source: Source,
+    slots: Mutex<Slots>,
+    // The number of lines that were said to everybody.
+    said: AtomicU64,
+    // Somebody is behind, so that senders ask before each line.
+    is_behind: AtomicBool,
+}
+
+impl Wakers {
+    /// Makes the wakers of `count` slots. Refused only where memory runs out.
+    pub fn new(alloc: Global, count: usize) -> Result<Wakers, AllocError> {
+        Ok(Wakers {
+            source: Source::new(),
+            slots: Mutex::new(Slots::new(alloc, count)?),
+            said: AtomicU64::new(0),
+            is_behind: AtomicBool::new(false),
+        })
+    }
+
+    /// Gives the slot to a session.
+    pub fn occupy(&self, slot: usize) {
+        if let Some(mut slots) = lock(&self.slots) {
+            slots.clear(slot, self.said.load(Ordering::SeqCst));
+        }
+    }
+
+    /// Notes the session identifier by which the session of this slot is known.
+    pub fn name(&self, slot: usize, sid: Sid) {
+        if let Some(mut slots) = lock(&self.slots) {
+            slots.name(slot, sid);
+        }
+    }
+
+    /// Takes the slot from its session, which is over.
+    pub fn vacate(&self, slot: usize) {
+        self.occupy(slot);
+        if self.is_behind() {
+            self.look();
+        }
+    }
+
+    /// Wakes the session with this identifier, which was given a line by the session of the slot `own`. A session is not
+    /// woken by its own call: it takes what waits after each of them.
+    pub fn wake_one(&self, sid: Sid, own: usize) {
+        if let Some(mut slots) = lock(&self.slots)
+            && slots.wake_one(sid, own, self.said.load(Ordering::SeqCst))
+        {
+            self.is_behind.store(true, Ordering::SeqCst);
+        }
+    }
+
+    /// Wakes two sessions.
+    pub fn wake_two(&self, one: Sid, other: Sid, own: usize) {
+        if let Some(mut slots) = lock(&self.slots) {
+            let said = self.said.load(Ordering::SeqCst);
+            let is_behind = slots.wake_one(one, own, said);
+            if slots.wake_one(other, own, said) | is_behind {
+                self.is_behind.store(true, Ordering::SeqCst);
+            }
+        }
+    }
+
+    /// Wakes all sessions but that of the slot `own`.
+    pub fn wake_everybody(&self, own: usize) {
+        if let Some(mut slots) = lock(&self.slots) {
+            slots.wake_everybody(own);
+        }
+    }
+
+    /// Wakes the session of one slot.
+    pub fn wake_slot(&self, slot: usize) {
+        if let Some(mut slots) = lock(&self.slots) {
+            slots.wake_slot(slot);
+        }
+    }
+
+    /// Answers whether this slot was woken since the last `true`. Where it was not, the next wake wakes the task.
+    pub fn wait(&self, slot: usize, cx: &mut Context<'_>) -> bool
+        ensures registered { result ≡ false → IsArmed cx.new }
+        ensures kept { Keeps cx.old cx.new }
+    {
+        match lock(&self.slots) {
+            Some(mut slots) => slots.wait(slot, cx, &self.source),
+            None => {
+                let _: Poll<()> = cx.yield_now();
+                false
+            }
+        }
+    }
+
+    /// Counts a line that was said to everybody. Now and then it is looked who is behind.
+    pub fn say(&self) {
+        let before = self.said.fetch_add(1, Ordering::SeqCst);
+        if before % BURST == 0 {
+            self.look();
+        }
+    }
+
+    /// Counts `lines` taken for the session of this slot, after which more may be left or none is.
+    pub fn take(&self, slot: usize, lines: u64, has_more: bool) {
+        if let Some(mut slots) = lock(&self.slots) {
+            let said = self.said.load(Ordering::SeqCst);
+            slots.take(slot, said, lines, has_more);
+        }
+        if self.is_behind() {
+            self.look();
+        }
+    }
+
+    /// Answers whether somebody is behind, as was last seen.
+    pub fn is_behind(&self) -> bool {
+        self.is_behind.load(Ordering::SeqCst)
+    }
+
+    /// Answers whether the session of this slot may hand over a line now. Where it may not, since somebody is behind, it is
+    /// woken once nobody is, and at the next tick.
+    pub fn may_send(&self, slot: usize, throttle: &mut Throttle) -> bool {
+        if !self.is_behind() {
+            *throttle = Throttle::new();
+            return true;
+        }
+        if throttle.spend() {
+            return true;
+        }
+        match lock(&self.slots) {
+            // It may be that nobody is behind any more.
+            Some(mut slots) => !self.is_behind() || slots.may_send(slot, throttle),
+            None => true,
+        }
+    }
+
+    /// Looks who is behind, and wakes those who gave way where nobody is.
+    fn look(&self) {
+        if let Some(mut slots) = lock(&self.slots) {
+            let is_behind = slots.is_behind(self.said.load(Ordering::SeqCst));
+            self.is_behind.store(is_behind, Ordering::SeqCst);
+            if !is_behind {
+                slots.let_go();
+            }
+        }
+    }
+
+    /// Counts a tick: those who give way ask again, and those for whom they do are waited for once more.
+    pub fn tick(&self) {
+        if let Some(mut slots) = lock(&self.slots) {
+            let said = self.said.load(Ordering::SeqCst);
+            slots.tick(said);
+            self.is_behind
+                .store(slots.is_behind(said), Ordering::SeqCst);
+            slots.let_go();
+        }
+    }
+
+    /// Answers whether somebody gives way. Where nobody does, the task is woken once somebody will.
+    pub fn has_held(&self, cx: &mut Context<'_>) -> bool
+        ensures registered { result ≡ false → IsArmed cx.new }
+        ensures kept { Keeps cx.old cx.new }
+    {
+        match lock(&self.slots) {
+            Some(mut slots) => slots.has_held(cx, &self.source),
+            None => {
+                let _: Poll<()> = cx.yield_now();
+                false
+            }
+        }
+    }
+
+    /// Keeps the waker of the accept task, which is woken where help is called.
+    pub fn wait_to_help(&self, cx: &mut Context<'_>)
+        ensures registered { IsArmed cx.new }
+        ensures kept { Keeps cx.old cx.new }
+    {
+        match lock(&self.slots) {
+            Some(mut slots) => slots.accept.wait(cx, &self.source),
+            None => {
+                let _: Poll<()> = cx.yield_now();
+            }
+        }
+    }
+
+    /// Stops using the accept task as a helper, once it has ended.
+    pub fn end_help(&self) {
+        if let Some(mut slots) = lock(&self.slots) {
+            slots.accept.leave();
+        }
+    }
+
+    /// Wakes the accept task, or everybody where there is none. The session of the slot `own` makes the call.
+    pub fn call_for_help(&self, own: usize) {
+        if let Some(mut slots) = lock(&self.slots)
+            && !slots.accept.call()
+        {
+            slots.wake_everybody(own);
+        }
+    }
+
+    /// Notes that the listener begins to rest.
+    pub fn rest(&self) {
+        if let Some(mut slots) = lock(&self.slots) {
+            slots.accept.rest();
+        }
+    }
+
+    /// Notes that a socket was closed, so that another may be had. A listener that rests is woken.
+    pub fn make_room(&self) {
+        if let Some(mut slots) = lock(&self.slots) {
+            slots.accept.make_room();
+        }
+    }
+
+    /// Answers whether a socket was closed since the listener began to rest. Where none was, the task is woken once one is.
+    pub fn wait_for_room(&self, cx: &mut Context<'_>) -> bool
+        ensures registered { result ≡ false → IsArmed cx.new }
+        ensures kept { Keeps cx.old cx.new }
+    {
+        match lock(&self.slots) {
+            Some(mut slots) => slots.accept.wait_for_room(cx, &self.source),
+            None => {
+                let _: Poll<()> = cx.yield_now();
+                false
+            }
+        }
+    }
+}

@@ -1,5 +1,0 @@
-use Rattle.std.proofs.Common.{Some}
-use Rattle.hub_server.proofs.tests.over_memory.attempt.Given as goal
-
-abbrev pub ghosts-session : goal.ghosts-session
-ghosts-session g a = record { home = Some a.hub.now.home }

@@ -1,0 +1,32 @@
+ghost use Rattle.std.specs.Prelude.{◌≡◌, Some};
+
+use crate::free_slot::OfHub;
+use hub_shared::Pass;
+use std::marker::PhantomData;
+use tokio::net::TcpStream;
+
+/// A connection that was accepted, and has joined the named hub.
+#[derive(Drop)]
+pub(crate) struct Accepted<B: OfHub<H>, H> {
+    pub(crate) stream: TcpStream,
+    pub(crate) pass: Pass<H>,
+    pub(crate) challenge: [u8; 24],
+    of: PhantomData<B>,
+    pub(crate) ghost here: { B.home ≡ Some pass.home },
+    pub(crate) ghost challenged: { pass.challenge ≡ challenge },
+}
+
+impl<B: OfHub<H>, H> Accepted<B, H> {
+    /// Keeps a socket with the pass for which it joined.
+    pub(crate) fn new(stream: TcpStream, pass: Pass<H>, challenge: [u8; 24]) -> Accepted<B, H>
+        requires here { B.home ≡ Some pass.home }
+        requires challenged { pass.challenge ≡ challenge }
+    {
+        Accepted {
+            stream,
+            pass,
+            challenge,
+            of: PhantomData,
+        }
+    }
+}

@@ -1,0 +1,122 @@
+ghost use Rattle.std.specs.Prelude.{◌≡◌, Some, IfOk};
+
+use crate::accepted::Accepted;
+use crate::clock::moment;
+use crate::free_slot::{FreeSlot, OfHub};
+use crate::server::Server;
+use adc_sessions::{Peer, Starter};
+use hub_challenges::Challenges;
+use hub_core::JoinRefused;
+use hub_shared::Pass;
+use log::{Log, warn};
+use session_hash::SessionHash;
+use std::alloc::AllocGlobal;
+use std::sync::Wait;
+use std::time::Clock;
+use tokio::net::TcpStream;
+
+/// The line for a connection for which the hub has no room.
+const HUB_FULL: &[u8] = b"ISTA 211 Hub\\sfull\n";
+
+/// The acceptor, which joins the hub for each connection that is accepted, and hands it to the task of its slot.
+#[derive(Drop)]
+pub(crate) struct Acceptor<'a, B: OfHub<H>, H: SessionHash, R, L> {
+    server: &'a Server<'a, B, H, R>,
+    challenges: Challenges,
+    log: &'a L,
+}
+
+impl<'a, B: OfHub<H>, H: SessionHash, R: Wait + Clock + AllocGlobal, L: Log> Acceptor<
+    'a,
+    B,
+    H,
+    R,
+    L,
+> {
+    pub(crate) fn new(
+        server: &'a Server<'a, B, H, R>,
+        challenges: Challenges,
+        log: &'a L,
+    ) -> Acceptor<'a, B, H, R, L> {
+        Acceptor {
+            server,
+            challenges,
+            log,
+        }
+    }
+
+    /// Joins the hub, and gives the pass and the slot for the connection.
+    fn join(&self, peer: Peer, challenge: [u8; 24]) -> Result<(Pass<H>, usize), JoinRefused>
+        ensures here { IfOk result (λ r. B.home ≡ Some r.0.home) }
+        ensures challenged { IfOk result (λ r. r.0.challenge ≡ challenge) }
+    {
+        let server = self.server;
+        let Some(free) = server.take_slot() else {
+            return Err(JoinRefused::Full);
+        };
+        let FreeSlot { visitor, slot, .. } = free;
+        let now = moment(server.rt);
+        match server.hub.join(
+            server.rt,
+            server.rt.alloc(),
+            visitor,
+            peer.address,
+            challenge,
+            now,
+        ) {
+            Ok(pass) => Ok((pass, slot)),
+            Err((refused, visitor)) => {
+                server.free(FreeSlot::new(visitor, slot));
+                Err(refused)
+            }
+        }
+    }
+
+    /// Leaves the connection for the task of its slot. It is let go where that cannot be.
+    fn hand_over(&self, accepted: Accepted<B, H>, slot: usize) {
+        let server = self.server;
+        if let Some(accepted) = server.shared.handoff.put(server.rt, slot, accepted) {
+            let Accepted { stream, pass, .. } = accepted;
+            let visitor = server.hub.quit(server.rt, pass);
+            server.free(FreeSlot::new(visitor, slot));
+            drop(stream);
+            server.shared.wakers.make_room();
+        }
+    }
+
+    /// Says that the hub is full. It is one line on a fresh socket, which takes all of it or is not worth more.
+    fn refuse(&self, stream: TcpStream) {
+        let _ = stream.try_write(HUB_FULL);
+        self.server.shared.lingering.let_out(self.server.rt, stream);
+        self.server.shared.wakers.make_room();
+    }
+}
+
+impl<B: OfHub<H>, H: SessionHash, R: Wait + Clock + AllocGlobal, L: Log> Starter<TcpStream>
+    for Acceptor<'_, B, H, R, L> {
+    ghost use Rattle.std.specs.Prelude.{⊤};
+
+    ghost starts = { λ _ _ _. ⊤ };
+
+    ghost starts_nothing = { λ _. tt };
+
+    ghost starts_in_order = { λ _ _ _ _ _ _ _. tt };
+
+    fn start(&mut self, stream: TcpStream, peer: Peer) {
+        let challenge = self.challenges.next();
+        // Lines are written in one piece each, so that waiting for more would only delay them.
+        let _ = stream.set_nodelay(true);
+        match self.join(peer, challenge) {
+            Ok(joined) => {
+                let (pass, slot) = joined;
+                self.hand_over(Accepted::new(stream, pass, challenge), slot);
+            }
+            Err(JoinRefused::Memory) => {
+                warn!(self.log; "a connection was refused by {}", "Memory");
+                drop(stream);
+                self.server.shared.wakers.make_room();
+            }
+            Err(JoinRefused::Full | JoinRefused::JoinsSpent) => self.refuse(stream),
+        }
+    }
+}

@@ -1,0 +1,166 @@
+ghost use Rattle.std.specs.Prelude.{◌≡◌, IfOk};
+ghost use Rattle.hub_rules.specs.Prepared.{prepared};
+
+use crate::clock::moment;
+use crate::free_slot::{FreeSlot, OfHub};
+use crate::server::Server;
+use crate::slot_bell::SlotBell;
+use adc_sessions::Port;
+use connection_slots::Wakers;
+use hub_core::{LineRefused, Prepared, Setup, TakeRefused, Taken, Touched, Verdict, prepare};
+use hub_shared::Pass;
+use session_hash::SessionHash;
+use std::alloc::Global;
+use std::sync::Wait;
+use std::time::Clock;
+
+/// One connection of the hub, for its session.
+#[derive(Drop)]
+pub struct Connection<'a, B: OfHub<H>, H: SessionHash, R> {
+    server: &'a Server<'a, B, H, R>,
+    pass: Pass<H>,
+    challenge: [u8; 24],
+    slot: usize,
+    is_named: bool,
+    // A line was for everybody, and nobody was woken yet.
+    owes_wake: bool,
+    ghost here: { pass.home ≡ server.now.hub.now.home },
+    ghost challenged: { pass.challenge ≡ challenge },
+}
+
+impl<'a, B: OfHub<H>, H: SessionHash, R: Wait + Clock> Connection<'a, B, H, R> {
+    /// Makes the connection of a pass that joined with this challenge, and gives it the slot.
+    pub fn new(
+        server: &'a Server<'a, B, H, R>,
+        pass: Pass<H>,
+        challenge: [u8; 24],
+        slot: usize,
+    ) -> Connection<'a, B, H, R>
+        requires here { pass.home ≡ server.now.hub.now.home }
+        requires challenged { pass.challenge ≡ challenge }
+    {
+        server.shared.wakers.occupy(slot);
+        Connection {
+            server,
+            pass,
+            challenge,
+            slot,
+            is_named: false,
+            owes_wake: false,
+        }
+    }
+
+    /// Gives the bell of this connection's session.
+    pub fn bell(&self) -> SlotBell<'a> {
+        SlotBell::new(&self.server.shared.wakers, self.slot)
+    }
+
+    /// Wakes those whom the last line concerned. A client's lines often come together, so where one is for everybody,
+    /// they are woken once for all, by the take that follows.
+    fn wake(&mut self)
+        ensures server { self.new.server ≡ self.old.server }
+        ensures pass { self.new.pass ≡ self.old.pass }
+    {
+        let touched = self.pass.touched();
+        // Before it has a session identifier, a connection's lines concern nobody but itself.
+        if !self.is_named
+            && let Touched::One(sid) = touched
+        {
+            self.server.shared.wakers.name(self.slot, sid);
+            self.is_named = true;
+        }
+        if let Touched::Everybody = touched {
+            self.server.shared.wakers.say();
+            self.owes_wake = true;
+        } else {
+            wake_touched(&self.server.shared.wakers, touched, self.slot);
+        }
+    }
+
+    /// Wakes everybody, where that is owed.
+    fn wake_owed(&mut self)
+        ensures server { self.new.server ≡ self.old.server }
+        ensures pass { self.new.pass ≡ self.old.pass }
+    {
+        if self.owes_wake {
+            self.owes_wake = false;
+            self.server.shared.wakers.wake_everybody(self.slot);
+        }
+    }
+}
+
+/// Wakes those whom a call of the session of this slot concerned.
+fn wake_touched(wakers: &Wakers, touched: Touched, slot: usize) {
+    match touched {
+        Touched::Nobody => {}
+        Touched::One(sid) => wakers.wake_one(sid, slot),
+        Touched::Two(one, other) => wakers.wake_two(one, other, slot),
+        Touched::Everybody => wakers.wake_everybody(slot),
+    }
+}
+
+/// Makes a line ready for the hub with this setup and this hash, and for who was challenged by this.
+#[tactic(auto, unfolding(hub_rules::specs::Prepared::prepared))]
+fn ready<H: SessionHash>(
+    alloc: Global,
+    setup: &Setup,
+    hash: &H,
+    challenge: [u8; 24],
+    line: &[u8],
+) -> Result<Prepared, LineRefused>
+    ensures prepared { IfOk result (λ ready. ready ≡ prepared setup.now (H.digest_of hash.now) challenge ready.bytes) }
+    ensures bytes { IfOk result (λ ready. ready.bytes ≡ line.now) }
+{
+    prepare(alloc, setup, hash, challenge, line)
+}
+
+impl<B: OfHub<H>, H: SessionHash, R: Wait + Clock> Port for Connection<'_, B, H, R> {
+    ghost use Rattle.std.specs.Prelude.{◌≡◌};
+    ghost use Rattle.hub_server.specs.PortCalls.{Calls, Leaves};
+
+    type Left = FreeSlot<B, H>;
+
+    ghost step = { λ a call b. (b.server ≡ a.server) × Calls a.server.now.hub.now.setup (H.digest_of a.server.now.hub.now.hash) a.pass call b.pass };
+
+    ghost leaves = { λ a left. Leaves a.server.now.hub.now.setup (H.digest_of a.server.now.hub.now.hash) a.pass left.visitor };
+
+    fn line(&mut self, alloc: Global, line: &[u8]) -> Result<Verdict, LineRefused> {
+        // Their digests may take long.
+        if line.starts_with(b"BINF") || line.starts_with(b"HPAS") {
+            self.wake_owed();
+            self.server.shared.wakers.call_for_help(self.slot);
+        }
+        let server = self.server;
+        let prepared = ready(alloc, server.setup, server.hash, self.challenge, line)?;
+        let now = moment(server.rt);
+        let verdict = server
+            .hub
+            .line(server.rt, alloc, &mut self.pass, &prepared, now)?;
+        self.wake();
+        Ok(verdict)
+    }
+
+    fn take(&mut self, count: usize, out: &mut Vec<u8>) -> Result<Taken, TakeRefused> {
+        self.wake_owed();
+        let server = self.server;
+        let taken = server.hub.take(server.rt, &mut self.pass, count, out)?;
+        let has_more = taken.lines >= count as u64;
+        server.shared.wakers.take(self.slot, taken.lines, has_more);
+        Ok(taken)
+    }
+
+    fn quit(mut self) -> FreeSlot<B, H> {
+        self.wake_owed();
+        let Connection {
+            server,
+            pass,
+            challenge: _,
+            slot,
+            is_named: _,
+            owes_wake: _,
+        } = self;
+        let visitor = server.hub.quit(server.rt, pass);
+        wake_touched(&server.shared.wakers, visitor.touched(), slot);
+        FreeSlot::new(visitor, slot)
+    }
+}

@@ -1,0 +1,42 @@
+ghost use Rattle.std.specs.Prelude.{◌≡◌, Some};
+
+use hub_shared::Visitor;
+use std::marker::{Brand, PhantomData};
+
+/// A name of the hub that all is about which travels through tasks: a proof picks it.
+pub trait OfHub<H> {
+    ghost use Rattle.std.specs.Prelude.{Option};
+    ghost use Rattle.one_history.specs.States.{Home};
+    ghost use Rattle.hub_shared.specs.declared.about.About.{About};
+
+    ghost home: { Option (Home (About H)) };
+}
+
+impl<H> OfHub<H> for Brand {
+    ghost use Rattle.std.specs.Prelude.{None};
+
+    ghost home = { None };
+}
+
+/// A slot without a connection, and the visitor of the named hub who joins for the next one.
+#[derive(Drop)]
+pub struct FreeSlot<B: OfHub<H>, H> {
+    pub(crate) visitor: Visitor<H>,
+    pub(crate) slot: usize,
+    of: PhantomData<B>,
+    pub(crate) ghost here: { B.home ≡ Some visitor.home },
+}
+
+impl<B: OfHub<H>, H> FreeSlot<B, H> {
+    /// Gives this slot to a visitor of the named hub.
+    pub fn new(visitor: Visitor<H>, slot: usize) -> FreeSlot<B, H>
+        requires here { B.home ≡ Some visitor.home }
+        ensures { result.visitor ≡ visitor }
+    {
+        FreeSlot {
+            visitor,
+            slot,
+            of: PhantomData,
+        }
+    }
+}

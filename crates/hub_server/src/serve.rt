@@ -1,0 +1,329 @@
+ghost use Rattle.std.specs.Prelude.{◌≡◌, ◌≤◌, [], Some, IfOk};
+ghost use Rattle.std.specs.List.{All};
+ghost use Rattle.one_history.specs.States.{Home};
+ghost use Rattle.hub_shared.specs.declared.about.About.{About};
+
+use crate::acceptor::Acceptor;
+use crate::bind::Bind;
+use crate::free_slot::{FreeSlot, OfHub};
+use crate::listener::{Listener, Listens};
+use crate::server::Server;
+use crate::task::AcceptTask;
+use crate::tasks::Tasks;
+use adc_sessions::Accept;
+use connection_slots::{Fault, Startup, Ticker, descriptor_limit, descriptors_needed};
+use hub_challenges::Challenges;
+use hub_endings::Ending;
+use hub_settings::Settings;
+use hub_shared::{Host, Hub, Report, Visitor};
+use log::sink::Locked;
+use log::{Level, Log, Logged, warn};
+use session_hash::SessionHash;
+use std::alloc::{AllocGlobal, Global};
+use std::io;
+use std::io::Write;
+use std::marker::Brand;
+use std::net::Net;
+use std::random::RandomSource;
+use std::sync::{Arc, Wait};
+use std::thread::Threads;
+use std::time::{Clock, Duration};
+use tokio::runtime::Runtime;
+use tokio::time::{self, Sleep};
+
+/// Serves a hub with these settings, this hash, and challenges of this seed, and gives the exit status.
+///
+/// On `output` it says `listening` and the address that was bound, as `a.b.c.d:port`, once all of its tasks came to be, and
+/// at the end `joins`, the number of joins that were accepted, `present 0`. On `errors` goes a warning for each session
+/// that ends by a fault of its connection or for want of memory. One more goes there at the start where the system allows
+/// fewer descriptors than as many users need as the settings admit.
+///
+/// The status is 0 once as many connections were accepted as the settings say, and all are over. It is 3 where the address
+/// cannot be had, or accepting failed 64 times in a row by a fault of the listener. It is 4 where memory or threads cannot
+/// be had at the start, or the runtime cannot go on; 5 where the output failed. One line on `errors` says what went wrong.
+pub fn serve_on<H, R, W, E>(
+    rt: &R,
+    settings: &Settings,
+    hash: Arc<H>,
+    seed: [u8; 32],
+    output: &mut W,
+    errors: &mut E,
+) -> u8
+where
+    H: SessionHash + Send + Sync + Drop,
+    R: Wait + Threads + Clock + Net + RandomSource + AllocGlobal + Sync,
+    W: Write,
+    E: Write + Send,
+{
+    let address = settings.listen();
+    serve_at(rt, settings, hash, seed, address, output, errors)
+}
+
+/// Serves as [`serve_on`] does, but listens at this address, wherever the settings say to listen.
+pub fn serve_at<H, R, A, W, E>(
+    rt: &R,
+    settings: &Settings,
+    hash: Arc<H>,
+    seed: [u8; 32],
+    address: A,
+    output: &mut W,
+    errors: &mut E,
+) -> u8
+where
+    H: SessionHash + Send + Sync + Drop,
+    R: Wait + Threads + Clock + Net + RandomSource + AllocGlobal + Sync,
+    A: Bind,
+    W: Write,
+    E: Write + Send,
+{
+    let ending = match serve(rt, settings, &*hash, seed, address, output, errors) {
+        Ok(()) => Ending::Served,
+        Err(ending) => ending,
+    };
+    ending.tell(errors)
+}
+
+fn serve<H, R, A, W, E>(
+    rt: &R,
+    settings: &Settings,
+    hash: &H,
+    seed: [u8; 32],
+    address: A,
+    output: &mut W,
+    errors: &mut E,
+) -> Result<(), Ending>
+where
+    H: SessionHash + Send + Sync,
+    R: Wait + Threads + Clock + Net + RandomSource + AllocGlobal + Sync,
+    A: Bind,
+    W: Write,
+    E: Write + Send,
+{
+    let (hub, host) = open(rt.alloc(), settings, hash)?;
+    // Settings ask for one at least.
+    let threads = settings.threads().max(1) as usize;
+    let mut runtime = Runtime::with_worker_threads(rt, threads).map_err(|_| Ending::Memory)?;
+    let (host, visitors) = run::<Brand, H, R, A, W, E>(
+        rt,
+        &mut runtime,
+        settings,
+        hash,
+        &hub,
+        host,
+        seed,
+        address,
+        output,
+        errors,
+    )?;
+    match hub.close(host, visitors) {
+        Ok(report) => say_report(&report, output),
+        Err(_) => Err(Ending::Memory),
+    }
+}
+
+/// Opens the hub of these settings, and gives who admits visitors to it.
+fn open<H: SessionHash>(
+    alloc: Global,
+    settings: &Settings,
+    hash: &H,
+) -> Result<(Hub<H>, Host<H>), Ending>
+    ensures set { IfOk result (λ r. r.0.setup ≡ settings.now.hub) }
+    ensures hashed { IfOk result (λ r. r.0.hash ≡ hash.now) }
+    ensures host { IfOk result (λ r. r.1 ≡ record { home = r.0.home; admitted = 0 }) }
+{
+    let setup = settings.setup().clone().map_err(|_| Ending::Memory)?;
+    Hub::open(alloc, setup, hash).map_err(|_| Ending::Memory)
+}
+
+/// Runs the server, and gives the host back with all visitors of the hub, or those that are left where memory ran out.
+fn run<B, H, R, A, W, E>(
+    rt: &R,
+    runtime: &mut Runtime,
+    settings: &Settings,
+    hash: &H,
+    hub: &Hub<H>,
+    host: Host<H>,
+    seed: [u8; 32],
+    address: A,
+    output: &mut W,
+    errors: &mut E,
+) -> Result<(Host<H>, Vec<Visitor<H>>), Ending>
+where
+    B: OfHub<H> + Send + Sync,
+    H: SessionHash + Send + Sync,
+    R: Wait + Threads + Clock + Net + RandomSource + AllocGlobal + Sync,
+    A: Bind,
+    W: Write,
+    E: Write + Send,
+    requires here { B.home ≡ Some hub.now.home }
+    requires host { host ≡ record { home = hub.now.home; admitted = 0 } }
+    requires set { hub.now.setup ≡ settings.now.hub }
+    requires hashed { hub.now.hash ≡ hash.now }
+    ensures host { IfOk result (λ r. r.0.home ≡ hub.now.home) }
+    ensures visitors { IfOk result (λ r. All (λ v. v.home ≡ hub.now.home) r.1.items) }
+{
+    let alloc = rt.alloc();
+    let users = settings.setup().max_users();
+    // One more joins where the hub is full, to be told so.
+    let count = users as usize + 1;
+    let mut host = host;
+    let free = admit::<B, H>(alloc, &mut host, hub, count)?;
+    let visitors = Vec::with_capacity(alloc, count)?;
+    let server = Server::new(alloc, rt, hub, hash, settings.setup(), count, free)?;
+    let log = Logged::new((), Level::Warn, Locked::new(rt, errors));
+    warn_of_descriptors(&log, users);
+    let listener = match address.bind(rt, runtime.handle().reactor()) {
+        Ok(listener) => listener,
+        Err(error) => return Err(ending_of(&error)),
+    };
+    serve_all(
+        runtime,
+        &server,
+        &log,
+        listener,
+        Challenges::from_seed(seed),
+        settings,
+        output,
+    )?;
+    Ok((host, leave(server.into_free(), visitors)))
+}
+
+/// Serves all connections that come.
+fn serve_all<'a, B, H, R, L, I, W>(
+    runtime: &mut Runtime,
+    server: &'a Server<'a, B, H, R>,
+    log: &'a L,
+    listener: I,
+    challenges: Challenges,
+    settings: &Settings,
+    output: &'a mut W,
+) -> Result<(), Ending>
+where
+    B: OfHub<H> + Send + Sync,
+    H: SessionHash + Send + Sync,
+    R: Wait + Threads + Clock + Net + RandomSource + AllocGlobal + Sync,
+    L: Log + Sync,
+    I: Listens + Send,
+    W: Write,
+{
+    let time = runtime.handle().time();
+    let address = listener.address().map_err(|error| ending_of(&error))?;
+    let startup = Startup::new(&server.shared, server.rt, output, address);
+    let timer = timer(server.rt, time)?;
+    let ticker = Ticker::new(&server.shared, server.rt, timer);
+    let accept = accept_task(server, log, listener, challenges, settings, time)?;
+    let count = settings.setup().max_users() as usize + 1;
+    let tasks = Tasks::new(ticker, count, accept, startup, server, log);
+    match runtime.run_all(server.rt, tasks) {
+        Ok(()) => ending_by(server.shared.fault()),
+        Err(_) => Err(Ending::Memory),
+    }
+}
+
+/// Makes the task that accepts connections.
+fn accept_task<'a, B, H, R, L, I>(
+    server: &'a Server<'a, B, H, R>,
+    log: &'a L,
+    listener: I,
+    challenges: Challenges,
+    settings: &Settings,
+    time: &time::Handle,
+) -> Result<AcceptTask<'a, B, H, R, L, I>, Ending>
+where
+    B: OfHub<H>,
+    H: SessionHash,
+    R: Wait + Clock + AllocGlobal,
+    L: Log,
+    I: Listens,
+{
+    let stop_after = match settings.stop_after() {
+        0 => None,
+        count => Some(u64::from(count)),
+    };
+    let timer = timer(server.rt, time)?;
+    let listener = Listener::new(listener, &server.shared.wakers, server.rt, log, timer);
+    let acceptor = Acceptor::new(server, challenges, log);
+    let accept = Accept::new(listener, acceptor, stop_after);
+    Ok(AcceptTask::new(accept, server))
+}
+
+/// Makes a timer that is not set.
+fn timer<R: Clock>(rt: &R, time: &time::Handle) -> Result<Sleep, Ending> {
+    time.sleep(rt, Duration::ZERO).map_err(|_| Ending::Memory)
+}
+
+/// Says how the server ends where no more connections came because of this.
+fn ending_by(fault: Option<Fault>) -> Result<(), Ending> {
+    match fault {
+        None => Ok(()),
+        Some(Fault::Accepting) => Err(Ending::Address),
+        Some(Fault::Output) => Err(Ending::Transfer),
+        Some(Fault::Start) => Err(Ending::Memory),
+    }
+}
+
+/// Says where the system allows fewer descriptors than so many users need.
+fn warn_of_descriptors<L: Log>(log: &L, users: u32) {
+    let needed = descriptors_needed(users);
+    if let Some(allowed) = descriptor_limit()
+        && allowed < needed
+    {
+        warn!(log; "{} users need {} descriptors, and the system allows {}", users, needed, allowed);
+    }
+}
+
+/// Admits so many visitors, who take the slots in their order.
+fn admit<B: OfHub<H>, H: SessionHash>(
+    alloc: Global,
+    host: &mut Host<H>,
+    hub: &Hub<H>,
+    count: usize,
+) -> Result<Vec<FreeSlot<B, H>>, Ending>
+    requires here { B.home ≡ Some hub.now.home }
+    requires host { host.old ≡ record { home = hub.now.home; admitted = 0 } }
+    requires few { count ≤ 65_536 }
+    ensures host { host.new.home ≡ hub.now.home }
+{
+    let mut free = Vec::with_capacity(alloc, count)?;
+    for slot in 0..count {
+        free.push(FreeSlot::new(host.admit(hub), slot))?;
+    }
+    Ok(free)
+}
+
+/// Gives the visitors of these slots, as many as there is room for.
+fn leave<B: OfHub<H>, H>(free: Vec<FreeSlot<B, H>>, visitors: Vec<Visitor<H>>) -> Vec<Visitor<H>>
+    requires none { visitors.items ≡ [] }
+    ensures here { (home : Home (About H)) → B.home ≡ Some home → All (λ v. v.home ≡ home) result.items }
+{
+    let mut visitors = visitors;
+    for slot in free {
+        let FreeSlot { visitor, .. } = slot;
+        if visitors.push(visitor).is_err() {
+            return visitors;
+        }
+    }
+    visitors
+}
+
+fn say_report<W: Write>(report: &Report, output: &mut W) -> Result<(), Ending> {
+    match writeln!(output, "joins {} present {}", report.joins, report.present) {
+        Ok(()) => flush(output),
+        Err(_) => Err(Ending::Transfer),
+    }
+}
+
+fn flush<W: Write>(output: &mut W) -> Result<(), Ending> {
+    match output.flush() {
+        Ok(()) => Ok(()),
+        Err(_) => Err(Ending::Transfer),
+    }
+}
+
+/// Says how the server ends where its address cannot be had.
+fn ending_of(error: &io::Error) -> Ending {
+    if error.kind() == io::ErrorKind::OutOfMemory {
+        return Ending::Memory;
+    }
+    Ending::Address
+}
