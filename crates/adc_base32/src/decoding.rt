@@ -9,12 +9,12 @@ use crate::digit::value;
 use crate::fault::B32;
 use std::alloc::Global;
 
-/// The n bytes that a base32 text spells, where its bits beyond them are zero (RFC 4648, section 6;
-/// ADC 1.0, "Message syntax").
+/// Reads the n bytes that a base32 text spells, where its bits beyond them are zero (RFC 4648, section 6; ADC 1.0, "Message
+/// syntax").
 ///
-/// Refused, in this order: with `Length` where the text has not `(8 n + 4) / 5` characters, `Digit`
-/// where one of them is no digit (lower case and padding are none), `LowBits` where an unused low bit
-/// of the last digit is not zero, `Memory` where memory runs out.
+/// Refused, in this order: with `Length` where the text has not `(8 n + 4) / 5` characters; `Digit` where one of them is no
+/// digit (lower case and padding are none). Then come `LowBits` where an unused low bit of the last digit is not zero, and
+/// `Memory` where memory runs out.
 pub fn decode(alloc: Global, text: &[u8], n: usize) -> Result<Vec<u8>, B32>
     ensures count { IfOk result (λ bytes. vec_len bytes ≡ n) }
     ensures spelt { IfOk result (λ bytes. IsBase32 text.now bytes.items) }
@@ -26,8 +26,8 @@ pub fn decode(alloc: Global, text: &[u8], n: usize) -> Result<Vec<u8>, B32>
     Ok(bytes)
 }
 
-/// The 24 bytes that a base32 text of 39 characters spells, as [`decode`] reads them; it takes no
-/// memory, and so is never refused with `Memory`.
+/// Reads the 24 bytes that a base32 text of 39 characters spells, as [`decode`] reads them; it takes no memory, and so is
+/// never refused with `Memory`.
 pub fn decode24(text: &[u8]) -> Result<[u8; 24], B32>
     ensures spelt { IfOk result (λ bytes. IsBase32 text.now bytes) }
     ensures only { IfOk result (λ bytes. (other : List ℕ) → length other ≡ 24 → All (λ b. b < 256) other → IsBase32 text.now other → other ≡ bytes) }

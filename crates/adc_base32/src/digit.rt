@@ -1,7 +1,7 @@
 ghost use Rattle.std.specs.Prelude.{◌≡◌, ◌<◌, IfSome};
 ghost use Rattle.adc_base32.specs.Digits.{digit_of, value_at};
 
-/// The character of a value.
+/// Gives the character of a value.
 #[tactic(auto, unfolding(crate::specs::Digits::digit_of))]
 pub(crate) fn character(value: u8) -> u8
     requires { value < 32 }
@@ -11,7 +11,7 @@ pub(crate) fn character(value: u8) -> u8
     if value < 26 { value + b'A' } else { value + 24 }
 }
 
-/// The value of a character that is a digit, below 32.
+/// Gives the value of a character that is a digit, below 32.
 #[tactic(auto, unfolding(crate::specs::Digits::value_at))]
 pub(crate) fn value(character: u8) -> Option<u8>
     ensures exact { result ≡ value_at character }

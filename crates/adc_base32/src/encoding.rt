@@ -8,8 +8,8 @@ use crate::digit::character;
 use crate::fault::B32;
 use std::alloc::{AllocError, Global};
 
-/// The base32 text of the bytes: `(8 n + 4) / 5` digits for n bytes, upper case, with no padding
-/// (RFC 4648, section 6; ADC 1.0, "Message syntax"). Refused only with `Memory`, where memory runs out.
+/// Writes the base32 text of the bytes: `(8 n + 4) / 5` digits for n bytes, upper case, with no padding (RFC 4648, section
+/// 6; ADC 1.0, "Message syntax"). Refused only with `Memory`, where memory runs out.
 pub fn encode(alloc: Global, bytes: &[u8]) -> Result<String, B32>
     ensures spelt { IfOk result (λ text. IsBase32 (string_bytes text) bytes.now) }
     ensures only { IfOk result (λ text. (other : List ℕ) → IsBase32 other bytes.now → other ≡ string_bytes text) }
@@ -39,7 +39,7 @@ fn digits(alloc: Global, bytes: &[u8]) -> Result<String, AllocError>
     Ok(text)
 }
 
-/// The 39 digits of 24 bytes, as [`encode`] writes them; it takes no memory.
+/// Writes the 39 digits of 24 bytes, as [`encode`] writes them; it takes no memory.
 pub fn encode24(bytes: &[u8; 24]) -> [u8; 39]
     ensures spelt { IsBase32 result bytes.now }
     ensures only { (other : List ℕ) → IsBase32 other bytes.now → other ≡ result }

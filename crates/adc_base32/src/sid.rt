@@ -28,7 +28,7 @@ impl Model for Sid {
 }
 
 impl Sid {
-    /// The identifier with this number, or `None` from 1,048,576 on.
+    /// Makes the identifier with this number; `None` from 1,048,576 on.
     pub fn from_u32(number: u32) -> Option<Sid>
         ensures variant { IsSome result ↔ (number < sid_count) }
         ensures number { IfSome result (λ sid. sid ≡ number) }
@@ -40,7 +40,7 @@ impl Sid {
         }
     }
 
-    /// Its number, from 0 to 1,048,575.
+    /// Gives its number, from 0 to 1,048,575.
     pub fn number(self) -> u32
         ensures exact { result ≡ self }
         ensures below { result < sid_count }
@@ -48,8 +48,8 @@ impl Sid {
         self.number
     }
 
-    /// The identifier that four base32 digits spell, the most significant first. `None` where the
-    /// text has another length, or a character that is no digit; lower case is none.
+    /// Reads the identifier that four base32 digits spell, the most significant first. `None` where the text has another
+    /// length, or a character that is no digit; lower case is none.
     pub fn parse(text: &[u8]) -> Option<Sid>
         ensures spelt { IfSome result (λ sid. text.now ≡ sid_text sid) }
         ensures only { IfNone result ((n : ℕ) → n < sid_count → text.now ≡ sid_text n → ⊥) }
@@ -58,7 +58,7 @@ impl Sid {
         read(text)
     }
 
-    /// Its four base32 digits, the most significant first.
+    /// Gives its four base32 digits, the most significant first.
     pub fn text(&self) -> [u8; 4]
         ensures { result ≡ sid_text self.now }
     {
@@ -71,9 +71,9 @@ impl Sid {
         ]
     }
 
-    /// The first of last + 1, last + 2 and so on that nobody in `taken` has, where 1 comes after
-    /// 1,048,575. So identifier 0, `AAAA`, is never given. It takes no memory, and one pass over
-    /// `taken` while that has no more than 1,024 items.
+    /// Gives the first of last + 1, last + 2 and so on that nobody in `taken` has, where 1 comes after 1,048,575. So
+    /// identifier 0, `AAAA`, is never given. It takes no memory, and one pass over `taken` while that has no more than
+    /// 1,024 items.
     pub fn next_free(last: u32, taken: &[Sid]) -> Sid
         requires last_in { last < sid_count }
         requires one_free { length taken.now + 1 < sid_count }

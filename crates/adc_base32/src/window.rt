@@ -13,7 +13,7 @@ pub(crate) const WINDOW: u32 = 1_025;
 /// The count of windows.
 pub(crate) const WINDOWS: u32 = 1_023;
 
-/// The first free number of a window of those that follow `last`; `base` are passed over before it.
+/// Finds the first free number of a window of those that follow `last`; `base` are passed over before it.
 pub(crate) fn first_free(last: u32, base: u32, taken: &[Sid]) -> Option<u32>
     requires last_in { last < sid_count }
     requires base_in { base + 1_025 ≤ 1_048_575 }
@@ -29,7 +29,7 @@ pub(crate) fn first_free(last: u32, base: u32, taken: &[Sid]) -> Option<u32>
     None
 }
 
-/// Which numbers of a window are taken.
+/// Marks the numbers of a window that are taken.
 fn held_in(last: u32, base: u32, taken: &[Sid]) -> [bool; 1_025]
     requires last_in { last < sid_count }
     requires base_in { base + 1_025 ≤ 1_048_575 }

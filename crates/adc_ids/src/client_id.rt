@@ -20,22 +20,22 @@ impl Model for Cid {
 }
 
 impl Cid {
-    /// The identifier with these bytes.
+    /// Makes the identifier with these bytes.
     pub fn from_bytes(bytes: [u8; 24]) -> Cid
         ensures { result ≡ bytes }
     {
         Cid { bytes }
     }
 
-    /// Its 24 bytes.
+    /// Gives its 24 bytes.
     pub fn bytes(&self) -> [u8; 24]
         ensures { result ≡ self.now }
     {
         self.bytes
     }
 
-    /// The identifier that 39 base32 digits spell. `None` where the text spells no 24 bytes: it has
-    /// another length, a character that is no digit, or unused low bits that are not zero.
+    /// Reads the identifier that 39 base32 digits spell. `None` where the text spells no 24 bytes: it has another length, a
+    /// character that is no digit, or unused low bits that are not zero.
     pub fn parse(text: &[u8]) -> Option<Cid>
         ensures spelt { IfSome result (λ cid. IsBase32 text.now cid) }
         ensures exact { result ≡ spelled 24 text.now }
@@ -47,7 +47,7 @@ impl Cid {
         }
     }
 
-    /// Its 39 base32 digits.
+    /// Gives its 39 base32 digits.
     pub fn text(&self) -> [u8; 39]
         ensures spelt { IsBase32 result self.now }
         ensures only { (other : List ℕ) → IsBase32 other self.now → other ≡ result }

@@ -41,8 +41,8 @@ impl Model for Nick {
 }
 
 impl Nick {
-    /// The nick of a text. Refused, in this order: with `Invalid` where the text has no code point,
-    /// more than 64, or one that is 32 or below; with `Memory` where memory runs out.
+    /// Reads the nick of a text. Refused, in this order: with `Invalid` where the text has no code point, more than 64, or
+    /// one that is 32 or below; with `Memory` where memory runs out.
     pub fn parse(alloc: Global, text: &str) -> Result<Nick, NickFault>
         ensures exact { IfOk result (λ nick. nick ≡ chars text.now) }
         ensures valid { IfOk result (λ nick. IsNick nick) }

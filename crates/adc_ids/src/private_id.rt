@@ -20,15 +20,15 @@ impl Model for Pid {
 }
 
 impl Pid {
-    /// Its 24 bytes.
+    /// Gives its 24 bytes.
     pub fn bytes(&self) -> [u8; 24]
         ensures { result ≡ self.now }
     {
         self.bytes
     }
 
-    /// The identifier that 39 base32 digits spell. `None` where the text spells no 24 bytes: it has
-    /// another length, a character that is no digit, or unused low bits that are not zero.
+    /// Reads the identifier that 39 base32 digits spell. `None` where the text spells no 24 bytes: it has another length, a
+    /// character that is no digit, or unused low bits that are not zero.
     pub fn parse(text: &[u8]) -> Option<Pid>
         ensures spelt { IfSome result (λ pid. IsBase32 text.now pid) }
         ensures exact { result ≡ spelled 24 text.now }

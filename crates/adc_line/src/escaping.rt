@@ -9,8 +9,8 @@ use crate::fault::UnescapeFault;
 use memchr::memchr3;
 use std::alloc::{AllocError, Global};
 
-/// The spelling of a text within one word: blank as `\s`, line feed as `\n`, backslash as `\\`, and
-/// every other character as itself (ADC 1.0, "Message syntax"). Refused only where memory runs out.
+/// Writes the spelling of a text within one word: blank as `\s`, line feed as `\n`, backslash as `\\`, and every other
+/// character as itself (ADC 1.0, "Message syntax"). Refused only where memory runs out.
 pub fn escape(alloc: Global, text: &str) -> Result<String, AllocError>
     ensures spelling { IfOk result (λ word. string_bytes word ≡ escaped text.now) }
     ensures back { IfOk result (λ word. unescaped (string_bytes word) ≡ Some text.now) }
@@ -34,7 +34,7 @@ fn escape_runs(alloc: Global, text: &str) -> Result<String, AllocError>
     }
 }
 
-/// The text that a word spells: the reverse of [`escape`] (ADC 1.0, "Message syntax").
+/// Gives the text that a word spells: the reverse of [`escape`] (ADC 1.0, "Message syntax").
 ///
 /// Refused with `Escape` where no text has this spelling: a backslash begins no escape, or a blank or
 /// a line feed stands for itself; with `Memory` where memory ran out before that was seen.
@@ -100,7 +100,7 @@ fn escape_means(letter: u8) -> Option<char>
     }
 }
 
-/// The text before the first byte that does not stand for itself, then that byte and what follows it.
+/// Splits a text into what is before the first byte that does not stand for itself, then that byte and what follows it.
 fn first_run(text: &str) -> (&str, Option<(u8, &str)>)
     ensures plain { All (λ b. is_special b ≡ false) result.0.now }
     ensures cut { MatchOption result.1 (text.now ≡ result.0.now) (λ x. text.now ≡ result.0.now ++ x.0 ∷ x.1.now) }
@@ -113,7 +113,7 @@ fn first_run(text: &str) -> (&str, Option<(u8, &str)>)
     }
 }
 
-/// Where the first byte is that does not stand for itself.
+/// Finds the place of the first byte that does not stand for itself.
 #[tactic(auto, using(crate::proofs::SearchLemmas::searches))]
 fn first_special(bytes: &[u8]) -> Option<usize>
     ensures within { IfSome result (λ at. at < length bytes.now) }
@@ -123,7 +123,7 @@ fn first_special(bytes: &[u8]) -> Option<usize>
     memchr3(b' ', b'\n', b'\\', bytes)
 }
 
-/// The escape of a byte that does not stand for itself.
+/// Gives the escape of a byte that does not stand for itself.
 fn spelling(special: u8) -> &'static str
     requires { IsTrue (is_special special) }
     ensures { result.now ≡ escaped_byte special }

@@ -5,7 +5,7 @@ use std::alloc::AllocError;
 pub enum LineFault {
     /// Memory ran out.
     Memory = 1,
-    /// There are more than 65,536 bytes.
+    /// The line is too long: there are more than 65,536 bytes.
     TooLong = 2,
     /// The bytes are not UTF-8.
     NotUtf8 = 3,

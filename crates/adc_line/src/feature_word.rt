@@ -19,8 +19,8 @@ fn is_sign(byte: u8) -> bool
     matches!(byte, b'+' | b'-')
 }
 
-/// Tests whether a word is a feature word, by which a message of type F chooses who hears it: one or more parts, each a sign, `+` or
-/// `-`, and a feature's name (ADC 1.0, "Message types").
+/// Tests whether a word is a feature word, by which a message of type F chooses who hears it (ADC 1.0, "Message types"). It
+/// is one or more parts, each a sign, `+` or `-`, and a feature's name.
 #[tactic(auto, unfolding(crate::specs::Header::is_feature_word))]
 pub fn is_feature_word(word: &[u8]) -> bool
     ensures { result ≡ is_feature_word word.now }
@@ -28,7 +28,7 @@ pub fn is_feature_word(word: &[u8]) -> bool
     !word.is_empty() && are_features(word)
 }
 
-/// Each five bytes are a sign and a feature's name.
+/// Tests whether each five bytes are a sign and a feature's name.
 fn are_features(word: &[u8]) -> bool
     ensures { result ≡ are_features word.now }
 {
@@ -42,7 +42,7 @@ fn are_features(word: &[u8]) -> bool
     rest.is_empty()
 }
 
-/// A sign, and a feature's name.
+/// Tests whether five bytes are a sign, and a feature's name.
 fn is_feature(sign: u8, a: u8, b: u8, c: u8, d: u8) -> bool
     ensures { result ≡ is_feature sign a b c d }
 {

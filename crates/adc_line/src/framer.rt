@@ -12,13 +12,13 @@ use std::marker::Model;
 pub enum Next {
     /// A line came out, without its line feed.
     Line,
-    /// No line feed is there yet.
+    /// No line: its line feed is not there yet.
     More,
     /// The first 65,537 bytes hold no line feed; this is said from now on.
     TooLong,
 }
 
-/// Cuts a stream of bytes, which comes in pieces, at its line feeds (ADC 1.0, "Message syntax").
+/// A framer, which cuts a stream of bytes that comes in pieces at its line feeds (ADC 1.0, "Message syntax").
 ///
 /// Contracts see it as the bytes that were fed and did not come out, without the line feeds behind
 /// the lines that did.
@@ -45,7 +45,7 @@ impl Model for Framer {
 impl Framer {
     ghost use Rattle.adc_line.specs.NextLine.{IsNext, IsFirstLine};
 
-    /// A framer that was fed nothing.
+    /// Makes a framer that was fed nothing.
     pub fn new(alloc: Global) -> Framer
         ensures { result ≡ [] }
     {
@@ -104,7 +104,7 @@ impl Framer {
     }
 }
 
-/// Where the first line feed is, of bytes of which the first `searched` hold none.
+/// Finds the place of the first line feed, of bytes of which the first `searched` hold none.
 fn first_lf(bytes: &[u8], searched: usize) -> Option<usize>
     requires within { searched ≤ length bytes.now }
     requires none_before { HasNoLf (take searched bytes.now) }

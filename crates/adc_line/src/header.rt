@@ -48,7 +48,7 @@ pub(crate) fn header_words(kind: Kind) -> usize
     }
 }
 
-/// The header with which a text begins.
+/// Reads the header with which a text begins.
 pub(crate) fn header_at(text: &str) -> Option<Header>
     ensures { result ≡ header_at (words text.now) }
 {
@@ -128,7 +128,7 @@ fn are_base32_digits(word: &[u8]) -> bool
     word.iter().all(|c| is_base32_digit(*c))
 }
 
-/// One or more base32 digits.
+/// Tests whether a word is one or more base32 digits.
 #[tactic(auto, unfolding(crate::specs::Header::is_cid))]
 fn is_cid(word: &[u8]) -> bool
     ensures { result ≡ is_cid word.now }

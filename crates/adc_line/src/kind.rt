@@ -24,7 +24,7 @@ pub enum Kind {
 }
 
 impl Kind {
-    /// The type with this letter.
+    /// Gives the type with this letter.
     #[tactic(auto, unfolding(crate::specs::Header::kind_at))]
     pub(crate) fn of(letter: u8) -> Option<Kind>
         ensures { result ≡ kind_at letter }
@@ -42,7 +42,7 @@ impl Kind {
         }
     }
 
-    /// The letter that a message of this type begins with.
+    /// Gives the letter that a message of this type begins with.
     #[tactic(auto, unfolding(crate::specs::Header::kind_at))]
     pub fn letter(self) -> u8
         ensures exact { result ≡ letter self }

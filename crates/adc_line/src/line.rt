@@ -39,12 +39,11 @@ impl Line {
     ghost use Rattle.adc_line.specs.Grammar.{Reads};
     ghost use Rattle.adc_line.specs.Lines.{Reading};
 
-    /// The line that bytes spell, which have no line feed at their end (ADC 1.0, "Message syntax").
+    /// Reads the line that bytes spell, which have no line feed at their end (ADC 1.0, "Message syntax").
     ///
-    /// Refused with the first of these that applies: `TooLong` over 65,536 bytes, `NotUtf8`, `Header`
-    /// where the first words are no header of a type (none in the empty line), `Parameter` where a
-    /// later word is empty or holds a line feed, `Escape` where in one a backslash begins no escape.
-    /// `Memory` comes last.
+    /// Refused with the first of these that applies: `TooLong` over 65,536 bytes, `NotUtf8`, `Header` where the first words
+    /// are no header of a type (none in the empty line). Then come `Parameter` where a later word is empty or holds a line
+    /// feed, `Escape` where in one a backslash begins no escape. `Memory` comes last.
     pub fn parse(alloc: Global, bytes: &[u8]) -> Result<Line, LineFault>
         ensures exact { Gives (λ line. line) result (reading bytes.now) }
         ensures found { IfOk result (λ line. Reads bytes.now line) }
@@ -66,35 +65,35 @@ impl Line {
         })
     }
 
-    /// Its type (ADC 1.0, "Message types").
+    /// Gives its type (ADC 1.0, "Message types").
     pub fn kind(&self) -> Kind
         ensures { result ≡ self.now.kind }
     {
         self.header.head.kind
     }
 
-    /// The three characters of its command's name.
+    /// Gives the three characters of its command's name.
     pub fn command(&self) -> [u8; 3]
         ensures { result ≡ self.now.command }
     {
         self.header.head.command
     }
 
-    /// The sender's identifier, in a line of type B, D, E or F.
+    /// Gives the sender's identifier, in a line of type B, D, E or F.
     pub fn from(&self) -> Option<Sid>
         ensures { result ≡ self.now.from }
     {
         self.header.from
     }
 
-    /// The identifier of whom it is for, in a line of type D or E.
+    /// Gives the identifier of whom it is for, in a line of type D or E.
     pub fn target(&self) -> Option<Sid>
         ensures { result ≡ self.now.target }
     {
         self.header.target
     }
 
-    /// The feature word of a line of type F.
+    /// Gives the feature word of a line of type F.
     pub fn features(&self) -> Option<&str>
         ensures { option_copied result ≡ self.now.features }
     {
@@ -104,14 +103,14 @@ impl Line {
         }
     }
 
-    /// Its parameters in order, escaped as they came.
+    /// Gives its parameters in order, escaped as they came.
     pub fn params(&self) -> Words<'_>
         ensures { words_left result ≡ self.now.params }
     {
         Words::of(&self.text).after(header_words(self.header.head.kind))
     }
 
-    /// The whole line as it came, without the line feed.
+    /// Gives the whole line as it came, without the line feed.
     pub fn text(&self) -> &str
         ensures bytes { result.now ≡ self.now.text }
         ensures whole { reading result.now ≡ Ok self.now }
@@ -120,7 +119,7 @@ impl Line {
     }
 }
 
-/// The bytes as text, where they are not too many and are UTF-8.
+/// Reads the bytes as text, where they are not too many and are UTF-8.
 #[tactic(auto, unfolding(crate::specs::Lines::text_checked))]
 fn text_of(bytes: &[u8]) -> Result<&str, LineFault>
     ensures { MatchResult result (λ text. text_checked bytes.now ≡ Ok text.now) (λ fault. text_checked bytes.now ≡ Err fault) }

@@ -13,14 +13,14 @@ pub struct Words<'a> {
 impl<'a> Words<'a> {
     ghost use Rattle.adc_line.specs.WordsLeft.{words_left};
 
-    /// All words of a text.
+    /// Gives all words of a text.
     pub(crate) fn of(text: &'a str) -> Words<'a>
         ensures { words_left result ≡ words text.now }
     {
         Words { rest: Some(text) }
     }
 
-    /// The next word, or the empty text where none is left.
+    /// Gives the next word, or the empty text where none is left.
     pub(crate) fn next_or_empty(&mut self) -> &'a str
         ensures word { result.now ≡ word_at (words_left self.old) 0 }
         ensures rest { words_left self.new ≡ drop 1 (words_left self.old) }
@@ -28,7 +28,7 @@ impl<'a> Words<'a> {
         self.next().unwrap_or("")
     }
 
-    /// The words after the first `count`.
+    /// Gives the words after the first `count`.
     pub(crate) fn after(self, count: usize) -> Words<'a>
         ensures { words_left result ≡ drop count (words_left self.entry) }
     {
@@ -56,7 +56,7 @@ impl<'a> Iterator for Words<'a> {
     }
 }
 
-/// The text before the first blank, and what follows that blank.
+/// Splits a text into what is before the first blank, and what follows that blank.
 fn split_word(text: &str) -> (&str, Option<&str>)
     ensures { words text.now ≡ result.0.now ∷ option_map_or (λ rest. words rest.now) result.1 [] }
 {

@@ -6,13 +6,13 @@ use crate::incoming::{Incoming, Starter};
 use futures::Future;
 use futures::task::{Context, Poll};
 
-/// How many turns one poll makes.
+/// The number of turns that one poll makes at most.
 const TURNS: u8 = 16;
 
-/// After so many faults in a row no more streams are waited for.
+/// The number of faults in a row after which no more streams are waited for.
 const MOST_FAULTS: u8 = 64;
 
-/// Why no more streams are accepted.
+/// The cause for which no more streams are accepted.
 #[derive(Clone, Copy, Debug, PartialEq, Eq)]
 pub enum AcceptEnd {
     /// The set number of streams was accepted.
@@ -21,18 +21,18 @@ pub enum AcceptEnd {
     AcceptFailed,
 }
 
-/// What a turn led to.
+/// The outcome of a turn.
 #[derive(Clone, Copy, Debug, PartialEq, Eq)]
 pub(crate) enum Attempt {
-    /// Another may follow at once.
+    /// A turn after which another may follow at once.
     Again,
-    /// No stream is there before the task is woken.
+    /// A turn that found no stream: the task is woken once one may be there.
     Rest,
-    /// No more are accepted.
+    /// A turn after which no more are accepted.
     Over(AcceptEnd),
 }
 
-/// Accepts streams, and has each of them started.
+/// A future that accepts streams, and has each of them started.
 #[derive(Drop)]
 pub struct Accept<I, T> {
     incoming: I,

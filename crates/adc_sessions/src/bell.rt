@@ -3,20 +3,20 @@ ghost use Rattle.futures.specs.Task.{IsArmed, Keeps};
 
 use futures::task::Context;
 
-/// What tells a session that lines may wait for it. What a bell is told by whom is its own affair: no
+/// A bell that tells a session that lines may wait for it. Each bell settles by itself what it is told and by whom: no
 /// promise of a session rests on it.
 pub trait Bell: Drop {
     /// Tells whoever waits.
     fn ring(&self);
 
-    /// Whether it was rung since the last `true`. Where it was not, it has left the task's waker behind, and
-    /// the next ring wakes the task.
+    /// Answers whether it was rung since the last `true`. Where it was not, it has left the task's waker behind, and the
+    /// next ring wakes the task.
     fn wait(&mut self, cx: &mut Context<'_>) -> bool
         ensures registered { result ≡ false → IsArmed cx.new }
         ensures kept { Keeps cx.old cx.new };
 
-    /// Whether a line may be handed over now. It is asked before each. Where it may not, the session goes on to write
-    /// and to take, hands over and reads nothing, and asks again once the bell is rung: so a bell that has said no
+    /// Answers whether a line may be handed over now. It is asked before each. Where it may not, the session goes on to
+    /// write and to take, hands over and reads nothing, and asks again once the bell is rung. So a bell that has said no
     /// has to be rung later, whatever happens.
     fn may_hand(&mut self) -> bool {
         true

@@ -1,6 +1,6 @@
 use std::alloc::AllocError;
 
-/// How a session ended.
+/// The way in which a session ended.
 #[derive(Clone, Copy, Debug, PartialEq, Eq)]
 pub enum End {
     /// The input ended, all its lines were handed over, and what waited was written until a take gave no line.
@@ -17,7 +17,7 @@ pub enum End {
     Memory,
 }
 
-/// Why no session was made.
+/// The cause for which no session was made.
 #[derive(Clone, Copy, Debug, PartialEq, Eq)]
 pub enum SessionRefused {
     /// Memory ran out.

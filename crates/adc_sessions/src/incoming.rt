@@ -5,27 +5,27 @@ ghost use Rattle.futures.specs.Poll.{OnPending};
 use futures::task::{Context, Poll};
 use std::io;
 
-/// Where a stream comes from: an IPv4 address.
+/// The peer of a stream: an IPv4 address.
 #[derive(Clone, Copy, Debug, PartialEq, Eq)]
 pub struct Peer {
-    /// Its four bytes, most significant first.
+    /// The four bytes of the address, most significant first.
     pub address: [u8; 4],
 }
 
-/// What brings streams, such as a listening socket.
+/// A source of streams, such as a listening socket.
 pub trait Incoming: Drop {
-    /// What it brings.
+    /// The streams that it brings.
     type Stream: Drop;
 
-    /// The next stream, and where it comes from.
+    /// Gives the next stream, and its peer.
     fn poll_incoming(&mut self, cx: &mut Context<'_>) -> Poll<io::Result<(Self::Stream, Peer)>>
         ensures registered { OnPending result (IsArmed cx.new) }
         ensures kept { Keeps cx.old cx.new };
 }
 
-/// What makes a session of a stream and has it run.
+/// A starter that makes a session of a stream and has it run.
 pub trait Starter<S>: Drop {
-    /// From the first state on it was given so many streams, and left the second.
+    /// The relation of two states: from the first on it was given so many streams, and left the second.
     ghost starts: { Self → ℕ → Self → Type 0 };
 
     /// Takes a stream. Where it can make no session of it, it drops the stream: nothing is told to whom calls.

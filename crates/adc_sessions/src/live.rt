@@ -15,18 +15,18 @@ use outboxes::Taken;
 use std::alloc::Global;
 use tokio::io::{AsyncRead, AsyncWrite};
 
-/// How many lines one take asks for.
+/// The number of lines that one take asks for.
 const BATCH: usize = 256;
 
-/// How many turns one poll makes.
+/// The number of turns that one poll makes at most.
 const TURNS: u8 = 64;
 
-/// What a turn led to.
+/// The outcome of a turn.
 #[derive(Clone, Copy, Debug, PartialEq, Eq)]
 pub(crate) enum Turn {
-    /// Another may follow at once.
+    /// A turn after which another may follow at once.
     Again,
-    /// Nothing can be done before the task is woken.
+    /// A turn after which nothing can be done before the task is woken.
     Rest,
     /// The session is over.
     Over(End),
@@ -66,7 +66,7 @@ pub(crate) struct Live<S, P, B> {
 impl<S: AsyncRead + AsyncWrite, P: Port, B: Bell> Live<S, P, B> {
     ghost use Rattle.adc_sessions.specs.State.{state_of, fresh, with_line, Turned, Polled};
 
-    /// A session of which nothing was read, taken or written, with room for one read.
+    /// Makes a session of which nothing was read, taken or written, with room for one read.
     pub(crate) fn new(alloc: Global, stream: S, port: P, bell: B, input: Vec<u8>) -> Live<S, P, B>
         requires { 0 < length input.items }
         ensures { state_of result ≡ fresh stream port }
@@ -92,7 +92,7 @@ impl<S: AsyncRead + AsyncWrite, P: Port, B: Bell> Live<S, P, B> {
         }
     }
 
-    /// Up to 64 turns, each of which makes at most one call of the stream or the port.
+    /// Makes up to 64 turns, each of which makes at most one call of the stream or the port.
     pub(crate) fn run(&mut self, cx: &mut Context<'_>) -> Poll<End>
         ensures polled { Polled (StreamStep S.reads S.is_at_end S.AsyncRead.fails S.writes S.is_full S.AsyncWrite.fails) P.step 64 (state_of self.old) result (state_of self.new) }
         ensures registered { OnPending result (IsArmed cx.new) }
@@ -117,7 +117,7 @@ impl<S: AsyncRead + AsyncWrite, P: Port, B: Bell> Live<S, P, B> {
         (self.stream, self.port.quit())
     }
 
-    /// What waits to be written goes first; then the take that each poll makes; then lines.
+    /// Makes one turn. Bytes that wait to be written go first; then the take that each poll makes; then lines.
     fn turn(&mut self, cx: &mut Context<'_>) -> Turn
         ensures turned { Turned (StreamStep S.reads S.is_at_end S.AsyncRead.fails S.writes S.is_full S.AsyncWrite.fails) P.step (state_of self.old) result (state_of self.new) }
         ensures registered { result ≡ Turn.Rest → IsArmed cx.new }
@@ -142,7 +142,7 @@ impl<S: AsyncRead + AsyncWrite, P: Port, B: Bell> Live<S, P, B> {
         self.advance(cx)
     }
 
-    /// Whether a line may be there that may not be handed over yet.
+    /// Answers whether a line may be there that may not be handed over yet.
     fn is_held(&mut self) -> bool
         ensures { self.new ≡ record self.old { bell = self.new.bell } }
     {
@@ -219,7 +219,7 @@ impl<S: AsyncRead + AsyncWrite, P: Port, B: Bell> Live<S, P, B> {
         }
     }
 
-    /// The port is to hear nothing now, or nothing more: what it still gives is written.
+    /// Waits for lines to take, where the port is to hear nothing now, or nothing more: what it still gives is written.
     fn wait_to_take(&mut self, cx: &mut Context<'_>) -> Turn
         requires { length self.old.output.items ≤ self.old.written }
         ensures turned { Turned (StreamStep S.reads S.is_at_end S.AsyncRead.fails S.writes S.is_full S.AsyncWrite.fails) P.step (state_of self.old) result (state_of self.new) }
@@ -236,7 +236,7 @@ impl<S: AsyncRead + AsyncWrite, P: Port, B: Bell> Live<S, P, B> {
         Turn::Rest
     }
 
-    /// No whole line is there: takes and reads alternate, so that neither a bell that is always rung nor an
+    /// Reads or takes, where no whole line is there. The two alternate, so that neither a bell that is always rung nor an
     /// input without end keeps the other side waiting.
     fn seek(&mut self, cx: &mut Context<'_>) -> Turn
         requires written { length self.old.output.items ≤ self.old.written }
@@ -262,7 +262,7 @@ impl<S: AsyncRead + AsyncWrite, P: Port, B: Bell> Live<S, P, B> {
         self.read(cx)
     }
 
-    /// The input is over: takes until nothing comes.
+    /// Takes until nothing comes, as the input is over.
     fn drain(&mut self) -> Turn
         requires written { length self.old.output.items ≤ self.old.written }
         requires no_line { HasNoLf self.old.framer }
@@ -279,7 +279,7 @@ impl<S: AsyncRead + AsyncWrite, P: Port, B: Bell> Live<S, P, B> {
         self.take()
     }
 
-    /// One read of at most 4,096 bytes.
+    /// Reads at most 4,096 bytes, once.
     fn read(&mut self, cx: &mut Context<'_>) -> Turn
         requires no_line { HasNoLf self.old.framer }
         requires heard { self.old.is_over ≡ false }
@@ -320,7 +320,7 @@ impl<S: AsyncRead + AsyncWrite, P: Port, B: Bell> Live<S, P, B> {
         self.is_listening & !self.owes_take
     }
 
-    /// One write of all that waits.
+    /// Offers the stream all that waits, in one write.
     fn write(&mut self, cx: &mut Context<'_>) -> Turn
         requires { self.old.written < length self.old.output.items }
         ensures turned { Turned (StreamStep S.reads S.is_at_end S.AsyncRead.fails S.writes S.is_full S.AsyncWrite.fails) P.step (state_of self.old) result (state_of self.new) }
@@ -339,7 +339,7 @@ impl<S: AsyncRead + AsyncWrite, P: Port, B: Bell> Live<S, P, B> {
     }
 }
 
-/// Whether the last take said that nothing will follow.
+/// Answers whether the last take said that nothing will follow.
 fn has_ended(taken: &Option<Taken>) -> bool
     ensures { result ≡ true → IsSomeAnd taken.now (λ taken. taken.ended ≡ true) }
 {
@@ -349,7 +349,7 @@ fn has_ended(taken: &Option<Taken>) -> bool
     }
 }
 
-/// Whether the last take gave no line.
+/// Answers whether the last take gave no line.
 fn has_given_nothing(taken: &Option<Taken>) -> bool
     ensures { result ≡ true → IsSomeAnd taken.now (λ taken. taken.lines ≡ 0) }
 {

@@ -6,9 +6,9 @@ use hub_setup::LineRefused;
 use outboxes::{TakeRefused, Taken};
 use std::alloc::Global;
 
-/// Where a session hands over its lines and takes what waits for it: one connection of a hub.
+/// A port to which a session hands over its lines, and from which it takes what waits for it: one connection of a hub.
 pub trait Port: Drop {
-    /// What is left of it after the quit.
+    /// The value that is left of it after the quit.
     type Left: Drop;
 
     /// A call that began in the first state left the second.

@@ -14,30 +14,30 @@ use futures::task::{Context, Poll};
 use std::alloc::{AllocError, Global};
 use tokio::io::{AsyncRead, AsyncWrite};
 
-/// How many bytes one read may give.
+/// The number of bytes that one read may give.
 const ROOM: usize = 4_096;
 
-/// One connection: a future that hands the lines of a stream to a port, and writes what the port gives.
+/// A session of one connection: a future that hands the lines of a stream to a port, and writes what the port gives.
 ///
-/// Its output is how it ended, the stream, and what the port left; `quit` is called once, last. What holds
-/// of them is said at [`Session::new`] (`serves`; definitions in `specs/Served`): the lines handed over are
-/// the first lines of the bytes read, and all of them at `Closed`, `ReadFailed` and `TooLong`; the bytes
-/// written are the first of the bytes taken, and all of them at `Closed` and `Ended`; each end comes only
-/// where its cause is there; nothing follows a call that failed or was refused; once the port has answered
-/// a line by `Ended`, nothing is read and no line is handed over.
+/// The output of the future is how it ended, the stream, and what the port left; `quit` is called once, last. The promises
+/// that hold of them stand at [`Session::new`] (`serves`; definitions in `specs/Served`). The lines handed over are the
+/// first lines of the bytes read, and all of them at `Closed`, `ReadFailed` and `TooLong`. The bytes written are the first
+/// of the bytes taken, and all of them at `Closed` and `Ended`. Each end comes only where its cause is there, and nothing
+/// follows a call that failed or was refused. Once the port has answered a line by `Ended`, nothing is read and no line is
+/// handed over.
 ///
-/// Reads and takes alternate, and each poll takes once before it reads, unless bytes still wait to be
-/// written: so a client that sends without pause, and reads, gets what is meant for it. A take is made only
-/// once all that was taken before is written, and one write is offered everything a take gave: so a client that
-/// does not read lags at the hub. A session holds what one take of at most 256 lines gave, and of its
-/// input at most 65,536 bytes without a line feed and one read of 4,096 bytes.
+/// Reads and takes alternate, and each poll takes once before it reads, unless bytes still wait to be written: so a client
+/// that sends without pause, and reads, gets what is meant for it. A take is made only once all that was taken before is
+/// written, and one write is offered everything a take gave: so a client that does not read lags at the hub. A session
+/// holds what one take of at most 256 lines gave, and of its input at most 65,536 bytes without a line feed and one read of
+/// 4,096 bytes.
 #[derive(Drop)]
 pub struct Session<S, P, B> {
     live: Option<Live<S, P, B>>,
 }
 
 impl<S: AsyncRead + AsyncWrite, P: Port, B: Bell> Session<S, P, B> {
-    /// A session over a stream and a port, as they are.
+    /// Makes a session over a stream and a port, as they are.
     ///
     /// Refused: `Memory`; then all three are given back.
     pub fn new(
@@ -57,7 +57,7 @@ impl<S: AsyncRead + AsyncWrite, P: Port, B: Bell> Session<S, P, B> {
     }
 }
 
-/// Room for one read.
+/// Makes room for one read.
 fn input(alloc: Global) -> Result<Vec<u8>, AllocError>
     ensures { IfOk result (λ input. length input.items ≡ 4_096) }
 {

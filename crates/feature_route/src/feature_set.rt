@@ -24,8 +24,8 @@ impl Model for FeatureSet {
 }
 
 impl FeatureSet {
-    /// The features that the text of the field SU names between its commas. Words that have not four
-    /// bytes are no features, and are left out. Refused only where memory runs out.
+    /// Reads the features that the text of the field SU names between its commas. Words that have not four bytes are no
+    /// features, and are left out. Refused only where memory runs out.
     pub fn read(alloc: Global, su: &str) -> Result<FeatureSet, AllocError>
         ensures { IfOk result (λ set. set ≡ feature_set su.now) }
     {

@@ -6,7 +6,7 @@ use crate::feature_set::FeatureSet;
 use crate::want::Want;
 use adc_base32::Sid;
 
-/// For whom a message is, among the users who are present. It borrows the message's feature word.
+/// The audience of a message: those for whom it is, among the users who are present. It borrows the message's feature word.
 #[derive(Debug, Drop)]
 pub enum Audience<'a> {
     /// All of them.
@@ -15,9 +15,9 @@ pub enum Audience<'a> {
     One(Sid),
     /// The users with these two identifiers, which differ.
     Two(Sid, Sid),
-    /// Those whose features are as wanted.
+    /// All whose features are as wanted.
     Having(Want<'a>),
-    /// None of them.
+    /// No user.
     Nobody,
 }
 

@@ -1,4 +1,4 @@
-//! Who hears a message: all users, one, two, or those who have certain features.
+//! The users who hear a message: all, one, two, or those who have certain features.
 #![tactic(auto)]
 
 mod feature_set;

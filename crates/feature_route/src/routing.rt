@@ -7,8 +7,8 @@ use crate::want::Want;
 use adc_base32::Sid;
 use adc_line::{Kind, Line};
 
-/// For whom a line is, by its type (ADC 1.0, "Message types"); `target_present` says whether the user
-/// that it names as its target is present.
+/// Tells for whom a line is, by its type (ADC 1.0, "Message types"); `target_present` says whether the user that it names
+/// as its target is present.
 ///
 /// B: all. D: the target, and nobody where that user is away. E: the target and the sender, once each
 /// also where they are the same, and nobody where the target is away. F: those who have every feature

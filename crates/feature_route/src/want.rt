@@ -27,9 +27,8 @@ impl<'a> Model for Want<'a> {
 }
 
 impl<'a> Want<'a> {
-    /// Reads a feature word. `None` where the text is none: a feature word is one or more parts,
-    /// each a sign, `+` or `-`, and a feature's name, a letter A to Z and three letters or digits
-    /// (ADC 1.0, "Message types").
+    /// Reads a feature word, and gives `None` where the text is none. A feature word is one or more parts, each a sign, `+`
+    /// or `-`, and a feature's name, a letter A to Z and three letters or digits (ADC 1.0, "Message types").
     #[tactic(auto, unfolding(crate::specs::Wants::want_at))]
     pub fn parse(text: &'a str) -> Option<Want<'a>>
         ensures exact { result ≡ want_at text.now }

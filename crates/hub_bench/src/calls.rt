@@ -1,5 +1,4 @@
-// How long calls take. Each user speaks in turn, so that no place is better than another.
-use crate::hub_of_one::SoloHub;
+// The times that calls take. Each user speaks in turn, so that no place is better than another.
 use std::alloc::AllocError;
 use std::io;
 use std::time::{Clock, Instant};
@@ -10,8 +9,41 @@ const CALLS: u128 = 900;
 
 const LOGINS: u32 = 100;
 
-/// How many nanoseconds a line takes that nobody else hears.
-pub fn own_nanos<R: Clock>(rt: &R, hub: &mut SoloHub) -> io::Result<u128> {
+/// A hub whose calls are measured. It promises nothing, so that a loop around its calls is not proved with all that a hub promises.
+pub trait Measured {
+    /// The users who are present.
+    type User: Copy;
+
+    /// A line that was made ready.
+    type Line: Drop;
+
+    /// Makes a line ready.
+    fn ready(&self, line: &[u8]) -> io::Result<Self::Line>;
+
+    /// Counts the users who are present.
+    fn count(&self) -> usize;
+
+    /// Gives the user of a place.
+    fn user(&self, place: usize) -> io::Result<Self::User>;
+
+    /// Says this for a user.
+    fn say(&mut self, user: Self::User, line: &Self::Line) -> io::Result<()>;
+
+    /// Takes up to 256 lines for a user, and tells how many they were.
+    fn take(&mut self, user: Self::User) -> io::Result<u64>;
+
+    /// Takes for all users what waits for them.
+    fn clear(&mut self) -> io::Result<()>;
+
+    /// Lets the last user leave, and another join, who is about to say this login.
+    fn renew_last(&mut self) -> io::Result<(Self::User, Self::Line)>;
+
+    /// Keeps this user as the last one.
+    fn keep(&mut self, user: Self::User) -> io::Result<()>;
+}
+
+/// Gives how many nanoseconds a line takes that nobody else hears.
+pub fn own_nanos<R: Clock, M: Measured>(rt: &R, hub: &mut M) -> io::Result<u128> {
     let line = hub.ready(b"HMSG hello")?;
     let start = Instant::now(rt)?;
     for round in 0..ROUNDS {
@@ -21,8 +53,8 @@ pub fn own_nanos<R: Clock>(rt: &R, hub: &mut SoloHub) -> io::Result<u128> {
     Ok(start.elapsed(rt)?.as_nanos() / CALLS)
 }
 
-/// How many nanoseconds a line takes that all hear.
-pub fn chat_nanos<R: Clock>(rt: &R, hub: &mut SoloHub) -> io::Result<u128> {
+/// Gives how many nanoseconds a line takes that all hear.
+pub fn chat_nanos<R: Clock, M: Measured>(rt: &R, hub: &mut M) -> io::Result<u128> {
     let line = hub.ready(b"BMSG AAAB what\\sa\\sfine\\sday\\sto\\sshare\\sa\\sfile\\sor\\stwo")?;
     let user = hub.user(0)?;
     let mut spent: u128 = 0;
@@ -35,43 +67,40 @@ pub fn chat_nanos<R: Clock>(rt: &R, hub: &mut SoloHub) -> io::Result<u128> {
     Ok(spent / CALLS)
 }
 
-/// How many nanoseconds it takes to take 256 lines.
-pub fn take_nanos<R: Clock>(rt: &R, hub: &mut SoloHub) -> io::Result<u128> {
+/// Gives how many nanoseconds it takes to take 256 lines.
+pub fn take_nanos<R: Clock, M: Measured>(rt: &R, hub: &mut M) -> io::Result<u128> {
     let line = hub.ready(b"BMSG AAAB what\\sa\\sfine\\sday\\sto\\sshare\\sa\\sfile\\sor\\stwo")?;
     let user = hub.user(0)?;
     for _ in 0..256 {
         hub.say(user, &line)?;
     }
     let mut spent: u128 = 0;
-    for place in 0..hub.users.len() {
+    for place in 0..hub.count() {
         let user = hub.user(place)?;
         let start = Instant::now(rt)?;
         hub.take(user)?;
         spent = spent.wrapping_add(start.elapsed(rt)?.as_nanos());
     }
-    let users = hub.users.len() as u128;
+    let users = hub.count() as u128;
     Ok(spent.checked_div(users).ok_or(AllocError)?)
 }
 
-/// How many nanoseconds the last user's login takes, which the others hear.
-pub fn login_nanos<R: Clock>(rt: &R, hub: &mut SoloHub) -> io::Result<u128> {
+/// Gives how many nanoseconds the last user's login takes, which the others hear.
+pub fn login_nanos<R: Clock, M: Measured>(rt: &R, hub: &mut M) -> io::Result<u128> {
     let mut spent: u128 = 0;
     for _ in 0..LOGINS {
-        let last = hub.users.pop().ok_or(AllocError)?;
-        hub.leave(last);
-        let user = hub.join()?;
-        let login = hub.login(user)?;
+        let (user, login) = hub.renew_last()?;
         let start = Instant::now(rt)?;
         hub.say(user, &login)?;
         spent = spent.wrapping_add(start.elapsed(rt)?.as_nanos());
-        hub.users.push(user)?;
+        hub.keep(user)?;
         hub.clear()?;
     }
     Ok(spent / u128::from(LOGINS))
 }
 
-/// The user who speaks in a round.
-fn speaker(hub: &SoloHub, round: u32) -> io::Result<hub_core::Conn> {
-    let users = hub.users.len();
+/// Gives the user who speaks in a round.
+fn speaker<M: Measured>(hub: &M, round: u32) -> io::Result<M::User> {
+    let users = hub.count();
     hub.user((round as usize).checked_rem(users).ok_or(AllocError)?)
 }

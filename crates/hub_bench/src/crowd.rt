@@ -4,7 +4,7 @@ use std::io;
 use std::sync::Wait;
 use std::time::{Clock, Instant};
 
-/// After so many of its own lines a thread takes for all its users.
+/// The number of its own lines after which a thread takes for all its users.
 const BREATH: u32 = 8;
 
 /// The users of one thread. The first of them chats, and takes after each line; the others only listen, and the thread
@@ -21,7 +21,7 @@ pub struct Crowd<'a> {
 }
 
 impl<'a> Crowd<'a> {
-    /// The users of a thread. Nothing was said yet.
+    /// Makes the crowd of a thread's users. Nothing was said yet.
     pub fn new(alloc: Global, users: Vec<User<'a>>) -> Result<Crowd<'a>, AllocError> {
         let first = users.first().ok_or(AllocError)?;
         let line = first.line(alloc)?;
@@ -36,29 +36,29 @@ impl<'a> Crowd<'a> {
         })
     }
 
-    /// All take what waits for them; it does not count.
+    /// Takes for all what waits for them; it does not count.
     pub fn settle<R: Wait>(&mut self, rt: &R) -> Result<(), AllocError> {
         self.take_all(rt)?;
         self.delivered = 0;
         Ok(())
     }
 
-    /// How many lines its users took.
+    /// Gives how many lines its users took.
     pub fn delivered(&self) -> u64 {
         self.delivered
     }
 
-    /// How many nanoseconds the thread spent in calls.
+    /// Gives how many nanoseconds the thread spent in calls.
     pub fn in_calls(&self) -> u128 {
         self.in_calls
     }
 
-    /// Whether a call was refused.
+    /// Answers whether a call was refused.
     pub fn has_failed(&self) -> bool {
         self.has_failed
     }
 
-    /// The first user says so many lines, and all hear what is said.
+    /// Says so many lines by the first user, and all hear what is said.
     pub fn chat<R: Wait + Clock>(mut self, rt: &R, lines: u32) -> Crowd<'a> {
         if self.try_chat(rt, lines).is_err() {
             self.has_failed = true;
@@ -89,7 +89,7 @@ impl<'a> Crowd<'a> {
         Ok(())
     }
 
-    /// All take what waits for them, up to 1,024 lines each.
+    /// Takes for all what waits for them, up to 1,024 lines each.
     pub fn take_all<R: Wait>(&mut self, rt: &R) -> Result<(), AllocError> {
         for user in self.users.iter_mut() {
             let heard = drained(rt, user, &mut self.unread)?;

@@ -8,12 +8,12 @@ use std::alloc::{AllocError, Global};
 use std::io;
 use std::sync::Wait;
 
-/// How many may come in.
+/// The number of users who may come in.
 const MOST: u64 = 1_024;
 
 const ALPHABET: [u8; 32] = *b"ABCDEFGHIJKLMNOPQRSTUVWXYZ234567";
 
-/// Where users come in.
+/// The door by which users come in.
 #[derive(Drop)]
 pub struct Door<'a> {
     shared: &'a SharedHub,
@@ -28,7 +28,7 @@ impl<'a> Door<'a> {
         Door { shared, host }
     }
 
-    /// So many users come in.
+    /// Lets so many users come in.
     pub fn let_in<R: Wait>(
         &mut self,
         rt: &R,
@@ -42,7 +42,7 @@ impl<'a> Door<'a> {
         Ok(users)
     }
 
-    /// The next user, who has logged in.
+    /// Lets the next user in, who has logged in.
     fn enter<R: Wait>(&mut self, rt: &R, alloc: Global) -> io::Result<User<'a>> {
         let admitted = self.host.admitted();
         if admitted >= MOST {
@@ -57,13 +57,13 @@ impl<'a> Door<'a> {
     }
 }
 
-/// The two digits of a number below 1,024, with which its session identifier ends.
+/// Gives the two digits of a number below 1,024, with which its session identifier ends.
 fn digits(number: u64) -> [u8; 2] {
     let number = number as usize;
     [ALPHABET[number / 32 % 32], ALPHABET[number % 32]]
 }
 
-/// The login line of the join with these digits.
+/// Gives the login line of the join with these digits.
 fn login(alloc: Global, digits: [u8; 2]) -> Result<Vec<u8>, AllocError> {
     let mut line = Vec::from_slice(alloc, b"BINF AA")?;
     line.extend_from_slice(&digits)?;

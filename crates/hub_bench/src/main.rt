@@ -1,4 +1,5 @@
-//! How long the parts of a hub take, and its calls, for one thread and for threads that share it. It prints figures where it is given an argument.
+//! The times that the parts of a hub take, and its calls, for one thread and for threads that share it. It prints figures
+//! where it is given an argument.
 #![tactic(auto)]
 
 mod calls;

@@ -7,16 +7,17 @@ use std::sync::Wait;
 use std::thread::{self, Threads};
 use std::time::{Clock, Instant};
 
-/// How many users are there.
+/// The number of users who are there.
 const USERS: u32 = 100;
 
-/// How many lines are said in a stretch, by all threads together. Threads begin a stretch together, and first take all that
-/// waits. So never more than two stretches' lines wait for a user, however the threads are run, and there is room for 1,024.
+/// The number of lines that are said in a stretch, by all threads together. Threads begin a stretch together, and first
+/// take all that waits. So never more than two stretches' lines wait for a user, however the threads are run, and there is
+/// room for 1,024.
 const LINES: u32 = 400;
 
 const STRETCHES: u32 = 250;
 
-/// What was measured.
+/// The figures that were measured.
 #[derive(Clone, Copy)]
 pub struct Figures {
     delivered: u64,
@@ -25,15 +26,15 @@ pub struct Figures {
 }
 
 impl Figures {
-    /// How many lines were delivered a second: a line that all hear counts once for each user.
+    /// Gives how many lines were delivered a second: a line that all hear counts once for each user.
     pub fn a_second(&self) -> u128 {
         let seconds = u128::from(self.delivered).wrapping_mul(1_000_000_000);
         seconds.checked_div(self.nanos).unwrap_or(0)
     }
 
-    /// How much of the time in calls was spent waiting, in percent. As many lines are said and delivered as by one thread
-    /// alone. What that took longer, added up over all threads, counts as waiting: for the lock above all, but also for a
-    /// processor, and for memory that another one wrote.
+    /// Gives how much of the time in calls was spent waiting, in percent. As many lines are said and delivered as by one
+    /// thread alone. All that this took longer, added up over all threads, counts as waiting: for the lock above all, but
+    /// also for a processor, and for memory that another one wrote.
     pub fn waiting(&self, alone: &Figures) -> u128 {
         let longer = self.in_calls.saturating_sub(alone.in_calls);
         longer
@@ -43,7 +44,7 @@ impl Figures {
     }
 }
 
-/// Has 100 users, shared out among so many threads, say and hear 100,000 lines. The first user of each thread chats.
+/// Lets 100 users, shared out among so many threads, say and hear 100,000 lines. The first user of each thread chats.
 pub fn deliveries<R: Threads + Wait + Clock + Sync>(
     rt: &R,
     alloc: Global,
@@ -64,7 +65,7 @@ pub fn deliveries<R: Threads + Wait + Clock + Sync>(
     added_up(&crowds, start.elapsed(rt)?.as_nanos())
 }
 
-/// All chat.
+/// Lets all chat.
 fn chat<'a, R: Threads + Wait + Clock + Sync>(
     rt: &R,
     crowds: Vec<Crowd<'a>>,

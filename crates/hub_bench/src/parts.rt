@@ -21,7 +21,7 @@ use std::sync::Wait;
 use std::thread::Threads;
 use std::time::Clock;
 
-/// How long the parts of a hub take on usual inputs.
+/// Reports how long the parts of a hub take on usual inputs.
 pub fn report_parts<R: Threads + Wait + Clock + Print + Sync>(
     rt: &R,
     alloc: Global,

@@ -1,5 +1,5 @@
 // Prints what was measured, a line for each figure.
-use crate::calls::{chat_nanos, login_nanos, own_nanos, take_nanos};
+use crate::calls::{Measured, chat_nanos, login_nanos, own_nanos, take_nanos};
 use crate::hub_of_one::SoloHub;
 use crate::measure::deliveries;
 use std::alloc::Global;
@@ -8,14 +8,14 @@ use std::sync::Wait;
 use std::thread::Threads;
 use std::time::Clock;
 
-/// What calls take where so many users are present.
+/// Reports what calls take where so many users are present.
 pub fn report_calls<R: Clock + Print>(rt: &R, alloc: Global, users: u32) -> io::Result<()> {
     let mut hub = SoloHub::open(alloc)?;
+    hub.fill(users)?;
     measure_calls(rt, &mut hub, users)
 }
 
-fn measure_calls<R: Clock + Print>(rt: &R, hub: &mut SoloHub, users: u32) -> io::Result<()> {
-    hub.fill(users)?;
+fn measure_calls<R: Clock + Print, M: Measured>(rt: &R, hub: &mut M, users: u32) -> io::Result<()> {
     say(
         rt,
         users,
@@ -31,7 +31,7 @@ fn say<R: Print>(rt: &R, users: u32, what: &str, nanos: u128) -> io::Result<()> 
     println!(rt; "{users} users, {what}: {nanos} ns")
 }
 
-/// How many lines a hub delivers that threads share.
+/// Reports how many lines a hub delivers that threads share.
 pub fn report_threads<R: Threads + Wait + Clock + Print + Sync>(
     rt: &R,
     alloc: Global,

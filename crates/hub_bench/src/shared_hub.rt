@@ -16,7 +16,7 @@ pub struct SharedHub {
     pub ghost set: { hub.setup ≡ arc_value setup },
 }
 
-/// A hub, and its host, who has admitted nobody.
+/// Opens a hub, and gives it with its host, who has admitted nobody.
 pub fn opened(alloc: Global) -> io::Result<(SharedHub, Host<First24>)>
     ensures { IfOk result (λ r. r.1 ≡ record { home = r.0.hub.home; admitted = 0 }) }
 {
@@ -27,7 +27,7 @@ pub fn opened(alloc: Global) -> io::Result<(SharedHub, Host<First24>)>
     }
 }
 
-/// What hubs are set up with here.
+/// Makes what hubs are set up with here.
 pub fn setup(alloc: Global) -> io::Result<Arc<Setup>> {
     let options = Options {
         name: "Hub",

@@ -22,7 +22,7 @@ pub struct User<'a> {
 }
 
 impl<'a> User<'a> {
-    /// A visitor joins, whose session identifier will end in these digits.
+    /// Joins as a visitor, whose session identifier will end in these digits.
     pub fn new<R: Wait>(
         rt: &R,
         alloc: Global,
@@ -47,7 +47,7 @@ impl<'a> User<'a> {
         }
     }
 
-    /// What it says to all.
+    /// Gives what it says to all.
     pub fn line(&self, alloc: Global) -> Result<Vec<u8>, AllocError> {
         let mut line = Vec::from_slice(alloc, b"BMSG AA")?;
         line.extend_from_slice(&self.digits)?;

@@ -22,7 +22,7 @@ impl Model for Challenges {
 }
 
 impl Challenges {
-    /// The challenges of a seed of 32 bytes: those of its stream 0, from its first word on. Takes no memory.
+    /// Makes the challenges of a seed of 32 bytes: those of its stream 0, from its first word on. Takes no memory.
     pub fn from_seed(seed: [u8; 32]) -> Challenges
         ensures { result ≡ of_seed seed }
     {
@@ -31,7 +31,7 @@ impl Challenges {
         }
     }
 
-    /// The next challenge: the next six words of the stream, each with its lowest byte first. Takes no memory.
+    /// Makes the next challenge: the next six words of the stream, each with its lowest byte first. Takes no memory.
     pub fn next(&mut self) -> [u8; 24]
         ensures { (result, self.new) ≡ dealt self.old }
     {

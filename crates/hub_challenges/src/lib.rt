@@ -1,4 +1,4 @@
-//! What connections are challenged with.
+//! The challenges of connections.
 #![tactic(auto)]
 
 mod challenges;

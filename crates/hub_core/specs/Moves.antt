@@ -29,7 +29,7 @@ Moves old call reply new =
     (setup : Configured) (hash : List ℕ → List ℕ) (h : List Entry) (caller : ℕ) → StandsAt setup hash h old → MayCall (facts setup hash h) caller call
     → StandsAt setup hash (entry caller call reply ∷ h) new
 
--- The same of a line, where it was made ready for this connection: by this setup and hash, and with its challenge.
+-- `Moves` of a line that was made ready for this connection: by this setup and hash, and with its challenge.
 abbrev pub LineMoves : CoreState → ℕ → PreparedLine → ℕ → Verdict → CoreState → Type 0
 LineMoves old connection line now verdict new =
     (setup : Configured) (hash : List ℕ → List ℕ) (h : List Entry) (caller : ℕ) → StandsAt setup hash h old

@@ -12,16 +12,16 @@ use outboxes::Taken;
 use std::alloc::Global;
 use std::sync::Arc;
 
-/// What is asked of a hub. A connection is named by the number of its join, from 1 on; moments are seconds.
+/// A call that is asked of a hub. A connection is named by the number of its join, from 1 on; moments are seconds.
 #[derive(Debug, Drop)]
 pub enum Ask<'a> {
-    /// To be admitted: the peer's address, the challenge, the moment.
+    /// A request to be admitted: the peer's address, the challenge, the moment.
     Join([u8; 4], [u8; 24], u64),
-    /// To handle a line of a connection: the connection, the line, the moment.
+    /// A line of a connection to handle: the connection, the line, the moment.
     Line(u64, &'a Prepared, u64),
-    /// To let a connection go.
+    /// A connection to let go.
     Quit(u64),
-    /// To hand over lines that wait for a connection: the connection, how many at most, 1 to 256.
+    /// A request to hand over lines that wait for a connection: the connection, how many at most, 1 to 256.
     Take(u64, usize),
 }
 
@@ -30,24 +30,24 @@ pub enum Ask<'a> {
 pub struct Asked<'a> {
     /// The number of the caller.
     pub caller: u64,
-    /// What is asked.
+    /// The call that is asked.
     pub ask: Ask<'a>,
 }
 
-/// What was answered to a call.
+/// The answer to a call.
 #[derive(Debug, Drop)]
 pub enum Answer {
     /// The join was accepted, as this connection.
     Joined(Connection),
-    /// As many connections are open as the hub admits.
+    /// The hub is full: as many connections are open as it admits.
     Full,
-    /// As many joins were accepted as can be counted.
+    /// The joins are spent: as many were accepted as can be counted.
     JoinsSpent,
-    /// What the line did to its connection.
+    /// The verdict that the line brought on its connection.
     Said(Verdict),
     /// The connection left.
     Left,
-    /// These bytes were taken.
+    /// The bytes that were taken.
     Took(Vec<u8>, Taken),
     /// Memory ran out, and the call changed nothing.
     Memory,
@@ -57,9 +57,9 @@ pub enum Answer {
 
 /// Makes each call in turn on a new hub, and answers each at its place.
 ///
-/// Where each call names a connection that is open at its turn and that its caller joined, with a line that was
-/// made ready for it, none is skipped: the answers are those of one legal history, and the hub stands at it. A call
-/// for which memory runs out is answered with `Memory` and changes nothing; the calls behind it are made.
+/// None is skipped where each call names a connection that is open at its turn and that its caller joined, with a line that
+/// was made ready for it. Then the answers are those of one legal history, and the hub stands at it. A call for which
+/// memory runs out is answered with `Memory` and changes nothing; the calls behind it are made.
 ///
 /// Refused: `Memory`, where no hub can be opened or there is no room for the answers; then no call was made.
 pub fn run_calls(

@@ -15,7 +15,7 @@ use std::alloc::AllocError;
 use std::mem;
 use user_table::{IndexedUsers, User, Users, takes_update};
 
-/// What all connections share: the users who are present, the bans, the topic.
+/// The state that all connections share: the users who are present, the bans, the topic.
 #[derive(Debug, Drop)]
 pub struct Commons {
     pub(crate) users: IndexedUsers,
@@ -102,7 +102,7 @@ fn take_turn(users: &mut IndexedUsers, seat: &mut Seat, turn: Turn) -> Result<()
     }
 }
 
-/// The user for whose password the hub waited enters.
+/// Enters the user for whose password the hub waited.
 fn enter(users: &mut IndexedUsers, seat: &mut Seat) -> Result<(), AllocError>
     ensures users { OnOk result (users.new ≡ users.old ++ awaited seat.old.phase) }
     ensures seat { OnOk result (seat.new ≡ record seat.old { phase = entered_phase seat.old.phase }) }
@@ -129,7 +129,7 @@ fn enter(users: &mut IndexedUsers, seat: &mut Seat) -> Result<(), AllocError>
     }
 }
 
-/// A user enters at its login.
+/// Enters a user at its login.
 fn enter_as(users: &mut IndexedUsers, seat: &mut Seat, newcomer: Entrant) -> Result<(), AllocError>
     ensures users { OnOk result (users.new ≡ users.old ++ newcomer.user ∷ []) }
     ensures seat { OnOk result (seat.new ≡ record seat.old { phase = Normal newcomer.support }) }
@@ -143,8 +143,8 @@ fn enter_as(users: &mut IndexedUsers, seat: &mut Seat, newcomer: Entrant) -> Res
     Ok(())
 }
 
-/// The fields of a user change. That nobody else has the nick, and that there is room for the fields, was looked at when the
-/// update was decided, so only memory can be wanting.
+/// Changes the fields of a user. It was looked at when the update was decided that nobody else has the nick, and that there
+/// is room for the fields, so only memory can be wanting.
 fn update(users: &mut IndexedUsers, seat: &mut Seat, change: Change) -> Result<(), AllocError>
     ensures users { OnOk result (users.new ≡ with_update seat.old.sid change.update (given_key change.nick) users.old) }
     ensures seat { OnOk result (seat.new ≡ record seat.old { phase = Normal change.support }) }

@@ -14,7 +14,7 @@ use outboxes::Batch;
 use std::alloc::{AllocError, Global};
 use user_table::Users;
 
-/// What a line of the connection of a seat leads to.
+/// Decides what a line of the connection of a seat leads to.
 pub(crate) fn decide_at<'a>(
     alloc: Global,
     setup: &Setup,
@@ -76,7 +76,7 @@ fn ask<'a>(
     decide(alloc, &hub, &own, line, now)
 }
 
-/// A connection that is shut out is not heard.
+/// Makes the effect of a line of a connection that is shut out, which is not heard.
 fn nothing<'a>(alloc: Global) -> Effect<'a>
     ensures { result ≡ nothing }
 {

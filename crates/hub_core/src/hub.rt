@@ -29,10 +29,10 @@ use std::marker::Model;
 use std::sync::Arc;
 use user_table::{IndexedUsers, Totals, Users};
 
-/// How many lines may wait for a connection.
+/// The number of lines that may wait for a connection.
 const MAX_LINES: usize = 1_024;
 
-/// How many bytes they may have together.
+/// The number of bytes that they may have together.
 const MAX_BYTES: usize = 1_048_576;
 
 /// A hub for one thread. Its promises are about histories: after any list of calls, each answer and
@@ -44,7 +44,7 @@ pub struct Core {
     last: u32,
     seats: Vec<Seat>,
     commons: Commons,
-    /// Whom the last call concerned: a hint, which is not part of what is kept of the hub.
+    /// The users whom the last call concerned: a hint, which is not part of what is kept of the hub.
     touched: Touched,
 }
 
@@ -131,14 +131,14 @@ impl Core {
         Ok(Connection { number })
     }
 
-    /// Whether a connection is open: it joined here, and has not quit. The other calls ask that it is.
+    /// Answers whether a connection is open: it joined here, and has not quit. The other calls ask that it is.
     pub fn is_open(&self, connection: Connection) -> bool
         ensures { IsTrue result ↔ IsSeated connection self.now }
     {
         has_seat(&self.seats, connection.number)
     }
 
-    /// The session identifier of a connection that is open.
+    /// Gives the session identifier of a connection that is open.
     pub fn sid(&self, connection: Connection) -> Sid
         requires seated { IsSeated connection self.now }
         ensures { SidOf result connection self.now }
@@ -196,13 +196,13 @@ impl Core {
         Ok(taken)
     }
 
-    /// Whom the last call that changed something concerned: whose connections it gave lines to, or shut out. A hint
+    /// Names whom the last call that changed something concerned: whose connections it gave lines to, or shut out. A hint
     /// that takes no memory; after a take or a join it names nobody.
     pub fn touched(&self) -> Touched {
         self.touched
     }
 
-    /// What one look at an open connection shows. It takes no memory.
+    /// Looks at an open connection. It takes no memory.
     pub fn look(&self, connection: Connection) -> Look
         requires seated { IsSeated connection self.now }
         ensures { LooksAt result connection self.now }
@@ -215,14 +215,14 @@ impl Core {
         }
     }
 
-    /// How many users are present, and what they share. It takes no memory.
+    /// Gives how many users are present, and what they share. It takes no memory.
     pub fn totals(&self) -> Totals
         ensures { SumsUp result self.now }
     {
         self.commons.users.totals()
     }
 
-    /// How many joins were accepted. It takes no memory.
+    /// Gives how many joins were accepted. It takes no memory.
     pub fn joins(&self) -> u64
         ensures { CountsJoins result self.now }
     {
@@ -249,7 +249,7 @@ impl Core {
         Ok(verdict)
     }
 
-    /// What a line of a connection leads to.
+    /// Decides what a line of a connection leads to.
     fn decide<'a>(
         &self,
         alloc: Global,
@@ -265,14 +265,14 @@ impl Core {
         Ok(effect)
     }
 
-    /// Whom the effect of a line of a connection concerns.
+    /// Names whom the effect of a line of a connection concerns.
     fn touched_by(&self, number: u64, effect: &Effect<'_>) -> Touched
         requires { IsSeated number self.now }
     {
         touched_by(self.seats[place(&self.seats, number)].sid, effect)
     }
 
-    /// Whom it concerns that a connection leaves.
+    /// Names whom it concerns that a connection leaves.
     fn touched_by_quit(&self, number: u64) -> Touched
         requires { IsSeated number self.now }
     {

@@ -1,12 +1,12 @@
 use login_state::Stage;
 
-/// What one look at a connection shows.
+/// The things that one look at a connection shows.
 #[derive(Clone, Copy, Debug)]
 pub struct Look {
-    /// How far it has come.
+    /// The stage to which it has come.
     pub stage: Stage,
-    /// How many users are present.
+    /// The number of users who are present.
     pub present: u64,
-    /// How many lines wait for it.
+    /// The number of lines that wait for it.
     pub waiting: u64,
 }

@@ -1,21 +1,21 @@
 use outboxes::OutboxRefused;
 use std::alloc::{AllocError, AllocFailed};
 
-/// Why no hub was opened.
+/// The cause for which no hub was opened.
 #[derive(Clone, Copy, Debug, PartialEq, Eq)]
 pub enum OpenRefused {
     /// Memory ran out.
     Memory = 1,
 }
 
-/// Why a connection was not admitted, looked for in the order 2, 3, 1. The hub is as before.
+/// The cause for which a connection was not admitted, looked for in the order 2, 3, 1. The hub is as before.
 #[derive(Clone, Copy, Debug, PartialEq, Eq)]
 pub enum JoinRefused {
     /// Memory ran out.
     Memory = 1,
-    /// As many connections are open as the hub admits.
+    /// The hub is full: as many connections are open as it admits.
     Full = 2,
-    /// As many joins were accepted as can be counted.
+    /// The joins are spent: as many were accepted as can be counted.
     JoinsSpent = 3,
 }
 

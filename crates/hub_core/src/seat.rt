@@ -13,31 +13,31 @@ use login_state::{Features, Stage};
 use outboxes::{Batch, Outbox};
 use std::alloc::Global;
 
-/// How far a connection has come, with what is kept of its user (ADC 1.0, "States").
+/// The phase of a connection: how far it has come, with what is kept of its user (ADC 1.0, "States").
 #[derive(Debug, Drop)]
 pub enum Phase {
-    /// It has yet to say what it supports.
+    /// The connection has yet to say what it supports.
     Protocol,
-    /// It has yet to log in.
+    /// The connection has yet to log in.
     Identify,
-    /// This user may enter, once its password gives this digest.
+    /// A user who may enter, once its password gives this digest.
     Verify(Entrant, [u8; 24]),
-    /// Its user is present, with these features in the field SU.
+    /// The user is present, with these features in the field SU.
     Normal(FeatureSet),
-    /// It is shut out.
+    /// The connection is shut out.
     Gone,
 }
 
-/// Whom an operator shuts out.
+/// The user whom an operator shuts out.
 #[derive(Debug, Drop)]
 pub enum Removal {
-    /// Nobody.
+    /// No user.
     Nobody,
     /// The user with this session identifier.
     User(Sid),
 }
 
-/// What is kept of a connection.
+/// The seat of a connection: what is kept of it.
 #[derive(Debug, Drop)]
 pub struct Seat {
     /// The number of its join.
@@ -53,7 +53,7 @@ pub struct Seat {
 }
 
 impl Phase {
-    /// The stage alone.
+    /// Gives the stage alone.
     pub(crate) fn stage(&self) -> Stage
         ensures { result ≡ stage_in self.now }
     {
@@ -66,7 +66,7 @@ impl Phase {
         }
     }
 
-    /// Whether it is shut out.
+    /// Answers whether it is shut out.
     pub(crate) fn is_over(&self) -> bool
         ensures { result ≡ is_over (stage_in self.now) }
     {
@@ -76,7 +76,7 @@ impl Phase {
         }
     }
 
-    /// What its connection is told after a line.
+    /// Gives the verdict that its connection is told after a line.
     pub(crate) fn verdict(&self) -> Verdict
         ensures { result ≡ verdict_of (stage_in self.now) }
     {
@@ -87,7 +87,7 @@ impl Phase {
         }
     }
 
-    /// Whether its user is present.
+    /// Answers whether its user is present.
     pub(crate) fn is_present(&self) -> bool
         ensures { result ≡ is_present (stage_in self.now) }
     {
@@ -99,7 +99,7 @@ impl Phase {
 }
 
 impl Seat {
-    /// The seat of a connection that has just joined, with its outbox.
+    /// Makes the seat of a connection that has just joined, with its outbox.
     pub(crate) fn new(
         alloc: Global,
         number: u64,

@@ -11,7 +11,7 @@ use adc_base32::Sid;
 use outboxes::{TakeRefused, Taken};
 use std::alloc::{AllocError, Global};
 
-/// The place of a connection's seat. Seats stand in the order of their joins, so it is found without a walk.
+/// Finds the place of a connection's seat. Seats stand in the order of their joins, so it is found without a walk.
 pub(crate) fn place(seats: &[Seat], number: u64) -> usize
     requires seated { HasSeat number seats.now }
     requires rising { Rising (numbers seats.now) }
@@ -33,7 +33,7 @@ fn find(seats: &[Seat], number: u64) -> Option<usize>
     }
 }
 
-/// Whether a connection has a seat.
+/// Answers whether a connection has a seat.
 pub(crate) fn has_seat(seats: &[Seat], number: u64) -> bool
     requires { Rising (numbers seats.now) }
     ensures { result ≡ has_seat number seats.now }
@@ -65,7 +65,7 @@ fn tell(seats: &mut [Seat], sid: Sid)
     }
 }
 
-/// The session identifiers that are taken.
+/// Gives the session identifiers that are taken.
 pub(crate) fn sids(alloc: Global, seats: &[Seat]) -> Result<Vec<Sid>, AllocError>
     ensures { IfOk result (λ sids. sids.items ≡ map (λ (seat : Seat). seat.sid) seats.now) }
 {

@@ -16,7 +16,7 @@ use hub_rules::{Effect, Hearers, World};
 use outboxes::Batch;
 use std::alloc::{AllocError, Global};
 
-/// What one call owes to one connection.
+/// The lines that one call owes to one connection.
 #[derive(Debug, Drop)]
 pub struct Share {
     /// The place of its seat.
@@ -25,8 +25,8 @@ pub struct Share {
     pub(crate) lines: Batch,
 }
 
-/// What an effect of a connection owes to those connections that hear something. All of it is made before any is given.
-/// Where nobody but the connection itself can hear anything, the other seats are not looked at.
+/// Makes what an effect of a connection owes to those connections that hear something. All of it is made before any is
+/// given. Where nobody but the connection itself can hear anything, the other seats are not looked at.
 pub(crate) fn shares(
     alloc: Global,
     seats: &[Seat],
@@ -44,7 +44,7 @@ pub(crate) fn shares(
     }
 }
 
-/// Whether nothing is said to users, or to none of them.
+/// Answers whether nothing is said to users, or to none of them.
 fn is_heard_by_none(effect: &Effect<'_>) -> bool
     ensures { IsTrue result → HeardByNone effect.now }
 {
@@ -94,7 +94,7 @@ fn all_shares(
     Ok(shares)
 }
 
-/// How many shares there will be, about.
+/// Gives about how many shares there will be.
 fn expected(seats: &[Seat], hearers: &Hearers<'_>) -> usize {
     match hearers {
         Hearers::Others | Hearers::Those(Audience::All) => seats.len(),
@@ -128,7 +128,7 @@ fn owed(alloc: Global, seat: &Seat, number: u64, effect: &Effect<'_>) -> Result<
     Ok(share)
 }
 
-/// Whether a connection hears what users hear.
+/// Answers whether a connection hears what users hear.
 fn hears(phase: &Phase, is_caller: bool, hearers: &Hearers<'_>, sid: Sid) -> bool
     ensures { result ≡ phase_hears phase.now is_caller hearers.now sid }
 {
@@ -176,7 +176,7 @@ fn shut_out(seats: &mut [Seat], sid: Sid)
     }
 }
 
-/// Whom an operator shuts out.
+/// Names whom an operator shuts out.
 pub(crate) fn removal(world: &World) -> Removal
     ensures { result ≡ removed_of world.now }
 {

@@ -3,21 +3,21 @@ use adc_base32::Sid;
 use feature_route::Audience;
 use hub_rules::{Effect, Hearers};
 
-/// Whom a call concerned: to whose connections it gave lines, or whom it shut out. It is a hint for those who wake what
-/// waits for lines: it may name somebody too many, and no promise rests on it.
+/// The users whom a call concerned: to whose connections it gave lines, or whom it shut out. It is a hint for those who
+/// wake what waits for lines: it may name somebody too many, and no promise rests on it.
 #[derive(Clone, Copy, Debug, PartialEq, Eq)]
 pub enum Touched {
-    /// Nobody.
+    /// No user.
     Nobody,
     /// The connection with this session identifier.
     One(Sid),
     /// The connections with these.
     Two(Sid, Sid),
-    /// Everybody.
+    /// All users.
     Everybody,
 }
 
-/// Whom the effect of a line of the connection with this identifier concerns.
+/// Names whom the effect of a line of the connection with this identifier concerns.
 pub(crate) fn touched_by(sid: Sid, effect: &Effect<'_>) -> Touched {
     let hearing = if effect.others.is_empty() {
         Touched::Nobody
@@ -34,7 +34,7 @@ pub(crate) fn touched_by(sid: Sid, effect: &Effect<'_>) -> Touched {
     }
 }
 
-/// Whom it concerns that a connection leaves which has come this far.
+/// Names whom it concerns that a connection leaves which has come this far.
 pub(crate) fn touched_by_quit(phase: &Phase) -> Touched {
     if phase.is_present() {
         Touched::Everybody

@@ -27,17 +27,16 @@ use outboxes::Batch;
 use std::alloc::{AllocError, Global};
 use user_table::{User, Users};
 
-/// How many client identifiers may have a ban.
+/// The number of client identifiers that may have a ban.
 const MAX_BANS: usize = 1_024;
 
-/// A user says something to the hub (ADC 1.0, "MSG"). A text that begins with `!` is a command for
+/// Decides what a message of a user to the hub leads to (ADC 1.0, "MSG"). A text that begins with `!` is a command for
 /// operators; others are for nobody, and lead to nothing.
 ///
-/// Denied: a command of another user than an operator (125), one of no form (100); a kick or a ban of
-/// somebody who is not present (100), a ban where there is no room for it (100), an end of a ban that is
-/// not held (100). Changes: a user is shut out, an identifier is let in again, or the topic is set. Told:
-/// all users hear of a removal and of a topic, and the operator that it is done. Refused only where
-/// memory runs out.
+/// Denied: a command of another user than an operator (125), one of no form (100). A kick or a ban of somebody who is not
+/// present is denied (100). So are a ban where there is no room for it (100) and an end of a ban that is not held (100).
+/// Changes: a user is shut out, an identifier is let in again, or the topic is set. Told: all users hear of a removal and
+/// of a topic, and the operator that it is done. Refused only where memory runs out.
 #[tactic(auto, unfolding(hub_rules::specs::Acts::act_denied, hub_rules::specs::Acts::act_effect))]
 pub(crate) fn acts<'a, U: Users>(
     alloc: Global,
@@ -59,7 +58,7 @@ pub(crate) fn acts<'a, U: Users>(
     command(alloc, hub, own, user.key(), text, now)
 }
 
-/// Commands begin with `!`.
+/// Answers whether a text is a command: commands begin with `!`.
 fn is_command(text: &str) -> bool
     ensures { result ≡ is_command text.now }
 {
@@ -69,7 +68,7 @@ fn is_command(text: &str) -> bool
     }
 }
 
-/// What a command leads to, of the user whose nick has this key.
+/// Decides what a command leads to, of the user whose nick has this key.
 fn command<'a, U: Users>(
     alloc: Global,
     hub: &Sight<'_, U>,
@@ -90,7 +89,7 @@ fn command<'a, U: Users>(
     }
 }
 
-/// Whether the account with this key is an operator's.
+/// Answers whether the account with this key is an operator's.
 fn is_operator(setup: &Setup, key: &str) -> bool
     ensures { result ≡ operates (account_with key.now setup.now.accounts) }
 {
@@ -100,7 +99,7 @@ fn is_operator(setup: &Setup, key: &str) -> bool
     }
 }
 
-/// What an operator asks for.
+/// Decides what an act leads to that an operator asks for.
 fn asked<'a, U: Users>(
     alloc: Global,
     hub: &Sight<'_, U>,
@@ -189,7 +188,7 @@ fn topic<'a>(alloc: Global, text: &FreeText<'_>) -> Result<Effect<'a>, AllocErro
     carried(alloc, one(alloc, line)?, World::Topic(topic))
 }
 
-/// All users who are present are told, and then the operator that it is done.
+/// Makes the effect that all users who are present are told, and then the operator that it is done.
 fn carried<'a>(alloc: Global, others: Batch, world: World) -> Result<Effect<'a>, AllocError>
     ensures { IfOk result (λ effect. effect ≡ carried others world) }
 {
@@ -203,14 +202,14 @@ fn carried<'a>(alloc: Global, others: Batch, world: World) -> Result<Effect<'a>,
     })
 }
 
-/// Whether there is no room for a ban on an identifier.
+/// Answers whether there is no room for a ban on an identifier.
 fn is_full(bans: &Bans, cid: Cid) -> bool
     ensures { result ≡ is_full bans.now cid }
 {
     !is_banned(bans, cid) && bans.count() >= MAX_BANS
 }
 
-/// Whether a ban is held on an identifier. Of every ban something is left at the moment 0.
+/// Answers whether a ban is held on an identifier. Of every ban something is left at the moment 0.
 #[tactic(auto, unfolding(operator_acts::specs::Bans::left), using(crate::proofs::Held::held_at_first))]
 fn is_banned(bans: &Bans, cid: Cid) -> bool
     ensures { result ≡ is_some (ban_on bans.now cid) }

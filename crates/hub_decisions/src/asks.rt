@@ -1,4 +1,4 @@
-//! What the checks of a login, of an update and of a password find (ADC 1.0, "INF", "PAS").
+//! The findings of which the checks of a login, of an update and of a password are asked (ADC 1.0, "INF", "PAS").
 
 ghost use Rattle.std.specs.Prelude.{◌≡◌, IfOk, is_some};
 ghost use Rattle.hub_decisions.specs.Progresses.{sight_of};
@@ -29,7 +29,7 @@ pub(crate) fn taken_if(taken: bool) -> Claim
     if taken { Claim::Taken } else { Claim::Free }
 }
 
-/// A field that a login needs: missing where it is empty, and else valid or not.
+/// Tells what is found of a field that a login needs: missing where it is empty, and else valid or not.
 pub(crate) fn required_found(valid: bool, value: &str) -> Required
     ensures { result ≡ required_found valid value.now }
 {
@@ -39,7 +39,7 @@ pub(crate) fn required_found(valid: bool, value: &str) -> Required
     }
 }
 
-/// A number that need not be there.
+/// Tells whether a number is valid that need not be there.
 pub(crate) fn amount_found(value: &str) -> Validity
     ensures { result ≡ amount_found value.now }
 {
@@ -49,7 +49,7 @@ pub(crate) fn amount_found(value: &str) -> Validity
     }
 }
 
-/// Whether the client's identifier is the hash of the private one.
+/// Tells whether the client's identifier is the hash of the private one.
 pub(crate) fn identity_found(cid: Option<Cid>, digest: Option<[u8; 24]>) -> Identity
     ensures { result ≡ identity_found cid digest }
 {
@@ -66,7 +66,8 @@ pub(crate) fn identity_found(cid: Option<Cid>, digest: Option<[u8; 24]>) -> Iden
     }
 }
 
-/// An address is right where it is empty, `0.0.0.0`, or the peer's. Refused only where memory runs out.
+/// Tells whether an address is right: it is where it is empty, `0.0.0.0`, or the peer's. Refused only where memory runs
+/// out.
 pub(crate) fn address_found(
     alloc: Global,
     peer: [u8; 4],
@@ -95,14 +96,14 @@ fn ban_found(left: Left) -> Ban
     }
 }
 
-/// Whether this is the key of an account's nick.
+/// Answers whether this is the key of an account's nick.
 pub(crate) fn is_account(setup: &Setup, key: &str) -> bool
     ensures { result ≡ is_some (account_with key.now setup.now.accounts) }
 {
     setup.account(key).is_some()
 }
 
-/// Whether the hub lets this nick in.
+/// Tells whether the hub lets this nick in.
 pub(crate) fn admission_found(setup: &Setup, key: &str) -> Admission
     ensures { (sight : Seen) → sight.setup ≡ setup.now → result ≡ admission_found sight key.now }
 {
@@ -113,7 +114,7 @@ pub(crate) fn admission_found(setup: &Setup, key: &str) -> Admission
     }
 }
 
-/// What is found of a user who is to enter, by its client identifier and the key of its nick.
+/// Tells what is found of a user who is to enter, by its client identifier and the key of its nick.
 #[tactic(auto, unfolding(hub_rules::specs::Asks::entry_ask))]
 pub(crate) fn entry_ask<U: Users>(hub: &Sight<'_, U>, now: u64, cid: Cid, key: &str) -> EntryAsk
     ensures { (user : Listed) → user.cid ≡ cid → user.key ≡ key.now → result ≡ entry_ask (sight_of hub.now.setup.now (U.listed hub.now.users.now) hub.now.bans.now hub.now.topic.now) now user }

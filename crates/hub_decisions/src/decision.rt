@@ -19,9 +19,9 @@ use login_state::Deny;
 use std::alloc::{AllocError, Global};
 use user_table::Users;
 
-/// What a line leads to at the moment `now`, in seconds (ADC 1.0, "States", "Actions"; ADC-EXT, "PING",
-/// "UCMD"). It changes nothing. Refused only where memory runs out, or where a login names an account that the
-/// setup for which the line was prepared did not have.
+/// Decides what a line leads to at the moment `now`, in seconds (ADC 1.0, "States", "Actions"; ADC-EXT, "PING", "UCMD"). It
+/// changes nothing. Refused only where memory runs out, or where a login names an account that the setup for which the line
+/// was prepared did not have.
 ///
 /// An empty line leads to nothing. Of another line the first of these denials holds, and its connection
 /// is told so: it is no message (140); the rules for every line; the rules of what it asks for. A
@@ -45,7 +45,7 @@ pub fn decide<'a, U: Users>(
     }
 }
 
-/// What a message leads to, which the prepared line says.
+/// Decides what a message leads to, which the prepared line says.
 fn heard<'a, U: Users>(
     alloc: Global,
     hub: &Sight<'_, U>,
@@ -62,7 +62,7 @@ fn heard<'a, U: Users>(
     requested(alloc, hub, own, line, message, now)
 }
 
-/// What a message leads to that its connection may send: the rules of what it asks for, and what that is.
+/// Decides what a message leads to that its connection may send: the rules of what it asks for, and what that is.
 #[tactic(auto, unfolding(hub_rules::specs::Denied::request_denied, hub_rules::specs::Effects::accepted))]
 fn requested<'a, U: Users>(
     alloc: Global,

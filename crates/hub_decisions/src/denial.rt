@@ -13,9 +13,8 @@ use login_state::Deny;
 use outboxes::Batch;
 use std::alloc::{AllocError, Global};
 
-/// A line is denied (ADC 1.0, "STA"): its connection is told why, and shut out where that is fatal;
-/// then the others who are present hear that its user left, where it was present. Refused only where
-/// memory runs out.
+/// Makes the effect of a denied line (ADC 1.0, "STA"): its connection is told why, and shut out where that is fatal. Then
+/// the others who are present hear that its user left, where it was present. Refused only where memory runs out.
 #[tactic(auto, unfolding(hub_rules::specs::Effects::denial))]
 pub(crate) fn denial<'a>(alloc: Global, own: &Own<'_>, deny: Deny) -> Result<Effect<'a>, AllocError>
     ensures { IfOk result (λ effect. effect ≡ denial (own_of own.now) deny) }
@@ -37,7 +36,7 @@ fn fall_if(fatal: bool) -> Turn
     if fatal { Turn::Falls } else { Turn::Stays }
 }
 
-/// What the others hear where a connection is shut out.
+/// Gives what the others hear where a connection is shut out.
 fn farewell_if(alloc: Global, fatal: bool, own: &Own<'_>) -> Result<Batch, AllocError>
     ensures { IfOk result (λ batch. batch ≡ given_if fatal (farewell (stage_of own.now.progress) own.now.sid)) }
 {
@@ -50,7 +49,7 @@ fn farewell_if(alloc: Global, fatal: bool, own: &Own<'_>) -> Result<Batch, Alloc
     }
 }
 
-/// The line that tells that a user left (ADC 1.0, "QUI").
+/// Writes the line that tells that a user left (ADC 1.0, "QUI").
 fn quit_line(alloc: Global, sid: Sid) -> Result<Bytes, AllocError>
     ensures { IfOk result (λ line. line ≡ quit_line sid) }
 {

@@ -17,9 +17,9 @@ use outboxes::Batch;
 use std::alloc::{AllocError, Global};
 use user_table::{User, Users};
 
-/// A user enters (ADC 1.0, "INF"; ADC-EXT, "UCMD"). Its client is told of the users who are present,
-/// in order of entry, then of itself, and then the menu where it has one; the others are told of the
-/// newcomer. Refused only where memory runs out.
+/// Makes the effect of a user's entry (ADC 1.0, "INF"; ADC-EXT, "UCMD"). Its client is told of the users who are present,
+/// in order of entry, then of itself, and then the menu where it has one; the others are told of the newcomer. Refused only
+/// where memory runs out.
 pub(crate) fn enters<'a, U: Users>(
     alloc: Global,
     hub: &Sight<'_, U>,
@@ -40,7 +40,7 @@ pub(crate) fn enters<'a, U: Users>(
     })
 }
 
-/// What a newcomer hears, whose own line is at hand.
+/// Makes the batch that a newcomer hears, whose own line is at hand.
 fn welcome<U: Users>(
     alloc: Global,
     hub: &Sight<'_, U>,
@@ -55,7 +55,7 @@ fn welcome<U: Users>(
     with_menu(hub.setup, features, batch)
 }
 
-/// The batch with the menu at its end, where the client has one.
+/// Gives the batch with the menu at its end, where the client has one.
 fn with_menu(setup: &Setup, features: &Features, batch: Batch) -> Result<Batch, AllocError>
     ensures { IfOk result (λ all. all ≡ batch ++ given_if (has_feature ucmd features.now) (map menu_line setup.now.menu)) }
 {
@@ -65,7 +65,7 @@ fn with_menu(setup: &Setup, features: &Features, batch: Batch) -> Result<Batch, 
     setup.menu(batch)
 }
 
-/// The lines of the users who are present, in order of entry.
+/// Writes the lines of the users who are present, in order of entry.
 fn present_lines<U: Users>(alloc: Global, hub: &Sight<'_, U>) -> Result<Batch, AllocError>
     ensures { IfOk result (λ batch. batch ≡ map (line_of (sight_of hub.now.setup.now (U.listed hub.now.users.now) hub.now.bans.now hub.now.topic.now)) (U.listed hub.now.users.now)) }
 {
@@ -80,7 +80,7 @@ fn present_lines<U: Users>(alloc: Global, hub: &Sight<'_, U>) -> Result<Batch, A
     Ok(batch)
 }
 
-/// The line of a user, with what the hub says of it.
+/// Writes the line of a user, with what the hub says of it.
 fn line_of<U: Users>(alloc: Global, hub: &Sight<'_, U>, user: &User) -> Result<Bytes, AllocError>
     ensures { IfOk result (λ line. line ≡ line_of (sight_of hub.now.setup.now (U.listed hub.now.users.now) hub.now.bans.now hub.now.topic.now) user.now) }
 {

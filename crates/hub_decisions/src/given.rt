@@ -5,21 +5,21 @@ ghost use Rattle.inf_fields.specs.Cleaning.{clean};
 use inf_fields::{FieldName, Fields, Update};
 use std::alloc::{AllocError, Global};
 
-/// The value that an update gives a field, and the empty text where it gives none.
+/// Gives the value that an update gives a field, and the empty text where it gives none.
 pub(crate) fn given(update: &Update, name: FieldName) -> &str
     ensures { result.now ≡ given name update.now }
 {
     update.get(name).unwrap_or("")
 }
 
-/// The value of a field, and the empty text where there is none.
+/// Gives the value of a field, and the empty text where there is none.
 pub(crate) fn known(fields: &Fields, name: FieldName) -> &str
     ensures { result.now ≡ given name fields.now }
 {
     fields.get(name).unwrap_or("")
 }
 
-/// What of an update is passed on. Refused only where memory runs out.
+/// Gives what of an update is passed on. Refused only where memory runs out.
 pub(crate) fn passed_on(alloc: Global, peer: [u8; 4], update: &Update) -> Result<Update, AllocError>
     ensures { IfOk result (λ passed. passed ≡ clean update.now peer) }
 {

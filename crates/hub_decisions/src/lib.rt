@@ -1,4 +1,4 @@
-//! What a line leads to, which is decided here before anything is changed.
+//! The decisions on lines: what each leads to, before anything is changed.
 #![tactic(auto)]
 
 mod act;

@@ -7,7 +7,7 @@ use hub_rules::{Effect, Hearers, Turn, World};
 use outboxes::Batch;
 use std::alloc::{AllocError, Global};
 
-/// Nothing happens. Takes no memory.
+/// Makes the effect by which nothing happens. Takes no memory.
 pub(crate) fn nothing<'a>(alloc: Global) -> Effect<'a>
     ensures { result ≡ nothing }
 {
@@ -21,7 +21,7 @@ pub(crate) fn nothing<'a>(alloc: Global) -> Effect<'a>
     }
 }
 
-/// A batch of one line.
+/// Makes a batch of one line.
 pub(crate) fn one(alloc: Global, line: Bytes) -> Result<Batch, AllocError>
     ensures { IfOk result (λ batch. batch ≡ line ∷ []) }
 {

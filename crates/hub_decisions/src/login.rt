@@ -38,7 +38,7 @@ use outboxes::Batch;
 use std::alloc::{AllocError, Global};
 use user_table::{User, Users};
 
-/// A client logs in (ADC 1.0, "INF").
+/// Decides what the login of a client leads to (ADC 1.0, "INF").
 ///
 /// Denied: words that are no update (140), and then by the checks of a login, in their order. Changes:
 /// the client enters, or has to give its password first where its nick is an account's. Told: as at an
@@ -61,8 +61,8 @@ pub(crate) fn logs_in<'a, U: Users>(
     }
 }
 
-/// A user with an account is asked for its password, and another enters. A line that was made ready for
-/// a hub without that account has no digest to wait for, and is refused as where memory runs out.
+/// Makes the effect by which a user with an account is asked for its password, and another enters. A line that was made
+/// ready for a hub without that account has no digest to wait for, and is refused as where memory runs out.
 fn admits<'a, U: Users>(
     alloc: Global,
     hub: &Sight<'_, U>,
@@ -90,7 +90,7 @@ fn admits<'a, U: Users>(
     })
 }
 
-/// The user that a login makes, or why it is denied.
+/// Makes the user of a login, or tells why it is denied.
 fn checked<U: Users>(
     alloc: Global,
     hub: &Sight<'_, U>,
@@ -111,7 +111,7 @@ fn checked<U: Users>(
     }
 }
 
-/// What is known of a user by its login.
+/// Makes the fields that are known of a user by its login.
 fn made_known(alloc: Global, peer: [u8; 4], update: &Update) -> Result<Fields, AllocError>
     ensures { IfOk result (λ fields. fields ≡ merged_with [] (clean update.now peer)) }
 {
@@ -123,7 +123,7 @@ fn made_known(alloc: Global, peer: [u8; 4], update: &Update) -> Result<Fields, A
     }
 }
 
-/// What the checks of a login find.
+/// Tells what the checks of a login find.
 #[tactic(auto, unfolding(crate::specs::Findings::login_found))]
 fn login_found<U: Users>(
     alloc: Global,
@@ -154,7 +154,7 @@ fn login_found<U: Users>(
     })
 }
 
-/// What is found of a client that is to enter, by its identifier, if it has one.
+/// Tells what is found of a client that is to enter, by its identifier, if it has one.
 fn entry_found<U: Users>(hub: &Sight<'_, U>, now: u64, cid: Option<Cid>, key: &str) -> EntryAsk
     ensures { result ≡ entry_found (sight_of hub.now.setup.now (U.listed hub.now.users.now) hub.now.bans.now hub.now.topic.now) now cid key.now }
 {
@@ -168,7 +168,7 @@ fn entry_found<U: Users>(hub: &Sight<'_, U>, now: u64, cid: Option<Cid>, key: &s
     }
 }
 
-/// The identifier of a client that may enter, or why it may not. A client without one may not.
+/// Gives the identifier of a client that may enter, or why it may not. A client without one may not.
 fn verdict(ask: &InfAsk, cid: Option<Cid>) -> Result<Cid, Deny>
     requires { HasFoundId ask.now cid }
     ensures { MatchResult result (λ found. (cid ≡ Some found) × (first_denial (inf_rules ask.now) ≡ Check.Go)) (λ deny. first_denial (inf_rules ask.now) ≡ Check.Deny deny) }
@@ -182,7 +182,7 @@ fn verdict(ask: &InfAsk, cid: Option<Cid>) -> Result<Cid, Deny>
     }
 }
 
-/// The user with these fields, who may enter.
+/// Makes the entrant: the user with these fields, who may enter.
 fn entrant(
     alloc: Global,
     sid: Sid,

@@ -20,7 +20,7 @@ use search_pass::may_search;
 use std::alloc::{AllocError, Global};
 use user_table::Users;
 
-/// A user says something to others (ADC 1.0, "Message types").
+/// Decides what a message of a user to others leads to (ADC 1.0, "Message types").
 ///
 /// Denied: never. Changes: nothing, but for the moment of a search that goes out. Told: those for whom
 /// the message is hear the line as it came. Refused only where memory runs out.
@@ -43,7 +43,7 @@ pub(crate) fn passes_on<'a, U: Users>(
     })
 }
 
-/// A user searches (ADC 1.0, "SCH").
+/// Decides what a search of a user leads to (ADC 1.0, "SCH").
 ///
 /// Denied: a search too soon after the last one that went out (100). Changes: the moment of the last
 /// search. Told: as by [`passes_on`]. Refused only where memory runs out.
@@ -62,7 +62,7 @@ pub(crate) fn searches<'a, U: Users>(
     passes_on(alloc, hub, line, Some(now))
 }
 
-/// Whether the user that a line names as its target is present.
+/// Answers whether the user that a line names as its target is present.
 fn is_target_here<U: Users>(users: &U, target: Option<Sid>) -> bool
     ensures { (sight : Seen) → sight.users ≡ U.listed users.now → result ≡ is_target_here sight target }
 {

@@ -5,39 +5,39 @@ use adc_base32::Sid;
 use login_state::{Features, Stage};
 use user_table::User;
 
-/// How far a connection is, with what is known of its user (ADC 1.0, "States"). A connection that is
-/// shut out is not heard, so it is none of these.
+/// The progress of a connection, with what is known of its user (ADC 1.0, "States"). A connection that is shut out is not
+/// heard, so it is none of these.
 #[derive(Clone, Copy)]
 pub enum Progress<'a> {
-    /// It has not yet said what it supports.
+    /// The connection has not yet said what it supports.
     Protocol,
-    /// It said what it supports, and has not yet logged in.
+    /// The connection said what it supports, and has not yet logged in.
     Identify,
-    /// It logged in: the user who may enter, and the digest that its password must give.
+    /// The connection logged in: the user who may enter, and the digest that its password must give.
     Verify(&'a User, [u8; 24]),
-    /// It entered: its user, who is present.
+    /// The connection entered: its user, who is present.
     Normal(&'a User),
 }
 
 /// The connection that sent a line.
 #[derive(Clone, Copy)]
 pub struct Own<'a> {
-    /// Its session identifier.
+    /// The session identifier of the connection.
     pub sid: Sid,
     /// The address of its peer.
     pub peer: [u8; 4],
     /// The challenge with which its password is hashed.
     pub challenge: [u8; 24],
-    /// How far it is.
+    /// The progress of the connection.
     pub progress: Progress<'a>,
-    /// What its client supports.
+    /// The features that its client supports.
     pub features: &'a Features,
     /// The moment of its last search that went out, in seconds.
     pub searched: Option<u64>,
 }
 
 impl<'a> Progress<'a> {
-    /// The stage of the connection.
+    /// Gives the stage of the connection.
     pub(crate) fn stage(&self) -> Stage
         ensures { result ≡ stage_of self.now }
     {

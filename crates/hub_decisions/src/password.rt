@@ -24,11 +24,11 @@ use login_state::{Check, Deny, check_entry, check_pass};
 use std::alloc::{AllocError, Global};
 use user_table::{User, Users};
 
-/// A user gives its password (ADC 1.0, "PAS").
+/// Decides what the password leads to that a user gives (ADC 1.0, "PAS").
 ///
-/// Denied: a password that gives another digest than the expected one (223), and then what may have
-/// changed since the login: a ban (231, 232), a present user with the nick (222) or with the client
-/// identifier (224). Changes: the user enters. Told: as at an entry. Refused only where memory runs out.
+/// Denied: a password that gives another digest than the expected one (223). Denied next is what may have changed since the
+/// login: a ban (231, 232), a present user with the nick (222) or with the client identifier (224). Changes: the user
+/// enters. Told: as at an entry. Refused only where memory runs out.
 pub(crate) fn enters<'a, U: Users>(
     alloc: Global,
     hub: &Sight<'_, U>,
@@ -47,7 +47,7 @@ pub(crate) fn enters<'a, U: Users>(
     }
 }
 
-/// Whether the password is wrong, and then whether the user may still enter.
+/// Tells whether the password is wrong, and then whether the user may still enter.
 fn denied<U: Users>(
     hub: &Sight<'_, U>,
     user: &User,
@@ -63,7 +63,7 @@ fn denied<U: Users>(
     }
 }
 
-/// The digest that the first parameter spells.
+/// Reads the digest that the first parameter spells.
 fn digest_given(words: Words<'_>) -> Option<[u8; 24]>
     ensures { result ≡ digest_given (words_left words.entry) }
 {

@@ -6,8 +6,8 @@ use adc_line::{Kind, Line};
 use hub_rules::Request;
 use login_state::{Deny, Stage, is_hub_command};
 
-/// What a line asks for, by the stage of its connection, its type and its command, the three
-/// characters of its name (ADC 1.0, "States", "Actions"). Takes no memory.
+/// Tells what a line asks for, by the stage of its connection, its type and its command, the three characters of its name
+/// (ADC 1.0, "States", "Actions"). Takes no memory.
 #[tactic(auto, unfolding(hub_rules::specs::Requests::request_of))]
 pub(crate) fn request_of(stage: Stage, kind: Kind, command: [u8; 3]) -> Request
     ensures { result ≡ request_of stage kind command }
@@ -37,23 +37,23 @@ pub(crate) fn request_of(stage: Stage, kind: Kind, command: [u8; 3]) -> Request
     }
 }
 
-/// A request for the command of this name, and another for others.
+/// Gives a request for the command of this name, and another for others.
 fn called(command: [u8; 3], name: [u8; 3], request: Request, otherwise: Request) -> Request
     ensures { result ≡ if_called command name request otherwise }
 {
     if command == name { request } else { otherwise }
 }
 
-/// Messages to other users are searches or not.
+/// Tells whether a message to other users is a search.
 fn to_users(command: [u8; 3]) -> Request
     ensures { result ≡ to_users command }
 {
     called(command, *b"SCH", Request::Search, Request::Message)
 }
 
-/// The first of the rules that hold for every line, if one denies it: its sender (240), its type
-/// (140), its stage (144), and that it is no line for a hub to send (140) (ADC 1.0, "Message types",
-/// "States", "Actions"). Takes no memory.
+/// Gives the first of the rules that hold for every line, if one denies it. They are its sender (240), its type (140), its
+/// stage (144), and that it is no line for a hub to send (140): ADC 1.0, "Message types", "States", "Actions". Takes no
+/// memory.
 #[tactic(auto, unfolding(hub_rules::specs::Requests::refused))]
 pub(crate) fn refused(stage: Stage, sid: Sid, line: &Line) -> Option<Deny>
     ensures { result ≡ refused stage sid line.now }

@@ -6,7 +6,7 @@ use user_table::Users;
 /// The hub, as a decision looks at it.
 #[derive(Drop)]
 pub struct Sight<'a, U: Users> {
-    /// What it is set up with.
+    /// The setup of the hub.
     pub setup: &'a Setup,
     /// The users who are present.
     pub users: &'a U,

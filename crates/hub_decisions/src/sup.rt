@@ -18,7 +18,7 @@ use outboxes::Batch;
 use std::alloc::{AllocError, Global};
 use user_table::Users;
 
-/// A client says for the first time what it supports (ADC 1.0, "SUP"; ADC-EXT, "PING").
+/// Decides what the first SUP leads to, by which a client says what it supports (ADC 1.0, "SUP"; ADC-EXT, "PING").
 ///
 /// Denied: words that are none, or over 64 features (140), no BASE (245), no TIGR (247). Changes: what
 /// the client supports; it may log in. Told: the client alone is greeted. Refused only where memory
@@ -46,7 +46,8 @@ pub(crate) fn greets<'a, U: Users>(
     })
 }
 
-/// A user who is present says that its client supports other features (ADC 1.0, "SUP").
+/// Decides what a later SUP leads to, by which a user who is present says that its client supports other features (ADC 1.0,
+/// "SUP").
 ///
 /// Denied: words that are none, or over 64 features (140), no BASE (245), no TIGR (247). Changes: what
 /// the client supports. Told: nobody. Refused only where memory runs out.
@@ -71,7 +72,7 @@ pub(crate) fn learns<'a>(
     })
 }
 
-/// What a client supports after a SUP, or why it is denied.
+/// Gives what a client supports after a SUP, or why it is denied.
 fn supported(
     alloc: Global,
     before: &Features,
@@ -90,7 +91,7 @@ fn supported(
     }
 }
 
-/// What the hub supports, the client's session identifier, and the hub itself.
+/// Writes what the hub supports, the client's session identifier, and the hub itself.
 fn greeting<U: Users>(
     alloc: Global,
     hub: &Sight<'_, U>,
@@ -108,7 +109,7 @@ fn greeting<U: Users>(
     Ok(batch)
 }
 
-/// What a client hears beside that asked about the hub.
+/// Writes what a client hears beside that asked about the hub.
 fn ping_of<U: Users>(
     alloc: Global,
     hub: &Sight<'_, U>,

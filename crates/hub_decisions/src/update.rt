@@ -38,7 +38,7 @@ use outboxes::Batch;
 use std::alloc::{AllocError, Global};
 use user_table::{User, Users};
 
-/// A user who is present changes what is known of it (ADC 1.0, "INF").
+/// Decides what an update leads to, by which a user who is present changes what is known of it (ADC 1.0, "INF").
 ///
 /// Denied: words that are no update (140), and then by the checks of an update, in their order. Changes:
 /// the user's fields, the nick among them. Told: all users hear what changes, where anything does.
@@ -60,7 +60,7 @@ pub(crate) fn updates<'a, U: Users>(
     changed(alloc, hub, own, user, update)
 }
 
-/// What an update leads to, of this user.
+/// Decides what an update leads to, of this user.
 fn changed<'a, U: Users>(
     alloc: Global,
     hub: &Sight<'_, U>,
@@ -79,7 +79,7 @@ fn changed<'a, U: Users>(
     }
 }
 
-/// The key of the user's nick after the update.
+/// Gives the key of the user's nick after the update.
 fn key_after(alloc: Global, user: &User, update: &Update) -> Result<String, AllocError>
     ensures { IfOk result (λ key. string_bytes key ≡ key_after user.now.key update.now) }
 {
@@ -89,7 +89,7 @@ fn key_after(alloc: Global, user: &User, update: &Update) -> Result<String, Allo
     }
 }
 
-/// What the checks of an update find, of the user and of the key of its nick afterwards.
+/// Tells what the checks of an update find, of the user and of the key of its nick afterwards.
 #[tactic(auto, unfolding(crate::specs::Findings::update_found))]
 fn update_found<U: Users>(
     alloc: Global,
@@ -117,7 +117,7 @@ fn update_found<U: Users>(
     })
 }
 
-/// An identifier that is given must be the user's own.
+/// Tells whether an identifier that is given is the user's own, as it must be.
 fn own_if_given(fields: &Fields, update: &Update) -> Identity
     ensures { result ≡ own_if_given fields.now (value_of id_name update.now) }
 {
@@ -131,7 +131,7 @@ fn own_if_given(fields: &Fields, update: &Update) -> Identity
     }
 }
 
-/// A nick that is given must be one.
+/// Tells whether a nick that is given is one, as it must be.
 fn nick_found(alloc: Global, update: &Update) -> Result<Validity, AllocError>
     ensures { IfOk result (λ found. found ≡ nick_found (value_of nick_name update.now)) }
 {
@@ -141,7 +141,7 @@ fn nick_found(alloc: Global, update: &Update) -> Result<Validity, AllocError>
     }
 }
 
-/// Nobody takes the nick of an account, or leaves it.
+/// Tells whether an update takes the nick of an account or leaves it, as nobody may.
 fn account_found(setup: &Setup, before: &str, after: &str) -> Account
     ensures { (sight : Seen) → sight.setup ≡ setup.now → result ≡ account_found sight before.now after.now }
 {
@@ -162,7 +162,7 @@ fn size_found(fields: &Fields, cleaned: &Update) -> Size
     }
 }
 
-/// Whether another present user has a nick of this key.
+/// Answers whether another present user has a nick of this key.
 fn another_has_key<U: Users>(users: &U, sid: Sid, key: &str) -> bool
     ensures { (sight : Seen) → sight.users ≡ U.listed users.now → result ≡ another_has_key sight sid key.now }
 {
@@ -178,7 +178,7 @@ fn is_another(user: &User, sid: Sid) -> bool
     user.sid() != sid
 }
 
-/// All users who are present hear what changes.
+/// Makes the effect by which all users who are present hear what changes.
 fn told<'a>(
     alloc: Global,
     sid: Sid,
@@ -213,7 +213,7 @@ fn line_unless_empty(alloc: Global, sid: Sid, update: &Update) -> Result<Batch, 
     one(alloc, update_line(alloc, sid, update)?)
 }
 
-/// The nick that an update gives. One that is none was denied, so it does not come here.
+/// Reads the nick that an update gives. One that is none was denied, so it does not come here.
 fn nick_in(alloc: Global, update: &Update) -> Result<Option<Nick>, AllocError>
     ensures { IfOk result (λ nick. nick ≡ option_map nick_points (value_of nick_name update.now)) }
 {
@@ -227,14 +227,14 @@ fn nick_in(alloc: Global, update: &Update) -> Result<Option<Nick>, AllocError>
     }
 }
 
-/// The features that the field SU names after the update.
+/// Reads the features that the field SU names after the update.
 fn support_after(alloc: Global, fields: &Fields, update: &Update) -> Result<FeatureSet, AllocError>
     ensures { IfOk result (λ set. set ≡ feature_set (su_in (merged_with fields.now update.now))) }
 {
     FeatureSet::read(alloc, support_text(fields, update))
 }
 
-/// The field SU after the update.
+/// Gives the field SU after the update.
 fn support_text<'a>(fields: &'a Fields, update: &'a Update) -> &'a str
     ensures { result.now ≡ unwrap_or (value_of support_name update.now) (given support_name fields.now) }
 {

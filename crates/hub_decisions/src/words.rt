@@ -10,8 +10,8 @@ use adc_line::{UnescapeFault, Words, unescape};
 use std::alloc::{AllocError, Global};
 use unicode_normalization::to_nfc;
 
-/// What a word means: the text that it spells, and the empty text where it spells none. Refused only
-/// where memory runs out.
+/// Gives what a word means: the text that it spells, and the empty text where it spells none. Refused only where memory
+/// runs out.
 pub(crate) fn meaning(alloc: Global, word: &str) -> Result<String, AllocError>
     ensures { IfOk result (λ text. string_bytes text ≡ meaning word.now) }
 {
@@ -22,7 +22,7 @@ pub(crate) fn meaning(alloc: Global, word: &str) -> Result<String, AllocError>
     }
 }
 
-/// What the first parameter means. Refused only where memory runs out.
+/// Gives what the first parameter means. Refused only where memory runs out.
 pub(crate) fn text_in(alloc: Global, words: Words<'_>) -> Result<String, AllocError>
     ensures { IfOk result (λ text. string_bytes text ≡ text_in (words_left words.entry)) }
 {
@@ -33,7 +33,7 @@ pub(crate) fn text_in(alloc: Global, words: Words<'_>) -> Result<String, AllocEr
     }
 }
 
-/// Whether a word means a nick. Refused only where memory runs out.
+/// Answers whether a word means a nick. Refused only where memory runs out.
 pub(crate) fn is_nick(alloc: Global, word: &str) -> Result<bool, AllocError>
     ensures { IfOk result (λ good. good ≡ is_nick (chars (meaning word.now))) }
 {
@@ -45,7 +45,7 @@ pub(crate) fn is_nick(alloc: Global, word: &str) -> Result<bool, AllocError>
     }
 }
 
-/// The key of the nick that a word means. Refused only where memory runs out.
+/// Gives the key of the nick that a word means. Refused only where memory runs out.
 pub(crate) fn key_of(alloc: Global, word: &str) -> Result<String, AllocError>
     ensures { IfOk result (λ key. string_bytes key ≡ key_of (meaning word.now)) }
 {

@@ -35,7 +35,7 @@ impl Ending {
         self.status()
     }
 
-    /// The exit status.
+    /// Gives the exit status.
     fn status(self) -> u8
         ensures { result ≡ status_of self }
     {

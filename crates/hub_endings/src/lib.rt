@@ -1,4 +1,4 @@
-//! How the program ends: its exit statuses, and what it says on standard error.
+//! The endings of the program: its exit statuses, and what it says on standard error.
 #![tactic(auto)]
 
 mod ending;

@@ -2,7 +2,7 @@
 //! a line that is none of the following stops the test, as does each step that goes otherwise.
 //!
 //! First come settings: `with max_users 900`, `with interval 10` and `with opening 5` (seconds), `with registered_only`,
-//! `with name Hub`, `with topic TEXT`, `with account op secret operator`, `with account reg secret`,
+//! `with name Hub`, `with topic TEXT`. Others are `with account op secret operator`, `with account reg secret`,
 //! `with menu Help 1 text TEXT`, `with menu Sep 2 separator`. Where they are refused, `no hub: Limit` is all that follows.
 //!
 //! Then come steps. Connections have names; a name that is taken again means the last who took it. `#450` is the 450th
@@ -74,7 +74,7 @@ fn play_with(rt: &impl Abort, alloc: Global, text: &str, line: &str, answer: &st
     }
 }
 
-/// The only step has to be this refusal.
+/// Tests that the only step is this refusal.
 fn is_refused(rt: &impl Abort, text: &str, refused: SetupRefused) {
     match refused {
         SetupRefused::Limit => is_only_step(rt, text, "no hub: Limit"),
@@ -169,7 +169,7 @@ impl<'t> Played<'t> {
         }
     }
 
-    /// The rounds that `2 to 9:` begins.
+    /// Reads the rounds that `2 to 9:` begins.
     fn rounds(&self, rt: &impl Abort, told: &str) -> Rounds<'t> {
         let Some((first, rest)) = told.split_once(" to ") else {
             self.unknown(rt)
@@ -217,7 +217,7 @@ impl<'t> Played<'t> {
         spell(rt, self.alloc, line, self.round)
     }
 
-    /// A step with a line.
+    /// Plays a step with a line.
     fn exchange(&mut self, rt: &impl Abort, head: &'t str, line: &[u8]) {
         if let Some(told) = head.strip_prefix("at ") {
             return self.says_at(rt, told, line);
@@ -233,7 +233,7 @@ impl<'t> Played<'t> {
         }
     }
 
-    /// A step without a line.
+    /// Plays a step without a line.
     fn happen(&mut self, rt: &impl Abort) {
         match self.place.text.split_once(' ') {
             Some(("all", "take")) => self.all_take(rt),
@@ -277,7 +277,7 @@ impl<'t> Played<'t> {
         panic!(rt; "line {number}, {text}: nobody is called {who}")
     }
 
-    /// The connection that joined as this one, counted from 1 on.
+    /// Finds the connection that joined as this one, counted from 1 on.
     fn numbered(&self, rt: &impl Abort, told: &str) -> Conn {
         match self.joined.get(self.number(rt, told).wrapping_sub(1)) {
             Some(joined) => joined.connection,
@@ -324,7 +324,7 @@ impl<'t> Played<'t> {
         }
     }
 
-    /// What `100 ana` or `100 ana is ended by` says.
+    /// Does what `100 ana` or `100 ana is ended by` says.
     fn says_at(&mut self, rt: &impl Abort, told: &'t str, line: &[u8]) {
         let Some((moment, head)) = told.split_once(' ') else {
             self.unknown(rt)
@@ -352,7 +352,7 @@ impl<'t> Played<'t> {
         }
     }
 
-    /// What `takes 3` or `takes last 3` says.
+    /// Does what `takes 3` or `takes last 3` says.
     fn takes_told(&mut self, rt: &impl Abort, who: &str, verb: &str, line: Option<&[u8]>) {
         let Some(told) = verb.strip_prefix("takes ") else {
             self.unknown(rt)
@@ -412,7 +412,7 @@ impl<'t> Played<'t> {
     }
 }
 
-/// What the login lines have behind the SID, which is `n` here.
+/// Gives what the login lines have behind the SID, which is `n` here.
 fn login_line(who: &str) -> Option<&'static str> {
     match who {
         "ana" => Some("BINF A<n> ID<P0> PD<P0> NIana SS10 SF2 I40.0.0.0 SUTCP4,SEGA"),
@@ -423,7 +423,7 @@ fn login_line(who: &str) -> Option<&'static str> {
     }
 }
 
-/// Whether bytes are a line and its line feed, so many times.
+/// Answers whether bytes are a line and its line feed, so many times.
 fn is_repeated(bytes: &[u8], line: &[u8], count: usize) -> bool {
     let mut rest = bytes;
     for _ in 0..count {

@@ -20,7 +20,7 @@ pub(crate) struct Hub {
     first: Vec<Conn>,
 }
 
-/// What can be seen of a hub.
+/// The sight of a hub: what can be seen of it.
 #[derive(Clone, Copy, PartialEq)]
 struct Sight {
     totals: Totals,
@@ -28,7 +28,7 @@ struct Sight {
     glances: [Option<Glance>; MOST_LOOKED_AT],
 }
 
-/// What can be seen of an open connection.
+/// The glance at an open connection: what can be seen of it.
 #[derive(Clone, Copy, PartialEq)]
 struct Glance {
     stage: Stage,
@@ -36,15 +36,15 @@ struct Glance {
     waiting: u64,
 }
 
-/// How many connections are looked at before and after a call: the first who joined.
+/// The number of connections that are looked at before and after a call: the first who joined.
 const MOST_LOOKED_AT: usize = 8;
 
-/// What a take gave.
+/// The bytes that a take gave.
 #[derive(Drop)]
 pub(crate) struct Heard {
     pub(crate) bytes: Vec<u8>,
     pub(crate) lines: u64,
-    /// Whether nothing will follow.
+    /// The end, where it is true: nothing will follow.
     pub(crate) ended: bool,
 }
 
@@ -85,7 +85,7 @@ impl Hub {
         Ok(connection)
     }
 
-    /// So many join, each of whom leaves at once.
+    /// Lets so many join, each of whom leaves at once.
     pub(crate) fn pass(&mut self, rt: &impl Abort, count: usize) {
         for _ in 0..count {
             let connection = again!(rt; self.try_join());
@@ -170,7 +170,7 @@ impl Hub {
         self.core.is_open(connection)
     }
 
-    /// Whom the last call concerned.
+    /// Names whom the last call concerned.
     pub(crate) fn touched(&self) -> Touched {
         self.core.touched()
     }

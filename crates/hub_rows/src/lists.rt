@@ -25,13 +25,13 @@ struct Lines {
     hello: Prepared,
 }
 
-/// What is expected of an answer.
+/// The answer that is expected.
 #[derive(Clone, Copy)]
 enum Expected<'a> {
     Joined,
     Kept,
     Left,
-    /// These bytes, of so many lines.
+    /// The bytes that are taken, of so many lines.
     Took(&'a [u8], u64),
     Skipped,
 }
@@ -109,7 +109,7 @@ fn ready(rt: &impl Abort, alloc: Global, setup: &Setup, line: &[u8]) -> Prepared
     again!(rt; prepare(alloc, setup, &First24, [0; 24], line))
 }
 
-/// Two callers enter, the first speaks and leaves, the second takes what it heard.
+/// Plays two callers: they enter, the first speaks and leaves, the second takes what it heard.
 fn run(
     rt: &impl Abort,
     alloc: Global,
@@ -143,7 +143,7 @@ fn run(
     }
 }
 
-/// The answers, unless memory was refused to one of the calls.
+/// Gives the answers, unless memory was refused to one of the calls.
 fn plainly(told: Option<(Core, Vec<Answer>)>) -> Option<(Core, Vec<Answer>)> {
     let (core, answers) = told?;
     for answer in &answers {

@@ -11,7 +11,7 @@ use one_history::NotAlone;
 use std::alloc::{AllocError, AllocFailed, Global};
 use std::test::Fail;
 
-// One element in a new vector. Want of memory is met once more, and not twice.
+// Puts one element in a new vector. Want of memory is met once more, and not twice.
 fn only<S: Drop>(alloc: Global, item: S) -> Result<Vec<S>, AllocError>
     ensures { IfOk result (λ v. v.items ≡ item ∷ []) }
 {
@@ -33,7 +33,7 @@ fn answers_each_caller_in_turn(rt: HostRuntime) -> Result<(), Fail> {
     assert!(rt; host.admitted() == 2 && host.gathered() == 0);
     assert!(rt; add(&rt, &lock, &mut first, 1, 5) == Some(15));
     assert!(rt; add(&rt, &lock, &mut second, 2, 7) == Some(22));
-    // What does not fit changes nothing.
+    // A sum that does not fit changes nothing.
     assert!(rt; add(&rt, &lock, &mut second, 2, u64::MAX).is_none());
     let (mut second, first) = lock.meet(second, first);
     assert!(rt; add(&rt, &lock, &mut second, 2, 1) == Some(23));

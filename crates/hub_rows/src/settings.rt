@@ -5,7 +5,7 @@ use hub_core::{Account, MenuEntry, MenuItem, Options, SetupRefused};
 use std::alloc::Global;
 use std::process::Abort;
 
-/// What one line alone sets.
+/// The settings that one line alone sets.
 #[derive(Clone, Copy)]
 struct Told<'a> {
     name: &'a str,
@@ -50,7 +50,7 @@ pub(crate) fn open(rt: &impl Abort, alloc: Global, text: &str) -> Result<Hub, Se
     Hub::open(rt, alloc, &options)
 }
 
-/// What stands behind `with` in the lines before the first step.
+/// Gives what stands behind `with` in the lines before the first step.
 fn setting_lines(rt: &impl Abort, alloc: Global, text: &str) -> Vec<String> {
     let mut lines = Vec::new(alloc);
     for line in text.lines() {
@@ -93,7 +93,7 @@ fn number(rt: &impl Abort, told: &str) -> u32 {
     }
 }
 
-/// `NICK PASSWORD`, and `operator` behind them for one.
+/// Reads `NICK PASSWORD`, and `operator` behind them for one.
 fn account<'a>(rt: &impl Abort, told: &'a str) -> Account<'a> {
     let Some((nick, rest)) = told.split_once(' ') else {
         panic!(rt; "no account: {told}")
@@ -113,7 +113,7 @@ fn account<'a>(rt: &impl Abort, told: &'a str) -> Account<'a> {
     }
 }
 
-/// `NAME CONTEXT separator`, or `NAME CONTEXT text TEXT`.
+/// Reads `NAME CONTEXT separator`, or `NAME CONTEXT text TEXT`.
 fn menu_entry<'a>(rt: &impl Abort, told: &'a str) -> MenuEntry<'a> {
     let Some((name, rest)) = told.split_once(' ') else {
         panic!(rt; "no menu entry: {told}")

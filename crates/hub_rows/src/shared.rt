@@ -29,7 +29,7 @@ const CY: &[u8] =
 const DAN: &[u8] =
     b"BINF AAAE IDAAAAAAAAAAAAAAAAAAAAAAAAAAAAAAAAAAAAAAY PDAAAAAAAAAAAAAAAAAAAAAAAAAAAAAAAAAAAAAAY NIdan";
 
-/// Both leave, and nobody is left when the hub is closed.
+/// Lets both leave; nobody is left when the hub is closed.
 fn both_leave<R: Wait + Abort + Print>(
     rt: &R,
     alloc: Global,
@@ -154,7 +154,7 @@ fn all_hear_one_conversation(rt: HostRuntime) {
     both_leave(&rt, rt.alloc(), hall, host, ana, bob);
 }
 
-/// Also where memory is refused to the line itself, all hear it once or nobody does.
+/// Tests that all hear the line once or nobody does, also where memory is refused to the line itself.
 #[test]
 fn a_line_is_heard_by_all_or_by_nobody(rt: HostRuntime) {
     let (hall, mut host) = opened(&rt, rt.alloc(), 512);

@@ -4,7 +4,8 @@ use second_try::again;
 use std::alloc::Global;
 use std::process::Abort;
 
-/// The bytes that a text of a conversation spells. It is taken as it stands but for what is between `<` and `>`:
+/// Gives the bytes that a text of a conversation spells. The text is taken as it stands but for what is between `<` and
+/// `>`:
 ///
 /// - `P0`, `P1`, `P2`, `P3`: a PID, 38 times A and then A, I, Q or Y; it is its own CID;
 /// - `secret`: what answers the challenge for the password `secret`, `ONSWG4TFOQ` and 29 times A;
@@ -47,7 +48,7 @@ fn append_word(rt: &impl Abort, bytes: &mut Vec<u8>, word: &str, round: usize) {
     }
 }
 
-/// A front, so many times A, and an end.
+/// Appends a front, so many times A, and an end.
 fn append_padded(rt: &impl Abort, bytes: &mut Vec<u8>, front: &[u8], count: usize, end: &[u8]) {
     append(rt, bytes, front);
     repeat(rt, bytes, count, b'A');
@@ -74,7 +75,7 @@ fn repeat(rt: &impl Abort, bytes: &mut Vec<u8>, count: usize, byte: u8) {
     }
 }
 
-/// A number below 32,768 in base32.
+/// Writes a number below 32,768 in base32.
 fn digits(rt: &impl Abort, number: usize) -> [u8; 3] {
     if number < 32_768
         && let Some(sid) = Sid::from_u32(number as u32)

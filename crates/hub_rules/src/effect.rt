@@ -13,13 +13,13 @@ use user_table::User;
 /// A user who is about to enter.
 #[derive(Debug, Drop)]
 pub struct Entrant {
-    /// What the other users will know of it.
+    /// The part of it that the other users will know.
     pub user: User,
     /// The features that its field SU names.
     pub support: FeatureSet,
 }
 
-/// What changes of a user.
+/// The change of a user.
 #[derive(Debug, Drop)]
 pub struct Change {
     /// The fields that change.
@@ -30,24 +30,24 @@ pub struct Change {
     pub support: FeatureSet,
 }
 
-/// What becomes of the connection that sent a line.
+/// The turn that the connection takes which sent a line.
 #[derive(Debug, Drop)]
 pub enum Turn {
-    /// Nothing.
+    /// No change.
     Stays,
-    /// It said what it supports, and may log in.
+    /// The first SUP: the client said what it supports, and may log in.
     Greets(Features),
-    /// It may enter once its password gives this digest.
+    /// The wait for a password: the user may enter once it gives this digest.
     Waits(Entrant, [u8; 24]),
-    /// It enters as the user for whose password the hub waited.
+    /// The entry of the user for whose password the hub waited.
     Enters,
-    /// It enters as this user.
+    /// The entry of this user.
     EntersAs(Entrant),
-    /// It supports other features.
+    /// The support of other features.
     Learns(Features),
     /// The fields of its user change.
     Updates(Change),
-    /// It is shut out.
+    /// The removal of the connection: it is shut out.
     Falls,
 }
 
@@ -58,9 +58,9 @@ pub struct Banned {
     pub sid: Sid,
     /// The client identifier, which is shut out.
     pub cid: Cid,
-    /// For how many seconds; 0 is for good.
+    /// The number of seconds for which it is shut out; 0 is for good.
     pub seconds: u32,
-    /// From this moment on, in seconds.
+    /// The moment from which on it is, in seconds.
     pub now: u64,
 }
 
@@ -80,7 +80,7 @@ impl Model for Topic {
 }
 
 impl Topic {
-    /// This text, which may be empty. Refused only where memory runs out.
+    /// Makes a topic of this text, which may be empty. Refused only where memory runs out.
     pub fn new(alloc: Global, text: &str) -> Result<Topic, AllocError>
         ensures { IfOk result (λ topic. topic ≡ text.now) }
     {
@@ -89,7 +89,7 @@ impl Topic {
         })
     }
 
-    /// The text, unescaped.
+    /// Gives the text, unescaped.
     pub fn as_str(&self) -> &str
         ensures { result.now ≡ self.now }
     {
@@ -97,42 +97,42 @@ impl Topic {
     }
 }
 
-/// What changes for all.
+/// The change for all.
 #[derive(Debug, Drop)]
 pub enum World {
-    /// Nothing.
+    /// No change.
     Same,
-    /// This user is shut out.
+    /// The removal of this user, who is shut out.
     Kick(Sid),
-    /// This user is shut out, and so is whoever comes with its identifier.
+    /// The removal of this user, and of whoever comes with its identifier.
     Ban(Banned),
-    /// This identifier is let in again.
+    /// The end of a ban: this identifier is let in again.
     Unban(Cid),
     /// The topic is another.
     Topic(Topic),
 }
 
-/// Which of the users who are present hear what is said to them all.
+/// The users, of those who are present, who hear what is said to them all.
 #[derive(Debug, Drop)]
 pub enum Hearers<'a> {
     /// All but the connection that sent the line.
     Others,
-    /// Those for whom the message is.
+    /// The users for whom the message is.
     Those(Audience<'a>),
 }
 
-/// What a line leads to, before anything is changed.
+/// The effect of a line: what it leads to, before anything is changed.
 #[derive(Debug, Drop)]
 pub struct Effect<'a> {
     /// The messages for the connection that sent the line, after those that it hears with others.
     pub own: Batch,
     /// The messages for users who are present.
     pub others: Batch,
-    /// Which users these are.
+    /// The users who hear it.
     pub hearers: Hearers<'a>,
-    /// What becomes of the connection that sent the line.
+    /// The turn that the connection takes which sent the line.
     pub turn: Turn,
-    /// What changes for all.
+    /// The change for all.
     pub world: World,
     /// The moment, where the line is a search that goes out.
     pub searched: Option<u64>,

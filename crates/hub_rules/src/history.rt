@@ -1,16 +1,16 @@
 use std::collections::LinkedList;
 
-/// What becomes of a connection by its line.
+/// The verdict on a connection by its line.
 #[derive(Clone, Copy, Debug, PartialEq, Eq)]
 pub enum Verdict {
-    /// It may send more.
+    /// The connection is kept, and may send more.
     Kept,
-    /// It is shut out: nothing that it sends is heard any more.
+    /// The connection is shut out: nothing that it sends is heard any more.
     Ended,
 }
 
-/// What is asked of a hub. Together with replies the calls make a history, in which the promises of
-/// the hub are stated; moments are seconds.
+/// A call that is asked of a hub. Together with replies the calls make a history, in which the promises of the hub are
+/// stated; moments are seconds.
 #[derive(Drop)]
 pub enum Call {
     /// A connection asks to be admitted: the peer's address, its challenge, the moment.
@@ -23,20 +23,20 @@ pub enum Call {
     Take(u64, u64),
 }
 
-/// What is answered to a call.
+/// The reply to a call.
 #[derive(Drop)]
 pub enum Reply {
     /// The join was accepted, as the connection of this number.
     Joined(u64),
-    /// As many connections are open as the hub admits.
+    /// The hub is full: as many connections are open as it admits.
     Full,
-    /// As many joins were accepted as can be counted.
+    /// The joins are spent: as many were accepted as can be counted.
     JoinsSpent,
-    /// What the line did to its connection.
+    /// The verdict that the line brought on its connection.
     Said(Verdict),
     /// The connection left.
     Left,
-    /// These bytes were given, of so many lines, and whether no more will ever come.
+    /// The bytes that were given, of so many lines, and whether no more will ever come.
     Took(LinkedList<u8>, u64, bool),
 }
 
@@ -45,8 +45,8 @@ pub enum Reply {
 pub struct Entry {
     /// The number of the caller.
     pub caller: u64,
-    /// What was asked.
+    /// The call that was asked.
     pub call: Call,
-    /// What was answered.
+    /// The reply that was given.
     pub reply: Reply,
 }

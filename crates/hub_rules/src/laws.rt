@@ -1,4 +1,4 @@
-//! What every history keeps, in the words of the protocol. Each law is proved of the rules themselves.
+//! The laws that every history keeps, in the words of the protocol. Each law is proved of the rules themselves.
 
 ghost use Rattle.hub_rules.specs.Promises.{FewAreOpen, OthersAreOut, PresentAreUsers, SidsAreGiven, SidsDiffer, TakenIsTheSum, UsersAreOpen};
 ghost use Rattle.hub_rules.specs.Differing.{CidsDiffer, NicksDiffer};
@@ -10,9 +10,9 @@ ghost use Rattle.hub_rules.specs.Said.{FeaturesAreLastAdded, InfoIsMerged};
 ghost use Rattle.hub_rules.specs.Searched.{SearchIsTheLast, TotalsAreSums};
 ghost use Rattle.hub_rules.specs.World.{BanIsTheLastAct, TopicIsTheLast};
 
-/// Who is present: exactly those whose connections are at the stage NORMAL, all of them open; who never joined, or quit, is shut out
-/// (ADC 1.0, "States"). They stand in the order of the entries by which they entered. In a legal history open are those that joined and
-/// did not quit. A stage is what the last entry that changes it made it.
+/// Says who is present: exactly those whose connections are at the stage NORMAL, all of them open; who never joined, or
+/// quit, is shut out (ADC 1.0, "States"). They stand in the order of the entries by which they entered. In a legal history
+/// open are those that joined and did not quit. A stage is what the last entry that changes it made it.
 pub fn presence_laws()
     ensures users { PresentAreUsers }
     ensures open { UsersAreOpen }
@@ -22,7 +22,8 @@ pub fn presence_laws()
     ensures stage { StageIsLastMade }
 {}
 
-/// Session identifiers: two open connections have two, none has `AAAA`, and no more are open than the hub admits (ADC 1.0, "SID").
+/// Says of session identifiers: two open connections have two, none has `AAAA`, and no more are open than the hub admits
+/// (ADC 1.0, "SID").
 pub fn identifier_laws()
     ensures differ { SidsDiffer }
     ensures given { SidsAreGiven }
@@ -37,15 +38,15 @@ pub fn take_laws()
     ensures lag { LagIsTheFirst }
 {}
 
-/// What operators left: of a ban what the last act on its client identifier leaves, and the topic that was set last.
+/// Says what operators left: of a ban what the last act on its client identifier leaves, and the topic that was set last.
 pub fn operator_laws()
     ensures bans { BanIsTheLastAct }
     ensures topic { TopicIsTheLast }
 {}
 
-/// What is known of a client: it supports the features whose last mention in any of its accepted SUP adds them, and its user's
-/// fields are the merge of all its accepted INF, without what is not passed on (ADC 1.0, "SUP", "INF"). Two users who are present have
-/// two nicks, by their normal forms C, and two client identifiers.
+/// Says what is known of a client: it supports the features whose last mention in any of its accepted SUP adds them (ADC
+/// 1.0, "SUP"). Its user's fields are the merge of all its accepted INF, without what is not passed on (ADC 1.0, "INF").
+/// Two users who are present have two nicks, by their normal forms C, and two client identifiers.
 pub fn knowledge_laws()
     ensures features { FeaturesAreLastAdded }
     ensures info { InfoIsMerged }
@@ -53,8 +54,8 @@ pub fn knowledge_laws()
     ensures identifiers { CidsDiffer }
 {}
 
-/// Searches and totals: the interval between searches is counted from the last accepted one (ADC 1.0, "SCH"); the totals are how many users
-/// are present, and the sums of what their fields SS and SF say (ADC-EXT, "PING").
+/// Says of searches that the interval between them is counted from the last accepted one (ADC 1.0, "SCH"). The totals are
+/// how many users are present, and the sums of what their fields SS and SF say (ADC-EXT, "PING").
 pub fn counting_laws()
     ensures search { SearchIsTheLast }
     ensures totals { TotalsAreSums }

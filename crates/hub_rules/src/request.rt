@@ -1,22 +1,22 @@
-/// What a line that its connection may send asks for, by the connection's stage, the line's type and its command.
+/// The request of a line that its connection may send, by the connection's stage, the line's type and its command.
 #[derive(Clone, Copy, Debug, PartialEq, Eq)]
 pub enum Request {
-    /// To be greeted: the first SUP.
+    /// The request to be greeted: the first SUP.
     Greeting,
-    /// To enter: the first INF.
+    /// The request to enter: the first INF.
     Login,
-    /// To enter by a password: a PAS.
+    /// The request to enter by a password: a PAS.
     Password,
-    /// To change what is known of the user: a later INF.
+    /// The request to change what is known of the user: a later INF.
     Update,
-    /// To change what the client supports: a later SUP.
+    /// The request to change what the client supports: a later SUP.
     Support,
-    /// That the hub does something: a message to the hub.
+    /// The request that the hub does something: a message to the hub.
     Act,
-    /// That others are asked: an SCH.
+    /// The request that others are asked: an SCH.
     Search,
-    /// That others are told: every other message to them.
+    /// The request that others are told: every other message to them.
     Message,
-    /// Nothing.
+    /// No request.
     Nothing,
 }

@@ -11,7 +11,7 @@ use hub_setup::Account;
 use std::alloc::{AllocError, Global};
 use toml::{Table, Value};
 
-/// The accounts of a settings file; `None` where what stands at their key is no list of accounts.
+/// Reads the accounts of a settings file; `None` where what stands at their key is no list of accounts.
 ///
 /// Refused only where memory runs out.
 pub(crate) fn accounts<'a>(

@@ -13,7 +13,7 @@ use hub_setup::{MenuEntry, MenuItem};
 use std::alloc::{AllocError, Global};
 use toml::{Table, Value};
 
-/// The commands of a settings file; `None` where what stands at their key is no list of commands.
+/// Reads the commands of a settings file; `None` where what stands at their key is no list of commands.
 ///
 /// Refused only where memory runs out.
 pub(crate) fn commands<'a>(

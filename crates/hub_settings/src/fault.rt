@@ -27,7 +27,7 @@ impl KeyName {
         KeyName { name }
     }
 
-    /// The key as it is written.
+    /// Gives the key as it is written.
     pub fn as_str(&self) -> &str
         ensures { result.now ≡ self.now }
     {
@@ -35,7 +35,7 @@ impl KeyName {
     }
 }
 
-/// Why a settings file was refused, looked for in the order 2, 3, 1.
+/// The cause for which a settings file was refused, looked for in the order 2, 3, 1.
 #[derive(Debug, Drop, Error)]
 pub enum SettingsFault {
     /// 1: memory ran out.
@@ -49,7 +49,7 @@ pub enum SettingsFault {
     Key(KeyName),
 }
 
-/// Why a table was refused.
+/// The cause for which a table was refused.
 #[derive(Clone, Copy)]
 pub(crate) enum Refusal<'a> {
     /// Memory ran out.

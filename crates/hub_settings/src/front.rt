@@ -11,7 +11,8 @@ use crate::values::text_or;
 use std::net::SocketAddrV4;
 use toml::Table;
 
-/// These, or the first key whose value is not one that it may have. What the key `listen` says was read before.
+/// Reads the values of the first keys, or gives the first key whose value is not one that it may have. The value of the key
+/// `listen` was read before.
 #[tactic(auto, unfolding(crate::specs::Program::front))]
 pub(crate) fn front(
     table: &Table,
@@ -54,7 +55,7 @@ fn name_at(table: &Table) -> Option<&str>
     Some(name)
 }
 
-/// The address and port to listen at.
+/// Reads the address and port to listen at.
 pub(crate) fn listen_at(table: &Table) -> Option<SocketAddrV4>
     ensures { Listens (table_view table.now) result }
 {

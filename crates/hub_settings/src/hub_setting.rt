@@ -13,7 +13,7 @@ use hub_setup::{Options, Setup, SetupRefused};
 use std::alloc::{AllocError, Global};
 use toml::Table;
 
-/// Whether the accounts are fit for a hub. The options have no commands yet, and all else in them is fit.
+/// Answers whether the accounts are fit for a hub. The options have no commands yet, and all else in them is fit.
 #[tactic(auto, using(crate::proofs::Bridges::plain_good, crate::proofs::Bridges::plain_bad))]
 pub(crate) fn has_fit_accounts(alloc: Global, options: &Options<'_>) -> Result<bool, AllocError>
     requires fit { IsFit options.now }
@@ -30,7 +30,7 @@ pub(crate) fn has_fit_accounts(alloc: Global, options: &Options<'_>) -> Result<b
     }
 }
 
-/// The hub of these options, where their commands are fit for it. All else in them is fit.
+/// Makes the hub of these options, where their commands are fit for it. All else in them is fit.
 #[tactic(auto, using(crate::proofs::Bridges::commands_fit, crate::proofs::Bridges::commands_unfit))]
 pub(crate) fn hub_if(alloc: Global, options: &Options<'_>) -> Result<Option<Setup>, AllocError>
     requires fit { IsFit options.now }
@@ -47,7 +47,7 @@ pub(crate) fn hub_if(alloc: Global, options: &Options<'_>) -> Result<Option<Setu
     }
 }
 
-/// The hub that a table of settings describes.
+/// Reads the hub that a table of settings describes.
 pub(crate) fn hub_in(
     alloc: Global,
     table: &Table,

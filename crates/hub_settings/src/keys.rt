@@ -5,7 +5,7 @@ ghost use Rattle.hub_settings.specs.Keys.{first_unknown, is_among};
 
 use toml::Table;
 
-/// The first key of a table, by bytes, that is none of these.
+/// Finds the first key of a table, by bytes, that is none of these.
 pub(crate) fn first_unknown<'a>(table: &'a Table, known: &[&str]) -> Option<&'a str>
     ensures { option_map (λ s. s.now) result ≡ first_unknown (map (λ key. key.now) known.now) (table_view table.entry.now) }
 {

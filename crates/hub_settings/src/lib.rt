@@ -1,4 +1,4 @@
-//! What an operator's settings file says.
+//! The settings of a hub, as an operator's file says them.
 #![tactic(auto)]
 
 mod account_list;

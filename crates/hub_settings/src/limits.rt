@@ -7,7 +7,8 @@ use crate::parts::LimitsText;
 use crate::values::{number_or, text_or, truth_of};
 use toml::Table;
 
-/// These, or the first key whose value is not one that it may have.
+/// Reads the values of the keys behind the first that are no lists, or gives the first key whose value is not one that it
+/// may have.
 #[tactic(auto, unfolding(crate::specs::Program::limits))]
 pub(crate) fn limits(table: &Table) -> Result<LimitsText<'_>, &'static str>
     ensures { Reads limits_of result (limits (table_view table.entry.now)) }

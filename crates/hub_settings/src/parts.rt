@@ -3,7 +3,7 @@ ghost use Rattle.std.specs.Prelude.{◌≡◌, ◌≤◌, ◌==◌, false, lengt
 use crate::hash_name::HashName;
 use std::net::SocketAddrV4;
 
-/// What the first keys of a settings file say.
+/// The values of the first keys of a settings file.
 #[derive(Clone, Copy)]
 pub(crate) struct FrontText<'a> {
     pub(crate) name: &'a str,
@@ -14,7 +14,7 @@ pub(crate) struct FrontText<'a> {
     ghost named: { (length name.now == 0) ≡ false },
 }
 
-/// What the keys behind the first of a settings file say, as far as they are no lists.
+/// The values of the keys behind the first of a settings file, as far as they are no lists.
 #[derive(Clone, Copy)]
 pub(crate) struct LimitsText<'a> {
     pub(crate) registered_only: bool,

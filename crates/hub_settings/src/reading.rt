@@ -17,16 +17,15 @@ use toml::Table;
 
 /// Reads the text of a settings file (TOML), for a hub that opens at this moment, in seconds.
 ///
-/// The keys, each of which may be missing, in the order in which their faults are looked for: `name`, a text that is not
-/// empty (`Hub`); `topic`, a text; `listen`, an IPv4 address and port as `a.b.c.d:port` (`127.0.0.1:4111`); `hash`,
-/// `tiger` or `first24` (`tiger`); `tables`, a path (`tiger.bin`); `registered_only`, true or false (false);
-/// `search_interval`, 0 to 4,294,967,295 seconds (0); `max_users`, 1 to 900 (512); `threads`, 1 to 64 (2);
-/// `stop_after`, 0 to 65,536 (0); `seed_file`, a path (`/dev/urandom`); `account`, at most 32 tables of `nick`,
-/// `password` and `operator` (false); `command`, at most 64 tables of `name`, `context` from 1 to 15, and either `text`
-/// or `separator = true`.
+/// Each of the keys may be missing. Their faults are looked for in this order: `name`, a text that is not empty (`Hub`);
+/// `topic`, a text; `listen`, an IPv4 address and port as `a.b.c.d:port` (`127.0.0.1:4111`). Then come `hash`, `tiger` or
+/// `first24` (`tiger`); `tables`, a path (`tiger.bin`); `registered_only`, true or false (false); `search_interval`, 0 to
+/// 4,294,967,295 seconds (0); `max_users`, 1 to 900 (512); `threads`, 1 to 64 (2). Then come `stop_after`, 0 to 65,536 (0);
+/// `seed_file`, a path (`/dev/urandom`); `account`, at most 32 tables of `nick`, `password` and `operator` (false). The
+/// last is `command`, at most 64 tables of `name`, `context` from 1 to 15, and either `text` or `separator = true`.
 ///
-/// Refused: `Text` where it is no TOML; `Key` with the first key whose value is of another kind or out of range, or, where
-/// there is none such, with the least key by bytes that is none of these; then `Memory`.
+/// Refused: `Text` where it is no TOML; `Key` with the first key whose value is of another kind or out of range. Where
+/// there is none such, it is `Key` with the least key by bytes that is none of these; then `Memory`.
 pub fn read_settings(alloc: Global, text: &str, opening: u64) -> Result<Settings, SettingsFault>
     ensures { IsRead text.now opening result }
 {
@@ -50,7 +49,7 @@ pub fn read_settings(alloc: Global, text: &str, opening: u64) -> Result<Settings
     }
 }
 
-/// What a table of settings says. What its key `listen` says was read before.
+/// Reads what a table of settings says. The value of its key `listen` was read before.
 #[tactic(auto, unfolding(crate::specs::Told::settings))]
 fn read_table<'a>(
     alloc: Global,
@@ -80,7 +79,7 @@ fn read_table<'a>(
     Ok(settings)
 }
 
-/// The first key, by bytes, that is none of a settings file.
+/// Finds the first key, by bytes, that is none of a settings file.
 fn unknown_key(table: &Table) -> Option<&str>
     ensures { option_map (λ s. s.now) result ≡ first_unknown known_keys (table_view table.entry.now) }
 {

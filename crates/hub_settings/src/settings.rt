@@ -11,7 +11,7 @@ use std::marker::Model;
 use std::net::SocketAddrV4;
 use std::sync::Arc;
 
-/// What a settings file says.
+/// The settings that a file says.
 #[derive(Debug, Drop)]
 pub struct Settings {
     setup: Arc<Setup>,
@@ -53,49 +53,49 @@ impl Settings {
         })
     }
 
-    /// The hub's setup.
+    /// Gives the hub's setup.
     pub fn setup(&self) -> &Arc<Setup>
         ensures { arc_value result.now ≡ self.now.hub }
     {
         &self.setup
     }
 
-    /// Where the hub listens: by default 127.0.0.1, port 4111.
+    /// Gives the address and port where the hub listens: by default 127.0.0.1, port 4111.
     pub fn listen(&self) -> SocketAddrV4
         ensures { result ≡ self.now.listen }
     {
         self.listen
     }
 
-    /// The session hash: by default Tiger.
+    /// Gives the session hash: by default Tiger.
     pub fn hash(&self) -> HashName
         ensures { result ≡ self.now.hash }
     {
         self.hash
     }
 
-    /// The file of Tiger's tables: by default `tiger.bin`.
+    /// Gives the file of Tiger's tables: by default `tiger.bin`.
     pub fn tables(&self) -> &str
         ensures { result.now ≡ self.now.tables }
     {
         self.tables.as_str()
     }
 
-    /// How many threads serve, 1 to 64: by default 2.
+    /// Gives how many threads serve, 1 to 64: by default 2.
     pub fn threads(&self) -> u32
         ensures { result ≡ self.now.threads }
     {
         self.threads
     }
 
-    /// After how many accepted connections the hub closes, at most 65,536; by default 0, which is never.
+    /// Gives the number of accepted connections after which the hub closes, at most 65,536; by default 0, which is never.
     pub fn stop_after(&self) -> u32
         ensures { result ≡ self.now.stop_after }
     {
         self.stop_after
     }
 
-    /// The file whose first 32 bytes seed the challenges: by default `/dev/urandom`.
+    /// Gives the file whose first 32 bytes seed the challenges: by default `/dev/urandom`.
     pub fn seed_file(&self) -> &str
         ensures { result.now ≡ self.now.seed_file }
     {

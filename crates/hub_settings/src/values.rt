@@ -7,14 +7,14 @@ ghost use Rattle.hub_settings.specs.Values.{number_or, text_or, truth_of, within
 
 use toml::{Table, Value};
 
-/// The value at a key.
+/// Gives the value at a key.
 pub(crate) fn value_at<'a>(table: &'a Table, key: &str) -> Option<&'a Value>
     ensures { option_map (λ v. view v.now) result ≡ get_member key.now (table_view table.entry.now) }
 {
     table.get(key)
 }
 
-/// The text at a key, or the default where there is none.
+/// Gives the text at a key, or the default where there is none.
 pub(crate) fn text_or<'a>(table: &'a Table, key: &str, default: &'a str) -> Option<&'a str>
     ensures { option_map (λ s. s.now) result ≡ text_or default.entry.now (get_member key.now (table_view table.entry.now)) }
 {
@@ -24,7 +24,7 @@ pub(crate) fn text_or<'a>(table: &'a Table, key: &str, default: &'a str) -> Opti
     }
 }
 
-/// The text at a key that has to be there.
+/// Gives the text at a key that has to be there.
 pub(crate) fn text_at<'a>(table: &'a Table, key: &str) -> Option<&'a str>
     ensures { option_map (λ s. s.now) result ≡ text_at key.now (table_view table.entry.now) }
 {
@@ -34,7 +34,7 @@ pub(crate) fn text_at<'a>(table: &'a Table, key: &str) -> Option<&'a str>
     }
 }
 
-/// Whether true stands at a key; false where there is none.
+/// Tells whether true stands at a key; false where there is none.
 pub(crate) fn truth_of(table: &Table, key: &str) -> Option<bool>
     ensures { result ≡ truth_of (get_member key.now (table_view table.now)) }
 {
@@ -44,7 +44,7 @@ pub(crate) fn truth_of(table: &Table, key: &str) -> Option<bool>
     }
 }
 
-/// The number at a key, within these bounds, or the default where there is none.
+/// Gives the number at a key, within these bounds, or the default where there is none.
 pub(crate) fn number_or(table: &Table, key: &str, low: u32, high: u32, default: u32) -> Option<u32>
     requires { (low ≤ default) × (default ≤ high) }
     ensures within { IfSome result (λ n. (low ≤ n) × (n ≤ high)) }

@@ -1,4 +1,4 @@
-//! What a hub is set up with, the lines that are made ready before its turn, and the messages that it writes.
+//! The setup of a hub, the lines that are made ready before its turn, and the messages that it writes.
 #![tactic(auto)]
 
 mod menu;

@@ -47,7 +47,7 @@ impl MenuLine {
         })
     }
 
-    /// The message; its bytes are shared and not copied.
+    /// Gives the message; its bytes are shared and not copied.
     fn line(&self) -> Result<Bytes, AllocError>
         ensures { IfOk result (λ line. line ≡ menu_line self.now) }
     {
@@ -55,7 +55,7 @@ impl MenuLine {
     }
 }
 
-/// The messages of all entries, in order.
+/// Writes the messages of all entries, in order.
 pub(crate) fn menu_lines(
     alloc: Global,
     entries: &[MenuEntry<'_>],
@@ -71,7 +71,7 @@ pub(crate) fn menu_lines(
     Ok(lines)
 }
 
-/// A batch with the messages of the menu behind its own.
+/// Makes a batch with the messages of the menu behind its own.
 pub(crate) fn with_menu(menu: &[MenuLine], batch: Batch) -> Result<Batch, AllocError>
     ensures { IfOk result (λ all. all ≡ batch ++ map menu_line menu.now) }
 {
@@ -82,7 +82,7 @@ pub(crate) fn with_menu(menu: &[MenuLine], batch: Batch) -> Result<Batch, AllocE
     Ok(batch)
 }
 
-/// Whether each entry has a name, and a context of 1 to 15.
+/// Answers whether each entry has a name, and a context of 1 to 15.
 pub(crate) fn are_commands(entries: &[MenuEntry<'_>]) -> bool
     ensures { result ≡ list_all is_command entries.now }
 {
@@ -109,7 +109,7 @@ fn text_of(alloc: Global, item: &MenuItem<'_>) -> Result<Option<String>, AllocEr
     }
 }
 
-/// The message that tells a client of an entry (ADC-EXT, "UCMD").
+/// Writes the message that tells a client of an entry (ADC-EXT, "UCMD").
 #[tactic(auto, unfolding(hub_rules::specs::Texts::menu_line))]
 fn menu_line(alloc: Global, entry: &MenuEntry<'_>) -> Result<Bytes, AllocError>
     ensures { IfOk result (λ line. line ≡ menu_line (entry_of entry.now)) }

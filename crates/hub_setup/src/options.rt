@@ -5,11 +5,11 @@ pub struct Account<'a> {
     pub nick: &'a str,
     /// The password, which is not empty.
     pub password: &'a str,
-    /// Whether the user may kick and ban, and set the topic.
+    /// The right to kick and ban, and to set the topic, where it is true.
     pub operator: bool,
 }
 
-/// What a menu entry of a client stands for (ADC-EXT, "UCMD").
+/// The item for which a menu entry of a client stands (ADC-EXT, "UCMD").
 #[derive(Clone, Copy, Debug)]
 pub enum MenuItem<'a> {
     /// The text that the client sends.
@@ -21,15 +21,15 @@ pub enum MenuItem<'a> {
 /// An entry for the clients' menus (ADC-EXT, "UCMD").
 #[derive(Clone, Copy, Debug)]
 pub struct MenuEntry<'a> {
-    /// Its name, which is not empty.
+    /// The name of the entry, which is not empty.
     pub name: &'a str,
-    /// Where it is shown, 1 to 15: the sum of 1 (hub), 2 (user), 4 (search) and 8 (file list).
+    /// The places where it is shown, 1 to 15: the sum of 1 (hub), 2 (user), 4 (search) and 8 (file list).
     pub context: u8,
-    /// What it stands for.
+    /// The item for which it stands.
     pub item: MenuItem<'a>,
 }
 
-/// What a hub is to be set up with.
+/// The options with which a hub is to be set up.
 #[derive(Clone, Copy, Debug)]
 pub struct Options<'a> {
     /// The hub's name, not empty.
@@ -40,11 +40,11 @@ pub struct Options<'a> {
     pub accounts: &'a [Account<'a>],
     /// The entries for the clients' menus, at most 64.
     pub commands: &'a [MenuEntry<'a>],
-    /// Whether only registered users are admitted.
+    /// Admission of registered users alone, where it is true.
     pub registered_only: bool,
-    /// How many seconds lie between two searches of one user, at least.
+    /// The number of seconds between two searches of one user, at least.
     pub search_interval: u32,
-    /// How many connections are admitted at once, from 1 to 900.
+    /// The number of connections that are admitted at once, from 1 to 900.
     pub max_users: u32,
     /// The moment at which the hub opens, in seconds.
     pub opening: u64,

@@ -28,7 +28,7 @@ pub struct Prepared {
     password: Option<[u8; 24]>,
 }
 
-/// What the bytes of a line were found to be.
+/// The content of a line, as its bytes were found to be.
 #[derive(Debug, Drop)]
 enum Content {
     /// A message.
@@ -37,14 +37,14 @@ enum Content {
     Other(Vec<u8>),
 }
 
-/// What a prepared line says.
+/// The things that a prepared line may say.
 #[derive(Debug, Drop)]
 pub enum Says<'a> {
     /// Nothing: the line is empty.
     Nothing,
     /// A message.
     Message(&'a Line),
-    /// It is no message.
+    /// No message.
     NoMessage,
 }
 
@@ -60,10 +60,10 @@ impl Model for Prepared {
     ghost invariant = { IsPrepared };
 }
 
-/// Reads the bytes of a line, without its line feed, for a connection that was given this challenge. Where they are an
-/// INF for all whose words make an update, its fields are read, the digest is made of the private identifier in them
-/// (ADC 1.0, "INF"), and, where the nick is a registered user's, that of the password followed by the challenge
-/// (ADC 1.0, "GPA"). Takes no lock.
+/// Reads the bytes of a line, without its line feed, for a connection that was given this challenge. Where they are an INF
+/// for all whose words make an update, its fields are read, and the digest is made of the private identifier in them (ADC
+/// 1.0, "INF"). Where, besides, the nick is a registered user's, the digest is made of the password followed by the
+/// challenge (ADC 1.0, "GPA"). Takes no lock.
 ///
 /// Refused only where memory runs out (`Memory`).
 #[tactic(auto, unfolding(hub_rules::specs::Prepared::prepared))]
@@ -97,7 +97,7 @@ pub fn prepare<H: SessionHash>(
     })
 }
 
-/// The update that a message makes, where it is an INF for all.
+/// Reads the update that a message makes, where it is an INF for all.
 fn update_of(alloc: Global, line: &Line) -> Result<Option<Update>, AllocError>
     ensures { IfOk result (λ update. update ≡ update_of (Ok line.now)) }
 {
@@ -108,7 +108,7 @@ fn update_of(alloc: Global, line: &Line) -> Result<Option<Update>, AllocError>
     update_in(alloc, &words)
 }
 
-/// The parameters of a message.
+/// Gives the parameters of a message.
 fn words_of(alloc: Global, line: &Line) -> Result<Vec<&str>, AllocError>
     ensures { IfOk result (λ words. map deref words.items ≡ line.now.params) }
 {
@@ -129,7 +129,7 @@ fn update_in(alloc: Global, words: &[&str]) -> Result<Option<Update>, AllocError
     }
 }
 
-/// The digest of the private identifier, where there is one.
+/// Makes the digest of the private identifier, where there is one.
 fn owner_digest<H: SessionHash>(hash: &H, update: &Option<Update>) -> Option<[u8; 24]>
     ensures { result ≡ owner_digest (H.digest_of hash.now) update.now }
 {
@@ -143,7 +143,7 @@ fn owner_digest<H: SessionHash>(hash: &H, update: &Option<Update>) -> Option<[u8
     }
 }
 
-/// The digest of the password and the challenge, where the nick is a registered user's.
+/// Makes the digest of the password and the challenge, where the nick is a registered user's.
 fn password_digest<H: SessionHash>(
     alloc: Global,
     setup: &Setup,
@@ -180,7 +180,7 @@ fn password_of<H: SessionHash>(
     }
 }
 
-/// What the nick of an update is found by. It need not be a valid one.
+/// Gives the key by which the nick of an update is found. The nick need not be a valid one.
 fn key_in(alloc: Global, update: &Update) -> Result<String, AllocError>
     ensures { IfOk result (λ key. string_bytes key ≡ key_in update.now) }
 {
@@ -188,7 +188,7 @@ fn key_in(alloc: Global, update: &Update) -> Result<String, AllocError>
     to_nfc(alloc, &nick)
 }
 
-/// What the word of the nick means; the empty text where there is none.
+/// Gives what the word of the nick means; the empty text where there is none.
 fn nick_in(alloc: Global, update: &Update) -> Result<String, AllocError>
     ensures { IfOk result (λ nick. string_bytes nick ≡ nick_in update.now) }
 {
@@ -201,7 +201,7 @@ fn nick_in(alloc: Global, update: &Update) -> Result<String, AllocError>
 }
 
 impl Prepared {
-    /// What it says.
+    /// Gives what it says.
     pub fn says(&self) -> Says<'_>
         ensures { IsSaid result self.now.bytes }
     {
@@ -217,21 +217,21 @@ impl Prepared {
         }
     }
 
-    /// The fields that it updates, where it is an INF for all whose words make an update (ADC 1.0, "INF").
+    /// Gives the fields that it updates, where it is an INF for all whose words make an update (ADC 1.0, "INF").
     pub fn update(&self) -> Option<&Update>
         ensures { option_copied result ≡ update_of (lines.reading self.now.bytes) }
     {
         self.update.as_ref()
     }
 
-    /// The digest of the private identifier of the update, where there is one.
+    /// Gives the digest of the private identifier of the update, where there is one.
     pub fn owner(&self) -> Option<[u8; 24]>
         ensures { result ≡ self.now.owner }
     {
         self.owner
     }
 
-    /// The digest of password and challenge, where the nick of the update is a registered user's.
+    /// Gives the digest of password and challenge, where the nick of the update is a registered user's.
     pub fn password(&self) -> Option<[u8; 24]>
         ensures { result ≡ self.now.password }
     {

@@ -1,11 +1,12 @@
 use std::alloc::AllocError;
 
-/// Why settings make no setup, looked for in the order 2, 3, 4, 5, 1.
+/// The cause for which settings make no setup, looked for in the order 2, 3, 4, 5, 1.
 #[derive(Clone, Copy, Debug, PartialEq, Eq)]
 pub enum SetupRefused {
     /// Memory ran out, before a fault that comes later was looked for.
     Memory = 1,
-    /// There are over 32 accounts or over 64 menu entries, or not 1 to 900 connections are to be admitted.
+    /// A limit is passed: there are over 32 accounts or over 64 menu entries, or not 1 to 900 connections are to be
+    /// admitted.
     Limit = 2,
     /// The hub's name is empty.
     Name = 3,
@@ -15,7 +16,7 @@ pub enum SetupRefused {
     Command = 5,
 }
 
-/// Why a line was not made ready; it may be tried again.
+/// The cause for which a line was not made ready; it may be tried again.
 #[derive(Clone, Copy, Debug, PartialEq, Eq)]
 pub enum LineRefused {
     /// Memory ran out.

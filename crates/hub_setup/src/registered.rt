@@ -28,21 +28,21 @@ impl Model for Registered {
 }
 
 impl Registered {
-    /// Whether the user may kick and ban, and set the topic.
+    /// Answers whether the user may kick and ban, and set the topic.
     pub fn is_operator(&self) -> bool
         ensures { result ≡ self.now.operator }
     {
         self.operator
     }
 
-    /// What its nick is found by.
+    /// Gives the key by which its nick is found.
     pub(crate) fn key(&self) -> &str
         ensures { result.now ≡ self.now.key }
     {
         &self.key
     }
 
-    /// The password, which is not empty.
+    /// Gives the password, which is not empty.
     pub(crate) fn password(&self) -> &str
         ensures { result.now ≡ self.now.password }
     {
@@ -50,7 +50,7 @@ impl Registered {
     }
 }
 
-/// The registered users that accounts describe.
+/// Makes the registered users that accounts describe.
 pub(crate) fn registered_users(
     alloc: Global,
     accounts: &[Account<'_>],
@@ -94,7 +94,7 @@ fn registered_user(alloc: Global, account: &Account<'_>) -> Result<Registered, S
     })
 }
 
-/// Whether no two have one key.
+/// Answers whether no two have one key.
 #[tactic(auto, unfolding(crate::specs::Settings::are_distinct))]
 fn are_distinct(users: &[Registered]) -> bool
     ensures { result ≡ are_distinct (map (λ user. user.key) users.now) }
@@ -109,7 +109,7 @@ fn are_distinct(users: &[Registered]) -> bool
     true
 }
 
-/// Whether one of them has the key.
+/// Answers whether one of them has the key.
 fn has_key(users: &[Registered], key: &str) -> bool
     ensures { result ≡ list_any (bytes_eq key.now) (map (λ user. user.key) users.now) }
 {

@@ -12,16 +12,16 @@ use outboxes::Batch;
 use std::alloc::{AllocError, Global};
 use std::marker::Model;
 
-/// How many registered users a hub may have.
+/// The number of registered users that a hub may have.
 const MOST_ACCOUNTS: usize = 32;
 
-/// How many entries a hub may have for the clients' menus.
+/// The number of entries that a hub may have for the clients' menus.
 const MOST_COMMANDS: usize = 64;
 
-/// How many connections a hub may be set up to admit.
+/// The number of connections that a hub may be set up to admit.
 const MOST_USERS: u32 = 900;
 
-/// What a hub is set up with.
+/// The setup of a hub.
 #[derive(Debug, Drop)]
 pub struct Setup {
     name: String,
@@ -47,13 +47,13 @@ impl Model for Setup {
 }
 
 impl Setup {
-    /// The setup that the options describe. The messages of the menu are written here, once.
+    /// Makes the setup that the options describe. The messages of the menu are written here, once.
     ///
     /// Refused, by the first that applies: `Limit` over 32 accounts, over 64 menu entries, or where not 1 to 900
-    /// connections are to be admitted; `Name` where the name is empty; `Account` where a nick is none (1 to 64 code
-    /// points, each above 32: ADC 1.0, "INF"), a password is empty, or two nicks have one normal form C; `Command`
-    /// where a menu entry has no name or a context that is not 1 to 15 (ADC-EXT, "UCMD"). `Memory` where memory runs
-    /// out before a fault that is looked for later was found.
+    /// connections are to be admitted; `Name` where the name is empty. Then `Account`: a nick is none (1 to 64 code points,
+    /// each above 32: ADC 1.0, "INF"), a password is empty, or two nicks have one normal form C. Then `Command`: a menu
+    /// entry has no name or a context that is not 1 to 15 (ADC-EXT, "UCMD"). `Memory` where memory runs out before a fault
+    /// that is looked for later was found.
     #[tactic(auto, unfolding(crate::specs::Settings::configured))]
     pub fn new(alloc: Global, options: &Options<'_>) -> Result<Setup, SetupRefused>
         ensures exact { IsConfigured result (configured options.now) }
@@ -80,42 +80,42 @@ impl Setup {
         })
     }
 
-    /// The hub's name, not empty.
+    /// Gives the hub's name, not empty.
     pub fn name(&self) -> &str
         ensures { result.now ≡ self.now.name }
     {
         self.name.as_str()
     }
 
-    /// The topic at the opening; it may be empty.
+    /// Gives the topic at the opening; it may be empty.
     pub fn topic(&self) -> &str
         ensures { result.now ≡ self.now.topic }
     {
         self.topic.as_str()
     }
 
-    /// Whether only registered users are admitted.
+    /// Answers whether only registered users are admitted.
     pub fn registered_only(&self) -> bool
         ensures { result ≡ self.now.registered_only }
     {
         self.registered_only
     }
 
-    /// How many seconds lie between two searches of one user, at least.
+    /// Gives how many seconds lie between two searches of one user, at least.
     pub fn search_interval(&self) -> u64
         ensures { result ≡ self.now.search_interval }
     {
         u64::from(self.search_interval)
     }
 
-    /// The moment at which the hub opens, in seconds.
+    /// Gives the moment at which the hub opens, in seconds.
     pub fn opening(&self) -> u64
         ensures { result ≡ self.now.opening }
     {
         self.opening
     }
 
-    /// How many connections are admitted at once, from 1 to 900.
+    /// Gives how many connections are admitted at once, from 1 to 900.
     pub fn max_users(&self) -> u32
         ensures exact { result ≡ self.now.max_users }
         ensures some { 1 ≤ self.now.max_users }
@@ -124,14 +124,14 @@ impl Setup {
         self.max_users
     }
 
-    /// The registered user whose nick has this key, its normal form C. Takes no memory.
+    /// Gives the registered user whose nick has this key, its normal form C. Takes no memory.
     pub fn account(&self, key: &str) -> Option<&Registered>
         ensures { option_copied result ≡ account_with key.now self.now.accounts }
     {
         find_account(&self.accounts, key)
     }
 
-    /// A batch with the messages behind its own that tell a client of the menu (ADC-EXT, "UCMD"). They are shared and
+    /// Makes a batch with the messages behind its own that tell a client of the menu (ADC-EXT, "UCMD"). They are shared and
     /// not written again. Refused only where memory runs out; the batch is then lost.
     pub fn menu(&self, batch: Batch) -> Result<Batch, AllocError>
         ensures { IfOk result (λ all. all ≡ batch ++ map menu_line self.now.menu) }

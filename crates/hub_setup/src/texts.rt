@@ -11,7 +11,7 @@ use login_state::Deny;
 use std::alloc::{AllocError, Global};
 use user_table::Totals;
 
-/// What the hub supports, with the line feed (ADC 1.0, "SUP"). Takes no memory.
+/// Writes what the hub supports, with the line feed (ADC 1.0, "SUP"). Takes no memory.
 #[tactic(auto, unfolding(hub_rules::specs::Texts::support_line))]
 pub fn support_line(_alloc: Global) -> Result<Bytes, AllocError>
     ensures { IfOk result (λ line. line ≡ support_line) }
@@ -19,7 +19,7 @@ pub fn support_line(_alloc: Global) -> Result<Bytes, AllocError>
     Ok(Bytes::from_static(b"ISUP ADBASE ADTIGR ADPING ADUCMD\n"))
 }
 
-/// The session identifier of a client, with the line feed (ADC 1.0, "SID"). Refused only where memory runs out.
+/// Writes the session identifier of a client, with the line feed (ADC 1.0, "SID"). Refused only where memory runs out.
 #[tactic(auto, unfolding(hub_rules::specs::Texts::identifier_line))]
 pub fn identifier_line(alloc: Global, sid: Sid) -> Result<Bytes, AllocError>
     ensures { IfOk result (λ line. line ≡ identifier_line sid) }
@@ -28,8 +28,8 @@ pub fn identifier_line(alloc: Global, sid: Sid) -> Result<Bytes, AllocError>
     Bytes::copy_from_slice(alloc, &[b'I', b'S', b'I', b'D', b' ', a, b, c, d, b'\n'])
 }
 
-/// The hub itself: its type, name, version and topic, and what a client hears that asked about the hub, with the line
-/// feed (ADC 1.0, "INF"; ADC-EXT, "PING"). `ping` is empty, or what [`ping_fields`] gave. Refused only where memory
+/// Writes the hub itself: its type, name, version and topic, and what a client hears that asked about the hub, with the
+/// line feed (ADC 1.0, "INF"; ADC-EXT, "PING"). `ping` is empty, or what [`ping_fields`] gave. Refused only where memory
 /// runs out.
 #[tactic(auto, unfolding(hub_rules::specs::Texts::hub_line))]
 pub fn hub_line(alloc: Global, setup: &Setup, topic: &str, ping: &str) -> Result<Bytes, AllocError>
@@ -55,9 +55,9 @@ fn push_topic(alloc: Global, line: &mut Vec<u8>, topic: &str) -> Result<(), Allo
     line.extend_from_slice(escape(alloc, topic)?.as_bytes())
 }
 
-/// What a client hears that asked about the hub, each field with a blank before it: how many users are present, the
-/// bytes and files that they share, how many users may come, and for how many seconds the hub is open (ADC-EXT, "PING").
-/// Refused only where memory runs out.
+/// Writes what a client hears that asked about the hub, each field with a blank before it (ADC-EXT, "PING"). The fields are
+/// how many users are present, the bytes and files that they share, how many users may come, and for how many seconds the
+/// hub is open. Refused only where memory runs out.
 pub fn ping_fields(
     alloc: Global,
     totals: &Totals,
@@ -70,7 +70,7 @@ pub fn ping_fields(
     format!(in alloc; " UC{users} SS{ss} SF{sf} MC{max_users} UP{seconds}")
 }
 
-/// A new topic, which may be empty, with the line feed (ADC 1.0, "INF"). Refused only where memory runs out.
+/// Writes a new topic, which may be empty, with the line feed (ADC 1.0, "INF"). Refused only where memory runs out.
 #[tactic(auto, unfolding(hub_rules::specs::Texts::topic_line))]
 pub fn topic_line(alloc: Global, topic: &str) -> Result<Bytes, AllocError>
     ensures { IfOk result (λ line. line ≡ topic_line topic.now) }
@@ -82,8 +82,8 @@ pub fn topic_line(alloc: Global, topic: &str) -> Result<Bytes, AllocError>
     ended(line)
 }
 
-/// The challenge with which a client is to hash its password, with the line feed (ADC 1.0, "GPA"). Refused only where
-/// memory runs out.
+/// Writes the challenge with which a client is to hash its password, with the line feed (ADC 1.0, "GPA"). Refused only
+/// where memory runs out.
 #[tactic(auto, unfolding(hub_rules::specs::Texts::challenge_line))]
 pub fn challenge_line(alloc: Global, challenge: [u8; 24]) -> Result<Bytes, AllocError>
     ensures { IfOk result (λ line. line ≡ challenge_line challenge) }
@@ -94,7 +94,7 @@ pub fn challenge_line(alloc: Global, challenge: [u8; 24]) -> Result<Bytes, Alloc
     ended(line)
 }
 
-/// That a command of an operator was carried out, with the line feed (ADC 1.0, "STA"). Takes no memory.
+/// Writes that a command of an operator was carried out, with the line feed (ADC 1.0, "STA"). Takes no memory.
 #[tactic(auto, unfolding(hub_rules::specs::Texts::done_line))]
 pub fn done_line(_alloc: Global) -> Result<Bytes, AllocError>
     ensures { IfOk result (λ line. line ≡ done_line) }
@@ -102,7 +102,7 @@ pub fn done_line(_alloc: Global) -> Result<Bytes, AllocError>
     Ok(Bytes::from_static(b"ISTA 000 Done\n"))
 }
 
-/// A message as it came, with a line feed: it is passed on unchanged. Refused only where memory runs out.
+/// Writes a message as it came, with a line feed: it is passed on unchanged. Refused only where memory runs out.
 pub fn passed_line(alloc: Global, line: &Line) -> Result<Bytes, AllocError>
     ensures { IfOk result (λ passed. passed ≡ ended line.now.text) }
 {
@@ -112,14 +112,14 @@ pub fn passed_line(alloc: Global, line: &Line) -> Result<Bytes, AllocError>
     ended(passed)
 }
 
-/// Why a line is refused, with the line feed (ADC 1.0, "STA"). Refused only where memory runs out.
+/// Writes why a line is refused, with the line feed (ADC 1.0, "STA"). Refused only where memory runs out.
 pub fn denial_line(alloc: Global, deny: Deny) -> Result<Bytes, AllocError>
     ensures { IfOk result (λ line. line ≡ denials.denial_line deny) }
 {
     Ok(Bytes::from_vec(deny.line(alloc)?)?)
 }
 
-/// A message is its text and a line feed.
+/// Makes a message of its text and a line feed.
 pub(crate) fn ended(text: Vec<u8>) -> Result<Bytes, AllocError>
     ensures { IfOk result (λ line. line ≡ ended text.items) }
 {

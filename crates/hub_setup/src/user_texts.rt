@@ -11,8 +11,8 @@ use bytes::Bytes;
 use inf_fields::{Fields, Update};
 use std::alloc::{AllocError, Global};
 
-/// A user with all that is known of it, and with what the hub says of it: CT4 of an operator, CT2 of another registered
-/// user; with the line feed (ADC 1.0, "INF"). Refused only where memory runs out.
+/// Writes a user with all that is known of it, and with what the hub says of it: CT4 of an operator, CT2 of another
+/// registered user; with the line feed (ADC 1.0, "INF"). Refused only where memory runs out.
 #[tactic(auto, unfolding(hub_rules::specs::Texts::user_line))]
 pub fn user_line(
     alloc: Global,
@@ -31,7 +31,7 @@ pub fn user_line(
     ended(line)
 }
 
-/// What the hub says of a user.
+/// Gives what the hub says of a user.
 fn client_type(account: Option<&Registered>) -> &'static [u8]
     ensures { result.now ≡ client_type (option_copied account.entry) }
 {
@@ -47,8 +47,8 @@ fn client_type(account: Option<&Registered>) -> &'static [u8]
     }
 }
 
-/// What changes of a user, the fields that are taken away too, with the line feed (ADC 1.0, "INF"). Refused only where
-/// memory runs out.
+/// Writes what changes of a user, the fields that are taken away too, with the line feed (ADC 1.0, "INF"). Refused only
+/// where memory runs out.
 #[tactic(auto, unfolding(hub_rules::specs::Texts::update_line))]
 pub fn update_line(alloc: Global, sid: Sid, update: &Update) -> Result<Bytes, AllocError>
     ensures { IfOk result (λ line. line ≡ update_line sid update.now) }
@@ -61,8 +61,9 @@ pub fn update_line(alloc: Global, sid: Sid, update: &Update) -> Result<Bytes, Al
     ended(line)
 }
 
-/// That an operator shut a user out: for good where `seconds` is 0, for so many seconds, or only for now where there are
-/// none; with the reason, where it is not empty, and the line feed (ADC 1.0, "QUI"). Refused only where memory runs out.
+/// Writes that an operator shut a user out: for good where `seconds` is 0, for so many seconds, or only for now where there
+/// are none. With it come the reason, where it is not empty, and the line feed (ADC 1.0, "QUI"). Refused only where memory
+/// runs out.
 #[tactic(auto, unfolding(hub_rules::specs::Texts::removal_line))]
 pub fn removal_line(
     alloc: Global,

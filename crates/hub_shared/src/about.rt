@@ -4,7 +4,8 @@ use one_history::{Lock, Recorded, Seat};
 use session_hash::SessionHash;
 use std::snapshot::Snapshot;
 
-/// What a hub is about: the setup and the hash that it was opened with. It has no bytes, and only proofs look at it.
+/// The things that a hub is about: the setup and the hash that it was opened with. It has no bytes, and only proofs look at
+/// it.
 #[derive(Drop)]
 pub struct About<H> {
     pub setup: Snapshot<Setup>,

@@ -89,8 +89,7 @@ impl<H: SessionHash> Hub<H> {
         }
     }
 
-    /// One look at the pass's connection. It may wait for the lock, and takes no memory.
-    /// Condition: the pass is of this hub.
+    /// Looks at the pass's connection. It may wait for the lock, and takes no memory. Condition: the pass is of this hub.
     pub fn look<R: Wait>(&self, rt: &R, pass: &mut Pass<H>) -> Look
         requires here { pass.old.home ≡ self.now.home }
         ensures same { pass.new ≡ record pass.old { caller = pass.new.caller } }

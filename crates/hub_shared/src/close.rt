@@ -10,19 +10,19 @@ use crate::hub::Hub;
 use crate::visitor::Visitor;
 use session_hash::SessionHash;
 
-/// Why a hub was not closed.
+/// The cause for which a hub was not closed.
 #[derive(Clone, Copy, Debug, PartialEq, Eq)]
 pub enum CloseRefused {
-    /// Not as many visitors came back as were admitted.
+    /// Visitors are missing: not as many came back as were admitted.
     NotAlone = 1,
 }
 
-/// What a hub has to say at its end.
+/// The report of a hub at its end.
 #[derive(Clone, Copy, Debug, PartialEq, Eq)]
 pub struct Report {
-    /// How many joins were accepted.
+    /// The number of joins that were accepted.
     pub joins: u64,
-    /// How many users are present: none.
+    /// The number of users who are present: none.
     pub present: u64,
 }
 
@@ -69,7 +69,7 @@ fn end<H: SessionHash>(lock: HubLock<H>, host: HostSeat<H>, mut visitors: Vec<Vi
     }
 }
 
-// The host takes all visitors' seats.
+// Gives the host all visitors' seats.
 fn gather_all<H: SessionHash>(
     lock: &HubLock<H>,
     host: &mut HostSeat<H>,

@@ -1,4 +1,4 @@
-// How an entry is written into the history.
+// The step by which an entry is written into the history.
 ghost use Rattle.std.specs.Prelude.{◌≡◌, ◌∷◌, false};
 ghost use Rattle.hub_core.specs.Moves.{StandsAt};
 ghost use Rattle.hub_rules.specs.Legal.{Legal};

@@ -8,7 +8,7 @@ use hub_core::Touched;
 use session_hash::SessionHash;
 use std::marker::Model;
 
-/// Who admits visitors to a hub. Contracts see how many it has admitted.
+/// The host that admits visitors to a hub. Contracts see how many it has admitted.
 pub struct Host<H> {
     pub(crate) seat: HostSeat<H>,
 }
@@ -24,7 +24,7 @@ impl<H> Model for Host<H> {
 }
 
 impl<H> Host<H> {
-    /// How many visitors were admitted.
+    /// Gives how many visitors were admitted.
     pub fn admitted(&self) -> u64
         ensures { result ≡ self.now.admitted }
     {

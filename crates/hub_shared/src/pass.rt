@@ -24,9 +24,9 @@ impl<H> Model for Pass<H> {
 }
 
 impl<H> Pass<H> {
-    /// Whom the pass's last call concerned: to whose connections it gave lines, or whom it shut out. A hint for those who
-    /// wake what waits for lines: it may name somebody too many, and no promise rests on it. It takes no memory. After a
-    /// join, a take, a look or a refusal it names nobody.
+    /// Names whom the pass's last call concerned: to whose connections it gave lines, or whom it shut out. A hint for those
+    /// who wake what waits for lines: it may name somebody too many, and no promise rests on it. It takes no memory. After
+    /// a join, a take, a look or a refusal it names nobody.
     pub fn touched(&self) -> Touched {
         self.touched
     }

@@ -25,8 +25,8 @@ impl<H> Model for Visitor<H> {
 }
 
 impl<H> Visitor<H> {
-    /// Whom the visitor's last call concerned, which was the quit of its connection or a join that was refused. A hint, as
-    /// that of a pass.
+    /// Names whom the visitor's last call concerned, which was the quit of its connection or a join that was refused. A
+    /// hint, as that of a pass.
     pub fn touched(&self) -> Touched {
         self.touched
     }

@@ -3,7 +3,7 @@ use hub_core::{LineRefused, OpenRefused, TakeRefused};
 use std::alloc::AllocError;
 use thiserror::Error;
 
-/// Why a run ended before its input and its connection did.
+/// The cause for which a run ended before its input and its connection did.
 #[derive(Debug, Drop, Error, PartialEq, Eq)]
 pub enum RunFault {
     /// Memory ran out.

@@ -11,22 +11,21 @@ use std::alloc::Global;
 use std::io::{Read, Write};
 use std::sync::Arc;
 
-/// How many bytes are read at once.
+/// The number of bytes that are read at once.
 const READ_LENGTH: usize = 4096;
 
-/// How often the input is read.
+/// The number of times that the input is read at most.
 const MOST_READS: u32 = 1_048_576;
 
-/// Runs a hub for one connection, which sends what the reader gives and gets what the writer takes:
-/// from 127.0.0.1, with a challenge of 24 zero bytes, each call at moment 0.
+/// Runs a hub for one connection, which sends what the reader gives and gets what the writer takes: from 127.0.0.1, with a
+/// challenge of 24 zero bytes, each call at moment 0.
 ///
-/// The answer to a line is written and flushed before the next line is handled. The run ends well at
-/// the end of the input, or once nothing more will come from the hub, as the connection was shut out or was
-/// owed more at once than may wait, with all that it is owed written; then what the reader has left is not
-/// read.
+/// The answer to a line is written and flushed before the next line is handled. The run ends well at the end of the input,
+/// or once nothing more will come from the hub, as the connection was shut out or was owed more at once than may wait. All
+/// that it is owed is written then, and what the reader has left is not read.
 ///
-/// Refused: `Memory`; `Read`; `Write`; `TooLong` where a line has over 65,536 bytes, once those before
-/// it were answered (ADC 1.0, "Message syntax"); `Turns` after 1,048,576 reads.
+/// Refused: `Memory`; `Read`; `Write`; `TooLong` where a line has over 65,536 bytes, once those before it were answered
+/// (ADC 1.0, "Message syntax"); `Turns` after 1,048,576 reads.
 pub fn run_one<H: SessionHash, R: Read, W: Write>(
     alloc: Global,
     setup: Arc<Setup>,

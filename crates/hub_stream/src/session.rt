@@ -14,16 +14,16 @@ use std::alloc::Global;
 use std::io::Write;
 use std::sync::Arc;
 
-/// Where the connection comes from.
+/// The address from which the connection comes.
 const PEER: [u8; 4] = [127, 0, 0, 1];
 
-/// What the connection is challenged with.
+/// The challenge of the connection.
 const CHALLENGE: [u8; 24] = [0; 24];
 
 /// The moment of all calls, in seconds.
 const NOW: u64 = 0;
 
-/// How many lines are taken at once.
+/// The number of lines that are taken at once.
 const MOST_TAKEN: usize = 256;
 
 /// A hub and its only connection, whose lines come from a stream.
@@ -130,7 +130,7 @@ impl StreamSession {
     }
 }
 
-/// The connection joins, which nothing but want of memory can prevent on an empty hub.
+/// Joins the hub, which nothing but want of memory can prevent on an empty hub.
 fn join(alloc: Global, setup: &Setup, core: &mut Core) -> Result<Conn, RunFault>
     requires empty { (hash : List ℕ → List ℕ) → StandsAt setup.now hash [] core.old }
     ensures first { IfOk result (λ connection. connection ≡ first) }

@@ -4,8 +4,8 @@ ghost use Rattle.inf_fields.specs.Cleaning.{dotted};
 
 use std::alloc::{AllocError, Global};
 
-/// An address as INF messages spell it: four decimal numbers without leading zeros, with dots
-/// between them (ADC 1.0, "INF"). Refused only where memory runs out.
+/// Writes an address as INF messages spell it: four decimal numbers without leading zeros, with dots between them (ADC 1.0,
+/// "INF"). Refused only where memory runs out.
 #[tactic(auto, unfolding(crate::specs::Cleaning::dotted))]
 pub fn dotted(alloc: Global, peer: [u8; 4]) -> Result<String, AllocError>
     ensures { IfOk result (λ text. string_bytes text ≡ dotted peer) }

@@ -3,8 +3,8 @@ ghost use Rattle.std.specs.Char.{is_ascii_digit};
 ghost use Rattle.std.specs.List.{list_all};
 ghost use Rattle.inf_fields.specs.Amounts.{is_short_number, number_at};
 
-/// The number that a value of SS (bytes shared) or SF (files shared) spells: 1 to 20 decimal
-/// digits, and below 2 to the 64th. `None` for any other value. Takes no memory (ADC 1.0, "INF").
+/// Reads the number that a value of SS (bytes shared) or SF (files shared) spells: 1 to 20 decimal digits, and below 2 to
+/// the 64th. `None` for any other value. Takes no memory (ADC 1.0, "INF").
 #[tactic(auto, unfolding(crate::specs::Amounts::number_at))]
 pub fn shared_amount(value: &str) -> Option<u64>
     ensures { result ≡ number_at value.now }

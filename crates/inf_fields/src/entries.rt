@@ -14,11 +14,11 @@ use std::alloc::{AllocError, Global};
 /// The fields that an update or a user may have.
 pub(crate) const MAX_FIELDS: usize = 40;
 
-/// Names and values in order. Strangers choose the names, but there are only 936 of two characters,
-/// so a hasher with a fixed seed serves.
+/// The names and values in order. Strangers choose the names, but there are only 936 of two characters, so a hasher with a
+/// fixed seed serves.
 pub(crate) type Entries = IndexMap<FieldName, String>;
 
-/// The value under a name.
+/// Gives the value under a name.
 pub(crate) fn value_of(entries: &Entries, name: FieldName) -> Option<&str>
     ensures { option_copied result ≡ value_of name (fields_of entries.now.entries) }
 {
@@ -44,7 +44,7 @@ pub(crate) fn put(
     }
 }
 
-/// The entries with copies of their values.
+/// Copies the entries with their values.
 pub(crate) fn copies(
     alloc: Global,
     entries: &Entries,
@@ -83,7 +83,7 @@ fn change(entries: &mut Entries, name: FieldName, value: String)
     }
 }
 
-/// Each entry with a blank before it, one after another.
+/// Writes each entry with a blank before it, one after another.
 pub(crate) fn print(alloc: Global, entries: &Entries) -> Result<String, AllocError>
     ensures { IfOk result (λ text. string_bytes text ≡ printed (fields_of entries.now.entries)) }
 {

@@ -7,7 +7,7 @@ pub enum InfFault {
     Memory = 1,
     /// A word begins with no name of a field.
     BadName = 2,
-    /// There are more than 40 names.
+    /// The names are too many: there are more than 40.
     TooMany = 3,
 }
 

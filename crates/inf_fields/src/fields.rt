@@ -34,7 +34,7 @@ impl Model for Fields {
 }
 
 impl Fields {
-    /// No fields. Takes no memory.
+    /// Makes the fields of a user of whom none are known. Takes no memory.
     pub fn new(alloc: Global) -> Fields
         ensures { result ≡ [] }
     {
@@ -81,7 +81,7 @@ impl Fields {
         Ok(())
     }
 
-    /// The value under a name, escaped as it came; it is not empty. Takes no memory.
+    /// Gives the value under a name, escaped as it came; it is not empty. Takes no memory.
     pub fn get(&self, name: FieldName) -> Option<&str>
         ensures value { option_copied result ≡ value_of name self.now }
         ensures filled { IfSome result (λ value. value.now ≢ []) }
@@ -89,8 +89,8 @@ impl Fields {
         value_of(&self.entries, name)
     }
 
-    /// The fields in order as they stand in a message, each with a blank before it (ADC 1.0, "INF").
-    /// Refused only where memory runs out.
+    /// Writes the fields in order as they stand in a message, each with a blank before it (ADC 1.0, "INF"). Refused only
+    /// where memory runs out.
     pub fn print(&self, alloc: Global) -> Result<String, InfFault>
         ensures text { IfOk result (λ text. string_bytes text ≡ printed self.now) }
         ensures fault { IfErr result (λ fault. fault ≡ InfFault.Memory) }

@@ -25,7 +25,7 @@ impl Model for FieldName {
 }
 
 impl FieldName {
-    /// The name of these two characters, or `None` where they name no field.
+    /// Makes the name of these two characters, or gives `None` where they name no field.
     pub fn new(bytes: [u8; 2]) -> Option<FieldName>
         ensures { result ≡ (if is_field_name bytes then Some bytes else None) }
     {
@@ -36,77 +36,77 @@ impl FieldName {
         }
     }
 
-    /// ID: the client's identifier (ADC 1.0, "INF").
+    /// Gives ID: the client's identifier (ADC 1.0, "INF").
     pub fn id() -> FieldName
         ensures { result ≡ id_name }
     {
         FieldName { bytes: *b"ID" }
     }
 
-    /// PD: the private identifier, which is for the hub alone (ADC 1.0, "INF").
+    /// Gives PD: the private identifier, which is for the hub alone (ADC 1.0, "INF").
     pub fn private_id() -> FieldName
         ensures { result ≡ private_id_name }
     {
         FieldName { bytes: *b"PD" }
     }
 
-    /// NI: the nick (ADC 1.0, "INF").
+    /// Gives NI: the nick (ADC 1.0, "INF").
     pub fn nick() -> FieldName
         ensures { result ≡ nick_name }
     {
         FieldName { bytes: *b"NI" }
     }
 
-    /// SS: how many bytes are shared (ADC 1.0, "INF").
+    /// Gives SS: how many bytes are shared (ADC 1.0, "INF").
     pub fn share_size() -> FieldName
         ensures { result ≡ share_size_name }
     {
         FieldName { bytes: *b"SS" }
     }
 
-    /// SF: how many files are shared (ADC 1.0, "INF").
+    /// Gives SF: how many files are shared (ADC 1.0, "INF").
     pub fn shared_files() -> FieldName
         ensures { result ≡ shared_files_name }
     {
         FieldName { bytes: *b"SF" }
     }
 
-    /// I4: the address in version 4 of the internet protocol (ADC 1.0, "INF").
+    /// Gives I4: the address in version 4 of the internet protocol (ADC 1.0, "INF").
     pub fn address() -> FieldName
         ensures { result ≡ address_name }
     {
         FieldName { bytes: *b"I4" }
     }
 
-    /// I6: the address in version 6 of the internet protocol (ADC 1.0, "INF").
+    /// Gives I6: the address in version 6 of the internet protocol (ADC 1.0, "INF").
     pub(crate) fn address6() -> FieldName
         ensures { result ≡ address6_name }
     {
         FieldName { bytes: *b"I6" }
     }
 
-    /// U6: the UDP port at the address in version 6 (ADC 1.0, "INF").
+    /// Gives U6: the UDP port at the address in version 6 (ADC 1.0, "INF").
     pub(crate) fn port6() -> FieldName
         ensures { result ≡ port6_name }
     {
         FieldName { bytes: *b"U6" }
     }
 
-    /// CT: the kind of client, which only a hub may say (ADC 1.0, "INF").
+    /// Gives CT: the kind of client, which only a hub may say (ADC 1.0, "INF").
     pub(crate) fn client_type() -> FieldName
         ensures { result ≡ client_type_name }
     {
         FieldName { bytes: *b"CT" }
     }
 
-    /// SU: the features that other clients may count on (ADC 1.0, "INF").
+    /// Gives SU: the features that other clients may count on (ADC 1.0, "INF").
     pub fn support() -> FieldName
         ensures { result ≡ support_name }
     {
         FieldName { bytes: *b"SU" }
     }
 
-    /// Its two characters.
+    /// Gives its two characters.
     pub fn bytes(&self) -> [u8; 2]
         ensures bytes { result ≡ self.now }
         ensures named { IsTrue (is_field_name result) }

@@ -13,7 +13,7 @@ pub(crate) struct Parameter<'a> {
 }
 
 impl<'a> Parameter<'a> {
-    /// The name with which a word begins and the value behind it, where it begins with one.
+    /// Reads the name with which a word begins and the value behind it, where it begins with one.
     #[tactic(auto, unfolding(crate::specs::Updates::is_named))]
     pub(crate) fn read(word: &'a str) -> Option<Parameter<'a>>
         ensures { option_map (λ p. field p.name p.value.now) result ≡ (if is_named word.entry.now then Some (field_in word.entry.now) else None) }

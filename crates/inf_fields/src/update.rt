@@ -56,9 +56,9 @@ impl Update {
         Ok(Update { entries })
     }
 
-    /// Gives what a hub passes on of it: all but the private identifier (PD), what only a hub may say (CT)
-    /// and what it cannot check (I6, U6), with the client's address in place of an I4 of `0.0.0.0`
-    /// (ADC 1.0, "INF"). Refused only where memory runs out.
+    /// Gives what a hub passes on of it: all but the private identifier (PD), what only a hub may say (CT) and what it
+    /// cannot check (I6, U6). The client's address stands in place of an I4 of `0.0.0.0` (ADC 1.0, "INF"). Refused only
+    /// where memory runs out.
     pub fn clean(&self, alloc: Global, peer: [u8; 4]) -> Result<Update, InfFault>
         ensures clean { IfOk result (λ update. update ≡ clean self.now peer) }
         ensures fault { IfErr result (λ fault. fault ≡ InfFault.Memory) }
@@ -81,15 +81,15 @@ impl Update {
         self.entries.is_empty()
     }
 
-    /// The value under a name, escaped as it came; it may be empty. Takes no memory.
+    /// Gives the value under a name, escaped as it came; it may be empty. Takes no memory.
     pub fn get(&self, name: FieldName) -> Option<&str>
         ensures { option_copied result ≡ value_of name self.now }
     {
         value_of(&self.entries, name)
     }
 
-    /// Its fields in order as they stand in a message, each with a blank before it, the empty ones
-    /// too (ADC 1.0, "INF"). Refused only where memory runs out.
+    /// Writes its fields in order as they stand in a message, each with a blank before it, the empty ones too (ADC 1.0,
+    /// "INF"). Refused only where memory runs out.
     pub fn print(&self, alloc: Global) -> Result<String, InfFault>
         ensures text { IfOk result (λ text. string_bytes text ≡ printed self.now) }
         ensures fault { IfErr result (λ fault. fault ≡ InfFault.Memory) }
@@ -108,7 +108,7 @@ fn is_held_back(name: FieldName) -> bool
         || name == FieldName::port6()
 }
 
-/// The value that is passed on: the address where an I4 asks for it.
+/// Gives the value that is passed on: the address where an I4 asks for it.
 fn passed_on<'a>(name: FieldName, value: &'a str, address: &'a str) -> &'a str
     ensures { result.now ≡ (if asks_for_address (field name value.entry.now) then address.entry.now else value.entry.now) }
 {

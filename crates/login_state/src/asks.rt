@@ -46,7 +46,7 @@ pub struct UpdateAsk {
     pub address: Address,
     /// The fields that the user has once the update is merged are few enough, or not.
     pub size: Size,
-    /// Another present user has the nick, or not.
+    /// The claim to the nick: another present user has it, or not.
     pub nick_claim: Claim,
 }
 

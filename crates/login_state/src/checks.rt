@@ -16,7 +16,7 @@ use crate::rules::{
 /// The answer of a check.
 #[derive(Clone, Copy, Debug, PartialEq, Eq)]
 pub enum Check {
-    /// Nothing speaks against it.
+    /// The permission: nothing speaks against it.
     Go,
     /// The first of the reasons against it, in the order of the checks.
     Deny(Deny),
@@ -34,10 +34,10 @@ pub fn check_sup(features: &Features) -> Check
     ])
 }
 
-/// Checks a login (ADC 1.0, "INF"). The checks, in their order: the words (140); ID, PD and NI are there
-/// (243 FM); ID, PD, SS and SF are valid (243 FB); ID is the hash of PD (227); the nick is one (221); the identifier is
-/// not shut out for good (231) or for a time (232); the address (246); accounts alone are let in (226); the nick is free
-/// (222); the identifier is free (224). Takes no memory.
+/// Checks a login (ADC 1.0, "INF"). The first checks, in their order: the words (140); ID, PD and NI are there (243 FM);
+/// ID, PD, SS and SF are valid (243 FB); ID is the hash of PD (227). The next: the nick is one (221); the identifier is not
+/// shut out for good (231) or for a time (232); the address (246). The last: accounts alone are let in (226); the nick is
+/// free (222); the identifier is free (224). Takes no memory.
 pub fn check_inf(ask: &InfAsk) -> Check
     ensures exact { result ≡ first_denial (inf_rules ask.now) }
     ensures first { IsFirstDenial result (inf_rules ask.now) }
@@ -61,9 +61,9 @@ pub fn check_inf(ask: &InfAsk) -> Check
     ])
 }
 
-/// Checks an update of a present user (ADC 1.0, "INF"). The checks, in their order, all of severity 1: the
-/// words (140); ID (143 FBID); SS and SF (143 FB); the nick is one (121); the change of nick concerns no account (125
-/// FCBINF); the address (146); at most 40 fields once merged (140); the nick is free (122). Takes no memory.
+/// Checks an update of a present user (ADC 1.0, "INF"). The checks are all of severity 1. The first, in their order: the
+/// words (140); ID (143 FBID); SS and SF (143 FB); the nick is one (121). The last: the change of nick concerns no account
+/// (125 FCBINF); the address (146); at most 40 fields once merged (140); the nick is free (122). Takes no memory.
 pub fn check_update(ask: &UpdateAsk) -> Check
     ensures exact { result ≡ first_denial (update_rules ask.now) }
     ensures first { IsFirstDenial result (update_rules ask.now) }
@@ -86,8 +86,8 @@ pub fn check_update(ask: &UpdateAsk) -> Check
 }
 
 /// Checks that the digest that a client gave for its password is the expected one, else 223 (ADC 1.0, "PAS"). `None` stands
-/// for words that give no digest. A client has one try, so the comparison need not take the same time for each answer.
-/// What may have changed since the login is left to [`check_entry`]. Takes no memory.
+/// for words that give no digest. A client has one try, so the comparison need not take the same time for each answer. All
+/// that may have changed since the login is left to [`check_entry`]. Takes no memory.
 pub fn check_pass(expected: &[u8; 24], given: Option<[u8; 24]>) -> Check
     ensures exact { result ≡ first_denial (pass_rules expected.now given) }
     ensures right { (result ≡ Check.Go) ↔ (given ≡ Some expected.now) }
@@ -109,7 +109,7 @@ pub fn check_entry(ask: &EntryAsk) -> Check
     ])
 }
 
-/// The first of the rules that denies, each of which has been asked.
+/// Gives the first denial of the rules, each of which has been asked.
 fn first_denial(rules: &[Option<Deny>]) -> Check
     ensures { result ≡ first_denial rules.now }
 {

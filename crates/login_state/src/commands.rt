@@ -3,10 +3,10 @@ ghost use Rattle.login_state.specs.Commands.{is_hub_command, is_of_the_hub, is_t
 
 use adc_line::Kind;
 
-/// Tests whether a line of this type with this command, the three characters of its name, is one of the hub's own or is meant
-/// for the hub alone, so that no client may send it so (ADC 1.0, "Actions"). SID, QUI, GPA and CMD are the hub's in every
-/// type that clients send; SUP and PAS go to the hub, so in type H only; INF goes to all, so in type B only. Lines of
-/// type C, I and U are refused for their type, and the answer is `false`.
+/// Tests whether a line of this type with this command, the three characters of its name, is one of the hub's own or is
+/// meant for the hub alone (ADC 1.0, "Actions"). No client may send it so. SID, QUI, GPA and CMD are the hub's in every
+/// type that clients send; SUP and PAS go to the hub, so in type H only; INF goes to all, so in type B only. Lines of type
+/// C, I and U are refused for their type, and the answer is `false`.
 pub fn is_hub_command(kind: Kind, command: [u8; 3]) -> bool
     ensures { result ≡ is_hub_command kind command }
 {

@@ -79,7 +79,7 @@ pub enum Deny {
 }
 
 impl InfField {
-    /// The two characters of its name.
+    /// Gives the two characters of its name.
     pub fn name(self) -> [u8; 2]
         ensures { result ≡ field_name self }
     {
@@ -134,7 +134,7 @@ impl Deny {
         }
     }
 
-    /// The status message that says so, with its line feed (ADC 1.0, "STA"). Refused only where memory runs out.
+    /// Writes the status message that says so, with its line feed (ADC 1.0, "STA"). Refused only where memory runs out.
     pub fn line(self, alloc: Global) -> Result<Vec<u8>, AllocError>
         ensures { IfOk result (λ line. line.items ≡ denial_line self) }
     {
@@ -147,7 +147,7 @@ impl Deny {
         Ok(line)
     }
 
-    /// The number of the error without its severity, the text, escaped, and the name of the flag that follows.
+    /// Gives the number of the error without its severity, the text, escaped, and the name of the flag that follows.
     fn error(self) -> &'static [u8]
         ensures { result.now ≡ error_text self }
     {
@@ -199,7 +199,7 @@ impl Deny {
 const LONGEST: usize = 42;
 
 impl Severity {
-    /// The digit that a status begins with.
+    /// Gives the digit that a status begins with.
     fn digit(self) -> &'static [u8]
         ensures { result.now ≡ severity_digit self }
     {

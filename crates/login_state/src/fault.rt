@@ -7,7 +7,7 @@ pub enum SupFault {
     Memory = 1,
     /// A word is not `AD` or `RM` and a feature's name.
     Bad = 2,
-    /// More than 64 features are left.
+    /// The features are too many: more than 64 are left.
     TooMany = 3,
 }
 

@@ -21,36 +21,36 @@ impl Model for Feature {
 }
 
 impl Feature {
-    /// BASE, the protocol itself, without which nobody can talk to the hub.
+    /// Gives BASE, the protocol itself, without which nobody can talk to the hub.
     pub fn base() -> Feature
         ensures { result ≡ base }
     {
         Feature { name: *b"BASE" }
     }
 
-    /// TIGR, the hash of the session.
+    /// Gives TIGR, the hash of the session.
     pub fn tigr() -> Feature
         ensures { result ≡ tigr }
     {
         Feature { name: *b"TIGR" }
     }
 
-    /// PING: the hub tells about itself at once (ADC-EXT, "PING").
+    /// Gives PING: the hub tells about itself at once (ADC-EXT, "PING").
     pub fn ping() -> Feature
         ensures { result ≡ ping }
     {
         Feature { name: *b"PING" }
     }
 
-    /// UCMD: the hub offers commands in the client's menus (ADC-EXT, "UCMD").
+    /// Gives UCMD: the hub offers commands in the client's menus (ADC-EXT, "UCMD").
     pub fn ucmd() -> Feature
         ensures { result ≡ ucmd }
     {
         Feature { name: *b"UCMD" }
     }
 
-    /// The feature of a name, a letter A to Z and three letters or digits, where it is one. `BAS0` and `UCM0` are early
-    /// names of BASE and UCMD.
+    /// Gives the feature of a name, a letter A to Z and three letters or digits, where it is one. `BAS0` and `UCM0` are
+    /// early names of BASE and UCMD.
     #[tactic(auto, unfolding(crate::specs::Mentions::feature_named))]
     pub fn named(name: [u8; 4]) -> Option<Feature>
         ensures { result ≡ feature_named name }
@@ -67,7 +67,7 @@ impl Feature {
         Some(Feature { name })
     }
 
-    /// The four characters of its name.
+    /// Gives the four characters of its name.
     pub fn name(self) -> [u8; 4]
         ensures { result ≡ self }
     {

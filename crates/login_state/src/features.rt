@@ -32,7 +32,7 @@ impl Model for Features {
 }
 
 impl Features {
-    /// No feature. Takes no memory.
+    /// Makes the features of a client that has none. Takes no memory.
     ///
     /// `before_any`: these are the features of a client that sent no SUP.
     pub fn new(alloc: Global) -> Features
@@ -118,7 +118,7 @@ fn mentions(alloc: Global, words: Words<'_>) -> Result<Vec<Mention>, AllocError>
     Ok(mentions)
 }
 
-/// The features that the mentions add, and those of `before` that they do not speak of.
+/// Gives the features that the mentions add, and those of `before` that they do not speak of.
 #[tactic(auto, unfolding(crate::specs::Support::supported_after))]
 fn supported_after(
     alloc: Global,
@@ -137,8 +137,8 @@ fn supported_after(
     Ok(names)
 }
 
-/// The features whose last mention adds them, the latest first. A set of those that were seen keeps the time in bounds
-/// that a long line takes.
+/// Gives the features whose last mention adds them, the latest first. A set of those that were seen keeps the time in
+/// bounds that a long line takes.
 fn last_added(
     alloc: Global,
     mentions: Vec<Mention>,

@@ -1,56 +1,56 @@
 /// The finding on a field that a login must have.
 #[derive(Clone, Copy, Debug, PartialEq, Eq)]
 pub enum Required {
-    /// It is not there, or empty.
+    /// The field is not there, or empty.
     Missing,
-    /// It is there, and no value of its kind.
+    /// The field is there, and no value of its kind.
     Bad,
-    /// It is there and valid.
+    /// The field is there and valid.
     Good,
 }
 
 /// The finding on the validity of what was sent. A field that need not be there is valid where it is not.
 #[derive(Clone, Copy, Debug, PartialEq, Eq)]
 pub enum Validity {
-    /// It is not.
+    /// The value is not valid.
     Bad,
-    /// It is.
+    /// The value is valid.
     Good,
 }
 
-/// Whose the identifier is that a client sent.
+/// The finding on whose the identifier is that a client sent.
 #[derive(Clone, Copy, Debug, PartialEq, Eq)]
 pub enum Identity {
     /// The client's own, or none was sent where none need be.
     Own,
-    /// Not the client's.
+    /// Another's than the client's.
     Foreign,
 }
 
 /// The time for which a client is shut out.
 #[derive(Clone, Copy, Debug, PartialEq, Eq)]
 pub enum Ban {
-    /// It is not.
+    /// No time: the client is not shut out.
     Free,
-    /// For good.
+    /// All time: it is shut out for good.
     Ever,
-    /// For so many seconds from now on.
+    /// The next seconds, so many from now on.
     For(u64),
 }
 
 /// The address that a client sent.
 #[derive(Clone, Copy, Debug, PartialEq, Eq)]
 pub enum Address {
-    /// It is the one that the hub sees, or leaves the choice to the hub.
+    /// The address is the one that the hub sees, or leaves the choice to the hub.
     Right,
-    /// It is another than the one that the hub sees, which stands here.
+    /// The address is another than the one that the hub sees, which stands here.
     Wrong([u8; 4]),
 }
 
 /// The users whom the hub lets in.
 #[derive(Clone, Copy, Debug, PartialEq, Eq)]
 pub enum Admission {
-    /// This client.
+    /// The client that asks.
     Admitted,
     /// Accounts alone, and the nick is none's.
     RegisteredOnly,
@@ -59,7 +59,7 @@ pub enum Admission {
 /// The finding on whether another user has what a client wants.
 #[derive(Clone, Copy, Debug, PartialEq, Eq)]
 pub enum Claim {
-    /// Nobody has it.
+    /// No other user has it.
     Free,
     /// A present user has it.
     Taken,
@@ -68,7 +68,7 @@ pub enum Claim {
 /// The finding on a change of nick: that it leaves the nick of an account, or takes one, or neither.
 #[derive(Clone, Copy, Debug, PartialEq, Eq)]
 pub enum Account {
-    /// Neither.
+    /// No account's nick is left or taken.
     Untouched,
     /// The old nick or the new one is an account's, and they differ.
     Touched,
@@ -77,8 +77,8 @@ pub enum Account {
 /// The finding on how many fields a user has once an update is merged.
 #[derive(Clone, Copy, Debug, PartialEq, Eq)]
 pub enum Size {
-    /// They are at most 40.
+    /// The fields are at most 40.
     Fits,
-    /// They are more.
+    /// The fields are more.
     TooMany,
 }

@@ -1,4 +1,4 @@
-//! Who may do what when in an ADC hub, and what they are told when they may not.
+//! The rules of who may do what when in an ADC hub, and what they are told when they may not.
 #![tactic(auto)]
 
 mod asks;

@@ -42,7 +42,7 @@ pub(crate) fn bad_field(severity: Severity, found: Validity, field: InfField) ->
     }
 }
 
-/// A login's identifier must be the hash of its private one.
+/// Denies a login whose identifier is not the hash of its private one.
 pub(crate) fn foreign_pid(identity: Identity) -> Option<Deny>
     ensures { result ≡ foreign_pid identity }
 {
@@ -52,7 +52,7 @@ pub(crate) fn foreign_pid(identity: Identity) -> Option<Deny>
     }
 }
 
-/// An update may not change the identifier.
+/// Denies an update that changes the identifier.
 pub(crate) fn foreign_id(identity: Identity) -> Option<Deny>
     ensures { result ≡ foreign_id identity }
 {
@@ -108,7 +108,7 @@ pub(crate) fn unregistered(admission: Admission) -> Option<Deny>
     }
 }
 
-/// No update leaves the nick of an account, or takes one.
+/// Denies an update that leaves the nick of an account, or takes one.
 pub(crate) fn account_touched(account: Account) -> Option<Deny>
     ensures { result ≡ account_touched account }
 {

@@ -6,15 +6,15 @@ use adc_line::Kind;
 /// The stages through which a connection goes (ADC 1.0, "States").
 #[derive(Clone, Copy, Debug, PartialEq, Eq)]
 pub enum Stage {
-    /// It joined, and has not yet said what it supports.
+    /// The connection joined, and has not yet said what it supports.
     Protocol,
-    /// It said what it supports, and has not yet logged in.
+    /// The connection said what it supports, and has not yet logged in.
     Identify,
-    /// It logged in with the nick of an account, and has yet to give the password.
+    /// The connection logged in with the nick of an account, and has yet to give the password.
     Verify,
-    /// It entered: its user is present.
+    /// The connection entered: its user is present.
     Normal,
-    /// It was shut out; it keeps its place and its outbox until it quits.
+    /// The connection was shut out; it keeps its place and its outbox until it quits.
     Gone,
 }
 

@@ -9,7 +9,7 @@ use crate::lock::Lock;
 use crate::rule::Recorded;
 use crate::seat::{Seat, Seated};
 
-/// There are callers who still have their seats. All that was handed in comes back.
+/// The refusal of a close: there are callers who still have their seats. All that was handed in comes back.
 #[derive(Drop)]
 pub struct NotAlone<S, T: Recorded<E, A>, E, A> {
     pub lock: Lock<T, E, A>,
@@ -45,7 +45,7 @@ impl<T: Recorded<E, A>, E, A> Lock<T, E, A> {
         Ok(self.end(host))
     }
 
-    // The value, once the host has all seats.
+    // Gives the value, once the host has all seats.
     fn end(self, host: Host<T, E, A>) -> T
         requires here { host.home ≡ home_of self }
         requires alone { length host.gathered ≡ host.admitted }

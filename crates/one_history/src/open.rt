@@ -9,9 +9,8 @@ use atomic_table::{Refused, Table};
 use std::alloc::{AllocFailed, Global};
 
 impl<T: Recorded<E, A>, E, A> Lock<T, E, A> {
-    /// A lock over a value that stands at the empty history, and the host, which has admitted
-    /// nobody. `about` is looked at by proofs alone.
-    /// At `AllocFailed` there was no memory, and the value comes back.
+    /// Opens a lock over a value that stands at the empty history, and gives it with the host, which has admitted nobody.
+    /// `about` is looked at by proofs alone. At `AllocFailed` there was no memory, and the value comes back.
     pub fn open(
         alloc: Global,
         value: T,
@@ -40,7 +39,7 @@ impl<T: Recorded<E, A>, E, A> Lock<T, E, A> {
     }
 }
 
-// The one slot, with the value.
+// Makes the one slot, with the value.
 fn filled<T>(alloc: Global, value: T) -> Result<Vec<Option<T>>, AllocFailed<T>>
     ensures ok { IfOk result (λ slots. slots.items ≡ Some value ∷ []) }
     ensures back { IfErr result (λ r. r.value ≡ value) }
@@ -56,7 +55,7 @@ fn filled<T>(alloc: Global, value: T) -> Result<Vec<Option<T>>, AllocFailed<T>>
     }
 }
 
-// The value of the one slot.
+// Gives the value of the one slot.
 fn emptied<T>(mut slots: Vec<Option<T>>) -> T
     requires { (value : T) × (slots.items ≡ Some value ∷ []) }
     ensures { slots.items ≡ Some result ∷ [] }

@@ -7,14 +7,14 @@ use crate::view::View;
 use atomic_table::{Join, Play, Split};
 use std::marker::PhantomData;
 
-// Takes the word and with it the slot, or finds it taken.
+// The step that takes the word and with it the slot, or finds it taken.
 pub(crate) struct Takes;
 
 impl<T: Recorded<E, A>, E, A> Play<Option<T>, View<E, A>> for Takes {
     ghost then = { Tries T.by T.legal T.stands };
 }
 
-// Gives both back with an entry.
+// The step that gives both back with an entry.
 pub(crate) struct Gives<B> {
     entry: PhantomData<B>,
 }
@@ -23,21 +23,21 @@ impl<T: Recorded<E, A>, E, A, B: Told<E>> Play<Option<T>, View<E, A>> for Gives<
     ghost then = { Adds T.by T.legal B.entry };
 }
 
-// Gives both back unchanged.
+// The step that gives both back unchanged.
 pub(crate) struct PutsBack;
 
 impl<T, E, A> Play<Option<T>, View<E, A>> for PutsBack {
     ghost then = { Returns };
 }
 
-// Looks, and changes nothing.
+// The step that looks, and changes nothing.
 pub(crate) struct Looks;
 
 impl<T: Recorded<E, A>, E, A> Play<Option<T>, View<E, A>> for Looks {
     ghost then = { Learns T.by T.legal };
 }
 
-// Splits off a newly admitted caller's seat.
+// The step that splits off a newly admitted caller's seat.
 pub(crate) struct Admits;
 
 impl<E, A> Split<View<E, A>> for Admits {
@@ -46,7 +46,7 @@ impl<E, A> Split<View<E, A>> for Admits {
     ghost right = { newly };
 }
 
-// Joins two callers' seats, and splits them again.
+// The step that joins two callers' seats, and splits them again.
 pub(crate) struct Meets;
 
 impl<E, A> Join<View<E, A>> for Meets {
@@ -61,7 +61,7 @@ impl<E, A> Split<View<E, A>> for Meets {
     ghost right = { right_of };
 }
 
-// Joins a caller's seat to the host's.
+// The step that joins a caller's seat to the host's.
 pub(crate) struct Gathers;
 
 impl<E, A> Join<View<E, A>> for Gathers {

@@ -86,7 +86,7 @@ fn attempt<T: Recorded<E, A>, E, A>(board: &Board<T, E, A>, place: &mut Place<T,
     board.compare_exchange::<Takes>(place, 0, FREE, TAKEN) == FREE
 }
 
-// The same, and where it is taken, whoever gives it back is told that somebody waits.
+// Takes the word if it is free. Where it is taken, whoever gives it back is told that somebody waits.
 fn claim<T: Recorded<E, A>, E, A>(board: &Board<T, E, A>, place: &mut Place<T, E, A>) -> bool
     requires one { IsOne board.now.table_id }
     requires here { place.old.table_id ≡ board.now.table_id }

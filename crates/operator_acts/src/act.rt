@@ -12,33 +12,33 @@ use std::alloc::Global;
 /// An act that an operator asks of the hub, by a text that begins with `!`.
 #[derive(Debug, Drop)]
 pub enum Act<'a> {
-    /// To send a user away, for a reason that may be empty.
+    /// An order to send a user away, for a reason that may be empty.
     Kick {
-        /// Whom.
+        /// The nick of the user.
         nick: Nick,
-        /// Why.
+        /// The reason.
         reason: FreeText<'a>,
     },
-    /// To send a user away and to refuse the logins of its client identifier, for so many seconds,
-    /// or for good where there are 0, for a reason that may be empty.
+    /// An order to send a user away and to refuse the logins of its client identifier, for so many seconds, or for good
+    /// where there are 0, for a reason that may be empty.
     Ban {
-        /// Whom.
+        /// The nick of the user.
         nick: Nick,
-        /// For how many seconds.
+        /// The number of seconds.
         seconds: u32,
-        /// Why.
+        /// The reason.
         reason: FreeText<'a>,
     },
-    /// To let logins of a client identifier in again.
+    /// An order to let logins of a client identifier in again.
     Unban(Cid),
-    /// To set the hub's topic, which may be empty.
+    /// An order to set the hub's topic, which may be empty.
     Topic(FreeText<'a>),
 }
 
 impl<'a> Act<'a> {
-    /// The act that a text asks for, which is not escaped. Its forms, with one blank between the words:
-    /// `!kick NICK [reason]`, `!ban NICK SECONDS [reason]`, `!unban CID`, `!topic [text]`. What follows
-    /// the blank behind the last word before it is the reason or the topic as it stands.
+    /// Reads the act that a text asks for, which is not escaped. Its forms, with one blank between the words:
+    /// `!kick NICK [reason]`, `!ban NICK SECONDS [reason]`, `!unban CID`, `!topic [text]`. What follows the blank behind
+    /// the last word before it is the reason or the topic as it stands.
     ///
     /// NICK is 1 to 64 code points above 32. SECONDS is one to ten digits, up to 4,294,967,295, of
     /// which leading ones may be 0. CID is the 39 base32 digits of 24 bytes.
@@ -67,7 +67,7 @@ impl<'a> Act<'a> {
     }
 }
 
-/// The text before the first blank, and what follows that blank.
+/// Splits a text into what is before the first blank, and what follows that blank.
 fn split_word(text: &str) -> (&str, Option<&str>)
     ensures { words text.now ≡ result.0.now ∷ words_after (option_copied result.1) }
 {

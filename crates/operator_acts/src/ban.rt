@@ -6,7 +6,7 @@ use crate::left::Left;
 /// A ban: from which moment on, and for how many seconds, or for good where there are 0.
 #[derive(Clone, Copy, Debug, PartialEq, Eq)]
 pub struct Ban {
-    /// For how many seconds.
+    /// The number of seconds for which it holds.
     pub seconds: u32,
     /// The moment of the ban, in seconds.
     pub moment: u64,

@@ -34,7 +34,7 @@ impl Model for Bans {
 }
 
 impl Bans {
-    /// No bans. It takes no memory.
+    /// Makes a list of no bans. It takes no memory.
     pub fn new(alloc: Global) -> Bans
         ensures { result ≡ [] }
     {

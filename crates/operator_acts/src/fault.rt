@@ -30,6 +30,6 @@ impl From<NickFault> for ActFault {
 pub enum BanRefused {
     /// Memory ran out.
     Memory = 1,
-    /// As many client identifiers as there may be have a ban, and this is another one.
+    /// The bans are full: as many client identifiers as there may be have one, and this is another one.
     Full = 2,
 }

@@ -30,7 +30,7 @@ impl<'a> FreeText<'a> {
         }
     }
 
-    /// The text, not escaped.
+    /// Gives the text, not escaped.
     pub fn as_str(&self) -> &'a str
         ensures { result.now ≡ self.now }
     {

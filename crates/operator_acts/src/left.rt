@@ -3,8 +3,8 @@
 pub enum Left {
     /// Nothing: there is none, or its time has run out.
     Free,
-    /// So many seconds, at least 1.
+    /// The number of seconds, at least 1.
     For(u64),
-    /// It is for good.
+    /// All time: the ban is for good.
     Ever,
 }

@@ -1,4 +1,5 @@
-//! What operators ask of a hub in a text: to kick, to ban and to unban users, and to set the topic; and the bans that are held.
+//! The acts that operators ask of a hub in a text: to kick, to ban and to unban users, and to set the topic; and the bans
+//! that are held.
 #![tactic(auto)]
 
 mod act;

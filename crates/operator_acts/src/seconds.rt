@@ -5,7 +5,7 @@ ghost use Rattle.operator_acts.specs.Acts.{seconds_at};
 /// The most digits that a number of seconds has.
 const MAX_DIGITS: usize = 10;
 
-/// The number of seconds that one to ten digits write, up to 4,294,967,295.
+/// Reads the number of seconds that one to ten digits write, up to 4,294,967,295.
 #[tactic(auto, unfolding(crate::specs::Acts::seconds_at))]
 pub(crate) fn seconds_at(word: &str) -> Option<u32>
     ensures { result ≡ seconds_at word.now }

@@ -20,7 +20,7 @@ impl Model for Batch {
 }
 
 impl Batch {
-    /// No line. It takes no memory.
+    /// Makes a batch of no line. It takes no memory.
     pub fn new(alloc: Global) -> Batch
         ensures { result ≡ [] }
     {
@@ -59,7 +59,7 @@ impl Batch {
         self.lines.is_empty()
     }
 
-    /// The lines, in order.
+    /// Gives the lines, in order.
     pub(crate) fn into_lines(self) -> Vec<Box<Bytes>>
         ensures { map (λ line. line.value) result.items ≡ self }
     {

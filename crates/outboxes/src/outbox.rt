@@ -17,8 +17,8 @@ const QUIT_BYTES: usize = 10;
 
 /// The lines that wait for a connection, oldest first, within a number of lines and of bytes.
 ///
-/// What one call owes the connection goes in whole or not at all. From the first time on that it does
-/// not fit, the connection lags: nothing goes in any more, and what waits can still be taken.
+/// The lines that one call owes the connection go in whole or not at all. From the first time on that they do not fit, the
+/// connection lags: nothing goes in any more, and what waits can still be taken.
 #[derive(Debug, Drop)]
 pub struct Outbox {
     places: HeapCircularBuffer<Place>,
@@ -41,8 +41,8 @@ impl Model for Outbox {
 }
 
 impl Outbox {
-    /// An empty outbox for at most `cap` lines and `bytes` bytes, line feeds included. All its places are
-    /// made here: 16 bytes for each line, beside 56 of its own. For 1,024 lines it takes 16,440 bytes.
+    /// Makes an empty outbox for at most `cap` lines and `bytes` bytes, line feeds included. All its places are made here:
+    /// 16 bytes for each line, beside 56 of its own. For 1,024 lines it takes 16,440 bytes.
     ///
     /// `Memory` where it runs out.
     pub fn new(alloc: Global, cap: usize, bytes: usize) -> Result<Outbox, OutboxRefused>

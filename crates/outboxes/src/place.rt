@@ -16,14 +16,14 @@ use std::alloc::AllocError;
 pub enum Place {
     /// A line of a batch.
     Line(Box<Bytes>),
-    /// That this user has left.
+    /// The news that this user has left.
     Quit(Sid),
 }
 
 /// The bytes that each place of an outbox takes, whether a line waits there or not.
 pub const PLACE_BYTES: usize = size_of::<Place>();
 
-/// The line by which a user's leaving is told.
+/// Writes the line by which a user's leaving is told.
 pub(crate) fn quit_text(sid: Sid) -> [u8; 10]
     ensures { result ≡ quit_line sid }
 {

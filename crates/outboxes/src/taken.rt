@@ -3,6 +3,6 @@
 pub struct Taken {
     /// The count of lines.
     pub lines: u64,
-    /// Nothing waits any more, and nothing will.
+    /// The end, where it is true: nothing waits any more, and nothing will.
     pub ended: bool,
 }

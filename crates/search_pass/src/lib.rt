@@ -1,4 +1,4 @@
-//! How often a connection may search.
+//! The pass of searches: how often a connection may search.
 #![tactic(auto)]
 
 mod interval;

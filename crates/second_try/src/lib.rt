@@ -1,4 +1,4 @@
-//! What tests do with a call that may be refused memory: they make it once more, and see that it changed nothing.
+//! The second try of a call that may be refused memory: tests make the call once more, and see that it changed nothing.
 #![tactic(auto)]
 
 mod said;

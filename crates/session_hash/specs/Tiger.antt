@@ -47,7 +47,7 @@ less_up i j k x = slice_set x i (sub64 (slice_index x i) (bit_xor (slice_index x
 unfoldable pub less_down : ℕ → ℕ → ℕ → List ℕ → List ℕ
 less_down i j k x = slice_set x i (sub64 (slice_index x i) (bit_xor (slice_index x j) (not_down (slice_index x k) 23)))
 
--- Its two halves, the first assignment innermost.
+-- The two halves of the key schedule, the first assignment innermost.
 unfoldable pub first_half : List ℕ → List ℕ
 first_half x =
     crossed 7 6 (less_down 6 5 4 (added 5 4 (crossed 4 3 (less_up 3 2 1 (added 2 1 (crossed 1 0 (less_key 0 7 0xA5A5A5A5A5A5A5A5 x)))))))

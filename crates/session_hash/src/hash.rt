@@ -6,7 +6,7 @@ pub trait SessionHash {
     /// The digest of some bytes, for the value of the hash.
     ghost digest_of: { Self → List ℕ → List ℕ };
 
-    /// The 24 bytes of the digest. Takes no memory.
+    /// Makes the 24 bytes of the digest. Takes no memory.
     fn digest(&self, bytes: &[u8]) -> [u8; 24]
         ensures { result ≡ digest_of self.now bytes.now };
 }

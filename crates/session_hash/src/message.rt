@@ -11,7 +11,7 @@ use arrayvec::ArrayVec;
 /// The bytes of a block.
 const BLOCK: usize = 64;
 
-/// The digest of a message. `tables` has 1,024 words.
+/// Makes the digest of a message. `tables` has 1,024 words.
 #[tactic(auto, unfolding(crate::specs::Tiger::tiger))]
 pub(crate) fn digest_of(tables: &[u64], message: &[u8]) -> [u8; 24]
     requires { length tables.now ≡ 1024 }
@@ -20,7 +20,7 @@ pub(crate) fn digest_of(tables: &[u64], message: &[u8]) -> [u8; 24]
     bytes_of(absorb(tables, message))
 }
 
-/// The registers' bytes, the lowest of each first.
+/// Gives the registers' bytes, the lowest of each first.
 #[tactic(auto, unfolding(crate::specs::Tiger::bytes_of))]
 fn bytes_of(registers: Registers) -> [u8; 24]
     ensures { result ≡ bytes_of registers }

@@ -14,7 +14,7 @@ use std::marker::Model;
 pub enum TablesFault {
     /// Memory ran out.
     Memory = 1,
-    /// There are not 8,192 bytes.
+    /// The length is wrong: there are not 8,192 bytes.
     Length = 2,
 }
 
@@ -58,8 +58,8 @@ impl Model for TableTiger {
 }
 
 impl TableTiger {
-    /// The tables that 8,192 bytes hold: four of 256 words each, one after another, the lowest byte
-    /// of each word first.
+    /// Makes the tables that 8,192 bytes hold: four of 256 words each, one after another, the lowest byte of each word
+    /// first.
     ///
     /// Refused: `Length` where there are not 8,192 bytes; then `Memory`.
     pub fn from_bytes(alloc: Global, bytes: &[u8]) -> Result<TableTiger, TablesFault>

@@ -75,7 +75,7 @@ fn pass(tables: &[u64], registers: Registers, block: [u64; 8], factor: u64) -> R
     turn(tables, r, block[7], factor)
 }
 
-/// One round, after which the registers are turned: the next takes b, c, a for a, b, c.
+/// Makes one round, after which the registers are turned: the next takes b, c, a for a, b, c.
 #[inline(always)]
 #[tactic(auto, unfolding(crate::specs::Tiger::turned))]
 fn turn(tables: &[u64], r: Registers, word: u64, factor: u64) -> Registers
@@ -125,7 +125,7 @@ fn entry(tables: &[u64], table: usize, byte: usize) -> u64
     tables[256 * table + byte]
 }
 
-/// Byte `k` of a word, 0 the lowest.
+/// Gives byte `k` of a word, 0 the lowest.
 #[inline(always)]
 #[tactic(auto, unfolding(crate::specs::Words::byte_of))]
 fn byte(word: u64, k: u32) -> usize
@@ -160,7 +160,7 @@ fn mul(x: u64, y: u64) -> u64
     x.wrapping_mul(y)
 }
 
-/// The first half of the key schedule.
+/// Makes the first half of the key schedule.
 #[inline(always)]
 #[tactic(auto, unfolding(crate::specs::Tiger::first_half))]
 fn first_half(x: [u64; 8]) -> [u64; 8]
@@ -176,7 +176,7 @@ fn first_half(x: [u64; 8]) -> [u64; 8]
     crossed(x, 7, 6)
 }
 
-/// The second half of the key schedule.
+/// Makes the second half of the key schedule.
 #[inline(always)]
 #[tactic(auto, unfolding(crate::specs::Tiger::second_half))]
 fn second_half(x: [u64; 8]) -> [u64; 8]

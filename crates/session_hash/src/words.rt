@@ -2,7 +2,7 @@ ghost use Rattle.std.specs.Prelude.{◌≡◌, ◌+◌, ◌≤◌, length, take,
 ghost use Rattle.std.specs.Int.{w64, from_le_bytes};
 ghost use Rattle.session_hash.specs.Tables.{words_from};
 
-/// The word that the first eight bytes make, the lowest first, and the bytes after them.
+/// Reads the word that the first eight bytes make, the lowest first, and gives the bytes after them.
 pub(crate) fn first_word(bytes: &[u8]) -> (u64, &[u8])
     requires { 8 ≤ length bytes.now }
     ensures word { result.0 ≡ from_le_bytes w64 (take 8 bytes.now) }
@@ -15,7 +15,7 @@ pub(crate) fn first_word(bytes: &[u8]) -> (u64, &[u8])
     (u64::from_le_bytes(word), rest)
 }
 
-/// The eight words of a block of 64 bytes, the lowest byte of each first.
+/// Reads the eight words of a block of 64 bytes, the lowest byte of each first.
 #[tactic(auto, unfolding(crate::specs::Tables::words_from))]
 pub fn block_words(bytes: &[u8]) -> [u64; 8]
     requires { length bytes.now ≡ 64 }

@@ -12,8 +12,8 @@ const TIMES: u8 = 5;
 /// The words of a table.
 const TABLE: usize = 256;
 
-/// The bytes of Tiger's four tables, the lowest byte of each word first: made from nothing by the
-/// procedure that the makers of Tiger published.
+/// Makes the bytes of Tiger's four tables, the lowest byte of each word first: from nothing, by the procedure that the
+/// makers of Tiger published.
 pub(crate) fn bytes(alloc: Global) -> Result<Vec<u8>, AllocError>
     ensures { IfOk result (λ bytes. length bytes.items ≡ 8192) }
 {
@@ -25,9 +25,9 @@ pub(crate) fn bytes(alloc: Global) -> Result<Vec<u8>, AllocError>
     Ok(bytes)
 }
 
-/// Each byte of the words begins as the word's number in its table. Then, table by table and column
-/// by column, bytes change places, as the registers say; after three registers are used up, Tiger's
-/// own block step makes new ones with the tables as they stand.
+/// Makes the words of the tables. Each byte of the words begins as the word's number in its table. Then, table by table and
+/// column by column, bytes change places, as the registers say. After three registers are used up, Tiger's own block step
+/// makes new ones with the tables as they stand.
 fn words(alloc: Global) -> Result<Vec<u64>, AllocError>
     ensures { IfOk result (λ words. length words.items ≡ 1024) }
 {
@@ -68,7 +68,7 @@ fn stir(words: &mut [u64], stirred: &mut Stirred)
     }
 }
 
-/// The register to use next.
+/// Gives the register to use next.
 fn next_register(words: &[u64], stirred: &mut Stirred) -> u64
     requires { length words.now ≡ 1024 }
 {

@@ -3,7 +3,7 @@ use session_hash::{SessionHash, TableTiger};
 use std::alloc::Global;
 use std::process::Abort;
 
-/// Tiger with its makers' tables. Where memory is refused, all is tried once more.
+/// Makes Tiger with its makers' tables. Where memory is refused, all is tried once more.
 fn tiger(rt: &impl Abort, alloc: Global) -> TableTiger {
     let bytes = match tables::bytes(alloc) {
         Ok(bytes) => bytes,

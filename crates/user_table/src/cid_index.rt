@@ -25,7 +25,7 @@ impl Model for CidIndex {
 }
 
 impl CidIndex {
-    /// Nobody has a client identifier. Takes no memory.
+    /// Makes an index in which nobody has a client identifier. Takes no memory.
     pub(crate) fn new(alloc: Global) -> CidIndex
         ensures { result ≡ [] }
     {

@@ -43,7 +43,7 @@ pub(crate) fn by_key<'a>(users: &'a [User], key: &str) -> Option<&'a User>
     None
 }
 
-/// The place of the user with a session identifier.
+/// Finds the place of the user with a session identifier.
 #[tactic(auto, unfolding(crate::specs::Places::place_from))]
 pub(crate) fn place_of(users: &[User], sid: Sid) -> Option<usize>
     ensures { result ≡ place_from (has_sid sid) 0 users.now }

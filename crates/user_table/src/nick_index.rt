@@ -24,7 +24,7 @@ impl Model for NickIndex {
 }
 
 impl NickIndex {
-    /// Nobody has a nick. Takes no memory.
+    /// Makes an index in which nobody has a nick. Takes no memory.
     pub(crate) fn new(alloc: Global) -> NickIndex
         ensures { result ≡ [] }
     {

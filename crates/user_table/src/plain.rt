@@ -110,7 +110,7 @@ fn is_cid_taken(users: &[User], user: &User) -> bool
     by_cid(users, user.cid()).is_some()
 }
 
-/// The key of the nick that is given.
+/// Gives the key of the nick that is given.
 fn key_of(alloc: Global, nick: &Option<Nick>) -> Result<Option<String>, AllocError>
     ensures { IfOk result (λ key. option_map string_bytes key ≡ given_key nick.now) }
 {

@@ -8,9 +8,9 @@ use std::alloc::AllocError;
 pub enum TableRefused {
     /// Memory ran out.
     Memory = 1,
-    /// Another user has the nick.
+    /// The nick is taken by another user.
     NickTaken = 2,
-    /// Another user has the client identifier.
+    /// The client identifier is taken by another user.
     CidTaken = 3,
 }
 

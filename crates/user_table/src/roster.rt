@@ -36,7 +36,7 @@ impl Model for Roster {
 }
 
 impl Roster {
-    /// No users. Takes no memory.
+    /// Makes a roster with no users. Takes no memory.
     pub(crate) fn new(alloc: Global) -> Roster
         ensures { result ≡ [] }
     {
@@ -55,14 +55,14 @@ impl Roster {
         *self.users.allocator()
     }
 
-    /// The user with a session identifier. Takes no memory.
+    /// Gives the user with a session identifier. Takes no memory.
     pub(crate) fn get(&self, sid: Sid) -> Option<&User>
         ensures { option_copied result ≡ user_by_sid sid self.now }
     {
         self.users.get(&sid)
     }
 
-    /// The user at a place in the order of entry. Takes no memory.
+    /// Gives the user at a place in the order of entry. Takes no memory.
     pub(crate) fn at(&self, place: usize) -> Option<&User>
         ensures { option_copied result ≡ slice_get self.now place }
     {

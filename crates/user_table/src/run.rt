@@ -36,11 +36,10 @@ impl From<AllocError> for RunRefused {
 
 /// Makes each command in turn, and answers each at its place.
 ///
-/// A command whose condition does not hold at its turn is answered with `Skipped` and changes nothing:
-/// an entry whose session identifier is in the table, an update of nobody or of one who has no room
-/// for it, and an update with a nick that is not what its field NI says, as nicks are compared
-/// (ADC 1.0, "INF"). A command for which memory runs out is answered with `Refused(Memory)` and
-/// changes nothing; the commands behind it are made.
+/// A command whose condition does not hold at its turn is answered with `Skipped` and changes nothing. Such are an entry
+/// whose session identifier is in the table, and an update of nobody or of one who has no room for it. So is an update with
+/// a nick that is not what its field NI says, as nicks are compared (ADC 1.0, "INF"). A command for which memory runs out
+/// is answered with `Refused(Memory)` and changes nothing; the commands behind it are made.
 ///
 /// Refused with `Memory` where there is no room for the answers; then no command was made.
 pub fn run_users<U: Users>(
@@ -143,7 +142,7 @@ fn says_nick(alloc: Global, update: &Update, nick: &Option<Nick>) -> Result<bool
     }
 }
 
-/// The key of the nick that an update says.
+/// Gives the key of the nick that an update says.
 fn said_key(alloc: Global, update: &Update) -> Result<Option<String>, AllocError>
     ensures { IfOk result (λ key. option_map string_bytes key ≡ said_key update.now) }
 {

@@ -36,8 +36,8 @@ impl Model for User {
 }
 
 impl User {
-    /// The user with a session identifier, a client identifier, the key of the nick as `Nick::key`
-    /// gives it, and the fields that are known.
+    /// Makes the user with a session identifier, a client identifier, the key of the nick as `Nick::key` gives it, and the
+    /// fields that are known.
     pub fn new(sid: Sid, cid: Cid, key: String, fields: Fields) -> User
         ensures sid { result.sid ≡ sid }
         ensures cid { result.cid ≡ cid }
@@ -52,21 +52,21 @@ impl User {
         }
     }
 
-    /// The session identifier.
+    /// Gives the session identifier.
     pub fn sid(&self) -> Sid
         ensures { result ≡ self.now.sid }
     {
         self.sid
     }
 
-    /// The client identifier.
+    /// Gives the client identifier.
     pub fn cid(&self) -> Cid
         ensures { result ≡ self.now.cid }
     {
         self.cid
     }
 
-    /// The key of the nick, by which nicks are compared.
+    /// Gives the key of the nick, by which nicks are compared.
     pub fn key(&self) -> &str
         ensures { result.now ≡ self.now.key }
     {
@@ -129,7 +129,7 @@ impl User {
     }
 }
 
-/// The number that a field gives, or 0.
+/// Gives the number that a field gives, or 0.
 fn amount(fields: &Fields, name: FieldName) -> u64
     ensures { result ≡ amount name fields.now }
 {

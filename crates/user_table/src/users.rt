@@ -17,15 +17,15 @@ use std::alloc::Global;
 pub trait Users: Drop {
     ghost listed: { Self → List Listed };
 
-    /// A table with no users. Takes no memory.
+    /// Makes a table with no users. Takes no memory.
     fn new(alloc: Global) -> Self
         ensures { listed result ≡ [] };
 
     /// Puts a user behind the others, whose session identifier nobody in the table may have.
     ///
-    /// Refused with the first of these that applies, and then the user comes back and the table is
-    /// as before: `NickTaken` where somebody has the same nick, `CidTaken` where somebody has the
-    /// client identifier (ADC 1.0, "STA", codes 22 and 24), `Memory` where memory runs out.
+    /// Refused with the first of these that applies, and then the user comes back and the table is as before. These are
+    /// `NickTaken` where somebody has the same nick, `CidTaken` where somebody has the client identifier (ADC 1.0, "STA",
+    /// codes 22 and 24), `Memory` where memory runs out.
     fn insert(&mut self, user: User) -> Result<(), (TableRefused, User)>
         requires absent { user_by_sid user.sid (listed self.old) ≡ None }
         ensures entered { OnOk result (entered user (listed self.old) ≡ Ok (listed self.new)) }
@@ -56,22 +56,22 @@ pub trait Users: Drop {
         ensures refused { IfErr result (λ refused. Refuses refused (renewed sid update.now (given_key nick) (listed self.old))) }
         ensures unchanged { OnErr result (listed self.new ≡ listed self.old) };
 
-    /// The user with a session identifier. Takes no memory.
+    /// Finds the user with a session identifier. Takes no memory.
     fn by_sid(&self, sid: Sid) -> Option<&User>
         ensures found { option_copied result ≡ user_by_sid sid (listed self.now) }
         ensures distinct { AreDistinct (listed self.now) };
 
-    /// The user with a client identifier. Takes no memory.
+    /// Finds the user with a client identifier. Takes no memory.
     fn by_cid(&self, cid: Cid) -> Option<&User>
         ensures found { option_copied result ≡ user_by_cid cid (listed self.now) }
         ensures distinct { AreDistinct (listed self.now) };
 
-    /// The user whose nick has this key, which is what `Nick::key` gives. Takes no memory.
+    /// Finds the user whose nick has this key, which is what `Nick::key` gives. Takes no memory.
     fn by_nick(&self, key: &str) -> Option<&User>
         ensures found { option_copied result ≡ user_by_key key.now (listed self.now) }
         ensures distinct { AreDistinct (listed self.now) };
 
-    /// The user at a place in the order of entry, from 0, or `None` past the last. Takes no memory.
+    /// Gives the user at a place in the order of entry, from 0, or `None` past the last. Takes no memory.
     fn at(&self, place: usize) -> Option<&User>
         ensures { option_copied result ≡ slice_get (listed self.now) place };
 

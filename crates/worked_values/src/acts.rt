@@ -9,7 +9,7 @@ use std::alloc::{AllocGlobal, Global};
 use std::io::Print;
 use std::process::Abort;
 
-/// What operators write.
+/// The texts that operators write.
 #[derive(Drop)]
 pub(crate) struct Acts;
 
@@ -69,7 +69,7 @@ fn say_text(rt: &impl Abort, said: &mut Vec<u8>, text: &FreeText<'_>) {
     say(rt, said, text.as_str());
 }
 
-/// Bans. A client identifier is told by its first byte and its last, with zeros between.
+/// The bans. A client identifier is told by its first byte and its last, with zeros between.
 #[derive(Drop)]
 pub(crate) struct BanList {
     pub(crate) bans: Bans,
@@ -93,7 +93,7 @@ impl Part for BanList {
     }
 }
 
-/// The client identifier that two numbers tell, and what stands behind them.
+/// Reads the client identifier that two numbers tell, and gives what stands behind them.
 fn cid_of<'t>(rt: &impl Abort, text: &'t str) -> (Cid, &'t str) {
     let mut bytes = [0; 24];
     let (first, rest) = pair(text, ' ');
@@ -103,7 +103,7 @@ fn cid_of<'t>(rt: &impl Abort, text: &'t str) -> (Cid, &'t str) {
     (Cid::from_bytes(bytes), rest)
 }
 
-/// What is left of the one ban before it is set and then, and of two others.
+/// Says what is left of the one ban before it is set and then, and of two others.
 fn alone(rt: &(impl Abort + AllocGlobal + Print), text: &str, said: &mut Vec<u8>) {
     let (seconds, rest) = pair(text, ' ');
     let (from, now) = pair(rest, ' ');
@@ -140,7 +140,7 @@ impl BanList {
         }
     }
 
-    /// Where memory is refused all is as before, and the ban is added again.
+    /// Adds a ban. Where memory is refused all is as before, and the ban is added again.
     fn add(
         &mut self,
         rt: &(impl Abort + Print),

@@ -45,7 +45,7 @@ fn say_sid_number(rt: &(impl Abort + AllocGlobal), said: &mut Vec<u8>, sid: Opti
     }
 }
 
-/// The next identifier after a number where those from a number up to another are taken.
+/// Says the next identifier after a number where those from a number up to another are taken.
 fn next(rt: &(impl Abort + AllocGlobal), text: &str, said: &mut Vec<u8>) {
     let (last, range) = pair(text, ' ');
     let (from, to) = pair(range, ' ');
@@ -234,7 +234,7 @@ fn spells_24_bytes(rt: HostRuntime) {
 
 #[test]
 fn gives_the_next_identifier(rt: HostRuntime) {
-    // What is taken: the numbers from the second up to the third, and identifier 0.
+    // Taken are the numbers from the second up to the third, and identifier 0.
     play(
         &rt,
         &mut Base32,

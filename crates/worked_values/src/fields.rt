@@ -7,7 +7,7 @@ use std::alloc::{AllocError, AllocGlobal};
 use std::io::Print;
 use std::process::Abort;
 
-/// What a user says, and what is known of the user.
+/// The words that a user says, and the fields that are known of the user.
 #[derive(Drop)]
 pub(crate) struct User {
     fields: Fields,
@@ -39,12 +39,12 @@ impl Part for User {
     }
 }
 
-/// What an update tells of a field.
+/// Says what an update tells of a field.
 fn told(rt: &(impl Abort + AllocGlobal + Print), name: &str, line: &str, said: &mut Vec<u8>) {
     say_value(rt, said, update(rt, line).get(field(rt, name)));
 }
 
-/// The update that the words of a line say; a line without letters has no words.
+/// Reads the update that the words of a line say; a line without letters has no words.
 fn read(rt: &(impl Abort + AllocGlobal + Print), line: &str) -> Result<Update, InfFault> {
     if line.is_empty() {
         return read_words(rt, &[]);
@@ -57,7 +57,7 @@ fn read_words(rt: &(impl Abort + AllocGlobal + Print), words: &[&str]) -> Result
     twice!(rt; "inf_fields::Update::read", InfFault::Memory, Update::read(rt.alloc(), words))
 }
 
-/// An update that is one.
+/// Reads an update that is one.
 pub(crate) fn update(rt: &(impl Abort + AllocGlobal + Print), line: &str) -> Update {
     match read(rt, line) {
         Ok(update) => update,
@@ -94,7 +94,7 @@ fn say_update(rt: &(impl Abort + AllocGlobal + Print), said: &mut Vec<u8>, updat
     }
 }
 
-/// An update as it is passed on from an address.
+/// Makes an update as it is passed on from an address.
 fn cleaned(rt: &(impl Abort + AllocGlobal + Print), update: &Update, peer: [u8; 4]) -> Update {
     match twice!(rt; "inf_fields::Update::clean", InfFault::Memory, update.clean(rt.alloc(), peer))
     {
@@ -119,7 +119,7 @@ pub(crate) fn printed(rt: &(impl Abort + AllocGlobal + Print), fields: &Fields) 
     }
 }
 
-/// The field that is told by what it is for, or by its name.
+/// Names the field that is told by what it is for, or by its name.
 fn field(rt: &impl Abort, told: &str) -> FieldName {
     match told {
         "nick" => FieldName::nick(),
@@ -200,7 +200,7 @@ impl User {
     }
 }
 
-/// What is known of a user who said a line.
+/// Gives what is known of a user who said a line.
 pub(crate) fn merged(rt: &(impl Abort + AllocGlobal + Print), line: &str) -> Fields {
     let update = update(rt, line);
     let mut fields = Fields::new(rt.alloc());

@@ -4,7 +4,7 @@ use std::alloc::{AllocGlobal, Global};
 use std::io::Print;
 use std::process::Abort;
 
-/// Hashes of sessions.
+/// The hashes of sessions.
 #[derive(Drop)]
 pub(crate) struct Hashes;
 
@@ -30,7 +30,7 @@ impl Part for Hashes {
     }
 }
 
-/// The hash whose tables are so many bytes 0.
+/// Makes the hash whose tables are so many bytes 0.
 fn tables(
     rt: &(impl Abort + AllocGlobal + Print),
     length: usize,
@@ -42,7 +42,7 @@ fn tables(
     twice!(rt; "session_hash::TableTiger::from_bytes", TablesFault::Memory, TableTiger::from_bytes(rt.alloc(), zeros))
 }
 
-/// Whether the same tables give the same digest.
+/// Says whether the same tables give the same digest.
 fn equal(rt: &(impl Abort + AllocGlobal + Print), said: &mut Vec<u8>) {
     let (Ok(one), Ok(other)) = (tables(rt, 8192), tables(rt, 8192)) else {
         unknown(rt, "tables")

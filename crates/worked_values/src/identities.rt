@@ -31,7 +31,7 @@ impl Part for Identities {
     }
 }
 
-/// What a text says as a client identifier, and the same as a private one.
+/// Says what a text says as a client identifier, and the same as a private one.
 fn identifier(rt: &impl Abort, text: &[u8], said: &mut Vec<u8>) {
     match (Cid::parse(text), Pid::parse(text)) {
         (Some(cid), Some(pid)) => {
@@ -49,7 +49,7 @@ fn parsed(rt: &(impl Abort + AllocGlobal + Print), text: &str) -> Result<Nick, N
     twice!(rt; "adc_ids::Nick::parse", NickFault::Memory, Nick::parse(rt.alloc(), text))
 }
 
-/// A nick that is one.
+/// Reads a nick that is one.
 pub(crate) fn nick(rt: &(impl Abort + AllocGlobal + Print), text: &str) -> Nick {
     match parsed(rt, text) {
         Ok(nick) => nick,
@@ -64,7 +64,7 @@ pub(crate) fn key(rt: &(impl Abort + AllocGlobal + Print), nick: &Nick) -> Strin
     }
 }
 
-/// Whether two nicks have one key.
+/// Says whether two nicks have one key.
 fn alike(rt: &(impl Abort + AllocGlobal + Print), text: &str, said: &mut Vec<u8>) {
     let (one, other) = pair(text, ' ');
     let (one, other) = (key(rt, &nick(rt, one)), key(rt, &nick(rt, other)));

@@ -39,7 +39,7 @@ fn parsed(rt: &(impl Abort + AllocGlobal + Print), bytes: &[u8]) -> Result<Line,
     twice!(rt; "adc_line::Line::parse", LineFault::Memory, Line::parse(rt.alloc(), bytes))
 }
 
-/// A line that is one.
+/// Reads a line that is one.
 pub(crate) fn line(rt: &(impl Abort + AllocGlobal + Print), bytes: &[u8]) -> Line {
     match parsed(rt, bytes) {
         Ok(line) => line,
@@ -58,7 +58,8 @@ fn fault_name(fault: LineFault) -> &'static str {
     }
 }
 
-/// The kind, command, sender, target and features of a line, `-` for each that it has not, and `;` before each parameter.
+/// Says the kind, command, sender, target and features of a line, `-` for each that it has not, and `;` before each
+/// parameter.
 fn say_line(rt: &impl Abort, said: &mut Vec<u8>, line: &Line, text: &str) {
     assert!(rt; line.text() == text, "{text}");
     say(rt, said, kind_name(line.kind()));

@@ -9,7 +9,7 @@ use std::alloc::{AllocError, AllocGlobal};
 use std::io::Print;
 use std::process::Abort;
 
-/// How a check ends: the line of the denial, if any.
+/// Says how a check ends: the line of the denial, if any.
 fn say_check(rt: &(impl Abort + AllocGlobal + Print), said: &mut Vec<u8>, check: Check) {
     match check {
         Check::Go => say(rt, said, "Go"),
@@ -17,7 +17,7 @@ fn say_check(rt: &(impl Abort + AllocGlobal + Print), said: &mut Vec<u8>, check:
     }
 }
 
-/// The line of a denial without its line feed. It is fatal where the first digit of its code is 2.
+/// Says the line of a denial without its line feed. It is fatal where the first digit of its code is 2.
 fn say_denial(rt: &(impl Abort + AllocGlobal + Print), said: &mut Vec<u8>, deny: Deny) {
     let Ok(line) = twice!(rt; "login_state::Deny::line", AllocError, deny.line(rt.alloc())) else {
         unknown(rt, "line")
@@ -90,7 +90,7 @@ fn command(rt: &impl Abort, word: &str) -> [u8; 3] {
     }
 }
 
-/// Those of some heads of lines, as `BMSG`, that are allowed at a stage.
+/// Says which of some heads of lines, as `BMSG`, are allowed at a stage.
 fn allowed(rt: &impl Abort, stage: Stage, heads: &str, said: &mut Vec<u8>) {
     for head in heads.split(' ') {
         let (Some(letter), Some(word)) = (head.get(..1), head.get(1..)) else {
@@ -102,7 +102,7 @@ fn allowed(rt: &impl Abort, stage: Stage, heads: &str, said: &mut Vec<u8>) {
     }
 }
 
-/// Those of some commands of a kind that clients may not send.
+/// Says which of some commands of a kind clients may not send.
 fn hub_commands(rt: &impl Abort, text: &str, said: &mut Vec<u8>) {
     let (letter, words) = pair(text, ' ');
     for word in words.split(' ') {

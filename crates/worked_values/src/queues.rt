@@ -49,7 +49,7 @@ fn sid(rt: &impl Abort, number: u32) -> Sid {
     }
 }
 
-/// An outbox for so many lines and bytes.
+/// Makes an outbox for so many lines and bytes.
 fn room(rt: &(impl Abort + AllocGlobal + Print), text: &str) -> Outbox {
     let (cap, bytes) = pair(text, ' ');
     outbox(rt, number(rt, cap) as usize, number(rt, bytes) as usize)
@@ -63,7 +63,7 @@ pub(crate) fn outbox(rt: &(impl Abort + AllocGlobal + Print), cap: usize, bytes:
     }
 }
 
-/// Lines, each with its line feed, between `;`.
+/// Makes a batch of lines, each with its line feed, between `;`.
 fn batch(rt: &(impl Abort + AllocGlobal + Print), lines: &str) -> Batch {
     let mut batch = Batch::new(rt.alloc());
     for line in lines.split(';') {
@@ -91,7 +91,7 @@ fn push(rt: &(impl Abort + Print), batch: &mut Batch, line: &Bytes) {
     }
 }
 
-/// A batch of the same lines.
+/// Makes a batch of the same lines.
 fn copied(rt: &(impl Abort + AllocGlobal + Print), batch: &Batch) -> Batch {
     let mut copy = Batch::new(rt.alloc());
     if copy.push_all(batch).is_err() {
@@ -109,7 +109,7 @@ impl Queue {
         }
     }
 
-    /// So many lines, which all that was taken so far stands behind.
+    /// Takes so many lines, and says how many they were, and behind that all that was taken so far.
     fn takes(&mut self, rt: &(impl Abort + AllocGlobal + Print), count: usize, said: &mut Vec<u8>) {
         let ended = self.take(rt, count, said);
         say(rt, said, if ended { " last;" } else { ";" });
@@ -131,7 +131,7 @@ impl Queue {
         ended
     }
 
-    /// Where memory is refused all is as before, and it takes again.
+    /// Takes lines. Where memory is refused all is as before, and it takes again.
     fn take_some(&mut self, rt: &(impl Abort + Print), count: usize) -> Taken
         requires some { 1 ≤ count }
         requires few { count ≤ 256 }
@@ -236,7 +236,7 @@ fn writes_quits_as_lines(rt: HostRuntime) {
 
 #[test]
 fn counts_ten_bytes_for_a_quit(rt: HostRuntime) {
-    // How many lines and bytes may wait, and how many of three quits do.
+    // A row has how many lines and bytes may wait, and how many of three quits do.
     play_queue(
         &rt,
         "

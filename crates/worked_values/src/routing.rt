@@ -6,7 +6,7 @@ use std::alloc::{AllocError, AllocGlobal};
 use std::io::Print;
 use std::process::Abort;
 
-/// Whom a line is for.
+/// The users for whom a line is.
 #[derive(Drop)]
 pub(crate) struct Routing;
 
@@ -39,7 +39,7 @@ fn set(rt: &(impl Abort + AllocGlobal + Print), su: &str) -> FeatureSet {
     }
 }
 
-/// Whether a feature word matches who supports these features; by their names and by their set the same.
+/// Says whether a feature word matches who supports these features; by their names and by their set the same.
 fn matched(rt: &(impl Abort + AllocGlobal + Print), text: &str, said: &mut Vec<u8>) {
     let (word, su) = pair(text, ' ');
     let Some(want) = Want::parse(word) else {
@@ -53,7 +53,8 @@ fn matched(rt: &(impl Abort + AllocGlobal + Print), text: &str, said: &mut Vec<u
     say_whether(rt, said, is_matched);
 }
 
-/// Who of three users hears a line: ana (AAAB) with TCP4 and SEGA, bob (AAAC) with these features, and cy (AAAD) with none.
+/// Says who of three users hears a line: ana (AAAB) with TCP4 and SEGA, bob (AAAC) with these features, and cy (AAAD) with
+/// none.
 fn hearers(
     rt: &(impl Abort + AllocGlobal + Print),
     bytes: &[u8],
@@ -85,7 +86,7 @@ fn hearers(
     }
 }
 
-/// Those whom a line is for by name, where its target is present.
+/// Says for whom a line is by name, where its target is present.
 fn named(rt: &(impl Abort + AllocGlobal + Print), bytes: &[u8], said: &mut Vec<u8>) {
     match audience(&line(rt, bytes), true) {
         Audience::One(sid) => say_number(rt, said, sid.number() as u128),

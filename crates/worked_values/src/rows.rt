@@ -1,15 +1,16 @@
 //! Rows that are told as text: a call, ` -> ` and what it answers. Blank lines, and blanks around a row, say nothing. A row whose answer is
 //! another stops the test.
 //!
-//! A call is a name and what it is given, of which what stands between `<` and `>` is spelt: `x0a` is a byte by its number in two hexadecimal
-//! digits, `24*x00` and `64*a` are so many of it, and nothing is no byte. Answers are spelt likewise.
+//! A call is a name and what it is given, of which what stands between `<` and `>` is spelt. There `x0a` is a byte by its
+//! number in two hexadecimal digits, `24*x00` and `64*a` are so many of it, and nothing is no byte. Answers are spelt
+//! likewise.
 
 use second_try::{again, tell};
 use std::alloc::{AllocGlobal, Global};
 use std::io::Print;
 use std::process::Abort;
 
-/// What a row calls.
+/// A part of the rows: what a row calls.
 pub(crate) trait Part {
     /// Makes the call with this name and writes what it answers. What it is given comes as bytes, and as text where it is UTF-8, else "".
     fn call<R: Abort + AllocGlobal + Print>(
@@ -53,7 +54,7 @@ fn play_row<R: Abort + AllocGlobal + Print, P: Part>(rt: &R, part: &mut P, row: 
     }
 }
 
-/// What stands before and behind the first such letter; nothing is behind it where it does not stand there.
+/// Splits a text at the first such letter; nothing is behind it where it does not stand there.
 pub(crate) fn pair(text: &str, at: char) -> (&str, &str) {
     match text.split_once(at) {
         Some(both) => both,
@@ -61,7 +62,7 @@ pub(crate) fn pair(text: &str, at: char) -> (&str, &str) {
     }
 }
 
-/// The bytes that a text spells.
+/// Gives the bytes that a text spells.
 fn spell(rt: &impl Abort, alloc: Global, text: &str) -> Vec<u8> {
     let mut bytes = Vec::new(alloc);
     let mut is_front = true;
@@ -106,7 +107,7 @@ pub(crate) fn number(rt: &impl Abort, text: &str) -> u64 {
     }
 }
 
-/// A number below 2^32.
+/// Reads a number below 2^32.
 pub(crate) fn small(rt: &impl Abort, text: &str) -> u32 {
     match text.parse::<u32>() {
         Ok(number) => number,
@@ -140,7 +141,7 @@ pub(crate) fn say_whether(rt: &impl Abort, said: &mut Vec<u8>, is_so: bool) {
     say(rt, said, if is_so { "yes" } else { "no" });
 }
 
-/// The word behind what was said before, if that is anything.
+/// Says the word behind what was said before, if that is anything.
 pub(crate) fn say_next(rt: &impl Abort, said: &mut Vec<u8>, text: &str) {
     if !said.is_empty() {
         say(rt, said, " ");

@@ -4,7 +4,8 @@ use std::alloc::AllocGlobal;
 use std::io::Print;
 use std::process::Abort;
 
-/// Whether a user may search: a row has the moment of the last search, the present moment and the interval, all in seconds.
+/// The rows of whether a user may search: each has the moment of the last search, the present moment and the interval, all
+/// in seconds.
 #[derive(Drop)]
 struct Searches;
 

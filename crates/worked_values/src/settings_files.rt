@@ -6,7 +6,7 @@ use std::io::Print;
 use std::net::{Ipv4Addr, SocketAddrV4};
 use std::process::Abort;
 
-/// What a settings file says, which is read at the moment 7.
+/// The settings that a file says, which is read at the moment 7.
 #[derive(Drop)]
 pub(crate) struct File {
     settings: Settings,
@@ -111,7 +111,7 @@ fn say_address(rt: &impl Abort, said: &mut Vec<u8>, address: SocketAddrV4) {
     }
 }
 
-/// So many entries of a list.
+/// Writes so many entries of a list.
 fn listed(alloc: Global, count: u32, what: &str) -> Result<String, AllocError> {
     let mut text = String::new(alloc);
     for number in 0..count {

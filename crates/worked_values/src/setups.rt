@@ -9,7 +9,7 @@ use std::alloc::AllocGlobal;
 use std::io::Print;
 use std::process::Abort;
 
-/// A hub of this name, with no accounts and no menu, for one connection.
+/// Gives the options of a hub of this name, with no accounts and no menu, for one connection.
 fn options<'a>(name: &'a str) -> Options<'a> {
     Options {
         name,
@@ -46,7 +46,7 @@ fn set_up(
     twice!(rt; "hub_setup::Setup::new", SetupRefused::Memory, Setup::new(rt.alloc(), options))
 }
 
-/// What is no fault.
+/// Makes a setup of options that have no fault.
 fn setup(rt: &(impl Abort + AllocGlobal + Print), options: &Options<'_>) -> Setup {
     match set_up(rt, options) {
         Ok(setup) => setup,
@@ -54,7 +54,7 @@ fn setup(rt: &(impl Abort + AllocGlobal + Print), options: &Options<'_>) -> Setu
     }
 }
 
-/// A line without its line feed.
+/// Says a line without its line feed.
 fn say_line(rt: &impl Abort, said: &mut Vec<u8>, line: &Bytes) {
     match line.as_slice().split_last() {
         Some((b'\n', text)) => say_bytes(rt, said, text),

@@ -46,7 +46,7 @@ impl<U: Users> Part for UserTable<U> {
     }
 }
 
-/// What the numbers of a session identifier and of a client identifier, a nick and a line say of a user.
+/// Makes the user that the numbers of a session identifier and of a client identifier, a nick and a line describe.
 fn entering(rt: &(impl Abort + AllocGlobal + Print), text: &str) -> User {
     let (number, rest) = pair(text, ' ');
     let (cid, rest) = pair(rest, ' ');
@@ -75,7 +75,7 @@ fn say_found(rt: &(impl Abort + AllocGlobal), said: &mut Vec<u8>, user: Option<&
 }
 
 impl<U: Users> UserTable<U> {
-    /// A user enters. Each refusal changes nothing, and one for memory is not repeated.
+    /// Enters a user. Each refusal changes nothing, and one for memory is not repeated.
     fn enters(&mut self, rt: &(impl Abort + AllocGlobal + Print), user: User, said: &mut Vec<u8>) {
         let before = seen(rt, &self.users);
         let answer = match self.inserts(rt, user) {
@@ -111,8 +111,8 @@ impl<U: Users> UserTable<U> {
         self.users.insert(user)
     }
 
-    /// The user with a number says a line, and gets a nick unless that is empty. Each refusal changes nothing, and one for memory is not
-    /// repeated.
+    /// Says a line for the user with a number, who gets a nick unless that is empty. Each refusal changes nothing, and one
+    /// for memory is not repeated.
     fn says(
         &mut self,
         rt: &(impl Abort + AllocGlobal + Print),
@@ -160,7 +160,7 @@ impl<U: Users> UserTable<U> {
         self.users.merge_info(sid, &update, given).err()
     }
 
-    /// A nick, and then what the user says.
+    /// Says for a user the line behind a nick, which the user gets.
     fn renames(&mut self, rt: &(impl Abort + AllocGlobal + Print), text: &str, said: &mut Vec<u8>) {
         let (name, rest) = pair(text, ' ');
         self.says(rt, rest, name, said);
@@ -176,7 +176,7 @@ impl<U: Users> UserTable<U> {
         say_whether(rt, said, takes_update(&self.users, sid, &update(rt, line)));
     }
 
-    /// The numbers of the users in order of entry.
+    /// Says the numbers of the users in order of entry.
     fn order(&self, rt: &(impl Abort + AllocGlobal), said: &mut Vec<u8>) {
         for place in 0..=self.users.totals().users {
             match number_of(self.users.at(place as usize)) {
@@ -218,7 +218,7 @@ fn play_three<U: Users>(rt: &(impl Abort + AllocGlobal + Print), rows: &str) {
     play(rt, &mut users, rows);
 }
 
-/// A table with nobody.
+/// Makes a table with nobody.
 pub(crate) fn table<U: Users>(rt: &impl AllocGlobal) -> UserTable<U> {
     let users = U::new(rt.alloc());
     UserTable { users }

@@ -1,4 +1,5 @@
-// How long it takes to take a user out and to put the user in again. The first is taken out each time, so all others close up.
+// The times that it takes to take a user out and to put the user in again. The first is taken out each time, so all others
+// close up.
 use crate::parts::table::{USERS, put_in};
 use adc_base32::Sid;
 use std::alloc::AllocError;
@@ -16,7 +17,7 @@ pub struct Spent {
     pub inserting: u128,
 }
 
-/// How many nanoseconds an exit and an entry take, the clock's own time among them.
+/// Gives how many nanoseconds an exit and an entry take, the clock's own time among them.
 pub fn measure_changes<R: Clock>(rt: &R, users: &mut IndexedUsers) -> io::Result<Spent> {
     let mut removing: u128 = 0;
     let mut inserting: u128 = 0;

@@ -8,7 +8,7 @@ const TIMES: u64 = 100_000;
 
 const MESSAGE: [u8; 4096] = [7; 4096];
 
-/// How many million bytes a second are digested.
+/// Gives how many million bytes a second are digested.
 pub fn rate<R: Clock>(rt: &R, alloc: Global) -> io::Result<u128> {
     let Ok(tiger) = TableTiger::from_bytes(alloc, &[0; 8192]) else {
         return Ok(0);

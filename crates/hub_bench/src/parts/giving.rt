@@ -17,7 +17,7 @@ pub struct Spent {
     pub giving: u128,
 }
 
-/// How many nanoseconds the making and the giving of 900 batches take, each of one shared line.
+/// Gives how many nanoseconds the making and the giving of 900 batches take, each of one shared line.
 pub fn broadcast<R: Clock>(rt: &R, alloc: Global) -> io::Result<Spent> {
     let mut all = outboxes(alloc, CONNECTIONS)?;
     let mut making: u128 = 0;

@@ -9,10 +9,10 @@ use std::time::{Clock, Duration, Instant};
 
 const PAIRS: u64 = 10_000_000;
 
-// How many pairs lie between two looks at the clock.
+// The number of pairs that lie between two looks at the clock.
 const STRETCH: u64 = 64;
 
-/// How many nanoseconds a pair takes, where nobody else is.
+/// Gives how many nanoseconds a pair takes, where nobody else is.
 pub fn alone<R: Wait + Clock>(rt: &R, lock: &EmptyLock, seat: EmptySeat) -> io::Result<u128>
     requires { IsIdleAt lock.now seat }
 {
@@ -24,7 +24,7 @@ pub fn alone<R: Wait + Clock>(rt: &R, lock: &EmptyLock, seat: EmptySeat) -> io::
     Ok(start.elapsed(rt)?.as_nanos() / PAIRS as u128)
 }
 
-/// How many pairs each of four threads gets done in the same second.
+/// Gives how many pairs each of four threads gets done in the same second.
 pub fn four<R: Threads + Wait + Clock + Sync>(
     rt: &R,
     lock: &EmptyLock,
@@ -69,7 +69,7 @@ fn two<R: Threads + Wait + Clock + Sync>(
     )
 }
 
-// How many pairs are done until a second has passed since the start.
+// Gives how many pairs are done until a second has passed since the start.
 fn second<R: Wait + Clock>(rt: &R, lock: &EmptyLock, start: Instant, seat: EmptySeat) -> u64
     requires { IsIdleAt lock.now seat }
 {

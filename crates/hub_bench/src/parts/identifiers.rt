@@ -5,7 +5,7 @@ use std::time::{Clock, Instant};
 
 const TIMES: u64 = 100_000;
 
-/// How many nanoseconds it takes to find a free identifier where the 900 that come next are taken.
+/// Gives how many nanoseconds it takes to find a free identifier where the 900 that come next are taken.
 pub fn next_nanos<R: Clock>(rt: &R) -> io::Result<u128> {
     let Some(first) = Sid::from_u32(1) else {
         return Ok(0);

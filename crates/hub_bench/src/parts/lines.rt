@@ -10,10 +10,10 @@ const CHAT: &[u8] = b"BMSG AAAB Good\\sevening\\sto\\sall\\sof\\syou\\sin\\sthis
 
 const WORDS: &str = "a b c d e f and a few more words";
 
-// How many lines lie in one piece.
+// The number of lines that lie in one piece.
 const LINES: u64 = 1000;
 
-/// How many nanoseconds the reading of one line of chat takes.
+/// Gives how many nanoseconds the reading of one line of chat takes.
 pub fn parse_nanos<R: Clock>(rt: &R, alloc: Global) -> io::Result<u128> {
     let start = Instant::now(rt)?;
     let mut read: usize = 0;
@@ -27,7 +27,7 @@ pub fn parse_nanos<R: Clock>(rt: &R, alloc: Global) -> io::Result<u128> {
     Ok(per_time(nanos, read))
 }
 
-/// How many nanoseconds the escaping of a short sentence takes.
+/// Gives how many nanoseconds the escaping of a short sentence takes.
 pub fn escape_nanos<R: Clock>(rt: &R, alloc: Global) -> io::Result<u128> {
     let start = Instant::now(rt)?;
     let mut written: usize = 0;
@@ -38,7 +38,7 @@ pub fn escape_nanos<R: Clock>(rt: &R, alloc: Global) -> io::Result<u128> {
     Ok(per_time(nanos, written))
 }
 
-/// How many million bytes a second are cut into lines.
+/// Gives how many million bytes a second are cut into lines.
 pub fn framer_rate<R: Clock>(rt: &R, alloc: Global) -> io::Result<u128> {
     let mut piece = Vec::new(alloc);
     for _ in 0..LINES {
@@ -63,7 +63,7 @@ pub fn framer_rate<R: Clock>(rt: &R, alloc: Global) -> io::Result<u128> {
     Ok(cut as u128 / micros.max(1))
 }
 
-// Nothing was read where the total is nothing: then no time is told.
+// Gives the time of each; none is told where the total is nothing, as nothing was read then.
 fn per_time(nanos: u128, total: usize) -> u128 {
     if total == 0 { 0 } else { nanos / TIMES as u128 }
 }

@@ -23,7 +23,7 @@ const WORDS: [&str; 14] = [
     "U41412",
 ];
 
-/// How many nanoseconds the reading of the words takes.
+/// Gives how many nanoseconds the reading of the words takes.
 pub fn read_nanos<R: Clock>(rt: &R, alloc: Global) -> io::Result<u128> {
     let start = Instant::now(rt)?;
     for _ in 0..TIMES {
@@ -32,7 +32,7 @@ pub fn read_nanos<R: Clock>(rt: &R, alloc: Global) -> io::Result<u128> {
     Ok(start.elapsed(rt)?.as_nanos() / u128::from(TIMES))
 }
 
-/// How many nanoseconds it takes to read the words and merge them into no fields.
+/// Gives how many nanoseconds it takes to read the words and merge them into no fields.
 pub fn merge_nanos<R: Clock>(rt: &R, alloc: Global) -> io::Result<u128> {
     let start = Instant::now(rt)?;
     for _ in 0..TIMES {
@@ -41,7 +41,7 @@ pub fn merge_nanos<R: Clock>(rt: &R, alloc: Global) -> io::Result<u128> {
     Ok(start.elapsed(rt)?.as_nanos() / u128::from(TIMES))
 }
 
-/// How many nanoseconds it takes to read, clean, merge and print them.
+/// Gives how many nanoseconds it takes to read, clean, merge and print them.
 pub fn print_nanos<R: Clock>(rt: &R, alloc: Global) -> io::Result<u128> {
     let start = Instant::now(rt)?;
     for _ in 0..TIMES {

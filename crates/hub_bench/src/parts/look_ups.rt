@@ -1,4 +1,4 @@
-// How long look-ups take.
+// The times that look-ups take.
 use crate::parts::table::{USERS, cid};
 use adc_base32::Sid;
 use std::io;
@@ -9,7 +9,7 @@ const ROUNDS: u32 = 1_000;
 
 const CALLS: u64 = 900_000;
 
-/// How many nanoseconds a look-up by session identifier takes.
+/// Gives how many nanoseconds a look-up by session identifier takes.
 pub fn sid_nanos<R: Clock>(rt: &R, users: &IndexedUsers) -> io::Result<u128> {
     let start = Instant::now(rt)?;
     let mut found: u64 = 0;
@@ -23,7 +23,7 @@ pub fn sid_nanos<R: Clock>(rt: &R, users: &IndexedUsers) -> io::Result<u128> {
     Ok(per_call(start.elapsed(rt)?.as_nanos(), found))
 }
 
-/// How many nanoseconds a look-up by client identifier takes.
+/// Gives how many nanoseconds a look-up by client identifier takes.
 pub fn cid_nanos<R: Clock>(rt: &R, users: &IndexedUsers) -> io::Result<u128> {
     let start = Instant::now(rt)?;
     let mut found: u64 = 0;
@@ -35,7 +35,7 @@ pub fn cid_nanos<R: Clock>(rt: &R, users: &IndexedUsers) -> io::Result<u128> {
     Ok(per_call(start.elapsed(rt)?.as_nanos(), found))
 }
 
-/// How many nanoseconds a look-up by nick takes.
+/// Gives how many nanoseconds a look-up by nick takes.
 pub fn nick_nanos<R: Clock>(rt: &R, users: &IndexedUsers, keys: &[String]) -> io::Result<u128> {
     let start = Instant::now(rt)?;
     let mut found: u64 = 0;
@@ -47,7 +47,7 @@ pub fn nick_nanos<R: Clock>(rt: &R, users: &IndexedUsers, keys: &[String]) -> io
     Ok(per_call(start.elapsed(rt)?.as_nanos(), found))
 }
 
-/// How many nanoseconds a look-up by place takes.
+/// Gives how many nanoseconds a look-up by place takes.
 pub fn at_nanos<R: Clock>(rt: &R, users: &IndexedUsers) -> io::Result<u128> {
     let start = Instant::now(rt)?;
     let mut found: u64 = 0;
@@ -59,7 +59,7 @@ pub fn at_nanos<R: Clock>(rt: &R, users: &IndexedUsers) -> io::Result<u128> {
     Ok(per_call(start.elapsed(rt)?.as_nanos(), found))
 }
 
-/// How many nanoseconds the totals take.
+/// Gives how many nanoseconds the totals take.
 pub fn totals_nanos<R: Clock>(rt: &R, users: &IndexedUsers) -> io::Result<u128> {
     let start = Instant::now(rt)?;
     let mut found: u64 = 0;
@@ -74,7 +74,7 @@ pub fn totals_nanos<R: Clock>(rt: &R, users: &IndexedUsers) -> io::Result<u128> 
     })
 }
 
-// Where somebody was not found no time is told.
+// Gives the time of each call; none is told where somebody was not found.
 fn per_call(nanos: u128, found: u64) -> u128 {
     if found == CALLS {
         nanos / CALLS as u128

@@ -16,7 +16,7 @@ pub fn cid(number: u32) -> Cid {
     Cid::from_bytes(bytes)
 }
 
-/// The keys of the users' nicks.
+/// Gives the keys of the users' nicks.
 pub fn keys(alloc: Global) -> io::Result<Vec<String>> {
     let mut keys = Vec::with_capacity(alloc, USERS as usize)?;
     for number in 0..USERS {
@@ -44,7 +44,7 @@ pub fn put_in(users: &mut IndexedUsers, user: User) -> Result<(), AllocError> {
     }
 }
 
-/// The user with a number.
+/// Gives the user with a number.
 fn user(alloc: Global, number: u32) -> io::Result<User> {
     let sid = Sid::from_u32(number).ok_or(AllocError)?;
     let name = format!(in alloc; "nick{number}")?;

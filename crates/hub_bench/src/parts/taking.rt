@@ -11,7 +11,7 @@ const LINES: u64 = 256;
 
 const ROUNDS: u64 = 20;
 
-/// How many nanoseconds a take of 256 lines takes.
+/// Gives how many nanoseconds a take of 256 lines takes.
 pub fn take_nanos<R: Clock>(rt: &R, alloc: Global) -> io::Result<u128> {
     let mut all = outboxes(alloc, CONNECTIONS)?;
     let mut out = Vec::new(alloc);

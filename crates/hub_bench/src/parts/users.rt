@@ -7,7 +7,7 @@ use std::io;
 use std::time::Clock;
 use user_table::IndexedUsers;
 
-/// How many nanoseconds each call takes.
+/// The number of nanoseconds that each call takes.
 #[derive(Clone, Copy)]
 pub struct Figures {
     pub sid: u128,

@@ -13,7 +13,7 @@ pub struct Counter {
     pub sum: u64,
 }
 
-/// What a caller added, and the sum that it was told.
+/// The line of a caller: what it added, and the sum that it was told.
 #[derive(Clone, Copy)]
 pub struct Line {
     pub caller: u64,
@@ -46,8 +46,7 @@ impl Told<Line> for Brand {
     ghost entry = { record { caller = 0; amount = 0; reply = 0 } };
 }
 
-/// A new counter. Where memory is refused, the counter comes back as it was, and the second time
-/// it opens.
+/// Opens a new counter. Where memory is refused, the counter comes back as it was, and the second time it opens.
 pub fn opened(alloc: Global, start: u64) -> Result<(Counters, CountersHost), Fail>
     ensures { IfOk result (λ r. r.1 ≡ first_host r.0) }
 {

@@ -22,7 +22,7 @@ pub struct Worker {
     pub ghost numbered: { caller ≡ seat.number },
 }
 
-/// The next caller.
+/// Hires the next caller.
 pub fn hired(lock: &Counters, host: &mut CountersHost, amount: u64) -> Worker
     requires here { host.old.home ≡ home_of lock.now }
     requires room { host.old.admitted + 1 < 2 ^ 64 }
@@ -72,7 +72,7 @@ pub fn hold<R: Wait + Clock>(rt: &R, lock: &Counters, seat: CountersSeat) -> Cou
     seat
 }
 
-/// One caller holds the counter, and the other comes in the meantime and adds.
+/// Plays one caller that holds the counter, while the other comes in the meantime and adds.
 pub fn interrupt<R: Threads + Wait + Clock + Sync>(
     rt: &R,
     lock: &Counters,
@@ -100,7 +100,7 @@ pub fn interrupt<R: Threads + Wait + Clock + Sync>(
     )
 }
 
-/// Two callers, each in a thread of its own.
+/// Runs two callers, each in a thread of its own.
 pub fn both<R: Threads + Wait + Sync>(
     rt: &R,
     lock: &Counters,
@@ -123,7 +123,7 @@ pub fn both<R: Threads + Wait + Sync>(
     )
 }
 
-/// Four callers, each in a thread of its own.
+/// Runs four callers, each in a thread of its own.
 pub fn four<R: Threads + Wait + Sync>(rt: &R, lock: &Counters, team: [Worker; 4]) -> [Worker; 4]
     requires { All (λ w. IsIdleAt lock.now w.seat) team }
     ensures { All (λ w. IsIdleAt lock.now w.seat) result }
@@ -143,7 +143,7 @@ pub fn four<R: Threads + Wait + Sync>(rt: &R, lock: &Counters, team: [Worker; 4]
     [a, b, c, d]
 }
 
-/// Eight callers, each in a thread of its own.
+/// Runs eight callers, each in a thread of its own.
 pub fn eight<R: Threads + Wait + Sync>(
     rt: &R,
     lock: &Counters,
@@ -168,7 +168,7 @@ pub fn eight<R: Threads + Wait + Sync>(
     )
 }
 
-/// Four new callers, who add so much, two more, and so on.
+/// Hires four new callers, who add so much, two more, and so on.
 pub fn team(lock: &Counters, host: &mut CountersHost, amount: u64) -> [Worker; 4]
     requires here { host.old.home ≡ home_of lock.now }
     requires room { host.old.admitted + 4 < 2 ^ 64 }
@@ -183,14 +183,14 @@ pub fn team(lock: &Counters, host: &mut CountersHost, amount: u64) -> [Worker; 4
     [a, b, c, d]
 }
 
-/// What a caller added each time, and what it was told.
+/// The sums of a caller: what it added each time, and what it was told.
 #[derive(Clone, Copy)]
 pub struct Told {
     pub amount: u64,
     pub replies: [u64; ROUNDS],
 }
 
-/// The host takes the caller's seat back.
+/// Gives the host the caller's seat back.
 pub fn leave(lock: &Counters, host: &mut CountersHost, worker: Worker) -> Told
     requires here { host.old.home ≡ home_of lock.now }
     requires idle { IsIdleAt lock.now worker.seat }
@@ -221,7 +221,7 @@ impl Seated<Counter, Line, u64> for Worker {
     }
 }
 
-/// All four leave.
+/// Lets all four leave.
 pub fn disband(lock: &Counters, host: &mut CountersHost, team: [Worker; 4]) -> [Told; 4]
     requires here { host.old.home ≡ home_of lock.now }
     requires idle { All (λ w. IsIdleAt lock.now w.seat) team }
@@ -238,8 +238,8 @@ pub fn disband(lock: &Counters, host: &mut CountersHost, team: [Worker; 4]) -> [
     ]
 }
 
-/// Whether all that was told is one run of a counter from `start` on, with each caller's replies in
-/// its order, each once: taken by size, every reply is the one before and what its caller added.
+/// Answers whether all that was told is one run of a counter from `start` on, with each caller's replies in its order, each
+/// once. Taken by size, every reply is the one before and what its caller added.
 pub fn is_one_run(start: u64, told: &[Told]) -> bool {
     let mut sum = start;
     let mut taken = [0usize; 8];
@@ -258,7 +258,7 @@ pub fn is_one_run(start: u64, told: &[Told]) -> bool {
     true
 }
 
-// The caller whose next reply is the smallest, and that reply.
+// Finds the caller whose next reply is the smallest, and gives that reply.
 fn earliest<'a>(told: &'a [Told], taken: &[usize; 8]) -> Option<(&'a Told, u64)> {
     told.iter()
         .zip(taken.iter())

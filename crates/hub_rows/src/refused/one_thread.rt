@@ -19,7 +19,7 @@ struct Hall {
     joined: Vec<Conn>,
 }
 
-/// What can be seen of one who joined.
+/// Gives what can be seen of one who joined.
 fn place(hall: &Hall, number: usize) -> Option<(Stage, u64, u64)> {
     let connection = *hall.joined.get(number)?;
     if !hall.core.is_open(connection) {
@@ -29,7 +29,7 @@ fn place(hall: &Hall, number: usize) -> Option<(Stage, u64, u64)> {
     Some((look.stage, look.present, look.waiting))
 }
 
-/// What can be seen of a hub.
+/// Gives what can be seen of a hub.
 fn seen(hall: &Hall) -> (Totals, u64, [Option<(Stage, u64, u64)>; 3]) {
     (
         hall.core.totals(),
@@ -121,7 +121,8 @@ fn asks<'a>(rt: &impl Abort, alloc: Global) -> Vec<Asked<'a>> {
     asks
 }
 
-/// Where memory is refused later than for the answers, a call is answered with `Memory`, and a take of nobody is not made.
+/// Tests that a call is answered with `Memory`, and a take of nobody is not made, where memory is refused later than for
+/// the answers.
 #[test]
 fn calls(rt: HostRuntime) {
     let rt = &rt;

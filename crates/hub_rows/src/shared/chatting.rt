@@ -10,13 +10,13 @@ use std::process::Abort;
 use std::sync::Wait;
 use std::thread::{Threads, join};
 
-/// How many lines each guest says.
+/// The number of lines that each guest says.
 const LINES: u8 = 100;
 
-/// How many bytes a line has when it is heard, with its line feed.
+/// The number of bytes that a line has when it is heard, with its line feed.
 const LENGTH: usize = 13;
 
-/// Ana says a line in one thread, while Bob looks about in another.
+/// Plays Ana, who says a line in one thread, while Bob looks about in another.
 pub(crate) fn speaks_apart<R: Threads + Wait + Abort + Print + Sync>(
     rt: &R,
     alloc: Global,
@@ -50,7 +50,7 @@ pub(crate) fn speaks_apart<R: Threads + Wait + Abort + Print + Sync>(
     )
 }
 
-/// Both say their lines, each in a thread of its own, and hear what is said; then each hears the rest.
+/// Plays both, who say their lines, each in a thread of its own, and hear what is said; then each hears the rest.
 pub(crate) fn chats_of_two<R: Threads + Wait + Abort + Print + Sync>(
     rt: &R,
     alloc: Global,
@@ -81,7 +81,7 @@ pub(crate) fn chats_of_two<R: Threads + Wait + Abort + Print + Sync>(
     ((ana, one), (bob, other))
 }
 
-/// The line of a number that the guest with this letter says.
+/// Gives the line of a number that the guest with this letter says.
 fn numbered(letter: u8, number: u8) -> [u8; 12] {
     let mut line = *b"BMSG AAA? 00";
     line[8] = letter;
@@ -130,7 +130,7 @@ fn chats<R: Wait + Abort + Print>(
     (guest, heard)
 }
 
-/// Whether all lines of both were heard, those of each in their order.
+/// Answers whether all lines of both were heard, those of each in their order.
 pub(crate) fn is_one_chat(heard: &[u8]) -> bool {
     if heard.len() != 2 * LINES as usize * LENGTH {
         return false;

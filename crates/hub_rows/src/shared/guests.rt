@@ -32,7 +32,7 @@ pub(crate) struct Guest {
     pub(crate) ghost challenged: { pass.challenge ≡ challenge },
 }
 
-/// A hub's setup for so many users.
+/// Makes a hub's setup for so many users.
 pub(crate) fn setup_for(rt: &impl Abort, alloc: Global, max_users: u32) -> Arc<Setup> {
     let options = Options {
         name: "Hub",
@@ -119,7 +119,7 @@ fn ready(
     again!(rt; prepare(alloc, setup, &First24, challenge, bytes))
 }
 
-/// What a guest sees of the hub.
+/// Gives what a guest sees of the hub.
 fn seen<R: Wait>(rt: &R, hall: &Hall, guest: &mut Guest) -> (Stage, u64, u64)
     requires { guest.old.pass.home ≡ hall.now.hub.home }
     ensures { guest.new.pass.home ≡ hall.now.hub.home }
@@ -232,7 +232,7 @@ pub(crate) fn gone<R: Wait>(rt: &R, hall: &Hall, guest: Guest) -> Visitor<First2
     hall.hub.quit(rt, pass)
 }
 
-/// Both compare what they have seen.
+/// Lets both compare what they have seen.
 pub(crate) fn met(hall: &Hall, left: Guest, right: Guest) -> (Guest, Guest)
     requires left { left.pass.home ≡ hall.now.hub.home }
     requires right { right.pass.home ≡ hall.now.hub.home }
@@ -253,7 +253,7 @@ pub(crate) fn met(hall: &Hall, left: Guest, right: Guest) -> (Guest, Guest)
     (left, right)
 }
 
-/// One visitor in a vector.
+/// Puts one visitor in a vector.
 pub(crate) fn only(
     rt: &impl Abort,
     alloc: Global,
@@ -266,7 +266,7 @@ pub(crate) fn only(
     all
 }
 
-/// Two visitors in a vector.
+/// Puts two visitors in a vector.
 pub(crate) fn both(
     rt: &impl Abort,
     alloc: Global,

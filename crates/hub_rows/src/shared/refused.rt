@@ -29,7 +29,7 @@ pub(crate) fn is_said<R: Wait + Abort + Print>(
     }
 }
 
-/// Nothing waits for a guest.
+/// Tests that nothing waits for a guest.
 pub(crate) fn is_told_nothing<R: Wait + Abort + Print>(rt: &R, hall: &Hall, guest: &mut Guest)
     requires { guest.old.pass.home ≡ hall.now.hub.home }
     ensures { guest.new.pass.home ≡ hall.now.hub.home }
@@ -38,7 +38,7 @@ pub(crate) fn is_told_nothing<R: Wait + Abort + Print>(rt: &R, hall: &Hall, gues
     assert!(rt; look.waiting == 0, "{look:?}");
 }
 
-/// The line waits for a guest, once, and nothing else.
+/// Tests that the line waits for a guest, once, and nothing else.
 pub(crate) fn hears_it_once<R: Wait + Abort + Print>(
     rt: &R,
     alloc: Global,

@@ -48,7 +48,7 @@ fn required(rt: &impl Abort, text: &str) -> Required {
     }
 }
 
-/// What `free`, `ever` or a number of seconds says of a ban, and `nick`, `cid` and `both` of what is taken.
+/// Reads what `free`, `ever` or a number of seconds says of a ban, and `nick`, `cid` and `both` of what is taken.
 fn entry(rt: &impl Abort, ban: &str, taken: &str) -> EntryAsk {
     EntryAsk {
         ban: match ban {
@@ -167,7 +167,7 @@ fn checks_an_update_in_order(rt: HostRuntime) {
     );
 }
 
-/// What is asked once more at the entry.
+/// The questions that are asked once more at the entry.
 #[derive(Drop)]
 struct LastAsk;
 

@@ -5,7 +5,7 @@ use std::alloc::AllocGlobal;
 use std::io::Print;
 use std::process::Abort;
 
-/// What a client is told that is refused something.
+/// The words that a client is told that is refused something.
 #[derive(Drop)]
 pub(crate) struct Denials;
 
@@ -28,7 +28,7 @@ impl Part for Denials {
     }
 }
 
-/// A denial of either severity.
+/// Makes a denial of either severity.
 fn denied(rt: &impl Abort, severity: Severity, text: &str) -> Deny {
     match pair(text, ' ') {
         ("BadField", name) => Deny::BadField(severity, field(rt, name)),

@@ -36,7 +36,7 @@ impl Part for Supports {
 }
 
 impl Supports {
-    /// Another line SUP. Where it is refused, the features are those before.
+    /// Applies another line SUP. Where it is refused, the features are those before.
     fn says(&mut self, rt: &(impl Abort + AllocGlobal + Print), text: &str, said: &mut Vec<u8>) {
         let line = line(rt, text.as_bytes());
         let base = self.features.has(Feature::base());
@@ -57,7 +57,7 @@ impl Supports {
     }
 }
 
-/// A SUP that adds so many features, `X000` and so on, with these words behind it.
+/// Writes a SUP that adds so many features, `X000` and so on, with these words behind it.
 fn many(rt: &(impl Abort + AllocGlobal), text: &str) -> String {
     let (count, words) = pair(text, ' ');
     again!(rt; sup(rt.alloc(), small(rt, count), words))

@@ -43,7 +43,8 @@ fn commands(rt: &(impl Abort + AllocGlobal + Print)) -> Vec<Command> {
     commands
 }
 
-/// Where there is no room for the answers none is made; where memory is refused later, one command is refused and the rest are made.
+/// Tests that no command is made where there is no room for the answers; where memory is refused later, one command is
+/// refused and the rest are made.
 fn runs<U: Users>(rt: &(impl Abort + AllocGlobal + Print)) {
     let mut users = U::new(rt.alloc());
     let mut totals = Vec::new(rt.alloc());

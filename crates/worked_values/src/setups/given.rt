@@ -7,7 +7,7 @@ use outboxes::Batch;
 use second_try::again;
 use std::alloc::AllocError;
 
-/// What a hub is set up with.
+/// The things that a hub is set up with.
 #[derive(Drop)]
 pub(crate) struct Given;
 
@@ -34,7 +34,7 @@ impl Part for Given {
     }
 }
 
-/// Why the options are refused.
+/// Says why the options are refused.
 fn say_refusal(rt: &(impl Abort + AllocGlobal + Print), said: &mut Vec<u8>, options: &Options<'_>) {
     say(
         rt,
@@ -58,7 +58,7 @@ fn max_users(rt: &(impl Abort + AllocGlobal + Print), max_users: u32, said: &mut
     say_refusal(rt, said, &options);
 }
 
-/// An account for each letter, and so many lines between menu entries.
+/// Says the answer to options with an account for each letter, and so many lines between menu entries.
 fn lists(rt: &(impl Abort + AllocGlobal + Print), text: &str, said: &mut Vec<u8>) {
     let (nicks, count) = pair(text, ' ');
     let mut accounts = Vec::new(rt.alloc());
@@ -77,7 +77,7 @@ fn lists(rt: &(impl Abort + AllocGlobal + Print), text: &str, said: &mut Vec<u8>
     say_refusal(rt, said, &options);
 }
 
-/// Two accounts, `nick=password` each.
+/// Says the answer to options with two accounts, `nick=password` each.
 fn accounts(rt: &(impl Abort + AllocGlobal + Print), text: &str, said: &mut Vec<u8>) {
     let (first, second) = pair(text, ';');
     let ((nick, password), (other, word)) = (pair(first, '='), pair(second, '='));
@@ -99,7 +99,7 @@ fn command(rt: &(impl Abort + AllocGlobal + Print), text: &str, said: &mut Vec<u
     say_refusal(rt, said, &options);
 }
 
-/// A setup with some of the faults.
+/// Says the answer to options with some of the faults.
 fn faults(rt: &(impl Abort + AllocGlobal + Print), text: &str, said: &mut Vec<u8>) {
     let bad_accounts = [account("a b", "secret", true)];
     let bad_commands = [entry("", 0, MenuItem::Separator)];
@@ -121,7 +121,7 @@ fn faults(rt: &(impl Abort + AllocGlobal + Print), text: &str, said: &mut Vec<u8
     say_refusal(rt, said, &options);
 }
 
-/// What a setup tells of what it was given.
+/// Says what a setup tells of what it was given.
 fn tells(rt: &(impl Abort + AllocGlobal + Print), text: &str, said: &mut Vec<u8>) {
     let accounts = [
         account("\u{e9}", "secret", true),
@@ -152,7 +152,7 @@ fn tells(rt: &(impl Abort + AllocGlobal + Print), text: &str, said: &mut Vec<u8>
     }
 }
 
-/// The lines of a menu of two entries behind another line, each with its line feed.
+/// Says the lines of a menu of two entries behind another line, each with its line feed.
 fn menu(rt: &(impl Abort + AllocGlobal + Print), said: &mut Vec<u8>) {
     let commands = [
         entry("Help", 1, MenuItem::Text("HMSG !help\n")),

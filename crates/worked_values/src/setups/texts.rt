@@ -37,7 +37,7 @@ impl Part for Texts {
     }
 }
 
-/// A line that is told by few words.
+/// Writes a line that is told by few words.
 fn short(rt: &(impl Abort + AllocGlobal + Print), name: &str, text: &str, bytes: &[u8]) -> Bytes {
     let made = match name {
         "identifier" => identifier(rt, sid(rt, text)),
@@ -84,7 +84,7 @@ fn updated(rt: &(impl Abort + AllocGlobal + Print), text: &str) -> Result<Bytes,
     twice!(rt; "hub_setup::update_line", AllocError, update_line(rt.alloc(), sid, &update))
 }
 
-/// What a hub for 512 users says to who asks, 90 seconds after it opened, where one is present.
+/// Writes what a hub for 512 users says to who asks, 90 seconds after it opened, where one is present.
 fn ping(rt: &(impl Abort + AllocGlobal + Print)) -> String {
     let totals = Totals {
         users: 1,
@@ -98,7 +98,7 @@ fn ping(rt: &(impl Abort + AllocGlobal + Print)) -> String {
     }
 }
 
-/// The line of a hub with a name and a topic, to who asks or to another.
+/// Says the line of a hub with a name and a topic, to who asks or to another.
 fn hub(rt: &(impl Abort + AllocGlobal + Print), text: &str, said: &mut Vec<u8>) {
     let (name, rest) = pair(text, ';');
     let (topic, asked) = pair(rest, ';');
@@ -111,7 +111,7 @@ fn hub(rt: &(impl Abort + AllocGlobal + Print), text: &str, said: &mut Vec<u8>) 
     }
 }
 
-/// The line of a user who is AAAC, with the account of a nick, and said some words.
+/// Says the line of a user who is AAAC, with the account of a nick, and said some words.
 fn user(rt: &(impl Abort + AllocGlobal + Print), text: &str, said: &mut Vec<u8>) {
     let (nick, words) = pair(text, ' ');
     let accounts = [
@@ -130,7 +130,7 @@ fn user(rt: &(impl Abort + AllocGlobal + Print), text: &str, said: &mut Vec<u8>)
     }
 }
 
-/// The line for AAAC whom AAAB removes for so many seconds, `-` where none are told, for a reason.
+/// Says the line for AAAC whom AAAB removes for so many seconds, `-` where none are told, for a reason.
 fn removal(rt: &(impl Abort + AllocGlobal + Print), text: &str, said: &mut Vec<u8>) {
     let (seconds, reason) = pair(text, ' ');
     let seconds = match seconds {

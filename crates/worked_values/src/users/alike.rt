@@ -1,4 +1,4 @@
-// Both bodies of `Users` answer alike, and leave the same users.
+// Tests that both bodies of `Users` answer alike, and leave the same users.
 use super::commands::{Draws, command, renewal};
 use super::samples::{seen, sid};
 use super::{entering, say_answer};
@@ -116,7 +116,7 @@ impl<U: Users> Part for CommandRun<U> {
 }
 
 impl<U: Users> CommandRun<U> {
-    /// The answer to a command, or nothing where memory is refused.
+    /// Gives the answer to a command, or nothing where memory is refused.
     fn run(&mut self, rt: &(impl Abort + AllocGlobal), command: Command) -> Option<Answer> {
         let mut commands = again!(rt; Vec::with_capacity(rt.alloc(), 1));
         assert!(rt; commands.push(command).is_ok());

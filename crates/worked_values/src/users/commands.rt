@@ -16,7 +16,7 @@ pub(crate) struct Draws {
 }
 
 impl Draws {
-    /// A number from 0 to 255.
+    /// Draws a number from 0 to 255.
     fn byte(&mut self) -> u32 {
         self.state = self
             .state
@@ -26,7 +26,7 @@ impl Draws {
     }
 }
 
-/// A command on one of at most 60 users with 40 nicks and 48 client identifiers.
+/// Draws a command on one of at most 60 users with 40 nicks and 48 client identifiers.
 pub(crate) fn command(rt: &(impl Abort + AllocGlobal + Print), draws: &mut Draws) -> Command {
     let kind = draws.byte();
     let number = draws.byte() % 60;
@@ -50,7 +50,7 @@ pub(crate) fn command(rt: &(impl Abort + AllocGlobal + Print), draws: &mut Draws
     }
 }
 
-/// The update that a line says, with a nick unless that is empty.
+/// Reads the update that a line says, with a nick unless that is empty.
 pub(crate) fn renewal(
     rt: &(impl Abort + AllocGlobal + Print),
     number: u32,
@@ -75,7 +75,7 @@ fn look(rt: &impl Abort, kind: u32, number: u32, cid: u8, amount: u32) -> Comman
     }
 }
 
-/// A nick that differs by its number; every third has a letter with an accent, in two code points.
+/// Makes a nick that differs by its number; every third has a letter with an accent, in two code points.
 fn name(alloc: Global, number: u32) -> Result<String, AllocError> {
     if number % 3 == 0 {
         format!(in alloc; "e\u{301}{number}")

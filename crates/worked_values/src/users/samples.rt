@@ -16,7 +16,7 @@ pub(crate) fn sid(rt: &impl Abort, number: u32) -> Sid {
     }
 }
 
-/// A user whose client identifier is so many equal bytes, and who said a line.
+/// Makes a user whose client identifier is so many equal bytes, and who said a line.
 pub(crate) fn user(
     rt: &(impl Abort + AllocGlobal + Print),
     number: u32,
@@ -33,8 +33,8 @@ pub(crate) fn user(
     )
 }
 
-/// The users in order of entry, a line for each: numbers, the nick's key and the fields; and what they share together. Each has to be found
-/// by session identifier, client identifier and nick.
+/// Says the users in order of entry, a line for each: numbers, the nick's key and the fields; and what they share together.
+/// Each has to be found by session identifier, client identifier and nick.
 pub(crate) fn seen<U: Users>(rt: &(impl Abort + AllocGlobal + Print), users: &U) -> Vec<u8> {
     let mut text = Vec::new(rt.alloc());
     for place in 0..users.totals().users {
@@ -73,7 +73,7 @@ fn is_found<U: Users>(rt: &impl Abort, users: &U, user: &User) {
     }
 }
 
-/// The number of the session identifier.
+/// Gives the number of the session identifier.
 pub(crate) fn number_of(user: Option<&User>) -> Option<u32> {
     match user {
         Some(user) => Some(user.sid().number()),
