@@ -1,6 +1,6 @@
 use crate::checking::check;
 use crate::ending::Ending;
-use crate::operating::{Deed, Login, operate};
+use crate::operating::{Deed, Hash, Login, operate};
 use crate::pinging::ping;
 use adc_ids::NickFault;
 use clap::{Arg, ArgAction, ArgMatches, Command, value_parser};
@@ -117,8 +117,9 @@ fn login<'a>(alloc: Global, name: &'a str, about: &'a str) -> Result<Command<'a>
     let tables = Arg::new(alloc, "tables")
         .long("tables")
         .value_name("FILE")
-        .default_value("tiger.bin")
-        .help("The file of Tiger's tables");
+        .help(
+            "The file of Tiger's tables [default: tiger.bin, or else /usr/share/adc-hub/tiger.bin]",
+        );
     Command::new(alloc, name)
         .about(about)
         .after_help(STATUSES)
@@ -239,9 +240,9 @@ fn login_of<'a>(alloc: Global, words: &ArgMatches<'a>) -> Result<Login<'a>, Endi
         address: text_of(words, "ADDRESS"),
         nick,
         password_file: words.get_str("password-file"),
-        tables: match text_of(words, "hash") {
-            "first24" => None,
-            _ => Some(text_of(words, "tables")),
+        hash: match text_of(words, "hash") {
+            "first24" => Hash::First24,
+            _ => Hash::Tiger(words.get_str("tables")),
         },
         seconds: seconds_of(words),
     })

@@ -22,10 +22,22 @@ pub(crate) struct Login<'a> {
     pub(crate) nick: NickText<'a>,
     /// The file of the password; standard input where there is none.
     pub(crate) password_file: Option<&'a str>,
-    /// Tiger's tables; `None` for the stand-in of tests.
-    pub(crate) tables: Option<&'a str>,
+    pub(crate) hash: Hash<'a>,
     pub(crate) seconds: u32,
 }
+
+/// A hash by which a hub checks who logs in.
+#[derive(Clone, Copy)]
+pub(crate) enum Hash<'a> {
+    /// Tiger, with the file of its tables, where one was named.
+    Tiger(Option<&'a str>),
+    /// The stand-in of tests.
+    First24,
+}
+
+/// Where Tiger's tables are looked for: in the folder, as ./adc_hub makes them, then where the package puts them.
+const TABLES: &str = "tiger.bin";
+const INSTALLED_TABLES: &str = "/usr/share/adc-hub/tiger.bin";
 
 /// A deed for a client that is present.
 #[derive(Clone, Copy)]
@@ -40,17 +52,25 @@ pub(crate) fn operate<R>(rt: &R, login: &Login<'_>, deed: &Deed<'_>) -> Result<(
 where
     R: Net + Clock + Files + RandomSource + Input + Print + AllocGlobal,
 {
-    let Some(path) = login.tables else {
-        return operate_by(rt, login, deed, &First24);
-    };
-    let bytes = match fs::read(rt, path) {
-        Ok(bytes) => bytes,
-        Err(error) => return Err(unread(&error, Ending::Tables)),
+    let bytes = match login.hash {
+        Hash::First24 => return operate_by(rt, login, deed, &First24),
+        Hash::Tiger(Some(path)) => tables(rt, path)?,
+        Hash::Tiger(None) => match tables(rt, TABLES) {
+            Err(Ending::Tables) => tables(rt, INSTALLED_TABLES)?,
+            read => read?,
+        },
     };
     match TableTiger::from_bytes(rt.alloc(), &bytes) {
         Ok(tiger) => operate_by(rt, login, deed, &tiger),
         Err(TablesFault::Length) => Err(Ending::Tables),
         Err(TablesFault::Memory) => Err(Ending::Memory),
+    }
+}
+
+fn tables<R: Files + AllocGlobal>(rt: &R, path: &str) -> Result<Vec<u8>, Ending> {
+    match fs::read(rt, path) {
+        Ok(bytes) => Ok(bytes),
+        Err(error) => Err(unread(&error, Ending::Tables)),
     }
 }
 
