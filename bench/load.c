@@ -37,7 +37,8 @@ typedef struct {
   int partner;
 } Client;
 
-static Client clients[MAX_USERS];
+// One more comes and goes.
+static Client clients[MAX_USERS + 1];
 static int users, poll_set, hub_process;
 static uint64_t tables[4][256];
 static char input[CHUNK + (1 << 17)];
@@ -214,6 +215,9 @@ static void hear(Client *client, const char *line, size_t length) {
 static void read_client(Client *client) {
   if (client->rest_length) memcpy(input, client->rest, client->rest_length);
   ssize_t count = read(client->socket, input + client->rest_length, CHUNK);
+  // A hub that sends its lines one by one waits for what the system would put off to confirm.
+  int yes = 1;
+  if (!client->is_present) setsockopt(client->socket, IPPROTO_TCP, TCP_QUICKACK, &yes, sizeof yes);
   if (count < 0 && errno == EAGAIN) return;
   if (count <= 0) fail("the hub closed a connection");
   char *line = input, *end = input + client->rest_length + count, *feed;
@@ -329,8 +333,7 @@ static void pairs_of(const char *load, int pairs, double seconds) {
 
 // ---- the start
 
-static void connect_client(int number, int port) {
-  Client *client = &clients[number];
+static void connect_client(Client *client, int number, int port) {
   struct sockaddr_in address = {.sin_family = AF_INET, .sin_port = htons(port), .sin_addr.s_addr = htonl(INADDR_LOOPBACK)};
   int yes = 1;
   client->number = number;
@@ -345,11 +348,31 @@ static void connect_client(int number, int port) {
 
 static void enter_all(int port) {
   Moment start = moment();
-  for (int i = 0; i < users; i++) connect_client(i, port);
+  for (int i = 0; i < users; i++) connect_client(&clients[i], i, port);
   wait_for(&present, users, "a client did not enter");
   Moment end = moment();
   print_row("logins", users, start, end);
   wait_for(&infos, (uint64_t)users * users, "a client did not hear of all others");
+}
+
+// One client after another enters beside all others, and leaves once it is shown to itself.
+static void come_and_go(double seconds, int port) {
+  Client *client = &clients[users];
+  int cycles = 0;
+  Moment start = moment();
+  while (now() < start.at + seconds) {
+    double began = now();
+    client->is_present = false;
+    client->rest_length = 0;
+    present = 0;
+    // The hub may not have seen yet that the last one left.
+    connect_client(client, users + cycles, port);
+    wait_for(&present, 1, "a client that comes and goes did not enter");
+    close(client->socket);
+    if (latency_count < MAX_LATENCIES) latencies[latency_count++] = now() - began;
+    cycles++;
+  }
+  print_row("users who come and go", cycles, start, moment());
 }
 
 static void print_memory(void) {
@@ -376,6 +399,7 @@ int main(int count, char **words) {
   chats_of("1 sender, 1 line on its way", 1, 1, seconds);
   pairs_of("1 pair, lines for one alone", 1, seconds);
   pairs_of("many pairs, lines for one alone", pairs, seconds);
+  if (users < MAX_USERS) come_and_go(seconds, atoi(words[2]));
   print_memory();
   return 0;
 }

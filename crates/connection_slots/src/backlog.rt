@@ -3,8 +3,9 @@
 /// The number of waiting lines beyond which a client is far behind: half of the lines that its outbox holds.
 pub const FAR_BEHIND: u64 = 512;
 
-/// The number of ticks in a row for which a client is waited for that takes nothing, and a sender gives way.
-pub const PATIENCE: u64 = 8;
+/// The number of ticks in a row for which a client is waited for that takes nothing, and a sender gives way: a fifth of a
+/// second. On a busy machine a thread may stand still for a tenth.
+pub const PATIENCE: u64 = 40;
 
 /// The number of lines that wait for a client, as far as is known. It is counted, and put right by each take that finds no
 /// more.
