@@ -37,6 +37,7 @@ pub(crate) enum Hash<'a> {
 
 /// Where Tiger's tables are looked for: in the folder, as ./adc_hub makes them, then where the package puts them.
 const TABLES: &str = "tiger.bin";
+
 const INSTALLED_TABLES: &str = "/usr/share/adc-hub/tiger.bin";
 
 /// A deed for a client that is present.
