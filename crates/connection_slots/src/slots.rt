@@ -21,7 +21,8 @@ struct Slot {
     waits: bool,
     // It is among those that give way.
     is_held: bool,
-    backlog: Backlog,
+    // That of its client; nobody is waited for where the slot is free.
+    backlog: Option<Backlog>,
 }
 
 /// The slots of all sessions, under the lock of `Wakers`.
@@ -39,6 +40,14 @@ pub(crate) struct Slots {
     pub(crate) accept: AcceptWaker,
 }
 
+/// Answers whether the slot has a client that is far behind.
+fn is_far_behind(slot: &Slot, said: u64) -> bool {
+    match &slot.backlog {
+        Some(backlog) => backlog.is_behind(said),
+        None => false,
+    }
+}
+
 impl Slots {
     /// Makes so many slots, with room for all that is ever kept of them.
     pub(crate) fn new(alloc: Global, count: usize) -> Result<Slots, AllocError> {
@@ -51,7 +60,7 @@ impl Slots {
                 waker: None,
                 waits: false,
                 is_held: false,
-                backlog: Backlog::new(0),
+                backlog: None,
             })?;
         }
         Ok(Slots {
@@ -65,15 +74,15 @@ impl Slots {
         })
     }
 
-    /// Gives the slot to another session, or to none, once `said` lines were said to everybody.
-    pub(crate) fn clear(&mut self, slot: usize, said: u64) {
+    /// Gives the slot to another session, of a client with this backlog, or to none.
+    pub(crate) fn clear(&mut self, slot: usize, backlog: Option<Backlog>) {
         let wakes = self.wakes;
         if let Some(slot) = self.slots.get_mut(slot) {
             slot.sid = None;
             slot.heard = wakes;
             slot.is_called = false;
             slot.waker = None;
-            slot.backlog = Backlog::new(said);
+            slot.backlog = backlog;
         }
     }
 
@@ -91,8 +100,10 @@ impl Slots {
             if place != own && slot.sid == Some(sid) {
                 slot.is_called = true;
                 slot.waker = None;
-                slot.backlog.give();
-                if slot.backlog.is_behind(said) {
+                if let Some(backlog) = &mut slot.backlog {
+                    backlog.give();
+                }
+                if is_far_behind(slot, said) {
                     is_behind = true;
                 }
             }
@@ -162,15 +173,25 @@ impl Slots {
 
     /// Counts `lines` taken for the session of this slot.
     pub(crate) fn take(&mut self, slot: usize, said: u64, lines: u64, has_more: bool) {
-        if let Some(slot) = self.slots.get_mut(slot) {
-            slot.backlog.take(said, lines, has_more);
+        if let Some(slot) = self.slots.get_mut(slot)
+            && let Some(backlog) = &mut slot.backlog
+        {
+            backlog.take(said, lines, has_more);
+        }
+    }
+
+    /// Answers whether the client of this slot is far behind.
+    pub(crate) fn is_slot_behind(&self, slot: usize, said: u64) -> bool {
+        match self.slots.get(slot) {
+            Some(slot) => is_far_behind(slot, said),
+            None => false,
         }
     }
 
     /// Answers whether somebody is behind, so that senders give way.
     pub(crate) fn is_behind(&self, said: u64) -> bool {
         for slot in &self.slots {
-            if slot.backlog.is_behind(said) {
+            if is_far_behind(slot, said) {
                 return true;
             }
         }
@@ -212,7 +233,9 @@ impl Slots {
     pub(crate) fn tick(&mut self, said: u64) {
         self.ticks = self.ticks.wrapping_add(1);
         for slot in self.slots.iter_mut() {
-            slot.backlog.tick(said);
+            if let Some(backlog) = &mut slot.backlog {
+                backlog.tick(said);
+            }
         }
     }
 

@@ -1,6 +1,7 @@
 ghost use Rattle.std.specs.Prelude.{◌≡◌, false};
 ghost use Rattle.futures.specs.Task.{IsArmed, Keeps};
 
+use crate::backlog::Backlog;
 use crate::slots::Slots;
 use crate::throttle::{BURST, Throttle};
 use adc_base32::Sid;
@@ -41,7 +42,7 @@ impl Wakers {
     /// Gives the slot to a session.
     pub fn occupy(&self, slot: usize) {
         if let Some(mut slots) = lock(&self.slots) {
-            slots.clear(slot, self.said.load(Ordering::SeqCst));
+            slots.clear(slot, Some(Backlog::new(self.said())));
         }
     }
 
@@ -54,7 +55,9 @@ impl Wakers {
 
     /// Takes the slot from its session, which is over.
     pub fn vacate(&self, slot: usize) {
-        self.occupy(slot);
+        if let Some(mut slots) = lock(&self.slots) {
+            slots.clear(slot, None);
+        }
         if self.is_behind() {
             self.look();
         }
@@ -117,11 +120,20 @@ impl Wakers {
         }
     }
 
-    /// Counts `lines` taken for the session of this slot, after which more may be left or none is.
-    pub fn take(&self, slot: usize, lines: u64, has_more: bool) {
+    /// Gives the number of lines that were said to everybody so far.
+    pub fn said(&self) -> u64 {
+        self.said.load(Ordering::SeqCst)
+    }
+
+    /// Counts `lines` taken for the session of this slot, after which more may be left or none is. Before the hub was asked for
+    /// them, `said` lines had been said to everybody; what was said since may be left. Where that is much, the session is woken
+    /// to take again.
+    pub fn take(&self, slot: usize, said: u64, lines: u64, has_more: bool) {
         if let Some(mut slots) = lock(&self.slots) {
-            let said = self.said.load(Ordering::SeqCst);
             slots.take(slot, said, lines, has_more);
+            if !has_more && slots.is_slot_behind(slot, self.said()) {
+                slots.wake_slot(slot);
+            }
         }
         if self.is_behind() {
             self.look();

@@ -143,9 +143,12 @@ impl<B: OfHub<H>, H: SessionHash, R: Wait + Clock> Port for Connection<'_, B, H,
     fn take(&mut self, count: usize, out: &mut Vec<u8>) -> Result<Taken, TakeRefused> {
         self.wake_owed();
         let server = self.server;
+        // What others say while the hub is asked may not be among what it gives.
+        let said = server.shared.wakers.said();
         let taken = server.hub.take(server.rt, &mut self.pass, count, out)?;
         let has_more = taken.lines >= count as u64;
-        server.shared.wakers.take(self.slot, taken.lines, has_more);
+        let wakers = &server.shared.wakers;
+        wakers.take(self.slot, said, taken.lines, has_more);
         Ok(taken)
     }
 
