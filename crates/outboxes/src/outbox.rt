@@ -4,7 +4,7 @@ ghost use Rattle.outboxes.specs.Backlogs.{empty_backlog, with_lines, given};
 ghost use Rattle.outboxes.specs.Quits.{quit_line};
 
 use crate::batch::Batch;
-use crate::place::{Place, add_lines, size_within, write_first};
+use crate::place::{Place, add_lines, write_first};
 use crate::refused::{OutboxRefused, TakeRefused};
 use crate::taken::Taken;
 use adc_base32::Sid;
@@ -67,11 +67,11 @@ impl Outbox {
         if self.lags {
             return;
         }
-        let lines = batch.into_lines();
-        match size_within(&lines, self.limit - self.bytes) {
-            Some(size) if lines.len() <= self.places.capacity() - self.places.len() => {
+        match batch.size_within(self.limit - self.bytes) {
+            Some(size) if batch.len() <= self.places.capacity() - self.places.len() => {
                 self.bytes += size;
-                add_lines(&mut self.places, lines);
+                let (first, rest) = batch.into_lines();
+                add_lines(&mut self.places, first, rest);
             }
             _ => self.lags = true,
         }

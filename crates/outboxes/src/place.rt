@@ -1,4 +1,5 @@
-ghost use Rattle.std.specs.Prelude.{◌≡◌, ◌+◌, ◌≤◌, ◌<◌, ◌++◌, length, map, take, IfSome, IfNone, OnOk, OnErr};
+ghost use Rattle.std.specs.Prelude.{◌≡◌, ◌+◌, ◌≤◌, ◌<◌, [], ◌∷◌, ◌++◌, length, map, take, IfSome, IfNone, OnOk, OnErr};
+ghost use Rattle.std.specs.Option.{option_to_list};
 ghost use Rattle.std.specs.List.{concat};
 ghost use Rattle.circular_buffer.specs.Buffer.{buffer};
 ghost use Rattle.outboxes.specs.Backlogs.{size_of};
@@ -10,12 +11,13 @@ use adc_base32::Sid;
 use bytes::Bytes;
 use circular_buffer::HeapCircularBuffer;
 use std::alloc::AllocError;
+use std::sync::Arc;
 
 /// One line that waits. A line's handle lies elsewhere, so that an empty place is small.
 #[derive(Debug, Drop)]
 pub enum Place {
     /// A line of a batch.
-    Line(Box<Bytes>),
+    Line(Arc<Bytes>),
     /// The news that this user has left.
     Quit(Sid),
 }
@@ -32,7 +34,7 @@ pub(crate) fn quit_text(sid: Sid) -> [u8; 10]
 }
 
 /// Counts the bytes that the lines have together, where these are no more than there is room for.
-pub(crate) fn size_within(lines: &[Box<Bytes>], room: usize) -> Option<usize>
+pub(crate) fn size_within(lines: &[Arc<Bytes>], room: usize) -> Option<usize>
     ensures some { IfSome result (λ size. (size ≡ size_of (map (λ line. line.value) lines.now)) × (size ≤ room)) }
     ensures none { IfNone result (room < size_of (map (λ line. line.value) lines.now)) }
 {
@@ -44,15 +46,30 @@ pub(crate) fn size_within(lines: &[Box<Bytes>], room: usize) -> Option<usize>
 }
 
 /// Adds lines that there are places for.
-pub(crate) fn add_lines(places: &mut HeapCircularBuffer<Place>, lines: Vec<Box<Bytes>>)
-    requires { length places.old.items + length lines.items ≤ places.old.capacity }
-    ensures { places.new ≡ buffer (places.old.items ++ map Line lines.items) places.old.capacity }
+pub(crate) fn add_lines(
+    places: &mut HeapCircularBuffer<Place>,
+    first: Option<Arc<Bytes>>,
+    rest: Vec<Arc<Bytes>>,
+)
+    requires { length places.old.items + length (option_to_list first ++ rest.items) ≤ places.old.capacity }
+    ensures { places.new ≡ buffer (places.old.items ++ map Line (option_to_list first ++ rest.items)) places.old.capacity }
 {
-    for line in lines {
-        match places.try_push_back(Place::Line(line)) {
-            Ok(()) => {}
-            Err(_) => unreachable!(),
-        }
+    if let Some(line) = first {
+        add_line(places, line);
+    }
+    for line in rest {
+        add_line(places, line);
+    }
+}
+
+/// Adds a line that there is a place for.
+fn add_line(places: &mut HeapCircularBuffer<Place>, line: Arc<Bytes>)
+    requires { length places.old.items < places.old.capacity }
+    ensures { places.new ≡ buffer (places.old.items ++ Line line ∷ []) places.old.capacity }
+{
+    match places.try_push_back(Place::Line(line)) {
+        Ok(()) => {}
+        Err(_) => unreachable!(),
     }
 }
 
