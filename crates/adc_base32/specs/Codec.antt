@@ -1,6 +1,6 @@
--- Why a text spells no bytes.
-use Rattle.std.specs.Prelude.{◌≡◌, ◌≢◌, ℕ, List, length}
-use Rattle.adc_base32.specs.Bits.{AreDigits, IsBase32, text_len}
+-- Why a text spells no bytes, and which text does.
+use Rattle.std.specs.Prelude.{◌≡◌, ◌≢◌, ℕ, ◌*◌, ◌-◌, List, length, drop, replicate}
+use Rattle.adc_base32.specs.Bits.{AreDigits, IsBase32, text_bits, text_len}
 use Rattle.adc_base32.specs.declared.fault.B32.{B32}
 use Rattle.adc_base32.specs.declared.fault.B32.TheVariants as faults
 
@@ -11,3 +11,8 @@ IsDecodeFault text n faults.Length = length text ≢ text_len n
 IsDecodeFault text n faults.Digit = (length text ≡ text_len n) × (AreDigits text → ⊥)
 IsDecodeFault text n faults.LowBits =
     (length text ≡ text_len n) × AreDigits text × ((bytes : List ℕ) → length bytes ≡ n → IsBase32 text bytes → ⊥)
+
+-- a text of as many digits as n bytes take, whose bits beyond those of the bytes are zero
+abbrev pub HasBytes : ℕ → List ℕ → Type 0
+HasBytes n text =
+    (length text ≡ text_len n) × AreDigits text × (drop (8 * n) (text_bits text) ≡ replicate (5 * length text - 8 * n) 0)

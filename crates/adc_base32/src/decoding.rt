@@ -2,7 +2,7 @@ ghost use Rattle.std.specs.Prelude.{◌≡◌, ◌≢◌, ◌*◌, ◌-◌, ℕ,
 ghost use Rattle.std.specs.Bool.{Decides};
 ghost use Rattle.std.specs.List.{All};
 ghost use Rattle.adc_base32.specs.Bits.{AreDigits, IsBase32, byte_bits, text_bits, text_len, value_of};
-ghost use Rattle.adc_base32.specs.Codec.{IsDecodeFault};
+ghost use Rattle.adc_base32.specs.Codec.{HasBytes, IsDecodeFault};
 ghost use Rattle.adc_base32.specs.Spelled.{spelled};
 
 use crate::digit::value;
@@ -14,13 +14,14 @@ use std::alloc::Global;
 ///
 /// Refused, in this order: with `Length` where the text has not `(8 n + 4) / 5` characters; `Digit` where one of them is no
 /// digit (lower case and padding are none). Then come `LowBits` where an unused low bit of the last digit is not zero, and
-/// `Memory` where memory runs out.
+/// `Memory` where memory runs out, and only for a text that is refused by none of the others.
 pub fn decode(alloc: Global, text: &[u8], n: usize) -> Result<Vec<u8>, B32>
     ensures count { IfOk result (λ bytes. vec_len bytes ≡ n) }
     ensures spelt { IfOk result (λ bytes. IsBase32 text.now bytes.items) }
     ensures only { IfOk result (λ bytes. (other : List ℕ) → length other ≡ n → All (λ b. b < 256) other → IsBase32 text.now other → other ≡ bytes.items) }
     ensures fault { IfErr result (λ fault. IsDecodeFault text.now n fault) }
     ensures no_bytes { IfErr result (λ fault. fault ≢ B32.Memory → (bytes : List ℕ) → length bytes ≡ n → IsBase32 text.now bytes → ⊥) }
+    ensures memory { IfErr result (λ fault. fault ≡ B32.Memory → HasBytes n text.now) }
 {
     let bytes = checked(alloc, text, n)?;
     Ok(bytes)
@@ -46,6 +47,7 @@ fn checked(alloc: Global, text: &[u8], n: usize) -> Result<Vec<u8>, B32>
     ensures spelt { IfOk result (λ bytes. IsBase32 text.now bytes.items) }
     ensures small { IfOk result (λ bytes. All (λ b. b < 256) bytes.items) }
     ensures fault { IfErr result (λ fault. IsDecodeFault text.now n fault) }
+    ensures memory { IfErr result (λ fault. fault ≡ B32.Memory → HasBytes n text.now) }
 {
     check(text, n)?;
     let mut bytes = vec![in alloc; 0u8; n]?;

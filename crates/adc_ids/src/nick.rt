@@ -49,6 +49,7 @@ impl Nick {
         ensures invalid { IfErr result (λ fault. fault ≡ NickFault.Invalid → IsNick (chars text.now) → ⊥) }
         ensures accepted { IfOk result (λ nick. is_nick nick ≡ true) }
         ensures refused { IfErr result (λ fault. fault ≡ NickFault.Invalid → is_nick (chars text.now) ≡ false) }
+        ensures memory { IfErr result (λ fault. fault ≡ NickFault.Memory → is_nick (chars text.now) ≡ true) }
     {
         if !is_nick(text) {
             return Err(NickFault::Invalid);

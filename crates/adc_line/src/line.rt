@@ -1,4 +1,4 @@
-ghost use Rattle.std.specs.Prelude.{◌≡◌, IfOk, MatchResult};
+ghost use Rattle.std.specs.Prelude.{◌≡◌, ◌≢◌, IfOk, IfErr, MatchResult};
 ghost use Rattle.std.specs.Option.{option_copied};
 ghost use Rattle.adc_line.specs.Gives.{Gives};
 ghost use Rattle.adc_line.specs.Lines.{reading, text_checked};
@@ -43,7 +43,7 @@ impl Line {
     ///
     /// Refused with the first of these that applies: `TooLong` over 65,536 bytes, `NotUtf8`, `Header` where the first words
     /// are no header of a type (none in the empty line). Then come `Parameter` where a later word is empty or holds a line
-    /// feed, `Escape` where in one a backslash begins no escape. `Memory` comes last.
+    /// feed, `Escape` where in one a backslash begins no escape. `Memory` comes last, and only for a line that is one.
     pub fn parse(alloc: Global, bytes: &[u8]) -> Result<Line, LineFault>
         ensures exact { Gives (λ line. line) result (reading bytes.now) }
         ensures found { IfOk result (λ line. Reads bytes.now line) }
@@ -122,7 +122,8 @@ impl Line {
 /// Reads the bytes as text, where they are not too many and are UTF-8.
 #[tactic(auto, unfolding(crate::specs::Lines::text_checked))]
 fn text_of(bytes: &[u8]) -> Result<&str, LineFault>
-    ensures { MatchResult result (λ text. text_checked bytes.now ≡ Ok text.now) (λ fault. text_checked bytes.now ≡ Err fault) }
+    ensures checked { MatchResult result (λ text. text_checked bytes.now ≡ Ok text.now) (λ fault. text_checked bytes.now ≡ Err fault) }
+    ensures no_memory { IfErr result (λ fault. fault ≢ LineFault.Memory) }
 {
     if bytes.len() > MAX_LINE {
         return Err(LineFault::TooLong);

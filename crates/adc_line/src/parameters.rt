@@ -1,4 +1,4 @@
-ghost use Rattle.std.specs.Prelude.{◌≡◌, not, MatchResult, Some, None};
+ghost use Rattle.std.specs.Prelude.{◌≡◌, ◌≢◌, IfErr, not, MatchResult, Some, None};
 ghost use Rattle.std.specs.List.{list_all};
 ghost use Rattle.adc_line.specs.Escapes.{is_escaped, ends_escape};
 ghost use Rattle.adc_line.specs.Frames.{is_lf};
@@ -11,7 +11,8 @@ use crate::words::Words;
 /// Tests whether words are parameters, and then whether each is escaped.
 #[tactic(auto, unfolding(crate::specs::Parameters::params_fault))]
 pub(crate) fn check_params(words: Words<'_>) -> Result<(), LineFault>
-    ensures { MatchResult result (λ _. params_fault (words_left words.entry) ≡ None) (λ fault. params_fault (words_left words.entry) ≡ Some fault) }
+    ensures checked { MatchResult result (λ _. params_fault (words_left words.entry) ≡ None) (λ fault. params_fault (words_left words.entry) ≡ Some fault) }
+    ensures no_memory { IfErr result (λ fault. fault ≢ LineFault.Memory) }
 {
     if !are_parameters(words) {
         return Err(LineFault::Parameter);

@@ -1,5 +1,5 @@
 -- What the answers of a hub promise, one by one.
-use Rattle.std.specs.Prelude.{◌≡◌, ℕ, List, ◌++◌, Result, Ok, Err}
+use Rattle.std.specs.Prelude.{◌≡◌, ◌<◌, ℕ, List, ◌++◌, length, Result, Ok, Err}
 use Rattle.outboxes.specs.declared.taken.Taken.{Taken}
 use Rattle.user_table.specs.declared.totals.Totals.{Totals}
 use Rattle.hub_core.specs.declared.look.Look.{Look}
@@ -15,12 +15,17 @@ use Rattle.hub_rules.specs.Configured.{Configured}
 use Rattle.hub_rules.specs.Facts.{facts}
 use Rattle.hub_rules.specs.History.{View, sid, totals, view}
 
--- a join is an entry of the history, refused for want of room or of numbers too; after want of memory all is as before
+-- fewer connections are open than are admitted, and a number is left for one more
+abbrev pub HasRoom : CoreState → Type 0
+HasRoom core = (length core.seats < core.setup.max_users) × (core.joins < 18_446_744_073_709_551_615)
+
+-- A join is an entry of the history, refused for want of room or of numbers too. Memory may be wanting only where there is
+-- room, and then all is as before.
 abbrev pub JoinMoves : Result ℕ JoinRefused → CoreState → Call → CoreState → Type 0
 JoinMoves (Ok connection) old call new = Moves old call (replies.Joined connection) new
 JoinMoves (Err Full) old call new = Moves old call replies.Full new × (new ≡ old)
 JoinMoves (Err JoinsSpent) old call new = Moves old call replies.JoinsSpent new × (new ≡ old)
-JoinMoves (Err Memory) old call new = new ≡ old
+JoinMoves (Err Memory) old call new = HasRoom old × (new ≡ old)
 
 -- the bytes that were appended are what the take is answered
 abbrev pub TakeMoves : Taken → ℕ → ℕ → List ℕ → List ℕ → CoreState → CoreState → Type 0

@@ -1,5 +1,5 @@
 -- What settings make of a hub, and what is refused of them.
-use Rattle.std.specs.Prelude.{◌≡◌, ◌==◌, ◌||◌, ◌&&◌, ℕ, Bool, true, not, nat_lt, List, [], ◌∷◌, chars, map, length, Option, Some, None, Result, Ok, Err, if◌then◌else◌}
+use Rattle.std.specs.Prelude.{◌≡◌, ◌≢◌, ◌==◌, ◌||◌, ◌&&◌, ℕ, Bool, true, false, not, nat_lt, List, [], ◌∷◌, chars, map, length, Option, Some, None, Result, Ok, Err, if◌then◌else◌}
 use Rattle.std.specs.List.{list_all, list_any}
 use Rattle.std.specs.Str.{bytes_eq}
 use Rattle.adc_ids.specs.Nicks.{is_nick}
@@ -88,6 +88,10 @@ Gives view (Err refusals.Limit) wanted = wanted ≡ Err refusals.Limit
 Gives view (Err refusals.Name) wanted = wanted ≡ Err refusals.Name
 Gives view (Err refusals.Account) wanted = wanted ≡ Err refusals.Account
 Gives view (Err refusals.Command) wanted = wanted ≡ Err refusals.Command
+
+-- within the limits and with a name, which takes no memory to see
+abbrev pub IsNamedWithinLimits : Options → Type 0
+IsNamedWithinLimits o = (is_past_limit o ≡ false) × (length o.name.now ≢ 0)
 
 abbrev pub IsConfigured : Result Configured SetupRefused → Result Configured SetupRefused → Type 0
 IsConfigured answer wanted = Gives (λ setup. setup) answer wanted

@@ -1,8 +1,8 @@
-ghost use Rattle.std.specs.Prelude.{◌≡◌, ◌≤◌, ◌++◌, map, IfOk};
+ghost use Rattle.std.specs.Prelude.{◌≡◌, ◌≤◌, ◌++◌, map, IfOk, IfErr};
 ghost use Rattle.std.specs.Option.{option_copied};
 ghost use Rattle.hub_rules.specs.Accounts.{account_with};
 ghost use Rattle.hub_rules.specs.Texts.{menu_line};
-ghost use Rattle.hub_setup.specs.Settings.{configured, IsConfigured, is_past_limit};
+ghost use Rattle.hub_setup.specs.Settings.{configured, IsConfigured, IsNamedWithinLimits, is_past_limit};
 
 use crate::menu::{MenuLine, are_commands, menu_lines, with_menu};
 use crate::options::Options;
@@ -57,6 +57,7 @@ impl Setup {
     #[tactic(auto, unfolding(crate::specs::Settings::configured))]
     pub fn new(alloc: Global, options: &Options<'_>) -> Result<Setup, SetupRefused>
         ensures exact { IsConfigured result (configured options.now) }
+        ensures memory { IfErr result (λ fault. fault ≡ SetupRefused.Memory → IsNamedWithinLimits options.now) }
     {
         if is_past_limit(options) {
             return Err(SetupRefused::Limit);

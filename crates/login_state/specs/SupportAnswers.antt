@@ -1,5 +1,5 @@
 -- What is answered where the words of a SUP are read.
-use Rattle.std.specs.Prelude.{◌≡◌, ℕ, Bool, not, nat_lt, List, length, is_some, Result, Ok, Err, if◌then◌else◌}
+use Rattle.std.specs.Prelude.{◌≡◌, ◌≢◌, ℕ, Bool, not, nat_lt, List, length, is_some, Result, Ok, Err, if◌then◌else◌}
 use Rattle.std.specs.List.{list_all}
 use Rattle.login_state.specs.declared.fault.SupFault.{SupFault}
 use Rattle.login_state.specs.declared.fault.SupFault.TheVariants.{Memory, Bad, TooMany}
@@ -25,9 +25,9 @@ counted features = if nat_lt most_features (length features) then Err TooMany el
 unfoldable pub applied : List (List ℕ) → List (List ℕ) → Result (List (List ℕ)) SupFault
 applied before words = if not (are_mentions words) then Err Bad else counted (supported_after before (said words))
 
--- the answer is the one that is wanted; `Memory` says nothing
+-- the answer is the one that is wanted; `Memory` may stand in place of it, but not of `Bad`, which takes no memory to find
 abbrev pub Gives : Result (List (List ℕ)) SupFault → Result (List (List ℕ)) SupFault → Type 0
 Gives (Ok features) wanted = wanted ≡ Ok features
-Gives (Err Memory) wanted = Unit {0}
+Gives (Err Memory) wanted = wanted ≢ Err Bad
 Gives (Err Bad) wanted = wanted ≡ Err Bad
 Gives (Err TooMany) wanted = wanted ≡ Err TooMany

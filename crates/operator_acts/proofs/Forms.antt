@@ -26,9 +26,11 @@ pub kick-read : (ws more : List (List ℕ)) (word nick reason : List ℕ) → ws
 kick-read ws more word nick reason are is good rest =
     ap kick_of are ∙ ap (λ o. kick_by o (rest_of more)) (nick-there word nick is good) ∙ ap (λ r. Some (acts.Kick nick r)) (sym rest)
 
-pub kick-refused : (ws more : List (List ℕ)) (word : List ℕ) (fault : NickFault) → ws ≡ word ∷ more → (fault ≡ nicks.Invalid → is_nick (chars word) ≡ false) → Gives (Err (fault_of fault)) (kick_of ws)
-kick-refused ws more word nicks.Memory are bad = tt
-kick-refused ws more word nicks.Invalid are bad = ap kick_of are ∙ ap (λ o. kick_by o (rest_of more)) (nick-none word (bad refl))
+pub kick-refused : (ws more : List (List ℕ)) (word : List ℕ) (fault : NickFault) → ws ≡ word ∷ more → (fault ≡ nicks.Invalid → is_nick (chars word) ≡ false)
+    → (fault ≡ nicks.Memory → is_nick (chars word) ≡ true) → Gives (Err (fault_of fault)) (kick_of ws)
+kick-refused ws more word nicks.Memory are bad good =
+    ap is_some (ap kick_of are ∙ ap (λ o. kick_by o (rest_of more)) (nick-there word (chars word) refl (good refl)))
+kick-refused ws more word nicks.Invalid are bad good = ap kick_of are ∙ ap (λ o. kick_by o (rest_of more)) (nick-none word (bad refl))
 
 pub ban-read : (ws others more : List (List ℕ)) (word time nick reason : List ℕ) (seconds : ℕ) → ws ≡ word ∷ others → others ≡ time ∷ more
     → seconds_at time ≡ Some seconds → nick ≡ chars word → is_nick nick ≡ true → reason ≡ rest_of more → ban_of ws ≡ Some (acts.Ban nick seconds reason)
@@ -40,10 +42,13 @@ ban-none : (o : Option ℕ) (reason : List ℕ) → ban_by None o reason ≡ Non
 ban-none None reason = refl
 ban-none (Some s) reason = refl
 
-pub ban-refused : (ws others more : List (List ℕ)) (word time : List ℕ) (fault : NickFault) → ws ≡ word ∷ others → others ≡ time ∷ more
-    → (fault ≡ nicks.Invalid → is_nick (chars word) ≡ false) → Gives (Err (fault_of fault)) (ban_of ws)
-ban-refused ws others more word time nicks.Memory are and-are bad = tt
-ban-refused ws others more word time nicks.Invalid are and-are bad =
+pub ban-refused : (ws others more : List (List ℕ)) (word time : List ℕ) (seconds : ℕ) (fault : NickFault) → ws ≡ word ∷ others → others ≡ time ∷ more
+    → seconds_at time ≡ Some seconds → (fault ≡ nicks.Invalid → is_nick (chars word) ≡ false)
+    → (fault ≡ nicks.Memory → is_nick (chars word) ≡ true) → Gives (Err (fault_of fault)) (ban_of ws)
+ban-refused ws others more word time seconds nicks.Memory are and-are long bad good =
+    ap is_some (ap ban_of (are ∙ ap (λ xs. word ∷ xs) and-are) ∙ ap (λ s. ban_by (nick_at word) s (rest_of more)) long
+    ∙ ap (λ o. ban_by o (Some seconds) (rest_of more)) (nick-there word (chars word) refl (good refl)))
+ban-refused ws others more word time seconds nicks.Invalid are and-are long bad good =
     ap ban_of (are ∙ ap (λ xs. word ∷ xs) and-are) ∙ ap (λ o. ban_by o (seconds_at time) (rest_of more)) (nick-none word (bad refl)) ∙ ban-none (seconds_at time) (rest_of more)
 
 unban-by : (word : List ℕ) (more : List (List ℕ)) → 1 ≤ length more → unban_of (word ∷ more) ≡ None

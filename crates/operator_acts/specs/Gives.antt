@@ -1,15 +1,15 @@
 -- What a call that reads an act answers.
-use Rattle.std.specs.Prelude.{◌≡◌, Option, Some, None, Result, Ok, Err}
+use Rattle.std.specs.Prelude.{◌≡◌, true, Option, Some, None, Result, Ok, Err, is_some}
 use Rattle.adc_ids.specs.declared.nick.NickFault.{NickFault}
 use Rattle.adc_ids.specs.declared.nick.NickFault.TheVariants as nicks
 use Rattle.operator_acts.specs.declared.act.Act.{Act}
 use Rattle.operator_acts.specs.declared.fault.ActFault.{ActFault}
 use Rattle.operator_acts.specs.declared.fault.ActFault.TheVariants.{Memory, Bad}
 
--- the act that is there, or the fault that there is none; want of memory may stand in the place of either
+-- the act that is there, or the fault that there is none; want of memory stands only in the place of an act
 abbrev pub Gives : Result Act ActFault → Option Act → Type 0
 Gives (Ok act) said = said ≡ Some act
-Gives (Err Memory) said = Unit {0}
+Gives (Err Memory) said = is_some said ≡ true
 Gives (Err Bad) said = said ≡ None
 
 -- a text whose nick is none is no act

@@ -1,8 +1,8 @@
 use Rattle.adc_line.proofs.LineLemmas.{text_checked-text, text_checked-not_utf8}
 use Rattle.adc_line.proofs.line.text_of.Goals as goal
 
-pub returns-in-Ok : goal.returns-in-Ok
-returns-in-Ok c = text_checked-text _ _ c.if-bytes-gt-MAX_LINE.false c.in-Ok.ensures.cases.0 c.in-Ok.ensures.cases.1
+pub returns-in-Ok-clause-checked : goal.returns-in-Ok-clause-checked
+returns-in-Ok-clause-checked c = text_checked-text _ _ c.if-bytes-gt-MAX_LINE.false c.in-Ok.ensures.cases.0 c.in-Ok.ensures.cases.1
 
-pub returns-in-Err : goal.returns-in-Err
-returns-in-Err c = text_checked-not_utf8 _ c.if-bytes-gt-MAX_LINE.false c.in-Err.ensures.cases.0
+pub returns-in-Err-clause-checked : goal.returns-in-Err-clause-checked
+returns-in-Err-clause-checked c = text_checked-not_utf8 _ c.if-bytes-gt-MAX_LINE.false c.in-Err.ensures.cases.0
