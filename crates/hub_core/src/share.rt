@@ -88,10 +88,28 @@ fn all_shares(
 {
     let mut shares = Vec::with_capacity(alloc, expected(seats, &effect.hearers))?;
     for (place, seat) in seats.iter().enumerate() {
-        let lines = owed(alloc, seat, number, effect)?;
-        push_share(&mut shares, place, lines)?;
+        push_owed(alloc, &mut shares, place, seat, number, effect)?;
     }
     Ok(shares)
+}
+
+/// Adds what a seat is owed, where it hears anything. Of most seats a look shows that they do not.
+fn push_owed(
+    alloc: Global,
+    shares: &mut Vec<Share>,
+    place: usize,
+    seat: &Seat,
+    number: u64,
+    effect: &Effect<'_>,
+) -> Result<(), AllocError>
+    ensures { OnOk result (shares.new.items ≡ shares.old.items ++ share_at place (seat_share number effect.now seat.now)) }
+{
+    let is_caller = seat.number == number;
+    if !is_caller && !hears(&seat.phase, is_caller, &effect.hearers, seat.sid) {
+        return Ok(());
+    }
+    let lines = owed(alloc, seat, number, effect)?;
+    push_share(shares, place, lines)
 }
 
 /// Gives about how many shares there will be.
