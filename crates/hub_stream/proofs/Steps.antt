@@ -28,8 +28,8 @@ use Rattle.hub_rules.specs.Sights.{PreparedLine}
 use Rattle.hub_rules.proofs.Calls.{sound_of}
 use Rattle.login_state.specs.declared.stage.Stage.{Stage}
 use Rattle.login_state.specs.declared.stage.Stage.TheVariants as stages
-use Rattle.hub_stream.specs.Runs.{first, says, zeros, asked_in, IsOver}
-use Rattle.hub_stream.specs.Serving.{IsAlone, about_first, taken_in, IsCaughtUp}
+use Rattle.hub_stream.specs.Runs.{first, says, zeros, asked_in, IsCaughtUp, IsOver}
+use Rattle.hub_stream.specs.Serving.{IsAlone, about_first, taken_in}
 
 -- ---- one connection
 
