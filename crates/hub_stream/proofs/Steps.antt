@@ -25,7 +25,7 @@ use Rattle.hub_rules.specs.Legal.{Legal, has_ended, is_open, reply}
 use Rattle.hub_rules.specs.Prepared.{prepared}
 use Rattle.hub_rules.specs.Shares.{About, affected, given_share, has_room, is_removed, owes, removed_if, turned, waiting, with_share}
 use Rattle.hub_rules.specs.Sights.{PreparedLine}
-use Rattle.hub_rules.proofs.Calls.{sound_of}
+use Rattle.hub_invariants.proofs.Calls.{sound_of}
 use Rattle.login_state.specs.declared.stage.Stage.{Stage}
 use Rattle.login_state.specs.declared.stage.Stage.TheVariants as stages
 use Rattle.hub_stream.specs.Runs.{first, says, zeros, asked_in, IsCaughtUp, IsOver}
