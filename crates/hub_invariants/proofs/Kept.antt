@@ -1,5 +1,9 @@
 -- What every history keeps, from what is sound of its facts.
-use Rattle.std.proofs.Common.{◌≡◌, ◌∙◌, sym, ap, ap₂, refl, subst, ℕ, ◌+◌, ◌<◌, ◌≤◌, Bool, true, false, not, ◌&&◌, ◌||◌, ◌==◌, eqb, List, [], ◌∷◌, map, arith}
+use Rattle.std.proofs.Common.{◌≡◌, ◌∙◌, sym, ap, ap₂, refl, subst, ℕ, ◌+◌, ◌<◌, ◌≤◌, Bool, true, false, not, ◌&&◌, ◌||◌, ◌==◌, eqb, List, [], ◌∷◌, ◌++◌, length, take, map, arith, length-take}
+use Rattle.std.specs.List.{concat}
+use Rattle.std.proofs.Math.Seq.{take-add}
+use Rattle.std.proofs.lemmas.List.{take_min}
+use Rattle.std.proofs.lemmas.List.Folds.{concat-append}
 use Rattle.std.proofs.lemmas.Bool.{false≢true, eqb-true, eq-eqb}
 use Rattle.login_state.specs.declared.stage.Stage.{Stage}
 use Rattle.login_state.specs.declared.stage.Stage.TheVariants as stages
@@ -13,7 +17,7 @@ use Rattle.hub_rules.specs.Effects.{departure, is_over, is_present}
 use Rattle.hub_rules.specs.Facts.{Facts, facts, after, joined, closed, happens, about_after, given, has_place, has_joins, newcomer, next_sid, effect_of_line}
 use Rattle.hub_rules.specs.Legal.{Legal, MayCall, reply, take_reply}
 use Rattle.hub_rules.specs.Promises.{FewAreOpen, OthersAreOut, PresentAreUsers, SidsAreGiven, SidsDiffer, TakenIsTheSum, UsersAreOpen, lines_of_take, lines_taken, taken_in}
-use Rattle.hub_rules.specs.Shares.{About, chosen, given_share, has_room, owes, removed_if, turned, with_share}
+use Rattle.hub_rules.specs.Shares.{About, chosen, given_share, has_room, owes, removed_if, turned, waiting, with_share}
 use Rattle.hub_invariants.proofs.Calls.{over-unless, sound_of}
 use Rattle.hub_invariants.proofs.Members.{apart, both, has}
 use Rattle.hub_invariants.proofs.Sids.{Numbered, not-true, numbered_of}
@@ -113,13 +117,23 @@ removed-taken true false effect b = refl
 removed-taken false true effect b = refl
 removed-taken false false effect b = refl
 
-about-taken : (c : ℕ) (effect : Effect) (f : Facts) (d : ℕ) → (about_after c effect f.about d).taken ≡ (f.about d).taken
+pub about-taken : (c : ℕ) (effect : Effect) (f : Facts) (d : ℕ) → (about_after c effect f.about d).taken ≡ (f.about d).taken
 about-taken c effect f d =
     removed-taken _ (d == c) effect (with_share (f.about d) (owes (d == c) effect (f.about d))) ∙ with_share-taken-same (f.about d) (owes (d == c) effect (f.about d))
 
 happens-taken : (c : ℕ) (effect : Effect) (f : Facts) (d : ℕ) → ((happens c effect f).about d).taken ≡ (f.about d).taken
 unfolding happens
 happens-taken c effect f d = about-taken c effect f d
+
+-- so many of the first as are taken of them
+take-of_taken : (count : ℕ) (xs : List (List ℕ)) → take (length (take count xs)) xs ≡ take count xs
+take-of_taken count xs = rw length-take (take_min count xs)
+
+-- the bytes that were taken after a take: those that were taken before it, and what it gave
+pub given-bytes : (count : ℕ) (a : About) → concat (take (given count a).taken (given count a).owed) ≡ concat (take a.taken a.owed) ++ concat (take count (waiting a))
+given-bytes count a =
+    ap concat (take-add a.taken (length (take count (waiting a))) a.owed ∙ ap (λ xs. take a.taken a.owed ++ xs) (take-of_taken count (waiting a)))
+    ∙ concat-append (take a.taken a.owed) (take count (waiting a))
 
 -- what a connection has taken after one call more
 took : (count : ℕ) (a : About) (same : Bool) → (chosen same (given count a) a).taken ≡ a.taken + lines_of_take same (take_reply count a)
@@ -136,12 +150,12 @@ joined-about : (f : Facts) (owner : ℕ) (peer challenge : List ℕ) (d : ℕ)
 unfolding joined
 joined-about f owner peer challenge d = refl
 
-join-taken : (f : Facts) (owner : ℕ) (peer challenge : List ℕ) (d : ℕ) → (f.joins < d → (f.about d).taken ≡ 0) → (accepted : Bool)
+pub join-taken : (f : Facts) (owner : ℕ) (peer challenge : List ℕ) (d : ℕ) → (f.joins < d → (f.about d).taken ≡ 0) → (accepted : Bool)
     → ((chosen accepted (joined f owner peer challenge) f).about d).taken ≡ (f.about d).taken
 join-taken f owner peer challenge d fresh true = ap (λ (a : About). a.taken) (joined-about f owner peer challenge d) ∙ joined-taken f owner peer challenge d fresh (d == (f.joins + 1)) refl
 join-taken f owner peer challenge d fresh false = refl
 
-closed-about : (c : ℕ) (f : Facts) (d : ℕ) → (closed c f).about d ≡ f.about d
+pub closed-about : (c : ℕ) (f : Facts) (d : ℕ) → (closed c f).about d ≡ f.about d
 unfolding closed
 closed-about c f d = refl
 
@@ -184,7 +198,7 @@ none-taken f sound caller (Line c bytes now) reply d may above = refl
 none-taken f sound caller (Quit c) reply d may above = refl
 none-taken f sound caller (Take c count) reply d may above = none-of c d reply (c == d) refl (omega (arith, sound.counted c may.0, above))
 
-fresh-taken : (setup : Configured) (hash : List ℕ → List ℕ) (h : List Entry) → Legal setup hash h → (d : ℕ) → (facts setup hash h).joins < d → ((facts setup hash h).about d).taken ≡ 0
+pub fresh-taken : (setup : Configured) (hash : List ℕ → List ℕ) (h : List Entry) → Legal setup hash h → (d : ℕ) → (facts setup hash h).joins < d → ((facts setup hash h).about d).taken ≡ 0
 unfolding facts Legal
 fresh-taken setup hash [] legal d above = refl
 fresh-taken setup hash (e ∷ h) legal d above =

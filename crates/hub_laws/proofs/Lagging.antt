@@ -37,7 +37,7 @@ owed-step : (room : Bool) (a : About) (more : List (List ℕ)) → (given_share 
 owed-step true a more = refl
 owed-step false a more = sym (append-nil a.owed)
 
-abbrev room_in : About → List (List ℕ) → Bool
+abbrev pub room_in : About → List (List ℕ) → Bool
 room_in a more = not a.lags && has_room_for (waiting a) more
 
 with_share-lags : (a : About) (more : List (List ℕ)) → (with_share a more).lags ≡ not (room_in a more)
@@ -60,14 +60,14 @@ next-owed true false effect b = refl
 next-owed false true effect b = refl
 next-owed false false effect b = refl
 
-abbrev share_by : ℕ → Effect → Facts → ℕ → List (List ℕ)
+abbrev pub share_by : ℕ → Effect → Facts → ℕ → List (List ℕ)
 share_by c effect f d = owes (d == c) effect (f.about d)
 
 about-lags : (c : ℕ) (effect : Effect) (f : Facts) (d : ℕ) → (about_after c effect f.about d).lags ≡ not (room_in (f.about d) (share_by c effect f d))
 about-lags c effect f d =
     next-lags _ (d == c) effect (with_share (f.about d) (share_by c effect f d)) ∙ with_share-lags (f.about d) (share_by c effect f d)
 
-about-owed : (c : ℕ) (effect : Effect) (f : Facts) (d : ℕ)
+pub about-owed : (c : ℕ) (effect : Effect) (f : Facts) (d : ℕ)
     → (about_after c effect f.about d).owed ≡ (f.about d).owed ++ given_if (room_in (f.about d) (share_by c effect f d)) (share_by c effect f d)
 about-owed c effect f d =
     next-owed _ (d == c) effect (with_share (f.about d) (share_by c effect f d)) ∙ with_share-owed (f.about d) (share_by c effect f d)
@@ -121,9 +121,9 @@ still-stood a b fit lines tidy lags owed stood = record {
 
 -- ---- a connection that has not joined yet is owed nothing
 
-record Unowed (a : About) : Type 0 where
-  lags : a.lags ≡ false
-  owed : a.owed ≡ []
+pub record Unowed (a : About) : Type 0 where
+  pub lags : a.lags ≡ false
+  pub owed : a.owed ≡ []
 
 not-heard : (same : Bool) (effect : Effect) (a : About) → is_present a.stage ≡ false → given_if same effect.own ≡ [] → owes same effect a ≡ []
 not-heard same effect a absent none = ap₂ (λ p own. given_if (p && hears_those same effect.hearers a) effect.others ++ own) absent none
@@ -166,7 +166,7 @@ newcomer-same f owner peer challenge d true is fresh =
     (sym none.lags, sym none.owed)
 newcomer-same f owner peer challenge d false is fresh = (refl, refl)
 
-join-same : (f : Facts) (owner : ℕ) (peer challenge : List ℕ) (d : ℕ) (accepted : Bool) → (f.joins < d → Unowed (f.about d))
+pub join-same : (f : Facts) (owner : ℕ) (peer challenge : List ℕ) (d : ℕ) (accepted : Bool) → (f.joins < d → Unowed (f.about d))
     → (((chosen accepted (joined f owner peer challenge) f).about d).lags ≡ (f.about d).lags) × (((chosen accepted (joined f owner peer challenge) f).about d).owed ≡ (f.about d).owed)
 unfolding joined
 join-same f owner peer challenge d true fresh = newcomer-same f owner peer challenge d (d == (f.joins + 1)) refl fresh
@@ -196,7 +196,7 @@ unowed-after setup hash f caller call d sound tidy beyond none =
       owed = stood.owed ∙ ap (λ more. given_if (has_room_for (waiting (f.about d)) more) more) silent ∙ given-nothing _;
     }
 
-unowed_of : (setup : Configured) (hash : List ℕ → List ℕ) (h : List Entry) (d : ℕ) → (facts setup hash h).joins < d → Unowed ((facts setup hash h).about d)
+pub unowed_of : (setup : Configured) (hash : List ℕ → List ℕ) (h : List Entry) (d : ℕ) → (facts setup hash h).joins < d → Unowed ((facts setup hash h).about d)
 unfolding facts
 unowed_of setup hash [] d beyond = record { lags = refl; owed = refl }
 unowed_of setup hash (e ∷ h) d beyond =

@@ -1,6 +1,7 @@
 pub mod Apart
 pub mod Clearing
 pub mod Conversations
+pub mod Delivery
 pub mod Distinct
 pub mod Entries
 pub mod Heard

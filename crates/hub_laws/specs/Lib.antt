@@ -1,2 +1,3 @@
 pub mod Scenes
 pub mod Conversations
+pub mod Delivery

@@ -9,6 +9,7 @@ ghost use Rattle.hub_rules.specs.Stepping.{StageIsLastMade};
 ghost use Rattle.hub_rules.specs.Said.{FeaturesAreLastAdded, InfoIsMerged};
 ghost use Rattle.hub_rules.specs.Searched.{SearchIsTheLast, TotalsAreSums};
 ghost use Rattle.hub_rules.specs.World.{BanIsTheLastAct, TopicIsTheLast};
+ghost use Rattle.hub_laws.specs.Delivery.{DeliveredAreTheFirst};
 
 /// Says who is present: exactly those whose connections are at the stage NORMAL, all of them open; who never joined, or
 /// quit, is shut out (ADC 1.0, "States"). They stand in the order of the entries by which they entered. In a legal history
@@ -30,10 +31,12 @@ pub fn identifier_laws()
     ensures few { FewAreOpen }
 {}
 
-/// Takes: in a legal history what a connection took is the sum over the replies to its takes. It is owed the shares of all calls in
-/// order, up to the first that did not fit with what then waited, by lines or by bytes; from that one on it lags.
+/// Says of takes: in a legal history what a connection took is the sum over the replies to its takes, and the bytes of these replies,
+/// joined, are those of the first lines that it was owed. It is owed the shares of all calls in order, up to the first that
+/// did not fit with what then waited, by lines or by bytes; from that one on it lags.
 pub fn take_laws()
     ensures taken { TakenIsTheSum }
+    ensures delivered { DeliveredAreTheFirst }
     ensures owed { OwedAreShares }
     ensures lag { LagIsTheFirst }
 {}
