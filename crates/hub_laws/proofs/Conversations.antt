@@ -52,7 +52,6 @@ use Rattle.adc_ids.specs.Nicks.{is_nick}
 use Rattle.hub_rules.specs.Denied.{denial_of, login_denied, request_denied}
 use Rattle.hub_rules.specs.Effects.{accepted, denial, enters, entrant, heard, is_over, logs_in, unless_denied}
 use Rattle.hub_rules.specs.Facts.{after, facts, happens, newcomer, own_of, sight_of}
-use Rattle.hub_rules.specs.History.{lags, owed, present, stage}
 use Rattle.hub_rules.specs.Requests.{refused, request_of}
 use Rattle.hub_rules.specs.Shares.{with_share}
 use Rattle.hub_rules.specs.Texts.{ended, hub_line, identifier_line, support_line, user_line}

@@ -5,6 +5,7 @@ pub mod Delivery
 pub mod Distinct
 pub mod Entries
 pub mod Heard
+pub mod Joining
 pub mod Lagging
 pub mod Scenes
 pub mod Searching

@@ -10,6 +10,7 @@ ghost use Rattle.hub_rules.specs.Said.{FeaturesAreLastAdded, InfoIsMerged};
 ghost use Rattle.hub_rules.specs.Searched.{SearchIsTheLast, TotalsAreSums};
 ghost use Rattle.hub_rules.specs.World.{BanIsTheLastAct, TopicIsTheLast};
 ghost use Rattle.hub_laws.specs.Delivery.{DeliveredAreTheFirst};
+ghost use Rattle.hub_laws.specs.Joining.{JoinsAreCounted, JoinsStay};
 
 /// Says who is present: exactly those whose connections are at the stage NORMAL, all of them open; who never joined, or
 /// quit, is shut out (ADC 1.0, "States"). They stand in the order of the entries by which they entered. In a legal history
@@ -24,11 +25,14 @@ pub fn presence_laws()
 {}
 
 /// Says of session identifiers: two open connections have two, none has `AAAA`, and no more are open than the hub admits
-/// (ADC 1.0, "SID").
+/// (ADC 1.0, "SID"). In a legal history a connection has, whatever came later, the first identifier that was free when it
+/// joined, and the owner, the address and the challenge of its join; joins are as many as the replies that accept one.
 pub fn identifier_laws()
     ensures differ { SidsDiffer }
     ensures given { SidsAreGiven }
     ensures few { FewAreOpen }
+    ensures stay { JoinsStay }
+    ensures counted { JoinsAreCounted }
 {}
 
 /// Says of takes: in a legal history what a connection took is the sum over the replies to its takes, and the bytes of these replies,
