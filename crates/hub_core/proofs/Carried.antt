@@ -24,13 +24,12 @@ use Rattle.hub_rules.specs.Identities.{listed}
 use Rattle.hub_rules.specs.Quiet.{nothing}
 use Rattle.hub_rules.specs.Shares.{About}
 use Rattle.hub_rules.specs.Sights.{Own, PreparedLine, Sight}
-use Rattle.hub_rules.proofs.Apart.{differs-sid, listed-sid}
-use Rattle.hub_rules.proofs.Entries.{not-over}
-use Rattle.hub_rules.proofs.Members.{has}
-use Rattle.hub_rules.proofs.Sids.{Numbered}
-use Rattle.hub_rules.proofs.Sound.{Sound, or-true}
-use Rattle.hub_rules.proofs.Suits.{Suits}
-use Rattle.hub_rules.proofs.Tidy.{Tidy, is_unasked, is_unnamed}
+use Rattle.hub_invariants.proofs.Kept.{differs-sid}
+use Rattle.hub_invariants.proofs.Members.{has}
+use Rattle.hub_invariants.proofs.Sids.{Numbered}
+use Rattle.hub_invariants.proofs.Sound.{Sound, not-over, or-true}
+use Rattle.hub_invariants.proofs.Suits.{Suits, listed-sid}
+use Rattle.hub_invariants.proofs.Tidy.{Tidy, is_unasked, is_unnamed}
 use Rattle.hub_core.proofs.Seating.{at-one, in-open, map-seats, not-self, seat_one, seats-same, settled-map}
 use Rattle.hub_core.proofs.Places.{StandsFirst, phase-at, set-read, sid-at}
 use Rattle.hub_core.proofs.Sharing.{settles}

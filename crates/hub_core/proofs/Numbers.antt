@@ -21,7 +21,7 @@ use Rattle.hub_core.proofs.Places.{none_passes}
 use Rattle.hub_core.proofs.Settling.{number-given, number-gone}
 use Rattle.hub_core.proofs.Tests.{false-lt, lt-true}
 use Rattle.hub_rules.specs.Effects.{is_present}
-use Rattle.hub_rules.proofs.Sound.{or-true}
+use Rattle.hub_invariants.proofs.Sound.{or-true}
 
 -- ---- one more seat
 

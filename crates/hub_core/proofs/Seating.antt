@@ -7,7 +7,7 @@ use Rattle.hub_core.specs.declared.seat.Removal.{Removal}
 use Rattle.hub_core.specs.declared.seat.Seat.{Seat}
 use Rattle.hub_core.specs.Seats.{at_seat, in_seat, seat_of, settled, settled_all}
 use Rattle.hub_rules.specs.Shares.{About, chosen}
-use Rattle.hub_rules.proofs.Members.{apart, both, has, or-parts}
+use Rattle.hub_invariants.proofs.Members.{apart, both, has, or-parts}
 
 -- a change of one connection
 abbrev pub seat_one : ℕ → (Seat → Seat) → (ℕ → About) → ℕ → Seat

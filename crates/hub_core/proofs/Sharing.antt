@@ -25,8 +25,8 @@ use Rattle.hub_rules.specs.Sights.{Own}
 use Rattle.inf_fields.specs.Field.{Field}
 use Rattle.std.specs.Prelude.{if◌then◌else◌}
 use Rattle.hub_rules.specs.Shares.{About, affected, backlog_of, chosen, given_share, has_room, hears_those, is_removed, max_bytes, max_lines, owes, removed_if, stage_after, turned, waiting, with_share}
-use Rattle.hub_rules.proofs.Suits.{Routed, Suited, Suits, is_same}
-use Rattle.hub_rules.proofs.Tidy.{waiting-more, with-own}
+use Rattle.hub_invariants.proofs.Suits.{Routed, Suited, Suits, is_same}
+use Rattle.hub_invariants.proofs.Tidy.{waiting-more, with-own}
 use Rattle.hub_core.proofs.Tests.{true-le}
 use Rattle.std.proofs.lemmas.Bool.{false≢true}
 

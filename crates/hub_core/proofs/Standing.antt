@@ -33,16 +33,15 @@ use Rattle.hub_rules.specs.Configured.{Configured}
 use Rattle.hub_rules.specs.Effects.{departure, farewell, given_if, is_over, is_present, line_effect}
 use Rattle.hub_rules.specs.Facts.{Facts, about_after, after, closed, effect_of_line, facts, given, happens, has_joins, has_place, joined, max_joins, newcomer, next_sid, own_of, sight_of, user_of, with_one}
 use Rattle.hub_rules.specs.Identities.{listed}
-use Rattle.hub_rules.proofs.Entries.{not-over}
 use Rattle.hub_rules.specs.Legal.{Legal, is_open, join_reply, reply, take_reply, verdict_of}
 use Rattle.hub_rules.specs.Shares.{About, affected, backlog_of, chosen, max_bytes, max_lines, removed_if, waiting, with_share}
 use Rattle.hub_rules.specs.Sights.{PreparedLine}
-use Rattle.hub_rules.proofs.Calls.{not-open, sound_of}
-use Rattle.hub_rules.proofs.Members.{has}
-use Rattle.hub_rules.proofs.Sids.{Numbered, numbered_of}
-use Rattle.hub_rules.proofs.Sound.{Sound, or-true}
-use Rattle.hub_rules.proofs.Suits.{Suits}
-use Rattle.hub_rules.proofs.Tidy.{Tidy, suits_of, tidy_of, waiting-given}
+use Rattle.hub_invariants.proofs.Calls.{not-open, sound_of}
+use Rattle.hub_invariants.proofs.Members.{has}
+use Rattle.hub_invariants.proofs.Sids.{Numbered, numbered_of}
+use Rattle.hub_invariants.proofs.Sound.{Sound, not-over, or-true}
+use Rattle.hub_invariants.proofs.Suits.{Suits}
+use Rattle.hub_invariants.proofs.Tidy.{Tidy, suits_of, tidy_of, waiting-given}
 use Rattle.hub_core.proofs.Carried.{carried-out, decided-is, same-core}
 use Rattle.hub_core.proofs.Seating.{at-one, in-open, map-seats, others-seats, others_of as numbers_but, seat_one, seated-open, seats-left, seats-same}
 use Rattle.hub_core.proofs.Sharing.{gives, stage-kept, with-nothing}

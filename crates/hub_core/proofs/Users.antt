@@ -20,13 +20,12 @@ use Rattle.hub_rules.specs.Effects.{is_present}
 use Rattle.hub_rules.specs.Facts.{Facts, about_after, enters, newcomer_if, own_of, present_after, user_of}
 use Rattle.hub_rules.specs.Identities.{listed}
 use Rattle.hub_rules.specs.Shares.{About, chosen, fields_after, is_removed, stage_after}
-use Rattle.hub_rules.proofs.Apart.{differs-sid, listed-sid}
-use Rattle.hub_rules.proofs.Entries.{not-over}
-use Rattle.hub_rules.proofs.Members.{and-false, has}
-use Rattle.hub_rules.proofs.Saying.{about-fields}
-use Rattle.hub_rules.proofs.Sids.{Numbered, about-sid}
-use Rattle.hub_rules.proofs.Sound.{Sound, about-stage, or-true, removed_by, stage_next}
-use Rattle.hub_rules.proofs.Suits.{Suited, Suits, is_same}
+use Rattle.hub_invariants.proofs.Kept.{differs-sid}
+use Rattle.hub_invariants.proofs.Members.{and-false, has}
+use Rattle.hub_invariants.proofs.Saying.{about-fields}
+use Rattle.hub_invariants.proofs.Sids.{Numbered, about-sid}
+use Rattle.hub_invariants.proofs.Sound.{Sound, about-stage, not-over, or-true, removed_by, stage_next}
+use Rattle.hub_invariants.proofs.Suits.{Suited, Suits, is_same, listed-sid}
 use Rattle.hub_core.proofs.Seating.{not-self}
 
 -- ---- lists of connections

@@ -1,5 +1,5 @@
 -- Calls that are made one after another on a new hub.
-use Rattle.std.specs.Prelude.{◌≡◌, ◌≤◌, ℕ, Bool, true, false, List, [], ◌∷◌, Option, Some, None}
+use Rattle.std.specs.Prelude.{◌≡◌, ◌⊎◌, ◌≤◌, ℕ, Bool, true, false, List, [], ◌∷◌, Option, Some, None}
 use Rattle.hub_core.specs.CoreState.{CoreState}
 use Rattle.hub_core.specs.Moves.{StandsAt, entry}
 use Rattle.hub_core.specs.declared.calls.Answer.{Answer}
@@ -64,10 +64,12 @@ Answers caller ask answer old new =
     (setup : Configured) (hash : List ℕ → List ℕ) (h : List Entry) → StandsAt setup hash h old → MayAsk setup hash h caller ask
     → (is_skipped answer ≡ false) × StandsAt setup hash (with_answer caller ask answer h) new
 
--- from a history on, call by call: each that may be made at its turn is made, and at last the hub stands at the history of them all
+-- from a history on, call by call: each that may be made at its turn is made; after each that was made so, or skipped, which leaves
+-- everything as it was, those behind it go on; at last the hub stands at the history of all that were made
 unfoldable pub RunsTo : Configured → (List ℕ → List ℕ) → List Entry → List Asked → List Answer → CoreState → Type 0
 RunsTo setup hash h [] [] core = StandsAt setup hash h core
 RunsTo setup hash h [] (answer ∷ answers) core = ⊥
 RunsTo setup hash h (asked ∷ calls) [] core = ⊥
 RunsTo setup hash h (asked ∷ calls) (answer ∷ answers) core =
-    MayAsk setup hash h asked.caller asked.ask → (is_skipped answer ≡ false) × RunsTo setup hash (with_answer asked.caller asked.ask answer h) calls answers core
+    (MayAsk setup hash h asked.caller asked.ask → is_skipped answer ≡ false)
+    × (MayAsk setup hash h asked.caller asked.ask ⊎ (is_skipped answer ≡ true) → RunsTo setup hash (with_answer asked.caller asked.ask answer h) calls answers core)

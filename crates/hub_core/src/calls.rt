@@ -1,6 +1,6 @@
-ghost use Rattle.std.specs.Prelude.{ℕ, List, [], IfOk};
+ghost use Rattle.std.specs.Prelude.{◌≡◌, ℕ, true, List, [], IfOk};
 ghost use Rattle.std.specs.Arc.{arc_value};
-ghost use Rattle.hub_core.specs.Runs.{Answers, RunsTo};
+ghost use Rattle.hub_core.specs.Runs.{Answers, RunsTo, is_skipped};
 ghost use Rattle.hub_core.specs.declared.calls.Ask.TheVariants.{Join, Line, Quit, Take};
 
 use crate::connection::Connection;
@@ -57,9 +57,10 @@ pub enum Answer {
 
 /// Makes each call in turn on a new hub, and answers each at its place.
 ///
-/// None is skipped where each call names a connection that is open at its turn and that its caller joined, with a line that
-/// was made ready for it. Then the answers are those of one legal history, and the hub stands at it. A call for which
-/// memory runs out is answered with `Memory` and changes nothing; the calls behind it are made.
+/// A call is skipped where it names a connection that is not open at its turn, or takes no line or too many; that changes
+/// nothing, and the calls behind it are made. Of a call that is made, the connection is one that its caller joined, and
+/// the line was made ready for it: then the answers are those of one legal history of the calls that were made, and the
+/// hub stands at it. A call for which memory runs out is answered with `Memory` and changes nothing; those behind it are made.
 ///
 /// Refused: `Memory`, where no hub can be opened or there is no room for the answers; then no call was made.
 pub fn run_calls(
@@ -79,7 +80,8 @@ pub fn run_calls(
 }
 
 fn make(alloc: Global, core: &mut Core, asked: Asked<'_>) -> Answer
-    ensures { Answers asked.entry.caller asked.entry.ask result core.old core.new }
+    ensures answers { Answers asked.entry.caller asked.entry.ask result core.old core.new }
+    ensures skipped { is_skipped result ≡ true → core.new ≡ core.old }
 {
     match asked.ask {
         Ask::Join(peer, challenge, now) => join(alloc, core, peer, challenge, now),
@@ -90,7 +92,8 @@ fn make(alloc: Global, core: &mut Core, asked: Asked<'_>) -> Answer
 }
 
 fn join(alloc: Global, core: &mut Core, peer: [u8; 4], challenge: [u8; 24], now: u64) -> Answer
-    ensures { (caller : ℕ) → Answers caller (Join peer challenge now) result core.old core.new }
+    ensures answers { (caller : ℕ) → Answers caller (Join peer challenge now) result core.old core.new }
+    ensures skipped { is_skipped result ≡ true → core.new ≡ core.old }
 {
     match core.join(alloc, peer, challenge, now) {
         Ok(connection) => Answer::Joined(connection),
@@ -101,7 +104,8 @@ fn join(alloc: Global, core: &mut Core, peer: [u8; 4], challenge: [u8; 24], now:
 }
 
 fn say(alloc: Global, core: &mut Core, number: u64, line: &Prepared, now: u64) -> Answer
-    ensures { (caller : ℕ) → Answers caller (Line number line.entry now) result core.old core.new }
+    ensures answers { (caller : ℕ) → Answers caller (Line number line.entry now) result core.old core.new }
+    ensures skipped { is_skipped result ≡ true → core.new ≡ core.old }
 {
     let connection = Connection { number };
     if !core.is_open(connection) {
@@ -114,7 +118,8 @@ fn say(alloc: Global, core: &mut Core, number: u64, line: &Prepared, now: u64) -
 }
 
 fn quit(core: &mut Core, number: u64) -> Answer
-    ensures { (caller : ℕ) → Answers caller (Quit number) result core.old core.new }
+    ensures answers { (caller : ℕ) → Answers caller (Quit number) result core.old core.new }
+    ensures skipped { is_skipped result ≡ true → core.new ≡ core.old }
 {
     let connection = Connection { number };
     if !core.is_open(connection) {
@@ -125,7 +130,8 @@ fn quit(core: &mut Core, number: u64) -> Answer
 }
 
 fn take(alloc: Global, core: &mut Core, number: u64, count: usize) -> Answer
-    ensures { (caller : ℕ) → Answers caller (Take number count) result core.old core.new }
+    ensures answers { (caller : ℕ) → Answers caller (Take number count) result core.old core.new }
+    ensures skipped { is_skipped result ≡ true → core.new ≡ core.old }
 {
     let connection = Connection { number };
     if !core.is_open(connection) {

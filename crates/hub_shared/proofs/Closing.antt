@@ -19,10 +19,10 @@ use Rattle.hub_rules.specs.History.{opened, present}
 use Rattle.hub_rules.specs.Legal.{Legal}
 use Rattle.hub_rules.specs.Opening.{has_joined, has_quit, joins_as}
 use Rattle.hub_rules.specs.Promises.{is_in}
-use Rattle.hub_rules.proofs.Kept.{users_are_open}
-use Rattle.hub_rules.proofs.Members.{both}
-use Rattle.hub_rules.proofs.Open.{open_are_those_that_stayed}
-use Rattle.hub_rules.proofs.Sound.{or-true}
+use Rattle.hub_invariants.proofs.Kept.{users_are_open}
+use Rattle.hub_invariants.proofs.Members.{both}
+use Rattle.hub_invariants.proofs.Open.{open_are_those_that_stayed}
+use Rattle.hub_invariants.proofs.Sound.{or-true}
 use Rattle.hub_shared.specs.Callers.{VisitorState, seat_of}
 use Rattle.hub_shared.specs.Closing.{HasQuit, Settled, numbers_of}
 use Rattle.hub_shared.specs.Connections.{entries_of, has_stayed}

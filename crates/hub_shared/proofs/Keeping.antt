@@ -10,8 +10,8 @@ use Rattle.hub_rules.specs.Facts.{Facts, after, joined, closed, happens, given, 
 use Rattle.hub_rules.specs.Legal.{join_reply, reply}
 use Rattle.hub_rules.specs.Opening.{joins_as, quits}
 use Rattle.hub_rules.specs.Shares.{About, chosen, given_share, has_room, owes, removed_if, turned, with_share}
-use Rattle.hub_rules.proofs.Members.{has, has-append}
-use Rattle.hub_rules.proofs.Sound.{or-true}
+use Rattle.hub_invariants.proofs.Members.{has, has-append}
+use Rattle.hub_invariants.proofs.Sound.{or-true}
 use Rattle.hub_shared.specs.Connections.{challenge_of}
 
 -- the same caller and the same challenge

@@ -19,8 +19,8 @@ use Rattle.hub_rules.specs.Shares.{About}
 use Rattle.hub_stream.specs.declared.fault.RunFault.{RunFault}
 use Rattle.hub_stream.specs.declared.fault.RunFault.TheVariants as faults
 use Rattle.hub_stream.specs.Faults.{StopsBy, most_reads}
-use Rattle.hub_stream.specs.Runs.{first, join, says, owed_in, IsOwn, IsOver, IsAnswered, IsAnsweredInPart, IsServed}
-use Rattle.hub_stream.specs.Serving.{about_first, IsUnderWay, IsReady, IsCaughtUp, IsCutInto, Starts, BreaksOff, HandlesAll, StopsHearing}
+use Rattle.hub_stream.specs.Runs.{first, join, says, owed_in, IsCaughtUp, IsOwn, IsOver, IsAnswered, IsAnsweredInPart, IsServed}
+use Rattle.hub_stream.specs.Serving.{about_first, IsUnderWay, IsReady, IsCutInto, Starts, BreaksOff, HandlesAll, StopsHearing}
 use Rattle.hub_stream.proofs.Hearing.{lines_of_cut}
 
 -- so many reads at most gave what was read; its lines were handled, and all that the connection is owed was written
@@ -78,6 +78,7 @@ module _ (setup : Configured) (hash : List ℕ → List ℕ) (unread left held h
       consumed = consumed;
       history = record { legal = heard.way.alone.stands.legal; own = heard.way.alone.own };
       calls = heard.way.calls ∙ ap (λ xs. join ∷ map says xs) (sym lines_sent);
+      in_turn = heard.way.in_turn;
       written = subst (λ (xs : List ℕ). Appends held holds xs) (caught_up (about_first setup hash heard.history) heard.ready) heard.way.written;
     }
 
@@ -148,6 +149,7 @@ module _ (setup : Configured) (hash : List ℕ → List ℕ) (unread left held h
               ap (λ xs. xs ++ map says b.1.calls.1) b.1.calls.3
                   ∙ ap (λ xs. join ∷ xs) (sym (map-append says b.1.calls.0 b.1.calls.1) ∙ ap (map says) (sym b.1.calls.2 ∙ sym lines_more)),
             );
+            in_turn = b.1.in_turn;
             written = b.1.written;
           },
         )
@@ -184,6 +186,7 @@ never_began setup hash unread held = (
     consumed = Consumes-nil unread;
     history = before_all setup hash;
     calls = (join ∷ map says (lines []), refl);
+    in_turn = tt;
     written = ([], [], nothing_owed setup hash, Appends-nil held);
   },
 )

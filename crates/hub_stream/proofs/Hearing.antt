@@ -47,7 +47,7 @@ HearsOn setup hash bytes rest ended old new before now =
 goes_nowhere : (setup : Configured) (hash : List ℕ → List ℕ) (core : CoreState) (holds : Option (List ℕ)) → GoesOn setup hash [] false core core holds holds
 goes_nowhere setup hash core holds run way ready = (
   run.history,
-  record { alone = way.alone; calls = way.calls ∙ ap (λ xs. join ∷ map says xs) (sym (append-nil run.sent)); written = way.written },
+  record { alone = way.alone; calls = way.calls ∙ ap (λ xs. join ∷ map says xs) (sym (append-nil run.sent)); in_turn = way.in_turn; written = way.written },
   ready,
   λ ended. absurd (false≢true ended),
 )
@@ -61,7 +61,7 @@ goes_further : (setup : Configured) (hash : List ℕ → List ℕ) (more further
 goes_further setup hash more further first second old mid new before holds now one two run way ready =
     let a = one run way ready in
     let b = two (continued run more a.0) a.1 a.2 in
-    (b.0, record { alone = b.1.alone; calls = b.1.calls ∙ ap (λ xs. join ∷ map says xs) (append_assoc run.sent more further); written = b.1.written }, b.2, b.3)
+    (b.0, record { alone = b.1.alone; calls = b.1.calls ∙ ap (λ xs. join ∷ map says xs) (append_assoc run.sent more further); in_turn = b.1.in_turn; written = b.1.written }, b.2, b.3)
 
 -- whatever was said of more
 kept_on : (setup : Configured) (hash : List ℕ → List ℕ) (more : List (List ℕ)) (ended : Bool) (old new : CoreState) (before now : Option (List ℕ))

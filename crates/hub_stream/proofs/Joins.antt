@@ -64,7 +64,7 @@ module _ (setup : Configured) (hash : List ℕ → List ℕ) (old new : CoreStat
   pub join_starts : Starts setup hash new
   join_starts held = (
     asking ∷ [],
-    record { alone = join_alone; calls = refl; written = subst (λ (bytes : List ℕ). Appends held held bytes) (sym join_taken) (Appends-nil held) },
+    record { alone = join_alone; calls = refl; in_turn = (tt, tt); written = subst (λ (bytes : List ℕ). Appends held held bytes) (sym join_taken) (Appends-nil held) },
     join_owed,
   )
 

@@ -11,7 +11,7 @@ use Rattle.hub_rules.specs.declared.history.Verdict.{Verdict}
 use Rattle.hub_rules.specs.Configured.{Configured}
 use Rattle.hub_rules.specs.Prepared.{prepared}
 use Rattle.hub_rules.specs.Sights.{PreparedLine}
-use Rattle.hub_stream.specs.Runs.{first, join, says, zeros}
+use Rattle.hub_stream.specs.Runs.{first, join, says, zeros, IsCaughtUp}
 use Rattle.hub_stream.specs.Serving.{Run, IsUnderWay, IsReady, IsCutOff, continued, CatchesUp, FallsShort, GoesOn, BreaksOff}
 use Rattle.hub_stream.proofs.Steps.{said, line_alone, line_written}
 use Rattle.hub_stream.proofs.Takes.{SomeRuns, running_seated, cut_off}
@@ -23,6 +23,7 @@ module _ (setup : Configured) (hash : List ℕ → List ℕ) where
   cut_before held due more h holds cut = record {
     history = cut.history;
     calls = (cut.calls.0, cut.calls.1 ++ more, ap (λ xs. xs ++ more) cut.calls.2 ∙ append_assoc cut.calls.0 cut.calls.1 more, cut.calls.3);
+    in_turn = cut.in_turn;
     written = cut.written;
   }
 
@@ -42,20 +43,22 @@ module _ (setup : Configured) (hash : List ℕ → List ℕ) where
     heard = subst (λ (c : ℕ). LineMoves old c line 0 verdict mid) is_first moves
 
     -- the run goes on, and has not caught up
-    said_way : (run : Run) → IsUnderWay setup hash run old holds → IsUnderWay setup hash (continued run (bytes ∷ []) (said bytes verdict ∷ run.history)) mid holds
-    said_way run way = record {
+    said_way : (run : Run) → IsUnderWay setup hash run old holds → IsCaughtUp setup hash run.history
+        → IsUnderWay setup hash (continued run (bytes ∷ []) (said bytes verdict ∷ run.history)) mid holds
+    said_way run way ready = record {
       alone = line_alone setup hash run.history old mid way.alone bytes line verdict is_ready heard;
       calls = ap (λ calls. calls ++ says bytes ∷ []) way.calls ∙ ap (λ calls. join ∷ calls) (sym (map_push says run.sent bytes));
+      in_turn = (ready, way.in_turn);
       written = subst (λ (xs : List ℕ). Appends run.held holds xs) (sym (line_written setup hash run.history old mid way.alone bytes line verdict is_ready heard)) way.written;
     }
 
     pub said_running : IsReady setup hash old holds → SomeRuns mid holds
-    said_running ready = (setup, hash, (continued ready.0 (bytes ∷ []) (said bytes verdict ∷ ready.0.history), said_way ready.0 ready.1))
+    said_running ready = (setup, hash, (continued ready.0 (bytes ∷ []) (said bytes verdict ∷ ready.0.history), said_way ready.0 ready.1 ready.2))
 
     module _ (new : CoreState) (now : Option (List ℕ)) where
       -- what the line was owed was written
       pub said_whole : (ended : Bool) → CatchesUp setup hash ended mid new holds now → GoesOn setup hash (bytes ∷ []) ended old new holds now
-      said_whole ended catches run way ready = catches (continued run (bytes ∷ []) (said bytes verdict ∷ run.history)) (said_way run way)
+      said_whole ended catches run way ready = catches (continued run (bytes ∷ []) (said bytes verdict ∷ run.history)) (said_way run way ready)
 
       pub said_short : FallsShort setup hash mid holds now → BreaksOff setup hash (bytes ∷ []) old holds now
-      said_short short run way ready = short (continued run (bytes ∷ []) (said bytes verdict ∷ run.history)) (said_way run way)
+      said_short short run way ready = short (continued run (bytes ∷ []) (said bytes verdict ∷ run.history)) (said_way run way ready)

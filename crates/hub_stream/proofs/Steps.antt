@@ -1,8 +1,7 @@
 -- What the calls of the one caller do to its history.
 use Rattle.std.proofs.Common.{◌≡◌, ◌∙◌, sym, ap, ap₂, refl, subst, ℕ, ◌+◌, ◌<◌, ◌≤◌, Bool, true, false, ◌&&◌, ◌||◌, List, [], ◌∷◌, ◌++◌, length, take, drop, map, arith, append-nil, length-take, length-drop, inl, inr}
-use Rattle.std.proofs.Math.Seq.{take-add}
 use Rattle.std.proofs.lemmas.Bool.{false≢true}
-use Rattle.std.proofs.lemmas.List.{take-append-le, take_min, take-append-drop}
+use Rattle.std.proofs.lemmas.List.{take-append-le, take-append-drop}
 use Rattle.std.proofs.lemmas.List.Elements.{All-cons}
 use Rattle.std.proofs.lemmas.List.Folds.{concat-append}
 use Rattle.std.specs.List.{All, concat, list_any}
@@ -25,11 +24,12 @@ use Rattle.hub_rules.specs.Legal.{Legal, has_ended, is_open, reply}
 use Rattle.hub_rules.specs.Prepared.{prepared}
 use Rattle.hub_rules.specs.Shares.{About, affected, given_share, has_room, is_removed, owes, removed_if, turned, waiting, with_share}
 use Rattle.hub_rules.specs.Sights.{PreparedLine}
-use Rattle.hub_rules.proofs.Calls.{sound_of}
+use Rattle.hub_invariants.proofs.Calls.{sound_of}
+use Rattle.hub_invariants.proofs.Kept.{given-bytes}
 use Rattle.login_state.specs.declared.stage.Stage.{Stage}
 use Rattle.login_state.specs.declared.stage.Stage.TheVariants as stages
-use Rattle.hub_stream.specs.Runs.{first, says, zeros, asked_in, IsOver}
-use Rattle.hub_stream.specs.Serving.{IsAlone, about_first, taken_in, IsCaughtUp}
+use Rattle.hub_stream.specs.Runs.{first, says, zeros, asked_in, IsCaughtUp, IsOver}
+use Rattle.hub_stream.specs.Serving.{IsAlone, about_first, taken_in}
 
 -- ---- one connection
 
@@ -67,16 +67,6 @@ unfolding with_share
 affected-kept effect a within =
     removed-kept (is_present a.stage && is_removed effect.world a.sid) a _
     (turned-kept effect a (with_share a (owes true effect a)) (share-kept (has_room a (owes true effect a)) a (owes true effect a) within))
-
--- so many of the first as are taken of them
-take-of_taken : (count : ℕ) (xs : List (List ℕ)) → take (length (take count xs)) xs ≡ take count xs
-take-of_taken count xs = rw length-take (take_min count xs)
-
--- what was taken after a take: what was taken before, and what the take gave
-given-bytes : (count : ℕ) (a : About) → concat (take (given count a).taken (given count a).owed) ≡ concat (take a.taken a.owed) ++ concat (take count (waiting a))
-given-bytes count a =
-    ap concat (take-add a.taken (length (take count (waiting a))) a.owed ∙ ap (λ xs. take a.taken a.owed ++ xs) (take-of_taken count (waiting a)))
-    ∙ concat-append (take a.taken a.owed) (take count (waiting a))
 
 -- a take that gave fewer lines than it might leaves none
 given-all : (count : ℕ) (a : About) → a.taken ≤ length a.owed → length (take count (waiting a)) < count → (given count a).taken ≡ length (given count a).owed

@@ -49,6 +49,7 @@ pub cut_off : (setup : Configured) (hash : List ℕ → List ℕ) (run : Run) (c
 cut_off setup hash run core holds way = record {
   history = record { legal = way.alone.stands.legal; own = way.alone.own };
   calls = (run.sent, [], sym (append-nil run.sent), way.calls);
+  in_turn = way.in_turn;
   written = (taken_in setup hash run.history, _, taken-front (about_first setup hash run.history), way.written);
 }
 
@@ -76,6 +77,7 @@ module _ (old mid new : CoreState) (before now later : Option (List ℕ)) (conne
         record {
           alone = take_alone setup hash h mid new alone count bytes lines ended moved;
           calls = take_asked setup hash h mid new alone count bytes lines ended moved ∙ next.1.calls;
+          in_turn = (tt, next.1.in_turn);
           written = subst (λ (xs : List ℕ). Appends run.held later xs) (sym (take_written setup hash h mid new alone count bytes lines ended moved))
               (Appends-trans run.held now later _ _ next.1.written wrote);
         },
@@ -108,6 +110,7 @@ module _ (old mid new : CoreState) (before now later : Option (List ℕ)) (conne
             own = (take_alone setup hash h mid new next.1.alone count bytes lines ended moved).own;
           };
           calls = (run.sent, [], sym (append-nil run.sent), take_asked setup hash h mid new next.1.alone count bytes lines ended moved ∙ next.1.calls);
+          in_turn = (tt, next.1.in_turn);
           written = (
             taken ++ wrote.0,
             wrote.1 ++ waits,

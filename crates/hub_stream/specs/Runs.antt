@@ -8,7 +8,7 @@ use Rattle.hub_rules.specs.declared.history.Call.{Call}
 use Rattle.hub_rules.specs.declared.history.Call.TheVariants.{Join, Line, Quit, Take}
 use Rattle.hub_rules.specs.declared.history.Entry.{Entry}
 use Rattle.hub_rules.specs.Configured.{Configured}
-use Rattle.hub_rules.specs.History.{lags, owed, stage}
+use Rattle.hub_rules.specs.History.{lags, owed, stage, taken}
 use Rattle.hub_rules.specs.Legal.{Legal}
 use Rattle.login_state.specs.declared.stage.Stage.TheVariants.{Gone}
 
@@ -56,17 +56,34 @@ Lags setup hash h = lags setup hash h first ≡ true
 abbrev pub IsOver : Configured → (List ℕ → List ℕ) → List Entry → Type 0
 IsOver setup hash h = IsGone setup hash h ⊎ Lags setup hash h
 
+-- nothing that the connection is owed waits any more
+abbrev pub IsCaughtUp : Configured → (List ℕ → List ℕ) → List Entry → Type 0
+IsCaughtUp setup hash h = taken setup hash h first ≡ length (owed setup hash h first)
+
+-- of a line, that this holds
+abbrev pub OfLine : Call → Type 0 → Type 0
+OfLine (Join peer challenge now) Holds = Unit
+OfLine (Line connection line now) Holds = Holds
+OfLine (Quit connection) Holds = Unit
+OfLine (Take connection count) Holds = Unit
+
+-- each line was handed over when nothing that was owed for those before it waited any more
+abbrev pub AnswersInTurn : Configured → (List ℕ → List ℕ) → List Entry → Type 0
+AnswersInTurn setup hash [] = Unit
+AnswersInTurn setup hash (e ∷ h) = OfLine e.call (IsCaughtUp setup hash h) × AnswersInTurn setup hash h
+
 -- a legal history of the one caller
 pub record IsOwn (setup : Configured) (hash : List ℕ → List ℕ) (h : List Entry) : Type 0 where
   pub legal : Legal setup hash h
   pub own : All (λ e. e.caller ≡ first) h
 
 -- what was read was answered: in a legal history of one caller, which joins and then sends each line of what was read,
--- the connection is owed what was written
+-- the connection is owed what was written, each line after all that was owed before was taken
 pub record IsAnswered (setup : Configured) (hash : List ℕ → List ℕ) (unread left held holds : Option (List ℕ)) (read : List ℕ) (h : List Entry) : Type 0 where
   pub consumed : Consumes unread left read
   pub history : IsOwn setup hash h
   pub calls : asked_in h ≡ join ∷ map says (lines read)
+  pub in_turn : AnswersInTurn setup hash h
   pub written : Appends held holds (owed_in setup hash h)
 
 -- what was read was answered in part: the calls of the history are the first of those, and what was written is the front
@@ -75,6 +92,7 @@ pub record IsAnsweredInPart (setup : Configured) (hash : List ℕ → List ℕ) 
   pub consumed : Consumes unread left read
   pub history : IsOwn setup hash h
   pub calls : (later : _) × (asked_in h ++ later ≡ join ∷ map says (lines read))
+  pub in_turn : AnswersInTurn setup hash h
   pub written : (front : _) × (rest : _) × (owed_in setup hash h ≡ front ++ rest) × Appends held holds front
 
 -- behind its lines a stream has a rest, in which a line may begin

@@ -13,7 +13,7 @@ use Rattle.hub_rules.specs.History.{about}
 use Rattle.hub_rules.specs.Shares.{About}
 use Rattle.hub_stream.specs.declared.fault.RunFault.{RunFault}
 use Rattle.hub_stream.specs.declared.fault.RunFault.TheVariants as faults
-use Rattle.hub_stream.specs.Runs.{first, join, says, zeros, asked_in, owed_in, IsOver, IsOwn}
+use Rattle.hub_stream.specs.Runs.{first, join, says, zeros, asked_in, owed_in, AnswersInTurn, IsCaughtUp, IsOver, IsOwn}
 
 -- what the history makes of the connection
 abbrev pub about_first : Configured → (List ℕ → List ℕ) → List Entry → About
@@ -41,11 +41,8 @@ taken_in setup hash h = concat (take (about_first setup hash h).taken (about_fir
 pub record IsUnderWay (setup : Configured) (hash : List ℕ → List ℕ) (run : Run) (core : CoreState) (holds : Option (List ℕ)) : Type 0 where
   pub alone : IsAlone setup hash run.history core
   pub calls : asked_in run.history ≡ join ∷ map says run.sent
+  pub in_turn : AnswersInTurn setup hash run.history
   pub written : Appends run.held holds (taken_in setup hash run.history)
-
--- nothing waits
-abbrev pub IsCaughtUp : Configured → (List ℕ → List ℕ) → List Entry → Type 0
-IsCaughtUp setup hash h = (about_first setup hash h).taken ≡ length (about_first setup hash h).owed
 
 -- a run is under way
 abbrev pub IsRunning : Configured → (List ℕ → List ℕ) → CoreState → Option (List ℕ) → Type 0
@@ -67,6 +64,7 @@ continued run more h = record { held = run.held; sent = run.sent ++ more; histor
 pub record IsCutOff (setup : Configured) (hash : List ℕ → List ℕ) (held : Option (List ℕ)) (due : List (List ℕ)) (h : List Entry) (holds : Option (List ℕ)) : Type 0 where
   pub history : IsOwn setup hash h
   pub calls : (sent : List (List ℕ)) × (later : List (List ℕ)) × (due ≡ sent ++ later) × (asked_in h ≡ join ∷ map says sent)
+  pub in_turn : AnswersInTurn setup hash h
   pub written : (front : List ℕ) × (rest : List ℕ) × (owed_in setup hash h ≡ front ++ rest) × Appends held holds front
 
 -- a run can begin with this hub

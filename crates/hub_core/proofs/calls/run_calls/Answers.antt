@@ -15,7 +15,7 @@ loop-asked-preserved c =
     let first = c.in-Some.ensures.steps.0 in
     let pushed = rw c.unwrap.ensures at c.push.ensures.items in (
       (λ hash. rw pushed
-          (run-step (arc_value c.args.setup) hash all rest done now next c.in-Some.asked c.make-answer.result (subst (AreUnderWay (arc_value c.args.setup) hash all done now) first (c.loop-asked.invariant.0 hash)) c.make-answer.ensures)),
+          (run-step (arc_value c.args.setup) hash all rest done now next c.in-Some.asked c.make-answer.result (subst (AreUnderWay (arc_value c.args.setup) hash all done now) first (c.loop-asked.invariant.0 hash)) c.make-answer.ensures.answers c.make-answer.ensures.skipped)),
       room-left done c.push.new.self.items c.make-answer.result rest c.in-Some.asked (into_iter_items c.loop-asked.asked-iterator) (vec_capacity c.loop-asked.answers) (vec_capacity c.push.new.self)
           pushed first c.loop-asked.invariant.1 c.push.ensures.capacity,
     )

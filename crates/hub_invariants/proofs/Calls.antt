@@ -1,0 +1,140 @@
+-- After every history, legal or not, the facts are sound.
+use Rattle.std.proofs.Common.{◌≡◌, ◌∙◌, sym, ap, ap₂, refl, ℕ, ◌+◌, ◌<◌, ◌≤◌, Bool, true, false, not, ◌&&◌, ◌||◌, ◌==◌, eqb, List, [], ◌∷◌, ◌++◌, length, filter, arith, length-take, length-drop}
+use Rattle.std.proofs.lemmas.Bool.{false≢true, eqb-true, eq-eqb}
+use Rattle.login_state.specs.declared.stage.Stage.{Stage}
+use Rattle.login_state.specs.declared.stage.Stage.TheVariants as stages
+use Rattle.hub_rules.specs.declared.history.Call.{Call}
+use Rattle.hub_rules.specs.declared.history.Call.TheVariants.{Join, Line, Quit, Take}
+use Rattle.hub_rules.specs.declared.history.Entry.{Entry}
+use Rattle.hub_rules.specs.Configured.{Configured}
+use Rattle.hub_rules.specs.Effects.{is_over, is_present, departure}
+use Rattle.hub_rules.specs.Facts.{Facts, facts, after, joined, closed, happens, given, has_place, has_joins, newcomer, next_sid, with_one, effect_of_line}
+use Rattle.hub_rules.specs.Shares.{About, chosen, waiting}
+use Rattle.hub_invariants.proofs.Fits.{fits-departure}
+use Rattle.hub_invariants.proofs.Lines.{fits-line}
+use Rattle.hub_invariants.proofs.Members.{apart-filter, apart-push, has, has-append, has-filter}
+use Rattle.hub_invariants.proofs.Sound.{Sound, and-left, departed-over, happens-sound, or-false, or-true}
+
+-- ---- a join
+
+pub above : (f : Facts) → Sound f → (n : ℕ) → f.joins < n → (b : Bool) → has n f.opened ≡ b → b ≡ false
+above f sound n more true is = absurd (omega (arith, sound.counted n is, more))
+above f sound n more false is = refl
+
+pub not-open : (f : Facts) → Sound f → has (f.joins + 1) f.opened ≡ false
+not-open f sound = above f sound (f.joins + 1) (omega arith) (has (f.joins + 1) f.opened) refl
+
+pub over-unless : (f : Facts) → Sound f → (d : ℕ) → has d f.opened ≡ false → (b : Bool) → is_over (f.about d).stage ≡ b → b ≡ true
+over-unless f sound d none true is = refl
+over-unless f sound d none false is = absurd (false≢true (sym none ∙ sound.are_open d is))
+
+pub present-over : (stage : Stage) → is_over stage ≡ true → is_present stage ≡ false
+present-over stages.Gone over = refl
+present-over stages.Protocol over = absurd (false≢true over)
+present-over stages.Identify over = absurd (false≢true over)
+present-over stages.Verify over = absurd (false≢true over)
+present-over stages.Normal over = absurd (false≢true over)
+
+pub absent-newcomer : (f : Facts) → Sound f → is_present (f.about (f.joins + 1)).stage ≡ false
+absent-newcomer f sound =
+    present-over (f.about (f.joins + 1)).stage (over-unless f sound (f.joins + 1) (not-open f sound) (is_over (f.about (f.joins + 1)).stage) refl)
+
+join-open : (f : Facts) (owner : ℕ) (peer challenge : List ℕ) → Sound f → (d : ℕ) (same : Bool) → (d == (f.joins + 1)) ≡ same
+    → is_over (chosen same (newcomer owner (next_sid f) peer challenge) (f.about d)).stage ≡ false → has d (f.opened ++ (f.joins + 1) ∷ []) ≡ true
+join-open f owner peer challenge sound d true is open_after =
+    has-append d f.opened ((f.joins + 1) ∷ [])
+    ∙ ap (λ b. has d f.opened || (b || false)) (eq-eqb (f.joins + 1) d (sym (eqb-true d (f.joins + 1) is)))
+    ∙ or-true (has d f.opened)
+join-open f owner peer challenge sound d false is open_after =
+    has-append d f.opened ((f.joins + 1) ∷ []) ∙ ap (λ b. b || (eqb (f.joins + 1) d || false)) (sound.are_open d open_after)
+
+join-counted : (f : Facts) → Sound f → (d : ℕ) (before : Bool) → has d f.opened ≡ before → (before || (eqb (f.joins + 1) d || false)) ≡ true → d ≤ f.joins + 1
+join-counted f sound d true is there = omega (arith, sound.counted d is)
+join-counted f sound d false is there = let same : f.joins + 1 ≡ d = eqb-true (f.joins + 1) d (sym (or-false (eqb (f.joins + 1) d)) ∙ there) in omega (arith, same)
+
+join-entered : (f : Facts) (owner : ℕ) (peer challenge : List ℕ) → Sound f → (d : ℕ) (same : Bool) → (d == (f.joins + 1)) ≡ same
+    → has d f.present ≡ is_present (chosen same (newcomer owner (next_sid f) peer challenge) (f.about d)).stage
+join-entered f owner peer challenge sound d true is =
+    ap (λ x. has x f.present) (eqb-true d (f.joins + 1) is) ∙ sound.entered (f.joins + 1) ∙ absent-newcomer f sound
+join-entered f owner peer challenge sound d false is = sound.entered d
+
+join-taken : (f : Facts) (owner : ℕ) (peer challenge : List ℕ) → Sound f → (d : ℕ) (same : Bool)
+    → (chosen same (newcomer owner (next_sid f) peer challenge) (f.about d)).taken ≤ length (chosen same (newcomer owner (next_sid f) peer challenge) (f.about d)).owed
+join-taken f owner peer challenge sound d true = omega arith
+join-taken f owner peer challenge sound d false = sound.taken d
+
+joined-sound : (f : Facts) (owner : ℕ) (peer challenge : List ℕ) → Sound f → Sound (joined f owner peer challenge)
+unfolding joined
+joined-sound f owner peer challenge sound = record {
+  open_once = apart-push (f.joins + 1) f.opened (not-open f sound) sound.open_once;
+  counted = λ d there. join-counted f sound d (has d f.opened) refl (sym (has-append d f.opened ((f.joins + 1) ∷ [])) ∙ there);
+  are_open = λ d open_after. join-open f owner peer challenge sound d (d == (f.joins + 1)) refl open_after;
+  entered = λ d. join-entered f owner peer challenge sound d (d == (f.joins + 1)) refl;
+  present_once = sound.present_once;
+  taken = λ d. join-taken f owner peer challenge sound d (d == (f.joins + 1));
+}
+
+-- ---- a quit
+
+left-open : (c d : ℕ) (xs : List ℕ) (same : Bool) → (d == c) ≡ same → has d xs ≡ true → (same ≡ true → ⊥) → has d (filter (λ x. not (x == c)) xs) ≡ true
+left-open c d xs true is there other = absurd (other refl)
+left-open c d xs false is there other = has-filter (λ x. not (x == c)) d xs ∙ ap₂ (λ a b. a && not b) there is
+
+closed-sound : (c : ℕ) (f : Facts) → is_over (f.about c).stage ≡ true → Sound f → Sound (closed c f)
+unfolding closed
+closed-sound c f over sound = record {
+  open_once = apart-filter (λ x. not (x == c)) f.opened sound.open_once;
+  counted = λ d there. sound.counted d (and-left (has d f.opened) (not (d == c)) (sym (has-filter (λ x. not (x == c)) d f.opened) ∙ there));
+  are_open = λ d open_after. left-open c d f.opened (d == c) refl (sound.are_open d open_after)
+      (λ same. false≢true (sym open_after ∙ ap (λ x. is_over (f.about x).stage) (eqb-true d c same) ∙ over));
+  entered = sound.entered;
+  present_once = sound.present_once;
+  taken = sound.taken;
+}
+
+-- ---- a take
+
+given-stage : (c count : ℕ) (f : Facts) (d : ℕ) (same : Bool) → (chosen same (given count (f.about d)) (f.about d)).stage ≡ (f.about d).stage
+given-stage c count f d true = refl
+given-stage c count f d false = refl
+
+given-taken : (count : ℕ) (a : About) (same : Bool) → a.taken ≤ length a.owed → (chosen same (given count a) a).taken ≤ length (chosen same (given count a) a).owed
+given-taken count a true few = omega (arith, few, length-take count (waiting a), length-drop a.taken a.owed)
+given-taken count a false few = few
+
+taken-sound : (c count : ℕ) (f : Facts) → Sound f → Sound (record f { about = with_one c (given count) f.about })
+taken-sound c count f sound = record {
+  open_once = sound.open_once;
+  counted = sound.counted;
+  are_open = λ d open_after. sound.are_open d (ap is_over (sym (given-stage c count f d (d == c))) ∙ open_after);
+  entered = λ d. sound.entered d ∙ ap is_present (sym (given-stage c count f d (d == c)));
+  present_once = sound.present_once;
+  taken = λ d. given-taken count (f.about d) (d == c) (sound.taken d);
+}
+
+-- ---- every call
+
+join-sound : (f : Facts) (owner : ℕ) (peer challenge : List ℕ) (accepted : Bool) → Sound f → Sound (chosen accepted (joined f owner peer challenge) f)
+join-sound f owner peer challenge true sound = joined-sound f owner peer challenge sound
+join-sound f owner peer challenge false sound = sound
+
+pub after-sound : (setup : Configured) (hash : List ℕ → List ℕ) (f : Facts) (caller : ℕ) (call : Call) → Sound f → Sound (after setup hash f caller call)
+unfolding after
+after-sound setup hash f caller (Join peer challenge now) sound = join-sound f caller peer challenge (has_place setup f && has_joins f) sound
+after-sound setup hash f caller (Line c bytes now) sound = happens-sound c (effect_of_line setup hash f c bytes now) f sound (fits-line setup hash f c bytes now)
+after-sound setup hash f caller (Quit c) sound =
+    closed-sound c (happens c (departure (f.about c).stage (f.about c).sid) f) (departed-over c f)
+    (happens-sound c (departure (f.about c).stage (f.about c).sid) f sound (fits-departure (f.about c).stage (f.about c).stage (f.about c).sid))
+after-sound setup hash f caller (Take c count) sound = taken-sound c count f sound
+
+pub sound_of : (setup : Configured) (hash : List ℕ → List ℕ) (h : List Entry) → Sound (facts setup hash h)
+unfolding facts
+sound_of setup hash [] = record {
+  open_once = refl;
+  counted = λ d there. absurd (false≢true there);
+  are_open = λ d open_after. absurd (false≢true (sym open_after));
+  entered = λ d. refl;
+  present_once = refl;
+  taken = λ d. omega arith;
+}
+sound_of setup hash (e ∷ h) = after-sound setup hash (facts setup hash h) e.caller e.call (sound_of setup hash h)

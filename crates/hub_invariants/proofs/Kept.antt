@@ -1,0 +1,215 @@
+-- What every history keeps, from what is sound of its facts.
+use Rattle.std.proofs.Common.{◌≡◌, ◌∙◌, sym, ap, ap₂, refl, subst, ℕ, ◌+◌, ◌<◌, ◌≤◌, Bool, true, false, not, ◌&&◌, ◌||◌, ◌==◌, eqb, List, [], ◌∷◌, ◌++◌, length, take, map, arith, length-take}
+use Rattle.std.specs.List.{concat}
+use Rattle.std.proofs.Math.Seq.{take-add}
+use Rattle.std.proofs.lemmas.List.{take_min}
+use Rattle.std.proofs.lemmas.List.Folds.{concat-append}
+use Rattle.std.proofs.lemmas.Bool.{false≢true, eqb-true, eq-eqb}
+use Rattle.login_state.specs.declared.stage.Stage.{Stage}
+use Rattle.login_state.specs.declared.stage.Stage.TheVariants as stages
+use Rattle.hub_rules.specs.declared.effect.Effect.{Effect}
+use Rattle.hub_rules.specs.declared.history.Call.{Call}
+use Rattle.hub_rules.specs.declared.history.Call.TheVariants.{Join, Line, Quit, Take}
+use Rattle.hub_rules.specs.declared.history.Entry.{Entry}
+use Rattle.hub_rules.specs.declared.history.Reply.{Reply}
+use Rattle.hub_rules.specs.Configured.{Configured}
+use Rattle.hub_rules.specs.Effects.{departure, is_over, is_present}
+use Rattle.hub_rules.specs.Facts.{Facts, facts, after, joined, closed, happens, about_after, given, has_place, has_joins, newcomer, next_sid, effect_of_line}
+use Rattle.hub_rules.specs.Legal.{Legal, MayCall, reply, take_reply}
+use Rattle.hub_rules.specs.Promises.{FewAreOpen, OthersAreOut, PresentAreUsers, SidsAreGiven, SidsDiffer, TakenIsTheSum, UsersAreOpen, lines_of_take, lines_taken, taken_in}
+use Rattle.hub_rules.specs.Shares.{About, chosen, given_share, has_room, owes, removed_if, turned, waiting, with_share}
+use Rattle.hub_invariants.proofs.Calls.{over-unless, sound_of}
+use Rattle.hub_invariants.proofs.Members.{apart, both, has}
+use Rattle.hub_invariants.proofs.Sids.{Numbered, not-true, numbered_of}
+use Rattle.hub_invariants.proofs.Sound.{Sound, eqb-sym, or-true}
+
+-- ---- who is present
+
+is-normal : (stage : Stage) → is_present stage ≡ true → stage ≡ stages.Normal
+is-normal stages.Normal here = refl
+is-normal stages.Protocol here = absurd (false≢true here)
+is-normal stages.Identify here = absurd (false≢true here)
+is-normal stages.Verify here = absurd (false≢true here)
+is-normal stages.Gone here = absurd (false≢true here)
+
+is-gone : (stage : Stage) → is_over stage ≡ true → stage ≡ stages.Gone
+is-gone stages.Gone over = refl
+is-gone stages.Protocol over = absurd (false≢true over)
+is-gone stages.Identify over = absurd (false≢true over)
+is-gone stages.Verify over = absurd (false≢true over)
+is-gone stages.Normal over = absurd (false≢true over)
+
+pub present_are_users : PresentAreUsers
+present_are_users setup hash h c = (
+  (λ there. is-normal ((facts setup hash h).about c).stage (sym ((sound_of setup hash h).entered c) ∙ there)),
+  (λ is. (sound_of setup hash h).entered c ∙ ap is_present is),
+)
+
+pub users_are_open : UsersAreOpen
+users_are_open setup hash h c there = (sound_of setup hash h).are_open c (ap is_over ((present_are_users setup hash h c).0 there))
+
+pub others_are_out : OthersAreOut
+others_are_out setup hash h c none =
+    is-gone ((facts setup hash h).about c).stage (over-unless (facts setup hash h) (sound_of setup hash h) c none (is_over ((facts setup hash h).about c).stage) refl)
+
+-- ---- session identifiers
+
+head-or-rest : (x c : ℕ) (xs : List ℕ) (same : Bool) → eqb x c ≡ same → has c (x ∷ xs) ≡ true → (same ≡ true → x ≡ c) × (same ≡ false → has c xs ≡ true)
+head-or-rest x c xs same is there = ((λ e. eqb-true x c (is ∙ e)), (λ e. sym (ap (λ b. b || has c xs) (is ∙ e)) ∙ there))
+
+has-map-by : (g : ℕ → ℕ) (d x : ℕ) (xs : List ℕ) (same : Bool) → eqb x d ≡ same → (same ≡ false → has (g d) (map g xs) ≡ true) → has (g d) (map g (x ∷ xs)) ≡ true
+has-map-by g d x xs true is rest = ap (λ b. b || has (g d) (map g xs)) (eq-eqb (g x) (g d) (ap g (eqb-true x d is)))
+has-map-by g d x xs false is rest = ap (λ b. eqb (g x) (g d) || b) (rest refl) ∙ or-true (eqb (g x) (g d))
+
+has-map : (g : ℕ → ℕ) (d : ℕ) (xs : List ℕ) → has d xs ≡ true → has (g d) (map g xs) ≡ true
+has-map g d [] there = absurd (false≢true there)
+has-map g d (x ∷ xs) there =
+    has-map-by g d x xs (eqb x d) refl (λ other. has-map g d xs ((head-or-rest x d xs (eqb x d) refl there).1 other))
+
+one-of : (g : ℕ → ℕ) (x c d : ℕ) (xs : List ℕ) (first second : Bool) → eqb x c ≡ first → eqb x d ≡ second → has (g x) (map g xs) ≡ false
+    → has c (x ∷ xs) ≡ true → has d (x ∷ xs) ≡ true → g c ≡ g d → (has c xs ≡ true → has d xs ≡ true → c ≡ d) → c ≡ d
+one-of g x c d xs true true is-c is-d fresh there-c there-d same rest = sym (eqb-true x c is-c) ∙ eqb-true x d is-d
+one-of g x c d xs true false is-c is-d fresh there-c there-d same rest =
+    let d_later = (head-or-rest x d xs false is-d there-d).1 refl in
+    absurd (false≢true (sym fresh ∙ ap (λ y. has y (map g xs)) (ap g (eqb-true x c is-c) ∙ same) ∙ has-map g d xs d_later))
+one-of g x c d xs false true is-c is-d fresh there-c there-d same rest =
+    let c_later = (head-or-rest x c xs false is-c there-c).1 refl in
+    absurd (false≢true (sym fresh ∙ ap (λ y. has y (map g xs)) (ap g (eqb-true x d is-d) ∙ sym same) ∙ has-map g c xs c_later))
+one-of g x c d xs false false is-c is-d fresh there-c there-d same rest =
+    rest ((head-or-rest x c xs false is-c there-c).1 refl) ((head-or-rest x d xs false is-d there-d).1 refl)
+
+pub apart-one : (g : ℕ → ℕ) (c d : ℕ) (xs : List ℕ) → apart (map g xs) ≡ true → has c xs ≡ true → has d xs ≡ true → g c ≡ g d → c ≡ d
+apart-one g c d [] once there-c there-d same = absurd (false≢true there-c)
+apart-one g c d (x ∷ xs) once there-c there-d same =
+    let tests = both (not (has (g x) (map g xs))) (apart (map g xs)) once in
+    one-of g x c d xs (eqb x c) (eqb x d) refl refl (not-true (has (g x) (map g xs)) tests.0) there-c there-d same
+    (λ later-c later-d. apart-one g c d xs tests.1 later-c later-d same)
+
+pub differs-sid : (setup : Configured) (f : Facts) → Sound f → Numbered setup f → (c d : ℕ) → has c f.opened ≡ true → has d f.opened ≡ true → (c == d) ≡ false → (same : Bool)
+    → eqb (f.about d).sid (f.about c).sid ≡ same → same ≡ false
+differs-sid setup f sound n c d open-c open-d other true is =
+    absurd (false≢true (sym other ∙ eq-eqb c d (apart-one (λ x. (f.about x).sid) c d f.opened n.apart_sids open-c open-d (sym (eqb-true (f.about d).sid (f.about c).sid is)))))
+differs-sid setup f sound n c d open-c open-d other false is = refl
+
+pub sids_differ : SidsDiffer
+sids_differ setup hash h small c d there-c there-d same =
+    apart-one (λ x. ((facts setup hash h).about x).sid) c d (facts setup hash h).opened (numbered_of setup hash h small).apart_sids there-c there-d same
+
+pub sids_are_given : SidsAreGiven
+sids_are_given setup hash h small c there = (numbered_of setup hash h small).given_sids c there
+
+pub few_are_open : FewAreOpen
+few_are_open setup hash h small = (numbered_of setup hash h small).few
+
+-- ---- takes
+
+share-taken-same : (room : Bool) (a : About) (share : List (List ℕ)) → (given_share room a share).taken ≡ a.taken
+share-taken-same true a share = refl
+share-taken-same false a share = refl
+
+with_share-taken-same : (a : About) (share : List (List ℕ)) → (with_share a share).taken ≡ a.taken
+unfolding with_share
+with_share-taken-same a share = share-taken-same (has_room a share) a share
+
+removed-taken : (removed is_caller : Bool) (effect : Effect) (b : About) → (removed_if removed (chosen is_caller (turned effect b) b)).taken ≡ b.taken
+removed-taken true true effect b = refl
+removed-taken true false effect b = refl
+removed-taken false true effect b = refl
+removed-taken false false effect b = refl
+
+pub about-taken : (c : ℕ) (effect : Effect) (f : Facts) (d : ℕ) → (about_after c effect f.about d).taken ≡ (f.about d).taken
+about-taken c effect f d =
+    removed-taken _ (d == c) effect (with_share (f.about d) (owes (d == c) effect (f.about d))) ∙ with_share-taken-same (f.about d) (owes (d == c) effect (f.about d))
+
+happens-taken : (c : ℕ) (effect : Effect) (f : Facts) (d : ℕ) → ((happens c effect f).about d).taken ≡ (f.about d).taken
+unfolding happens
+happens-taken c effect f d = about-taken c effect f d
+
+-- so many of the first as are taken of them
+take-of_taken : (count : ℕ) (xs : List (List ℕ)) → take (length (take count xs)) xs ≡ take count xs
+take-of_taken count xs = rw length-take (take_min count xs)
+
+-- the bytes that were taken after a take: those that were taken before it, and what it gave
+pub given-bytes : (count : ℕ) (a : About) → concat (take (given count a).taken (given count a).owed) ≡ concat (take a.taken a.owed) ++ concat (take count (waiting a))
+given-bytes count a =
+    ap concat (take-add a.taken (length (take count (waiting a))) a.owed ∙ ap (λ xs. take a.taken a.owed ++ xs) (take-of_taken count (waiting a)))
+    ∙ concat-append (take a.taken a.owed) (take count (waiting a))
+
+-- what a connection has taken after one call more
+took : (count : ℕ) (a : About) (same : Bool) → (chosen same (given count a) a).taken ≡ a.taken + lines_of_take same (take_reply count a)
+took count a true = refl
+took count a false = omega arith
+
+joined-taken : (f : Facts) (owner : ℕ) (peer challenge : List ℕ) (d : ℕ) → (f.joins < d → (f.about d).taken ≡ 0) → (same : Bool) → (d == (f.joins + 1)) ≡ same
+    → (chosen same (newcomer owner (next_sid f) peer challenge) (f.about d)).taken ≡ (f.about d).taken
+joined-taken f owner peer challenge d fresh true is = let e : d ≡ f.joins + 1 = eqb-true d (f.joins + 1) is in sym (fresh (omega (arith, e)))
+joined-taken f owner peer challenge d fresh false is = refl
+
+joined-about : (f : Facts) (owner : ℕ) (peer challenge : List ℕ) (d : ℕ)
+    → (joined f owner peer challenge).about d ≡ chosen (d == (f.joins + 1)) (newcomer owner (next_sid f) peer challenge) (f.about d)
+unfolding joined
+joined-about f owner peer challenge d = refl
+
+pub join-taken : (f : Facts) (owner : ℕ) (peer challenge : List ℕ) (d : ℕ) → (f.joins < d → (f.about d).taken ≡ 0) → (accepted : Bool)
+    → ((chosen accepted (joined f owner peer challenge) f).about d).taken ≡ (f.about d).taken
+join-taken f owner peer challenge d fresh true = ap (λ (a : About). a.taken) (joined-about f owner peer challenge d) ∙ joined-taken f owner peer challenge d fresh (d == (f.joins + 1)) refl
+join-taken f owner peer challenge d fresh false = refl
+
+pub closed-about : (c : ℕ) (f : Facts) (d : ℕ) → (closed c f).about d ≡ f.about d
+unfolding closed
+closed-about c f d = refl
+
+take-one : (f : Facts) (c count d : ℕ) (same other : Bool) → (d == c) ≡ same → same ≡ other
+    → (chosen same (given count (f.about d)) (f.about d)).taken ≡ (f.about d).taken + lines_of_take other (take_reply count (f.about c))
+take-one f c count d true true is alike = subst (λ x. (given count (f.about d)).taken ≡ (f.about d).taken + lines_of_take true (take_reply count (f.about x))) (eqb-true d c is) (took count (f.about d) true)
+take-one f c count d true false is alike = absurd (false≢true (sym alike))
+take-one f c count d false true is alike = absurd (false≢true alike)
+take-one f c count d false false is alike = omega arith
+
+step-taken : (setup : Configured) (hash : List ℕ → List ℕ) (f : Facts) (caller : ℕ) (call : Call) (d : ℕ) → (f.joins < d → (f.about d).taken ≡ 0)
+    → ((after setup hash f caller call).about d).taken ≡ (f.about d).taken + lines_taken d call (reply setup hash f caller call)
+unfolding after reply
+step-taken setup hash f caller (Join peer challenge now) d fresh = join-taken f caller peer challenge d fresh (has_place setup f && has_joins f) ∙ omega arith
+step-taken setup hash f caller (Line c bytes now) d fresh = happens-taken c (effect_of_line setup hash f c bytes now) f d ∙ omega arith
+step-taken setup hash f caller (Quit c) d fresh =
+    ap (λ (a : About). a.taken) (closed-about c (happens c (departure (f.about c).stage (f.about c).sid) f) d)
+    ∙ happens-taken c (departure (f.about c).stage (f.about c).sid) f d ∙ omega arith
+step-taken setup hash f caller (Take c count) d fresh = take-one f c count d (d == c) (c == d) refl (eqb-sym d c (d == c) (c == d) refl refl)
+
+joins-kept : (f : Facts) (owner : ℕ) (peer challenge : List ℕ) (accepted : Bool) → f.joins ≤ (chosen accepted (joined f owner peer challenge) f).joins
+unfolding joined
+joins-kept f owner peer challenge true = omega arith
+joins-kept f owner peer challenge false = omega arith
+
+pub joins-grow : (setup : Configured) (hash : List ℕ → List ℕ) (f : Facts) (caller : ℕ) (call : Call) → f.joins ≤ (after setup hash f caller call).joins
+unfolding after happens closed
+joins-grow setup hash f caller (Join peer challenge now) = joins-kept f caller peer challenge (has_place setup f && has_joins f)
+joins-grow setup hash f caller (Line c bytes now) = omega arith
+joins-grow setup hash f caller (Quit c) = omega arith
+joins-grow setup hash f caller (Take c count) = omega arith
+
+none-of : (c d : ℕ) (reply : Reply) (same : Bool) → (c == d) ≡ same → c < d → lines_of_take same reply ≡ 0
+none-of c d reply true is below = let e : c ≡ d = eqb-true c d is in absurd (omega (arith, e, below))
+none-of c d reply false is below = refl
+
+none-taken : (f : Facts) → Sound f → (caller : ℕ) (call : Call) (reply : Reply) (d : ℕ) → MayCall f caller call → f.joins < d → lines_taken d call reply ≡ 0
+none-taken f sound caller (Join peer challenge now) reply d may above = refl
+none-taken f sound caller (Line c bytes now) reply d may above = refl
+none-taken f sound caller (Quit c) reply d may above = refl
+none-taken f sound caller (Take c count) reply d may above = none-of c d reply (c == d) refl (omega (arith, sound.counted c may.0, above))
+
+pub fresh-taken : (setup : Configured) (hash : List ℕ → List ℕ) (h : List Entry) → Legal setup hash h → (d : ℕ) → (facts setup hash h).joins < d → ((facts setup hash h).about d).taken ≡ 0
+unfolding facts Legal
+fresh-taken setup hash [] legal d above = refl
+fresh-taken setup hash (e ∷ h) legal d above =
+    let below : (facts setup hash h).joins < d = omega (arith, above, joins-grow setup hash (facts setup hash h) e.caller e.call) in
+    step-taken setup hash (facts setup hash h) e.caller e.call d (fresh-taken setup hash h legal.0 d)
+    ∙ ap₂ ◌+◌ (fresh-taken setup hash h legal.0 d below)
+    (none-taken (facts setup hash h) (sound_of setup hash h) e.caller e.call (reply setup hash (facts setup hash h) e.caller e.call) d legal.1 below)
+
+pub taken_is_the_sum : TakenIsTheSum
+unfolding facts Legal taken_in
+taken_is_the_sum setup hash [] legal c = refl
+taken_is_the_sum setup hash (e ∷ h) legal c =
+    step-taken setup hash (facts setup hash h) e.caller e.call c (fresh-taken setup hash h legal.0 c)
+    ∙ ap₂ ◌+◌ (taken_is_the_sum setup hash h legal.0 c) (ap (lines_taken c e.call) (sym legal.2))

@@ -1,0 +1,13 @@
+pub mod Calls
+pub mod Claims
+pub mod Fits
+pub mod Kept
+pub mod Lines
+pub mod Members
+pub mod Open
+pub mod Outcomes
+pub mod Saying
+pub mod Sids
+pub mod Sound
+pub mod Suits
+pub mod Tidy

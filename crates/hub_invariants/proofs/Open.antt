@@ -1,0 +1,93 @@
+-- Open are the connections that joined and did not quit.
+use Rattle.std.proofs.Common.{◌≡◌, ◌∙◌, sym, ap, ap₂, refl, ℕ, ◌+◌, ◌<◌, Bool, true, false, not, ◌&&◌, ◌||◌, ◌==◌, eqb, List, [], ◌∷◌, arith}
+use Rattle.std.proofs.lemmas.Bool.{eqb-true}
+use Rattle.hub_rules.specs.declared.effect.Effect.{Effect}
+use Rattle.hub_rules.specs.declared.history.Call.{Call}
+use Rattle.hub_rules.specs.declared.history.Call.TheVariants.{Join, Line, Quit, Take}
+use Rattle.hub_rules.specs.declared.history.Entry.{Entry}
+use Rattle.hub_rules.specs.Configured.{Configured}
+use Rattle.hub_rules.specs.Effects.{departure}
+use Rattle.hub_rules.specs.Facts.{Facts, facts, after, closed, effect_of_line, happens, has_joins, has_place, joined}
+use Rattle.hub_rules.specs.Legal.{Legal, MayCall, join_reply, reply}
+use Rattle.hub_rules.specs.Opening.{OpenAreThoseThatStayed, has_joined, has_quit, joins_as, quits}
+use Rattle.hub_rules.specs.Shares.{chosen}
+use Rattle.hub_invariants.proofs.Calls.{sound_of}
+use Rattle.hub_invariants.proofs.Kept.{joins-grow}
+use Rattle.hub_invariants.proofs.Members.{and-false, has, has-append, has-filter}
+use Rattle.hub_invariants.proofs.Sound.{Sound, eqb-sym, or-false, or-true}
+
+-- ---- a connection that never joined never quit
+
+same-number : (d c : ℕ) (same : Bool) → eqb d c ≡ same → d < c → same ≡ false
+same-number d c true is below = let e : d ≡ c = eqb-true d c is in absurd (omega (arith, e, below))
+same-number d c false is below = refl
+
+no-quit : (f : Facts) → Sound f → (caller : ℕ) (call : Call) (c : ℕ) → MayCall f caller call → f.joins < c → quits c call ≡ false
+no-quit f sound caller (Join peer challenge now) c may beyond = refl
+no-quit f sound caller (Line d bytes now) c may beyond = refl
+no-quit f sound caller (Quit d) c may beyond = same-number d c (eqb d c) refl (omega (arith, sound.counted d may.0, beyond))
+no-quit f sound caller (Take d count) c may beyond = refl
+
+never-quit : (setup : Configured) (hash : List ℕ → List ℕ) (h : List Entry) → Legal setup hash h → (c : ℕ) → (facts setup hash h).joins < c → has_quit c h ≡ false
+unfolding facts Legal
+never-quit setup hash [] legal c beyond = refl
+never-quit setup hash (e ∷ h) legal c beyond =
+    let below : (facts setup hash h).joins < c = omega (arith, beyond, joins-grow setup hash (facts setup hash h) e.caller e.call) in
+    ap₂ ◌||◌ (no-quit (facts setup hash h) (sound_of setup hash h) e.caller e.call c legal.1 below) (never-quit setup hash h legal.0 c below)
+
+-- ---- one call
+
+joined-opened : (f : Facts) (owner : ℕ) (peer challenge : List ℕ) (c : ℕ) → has c (joined f owner peer challenge).opened ≡ (has c f.opened || eqb (f.joins + 1) c)
+unfolding joined
+joined-opened f owner peer challenge c = has-append c f.opened ((f.joins + 1) ∷ []) ∙ ap (λ b. has c f.opened || b) (or-false (eqb (f.joins + 1) c))
+
+-- a join: the one that it makes has not quit
+join-stays : (new before joined quit : Bool) → (new ≡ true → quit ≡ false) → before ≡ (joined && not quit) → (before || new) ≡ ((new || joined) && not quit)
+join-stays true before joined quit fresh is = or-true before ∙ sym (ap not (fresh refl))
+join-stays false before joined quit fresh is = or-false before ∙ is
+
+and-true : (b : Bool) → (b && true) ≡ b
+and-true true = refl
+and-true false = refl
+
+quit-stays : (leaves before joined quit : Bool) → before ≡ (joined && not quit) → (before && not leaves) ≡ ((false || joined) && not (leaves || quit))
+quit-stays true before joined quit is = and-false before ∙ sym (and-false joined)
+quit-stays false before joined quit is = and-true before ∙ is
+
+join-accepted : (f : Facts) (owner : ℕ) (peer challenge : List ℕ) (c : ℕ) (place counted before quit : Bool) → (f.joins < c → quit ≡ false) → has c f.opened ≡ (before && not quit)
+    → has c (chosen (place && counted) (joined f owner peer challenge) f).opened ≡ ((joins_as c (join_reply place counted f.joins) || before) && not (false || quit))
+join-accepted f owner peer challenge c true true before quit fresh is =
+    joined-opened f owner peer challenge c
+    ∙ join-stays (eqb (f.joins + 1) c) (has c f.opened) before quit (λ new. let e : f.joins + 1 ≡ c = eqb-true (f.joins + 1) c new in fresh (omega (arith, e))) is
+join-accepted f owner peer challenge c true false before quit fresh is = is
+join-accepted f owner peer challenge c false counted before quit fresh is = is
+
+happens-opened : (c : ℕ) (effect : Effect) (f : Facts) → (happens c effect f).opened ≡ f.opened
+unfolding happens
+happens-opened c effect f = refl
+
+closed-opened : (d : ℕ) (f : Facts) (c : ℕ) → has c (closed d f).opened ≡ (has c f.opened && not (c == d))
+unfolding closed
+closed-opened d f c = has-filter (λ x. not (x == d)) c f.opened
+
+open-after : (setup : Configured) (hash : List ℕ → List ℕ) (f : Facts) (caller : ℕ) (call : Call) (c : ℕ) (before quit : Bool) → (f.joins < c → quit ≡ false)
+    → has c f.opened ≡ (before && not quit)
+    → has c (after setup hash f caller call).opened ≡ ((joins_as c (reply setup hash f caller call) || before) && not (quits c call || quit))
+unfolding after reply
+open-after setup hash f caller (Join peer challenge now) c before quit fresh is =
+    join-accepted f caller peer challenge c (has_place setup f) (has_joins f) before quit fresh is
+open-after setup hash f caller (Line d bytes now) c before quit fresh is = ap (has c) (happens-opened d (effect_of_line setup hash f d bytes now) f) ∙ is
+open-after setup hash f caller (Quit d) c before quit fresh is =
+    closed-opened d (happens d (departure (f.about d).stage (f.about d).sid) f) c
+    ∙ ap₂ (λ a b. a && not b) (ap (has c) (happens-opened d (departure (f.about d).stage (f.about d).sid) f)) (eqb-sym c d (eqb c d) (eqb d c) refl refl)
+    ∙ quit-stays (eqb d c) (has c f.opened) before quit is
+open-after setup hash f caller (Take d count) c before quit fresh is = is
+
+-- ---- every history
+
+pub open_are_those_that_stayed : OpenAreThoseThatStayed
+unfolding facts Legal
+open_are_those_that_stayed setup hash [] legal c = refl
+open_are_those_that_stayed setup hash (e ∷ h) legal c =
+    open-after setup hash (facts setup hash h) e.caller e.call c (has_joined c h) (has_quit c h) (never-quit setup hash h legal.0 c) (open_are_those_that_stayed setup hash h legal.0 c)
+    ∙ ap (λ r. (joins_as c r || has_joined c h) && not (quits c e.call || has_quit c h)) (sym legal.2)

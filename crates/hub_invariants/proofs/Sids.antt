@@ -1,0 +1,214 @@
+-- After every history, open connections have different session identifiers, and none has the first, which is the hub's.
+use Rattle.std.proofs.Common.{◌≡◌, ◌∙◌, sym, ap, ap₂, refl, subst, ℕ, suc, ◌+◌, ◌<◌, ◌≤◌, Bool, true, false, not, ◌&&◌, ◌||◌, ◌==◌, eqb, nat_le, cond, List, [], ◌∷◌, ◌++◌, length, map, filter, arith, length-append, inl, inr}
+use Rattle.std.proofs.lemmas.Bool.{false≢true, eqb-true, eq-eqb}
+use Rattle.std.proofs.lemmas.Bool.Decides.{leb_tells}
+use Rattle.adc_base32.specs.Turns.{is_taken}
+use Rattle.adc_base32.proofs.Turns.{next_free-free, next_free-range}
+use Rattle.hub_rules.specs.declared.effect.Effect.{Effect}
+use Rattle.hub_rules.specs.declared.history.Call.{Call}
+use Rattle.hub_rules.specs.declared.history.Call.TheVariants.{Join, Line, Quit, Take}
+use Rattle.hub_rules.specs.declared.history.Entry.{Entry}
+use Rattle.hub_rules.specs.Configured.{Configured}
+use Rattle.hub_rules.specs.Effects.{departure}
+use Rattle.hub_rules.specs.Facts.{Facts, facts, after, joined, closed, happens, about_after, given, has_place, has_joins, newcomer, next_sid, with_one, effect_of_line}
+use Rattle.hub_rules.specs.Shares.{About, chosen, given_share, has_room, owes, removed_if, turned, with_share}
+use Rattle.hub_invariants.proofs.Calls.{not-open, sound_of}
+use Rattle.hub_invariants.proofs.Members.{apart, apart-push, both, has, has-append, has-filter, or-parts}
+use Rattle.hub_invariants.proofs.Sound.{Sound, and-left, eqb-sym, or-false, or-true}
+
+abbrev pub sids : Facts → List ℕ
+sids f = map (λ d. (f.about d).sid) f.opened
+
+pub record Numbered (setup : Configured) (f : Facts) : Type 0 where
+  pub apart_sids : apart (sids f) ≡ true
+  pub given_sids : (d : ℕ) → has d f.opened ≡ true → (0 < (f.about d).sid) × ((f.about d).sid < 1_048_576)
+  pub last_in : f.last < 1_048_576
+  pub few : length f.opened ≤ setup.max_users
+
+-- ---- lists
+
+has-is_taken : (n : ℕ) (xs : List ℕ) → has n xs ≡ is_taken n xs
+has-is_taken n [] = refl
+has-is_taken n (x ∷ xs) = ap₂ ◌||◌ (eqb-sym x n (eqb x n) (eqb n x) refl refl) (has-is_taken n xs)
+
+map-same_on : (g h : ℕ → ℕ) (xs : List ℕ) → ((d : ℕ) → has d xs ≡ true → g d ≡ h d) → map g xs ≡ map h xs
+map-same_on g h [] same = refl
+map-same_on g h (x ∷ xs) same =
+    ap₂ (λ (y : ℕ) (ys : List ℕ). y ∷ ys) (same x (ap (λ b. b || has x xs) (eq-eqb x x refl)))
+    (map-same_on g h xs (λ d there. same d (ap (λ b. eqb x d || b) there ∙ or-true (eqb x d))))
+
+map-end : (g : ℕ → ℕ) (xs : List ℕ) (d : ℕ) → map g (xs ++ d ∷ []) ≡ map g xs ++ g d ∷ []
+map-end g [] d = refl
+map-end g (x ∷ xs) d = ap (λ (ys : List ℕ). g x ∷ ys) (map-end g xs d)
+
+length-map : (g : ℕ → ℕ) (xs : List ℕ) → length (map g xs) ≡ length xs
+length-map g [] = refl
+length-map g (x ∷ xs) = ap suc (length-map g xs)
+
+-- what a part has, the whole has
+none-kept : (g : ℕ → ℕ) (p : ℕ → Bool) (y x : ℕ) (xs : List ℕ) (keep : Bool) → (has y (map g xs) ≡ false → has y (map g (filter p xs)) ≡ false)
+    → (eqb (g x) y || has y (map g xs)) ≡ false → has y (map g (cond keep (x ∷ filter p xs) (filter p xs))) ≡ false
+none-kept g p y x xs true rest none = ap₂ ◌||◌ (or-parts (eqb (g x) y) (has y (map g xs)) none).0 (rest (or-parts (eqb (g x) y) (has y (map g xs)) none).1)
+none-kept g p y x xs false rest none = rest (or-parts (eqb (g x) y) (has y (map g xs)) none).1
+
+none-filtered : (g : ℕ → ℕ) (p : ℕ → Bool) (y : ℕ) (xs : List ℕ) → has y (map g xs) ≡ false → has y (map g (filter p xs)) ≡ false
+none-filtered g p y [] none = refl
+none-filtered g p y (x ∷ xs) none = none-kept g p y x xs (p x) (none-filtered g p y xs) none
+
+pub not-true : (b : Bool) → not b ≡ true → b ≡ false
+not-true true e = absurd (false≢true e)
+not-true false e = refl
+
+apart-map-kept : (g : ℕ → ℕ) (p : ℕ → Bool) (x : ℕ) (xs : List ℕ) (keep : Bool) → has (g x) (map g xs) ≡ false → apart (map g (filter p xs)) ≡ true
+    → apart (map g (cond keep (x ∷ filter p xs) (filter p xs))) ≡ true
+apart-map-kept g p x xs true none rest = ap₂ (λ a b. not a && b) (none-filtered g p (g x) xs none) rest
+apart-map-kept g p x xs false none rest = rest
+
+apart-map-filter : (g : ℕ → ℕ) (p : ℕ → Bool) (xs : List ℕ) → apart (map g xs) ≡ true → apart (map g (filter p xs)) ≡ true
+apart-map-filter g p [] e = refl
+apart-map-filter g p (x ∷ xs) e =
+    let tests = both (not (has (g x) (map g xs))) (apart (map g xs)) e in
+    apart-map-kept g p x xs (p x) (not-true (has (g x) (map g xs)) tests.0) (apart-map-filter g p xs tests.1)
+
+fewer-kept : (p : ℕ → Bool) (x : ℕ) (xs : List ℕ) (keep : Bool) → length (filter p xs) ≤ length xs → length (cond keep (x ∷ filter p xs) (filter p xs)) ≤ suc (length xs)
+fewer-kept p x xs true few = omega (arith, few)
+fewer-kept p x xs false few = omega (arith, few)
+
+fewer : (p : ℕ → Bool) (xs : List ℕ) → length (filter p xs) ≤ length xs
+fewer p [] = omega arith
+fewer p (x ∷ xs) = fewer-kept p x xs (p x) (fewer p xs)
+
+-- ---- an effect changes no identifier
+
+share-sid : (room : Bool) (a : About) (share : List (List ℕ)) → (given_share room a share).sid ≡ a.sid
+share-sid true a share = refl
+share-sid false a share = refl
+
+with_share-sid : (a : About) (share : List (List ℕ)) → (with_share a share).sid ≡ a.sid
+unfolding with_share
+with_share-sid a share = share-sid (has_room a share) a share
+
+removed-sid : (removed is_caller : Bool) (effect : Effect) (b : About) → (removed_if removed (chosen is_caller (turned effect b) b)).sid ≡ b.sid
+removed-sid true true effect b = refl
+removed-sid true false effect b = refl
+removed-sid false true effect b = refl
+removed-sid false false effect b = refl
+
+pub about-sid : (c : ℕ) (effect : Effect) (f : Facts) (d : ℕ) → (about_after c effect f.about d).sid ≡ (f.about d).sid
+about-sid c effect f d =
+    removed-sid _ (d == c) effect (with_share (f.about d) (owes (d == c) effect (f.about d))) ∙ with_share-sid (f.about d) (owes (d == c) effect (f.about d))
+
+happens-numbered : (setup : Configured) (c : ℕ) (effect : Effect) (f : Facts) → Numbered setup f → Numbered setup (happens c effect f)
+unfolding happens
+happens-numbered setup c effect f n = record {
+  apart_sids = ap apart (map-same_on (λ d. (about_after c effect f.about d).sid) (λ d. (f.about d).sid) f.opened (λ d there. about-sid c effect f d)) ∙ n.apart_sids;
+  given_sids = λ d there. subst (λ sid. (0 < sid) × (sid < 1_048_576)) (sym (about-sid c effect f d)) (n.given_sids d there);
+  last_in = n.last_in;
+  few = n.few;
+}
+
+closed-numbered : (setup : Configured) (c : ℕ) (f : Facts) → Numbered setup f → Numbered setup (closed c f)
+unfolding closed
+closed-numbered setup c f n = record {
+  apart_sids = apart-map-filter (λ d. (f.about d).sid) (λ x. not (x == c)) f.opened n.apart_sids;
+  given_sids = λ d there. n.given_sids d (and-left (has d f.opened) (not (d == c)) (sym (has-filter (λ x. not (x == c)) d f.opened) ∙ there));
+  last_in = n.last_in;
+  few = omega (arith, n.few, fewer (λ x. not (x == c)) f.opened);
+}
+
+given-sid : (count : ℕ) (a : About) (same : Bool) → (chosen same (given count a) a).sid ≡ a.sid
+given-sid count a true = refl
+given-sid count a false = refl
+
+taken-numbered : (setup : Configured) (c count : ℕ) (f : Facts) → Numbered setup f → Numbered setup (record f { about = with_one c (given count) f.about })
+taken-numbered setup c count f n = record {
+  apart_sids = ap apart (map-same_on (λ d. (with_one c (given count) f.about d).sid) (λ d. (f.about d).sid) f.opened (λ d there. given-sid count (f.about d) (d == c))) ∙ n.apart_sids;
+  given_sids = λ d there. subst (λ sid. (0 < sid) × (sid < 1_048_576)) (sym (given-sid count (f.about d) (d == c))) (n.given_sids d there);
+  last_in = n.last_in;
+  few = n.few;
+}
+
+-- ---- a join
+
+differs : (f : Facts) → Sound f → (d : ℕ) (same : Bool) → (d == (f.joins + 1)) ≡ same → has d f.opened ≡ true → same ≡ false
+differs f sound d true is there = absurd (false≢true (sym (not-open f sound) ∙ ap (λ x. has x f.opened) (sym (eqb-true d (f.joins + 1) is)) ∙ there))
+differs f sound d false is there = refl
+
+room-by : (most count : ℕ) → not (nat_le most count) ≡ true → count < most
+room-by most count has_room =
+    elim (leb_tells most count) [
+      | inl le ↦ absurd (false≢true (sym (ap not le.0) ∙ has_room))
+      | inr gt ↦ gt.1
+    ]
+
+joined-sid : (f : Facts) (owner : ℕ) (peer challenge : List ℕ) → Sound f → (d : ℕ) → has d f.opened ≡ true
+    → (with_one (f.joins + 1) (λ a. newcomer owner (next_sid f) peer challenge) f.about d).sid ≡ (f.about d).sid
+joined-sid f owner peer challenge sound d there =
+    ap (λ b. (chosen b (newcomer owner (next_sid f) peer challenge) (f.about d)).sid) (differs f sound d (d == (f.joins + 1)) refl there)
+
+new-sid : (f : Facts) (owner : ℕ) (peer challenge : List ℕ)
+    → (with_one (f.joins + 1) (λ a. newcomer owner (next_sid f) peer challenge) f.about (f.joins + 1)).sid ≡ next_sid f
+new-sid f owner peer challenge = ap (λ b. (chosen b (newcomer owner (next_sid f) peer challenge) (f.about (f.joins + 1))).sid) (eq-eqb (f.joins + 1) (f.joins + 1) refl)
+
+fresh-sid : (setup : Configured) (f : Facts) → setup.max_users ≤ 900 → Numbered setup f → has_place setup f ≡ true → has (next_sid f) (sids f) ≡ false
+fresh-sid setup f few n place =
+    let room = room-by setup.max_users (length f.opened) place in
+    has-is_taken (next_sid f) (sids f)
+    ∙ next_free-free f.last (sids f) n.last_in (omega (arith, room, few, length-map (λ d. (f.about d).sid) f.opened))
+
+joined-given : (f : Facts) (owner : ℕ) (peer challenge : List ℕ) → Sound f → (setup : Configured) → Numbered setup f → (d : ℕ) (before : Bool)
+    → has d f.opened ≡ before → (before || (eqb (f.joins + 1) d || false)) ≡ true
+    → (0 < (with_one (f.joins + 1) (λ a. newcomer owner (next_sid f) peer challenge) f.about d).sid)
+    × ((with_one (f.joins + 1) (λ a. newcomer owner (next_sid f) peer challenge) f.about d).sid < 1_048_576)
+joined-given f owner peer challenge sound setup n d true is there =
+    subst (λ sid. (0 < sid) × (sid < 1_048_576)) (sym (joined-sid f owner peer challenge sound d is)) (n.given_sids d is)
+joined-given f owner peer challenge sound setup n d false is there =
+    let same : f.joins + 1 ≡ d = eqb-true (f.joins + 1) d (sym (or-false (eqb (f.joins + 1) d)) ∙ there) in
+    subst (λ x. (0 < (with_one (f.joins + 1) (λ a. newcomer owner (next_sid f) peer challenge) f.about x).sid)
+    × ((with_one (f.joins + 1) (λ a. newcomer owner (next_sid f) peer challenge) f.about x).sid < 1_048_576)) same
+    (subst (λ sid. (0 < sid) × (sid < 1_048_576)) (sym (new-sid f owner peer challenge)) (next_free-range f.last (sids f)))
+
+joined-numbered : (setup : Configured) (f : Facts) (owner : ℕ) (peer challenge : List ℕ) → setup.max_users ≤ 900 → has_place setup f ≡ true → Sound f
+    → Numbered setup f → Numbered setup (joined f owner peer challenge)
+unfolding joined
+joined-numbered setup f owner peer challenge small place sound n = record {
+  apart_sids =
+      ap apart (map-end (λ d. (with_one (f.joins + 1) (λ a. newcomer owner (next_sid f) peer challenge) f.about d).sid) f.opened (f.joins + 1)
+      ∙ ap₂ (λ (xs : List ℕ) (x : ℕ). xs ++ x ∷ [])
+      (map-same_on (λ d. (with_one (f.joins + 1) (λ a. newcomer owner (next_sid f) peer challenge) f.about d).sid) (λ d. (f.about d).sid) f.opened
+      (joined-sid f owner peer challenge sound))
+      (new-sid f owner peer challenge))
+      ∙ apart-push (next_sid f) (sids f) (fresh-sid setup f small n place) n.apart_sids;
+  given_sids = λ d there. joined-given f owner peer challenge sound setup n d (has d f.opened) refl (sym (has-append d f.opened ((f.joins + 1) ∷ [])) ∙ there);
+  last_in = (next_free-range f.last (sids f)).1;
+  few = omega (arith, room-by setup.max_users (length f.opened) place, length-append f.opened ((f.joins + 1) ∷ []));
+}
+
+-- ---- every call
+
+join-numbered : (setup : Configured) (f : Facts) (owner : ℕ) (peer challenge : List ℕ) (place counted : Bool) → has_place setup f ≡ place → setup.max_users ≤ 900
+    → Sound f → Numbered setup f → Numbered setup (chosen (place && counted) (joined f owner peer challenge) f)
+join-numbered setup f owner peer challenge true true is small sound n = joined-numbered setup f owner peer challenge small is sound n
+join-numbered setup f owner peer challenge true false is small sound n = n
+join-numbered setup f owner peer challenge false counted is small sound n = n
+
+after-numbered : (setup : Configured) (hash : List ℕ → List ℕ) (f : Facts) (caller : ℕ) (call : Call) → setup.max_users ≤ 900 → Sound f
+    → Numbered setup f → Numbered setup (after setup hash f caller call)
+unfolding after
+after-numbered setup hash f caller (Join peer challenge now) small sound n =
+    join-numbered setup f caller peer challenge (has_place setup f) (has_joins f) refl small sound n
+after-numbered setup hash f caller (Line c bytes now) small sound n = happens-numbered setup c (effect_of_line setup hash f c bytes now) f n
+after-numbered setup hash f caller (Quit c) small sound n =
+    closed-numbered setup c _ (happens-numbered setup c (departure (f.about c).stage (f.about c).sid) f n)
+after-numbered setup hash f caller (Take c count) small sound n = taken-numbered setup c count f n
+
+pub numbered_of : (setup : Configured) (hash : List ℕ → List ℕ) (h : List Entry) → setup.max_users ≤ 900 → Numbered setup (facts setup hash h)
+unfolding facts
+numbered_of setup hash [] small = record {
+  apart_sids = refl;
+  given_sids = λ d there. absurd (false≢true there);
+  last_in = omega arith;
+  few = omega arith;
+}
+numbered_of setup hash (e ∷ h) small =
+    after-numbered setup hash (facts setup hash h) e.caller e.call small (sound_of setup hash h) (numbered_of setup hash h small)

@@ -1,0 +1,173 @@
+-- After every history, no two users who are present have the same nick or the same client identifier.
+use Rattle.std.proofs.Common.{◌≡◌, ◌∙◌, sym, ap, ap₂, refl, ℕ, ◌+◌, ◌≤◌, Bool, true, false, not, ◌&&◌, ◌||◌, ◌==◌, inl, inr, eqb, List, [], ◌∷◌, map}
+use Rattle.std.specs.List.{list_any}
+use Rattle.std.specs.Str.{bytes_eq}
+use Rattle.std.proofs.lemmas.Bool.{false≢true, eqb-true, eq-eqb}
+use Rattle.std.proofs.lemmas.Slice.Eq.{bytes_eq-Decides}
+use Rattle.inf_fields.specs.Field.{Field}
+use Rattle.login_state.specs.declared.stage.Stage.{Stage}
+use Rattle.user_table.specs.Listed.{Listed}
+use Rattle.user_table.specs.Tables.{has_cid, has_key, has_sid}
+use Rattle.hub_rules.specs.declared.effect.Effect.{Effect}
+use Rattle.hub_rules.specs.declared.effect.Turn.{Turn}
+use Rattle.hub_rules.specs.declared.history.Call.{Call}
+use Rattle.hub_rules.specs.declared.history.Call.TheVariants.{Join, Line, Quit, Take}
+use Rattle.hub_rules.specs.declared.history.Entry.{Entry}
+use Rattle.hub_rules.specs.Configured.{Configured}
+use Rattle.hub_rules.specs.Differing.{CidsDiffer, NicksDiffer}
+use Rattle.hub_rules.specs.Effects.{departure, is_present}
+use Rattle.hub_rules.specs.Facts.{Facts, facts, about_after, after, closed, effect_of_line, given, happens, has_joins, has_place, joined, newcomer, next_sid, own_of, sight_of, user_of}
+use Rattle.hub_rules.specs.Identities.{cid_in, key_in, listed}
+use Rattle.hub_rules.specs.Prepared.{prepared}
+use Rattle.hub_rules.specs.Said.{infs}
+use Rattle.hub_rules.specs.Shares.{About, chosen, fields_after, stage_after}
+use Rattle.hub_invariants.proofs.Calls.{absent-newcomer, sound_of}
+use Rattle.hub_laws.proofs.Clearing.{IsClear, clear-line, listed-cid, listed-key}
+use Rattle.hub_laws.proofs.Distinct.{Clears, Differ, happens-differ}
+use Rattle.hub_invariants.proofs.Fits.{Fits, fits-departure}
+use Rattle.hub_invariants.proofs.Lines.{fits-line}
+use Rattle.hub_invariants.proofs.Kept.{differs-sid}
+use Rattle.hub_invariants.proofs.Members.{has, or-parts}
+use Rattle.hub_invariants.proofs.Saying.{told_of}
+use Rattle.hub_invariants.proofs.Sids.{Numbered, numbered_of}
+use Rattle.hub_invariants.proofs.Sound.{Sound, about-stage, happens-open, happens-sound, not-over, removed_by, stage_next}
+use Rattle.hub_invariants.proofs.Suits.{listed-sid}
+
+-- a user has what it is known by
+abbrev Knows : (List Field → List ℕ) → (List ℕ → Listed → Bool) → Type 0
+Knows of test = (sid : ℕ) (fields : List Field) → test (of fields) (listed sid fields) ≡ true
+
+knows-key : Knows key_in has_key
+knows-key sid fields = ap (λ k. bytes_eq k (key_in fields)) (listed-key sid fields) ∙ (bytes_eq-Decides (key_in fields) (key_in fields)).1 refl
+
+knows-cid : Knows cid_in has_cid
+knows-cid sid fields = ap (λ k. bytes_eq k (cid_in fields)) (listed-cid sid fields) ∙ (bytes_eq-Decides (cid_in fields) (cid_in fields)).1 refl
+
+none-of : (p : Listed → Bool) (g : ℕ → Listed) (d x : ℕ) (xs : List ℕ) (same : Bool) → eqb x d ≡ same → (same ≡ false → p (g d) ≡ false) → p (g x) ≡ false → p (g d) ≡ false
+none-of p g d x xs true is later here = ap (λ y. p (g y)) (sym (eqb-true x d is)) ∙ here
+none-of p g d x xs false is later here = later refl
+
+-- where no user is so, this one is not
+none-at : (p : Listed → Bool) (g : ℕ → Listed) (d : ℕ) (xs : List ℕ) → list_any p (map g xs) ≡ false → has d xs ≡ true → p (g d) ≡ false
+none-at p g d [] none there = absurd (false≢true there)
+none-at p g d (x ∷ xs) none there =
+    let parts = or-parts (p (g x)) (list_any p (map g xs)) none in
+    none-of p g d x xs (eqb x d) refl (λ other. none-at p g d xs parts.1 (sym (ap (λ b. b || has d xs) other) ∙ there)) parts.0
+
+after-present : (removed : Bool) (turn : Turn) (stage : Stage) → is_present (stage_next removed true turn stage) ≡ true → is_present (stage_after turn stage) ≡ true
+after-present true turn stage here = absurd (false≢true here)
+after-present false turn stage here = here
+
+clears-from : (of : List Field → List ℕ) (test : List ℕ → Listed → Bool) → Knows of test → (setup : Configured) (f : Facts) (c : ℕ) (effect : Effect)
+    → Sound f → Numbered setup f → Fits (f.about c).stage effect → Differ of f → IsClear of test (sight_of setup f) (own_of (f.about c)) effect → Clears of f c effect
+clears-from of test knows setup f c effect sound n suits differ (inl away) here d there other same =
+    false≢true (sym away ∙ after-present (removed_by effect (f.about c)) effect.turn (f.about c).stage
+    (ap is_present (ap (λ b. stage_next (removed_by effect (f.about c)) b effect.turn (f.about c).stage) (sym (eq-eqb c c refl)) ∙ sym (about-stage c effect f c)) ∙ here))
+clears-from of test knows setup f c effect sound n suits differ (inr (inl kept)) here d there other same =
+    false≢true (sym other ∙ eq-eqb c d (differ c d (sound.entered c ∙ kept.1) there (sym kept.0 ∙ same)))
+clears-from of test knows setup f c effect sound n suits differ (inr (inr none)) here d there other same =
+    let open-c = happens-open c effect f sound suits c (not-over (about_after c effect f.about c).stage here) in
+    let open-d = sound.are_open d (not-over (f.about d).stage (sym (sound.entered d) ∙ there)) in
+    let not_same : has_sid (f.about c).sid (user_of f.about d) ≡ false =
+    ap (λ s. eqb s (f.about c).sid) (listed-sid (f.about d).sid (f.about d).fields)
+    ∙ differs-sid setup f sound n c d open-c open-d other (eqb (f.about d).sid (f.about c).sid) refl in
+    false≢true (sym (none-at (λ (user : Listed). test (of (fields_after effect.turn (f.about c).fields)) user && not (has_sid (f.about c).sid user)) (user_of f.about) d f.present none there)
+    ∙ ap₂ (λ a b. a && not b)
+    (ap (λ k. test k (user_of f.about d)) same ∙ knows (f.about d).sid (f.about d).fields) not_same)
+
+-- ---- every call
+
+line-differ : (of : List Field → List ℕ) (setup : Configured) (hash : List ℕ → List ℕ) (f : Facts) (caller c : ℕ) (bytes : List ℕ) (now : ℕ) → Sound f → Differ of f
+    → Clears of f c (effect_of_line setup hash f c bytes now) → Differ of (after setup hash f caller (Line c bytes now))
+unfolding after
+line-differ of setup hash f caller c bytes now sound differ clears =
+    happens-differ of c (effect_of_line setup hash f c bytes now) f
+    (happens-sound c (effect_of_line setup hash f c bytes now) f sound (fits-line setup hash f c bytes now)) differ clears
+
+closed-differ : (of : List Field → List ℕ) (c : ℕ) (f : Facts) → Differ of f → Differ of (closed c f)
+unfolding closed
+closed-differ of c f differ = differ
+
+falls-away : (c : ℕ) (f : Facts) (stage : Stage) (sid : ℕ) (of : List Field → List ℕ) → Clears of f c (departure stage sid)
+falls-away c f stage sid of here d there other same =
+    false≢true (after-present (removed_by (departure stage sid) (f.about c)) (departure stage sid).turn (f.about c).stage
+    (ap is_present (ap (λ b. stage_next (removed_by (departure stage sid) (f.about c)) b (departure stage sid).turn (f.about c).stage) (sym (eq-eqb c c refl))
+    ∙ sym (about-stage c (departure stage sid) f c)) ∙ here))
+
+quit-differ : (of : List Field → List ℕ) (setup : Configured) (hash : List ℕ → List ℕ) (f : Facts) (caller c : ℕ) → Sound f → Differ of f → Differ of (after setup hash f caller (Quit c))
+unfolding after
+quit-differ of setup hash f caller c sound differ =
+    closed-differ of c (happens c (departure (f.about c).stage (f.about c).sid) f)
+    (happens-differ of c (departure (f.about c).stage (f.about c).sid) f
+    (happens-sound c (departure (f.about c).stage (f.about c).sid) f sound (fits-departure (f.about c).stage (f.about c).stage (f.about c).sid)) differ
+    (falls-away c f (f.about c).stage (f.about c).sid of))
+
+differ-same : (of : List Field → List ℕ) (f g : Facts) → g.present ≡ f.present → ((d : ℕ) → has d f.present ≡ true → (g.about d).fields ≡ (f.about d).fields) → Differ of f → Differ of g
+differ-same of f g present same differ c d there-c there-d equal =
+    let at-c = ap (has c) (sym present) ∙ there-c in
+    let at-d = ap (has d) (sym present) ∙ there-d in
+    differ c d at-c at-d (ap of (sym (same c at-c)) ∙ equal ∙ ap of (same d at-d))
+
+newcomer-away : (f : Facts) → Sound f → (d : ℕ) (same : Bool) → (d == (f.joins + 1)) ≡ same → has d f.present ≡ true → same ≡ false
+newcomer-away f sound d true is there =
+    absurd (false≢true (sym (absent-newcomer f sound) ∙ ap (λ x. is_present (f.about x).stage) (sym (eqb-true d (f.joins + 1) is)) ∙ sym (sound.entered d) ∙ there))
+newcomer-away f sound d false is there = refl
+
+joined-differ : (of : List Field → List ℕ) (f : Facts) (owner : ℕ) (peer challenge : List ℕ) → Sound f → Differ of f → Differ of (joined f owner peer challenge)
+unfolding joined
+joined-differ of f owner peer challenge sound differ =
+    differ-same of f (joined f owner peer challenge) refl
+    (λ d there. ap (λ b. (chosen b (newcomer owner (next_sid f) peer challenge) (f.about d)).fields) (newcomer-away f sound d (d == (f.joins + 1)) refl there)) differ
+
+join-differ : (of : List Field → List ℕ) (f : Facts) (owner : ℕ) (peer challenge : List ℕ) (accepted : Bool) → Sound f → Differ of f
+    → Differ of (chosen accepted (joined f owner peer challenge) f)
+join-differ of f owner peer challenge true sound differ = joined-differ of f owner peer challenge sound differ
+join-differ of f owner peer challenge false sound differ = differ
+
+joining-differ : (of : List Field → List ℕ) (setup : Configured) (hash : List ℕ → List ℕ) (f : Facts) (caller : ℕ) (peer challenge : List ℕ) (now : ℕ) → Sound f → Differ of f
+    → Differ of (after setup hash f caller (Join peer challenge now))
+unfolding after
+joining-differ of setup hash f caller peer challenge now sound differ = join-differ of f caller peer challenge (has_place setup f && has_joins f) sound differ
+
+take-fields : (count : ℕ) (a : About) (same : Bool) → (chosen same (given count a) a).fields ≡ a.fields
+take-fields count a true = refl
+take-fields count a false = refl
+
+taking-differ : (of : List Field → List ℕ) (setup : Configured) (hash : List ℕ → List ℕ) (f : Facts) (caller c count : ℕ) → Differ of f → Differ of (after setup hash f caller (Take c count))
+unfolding after
+taking-differ of setup hash f caller c count differ = differ-same of f (after setup hash f caller (Take c count)) refl (λ d there. take-fields count (f.about d) (d == c)) differ
+
+after-differ : (of : List Field → List ℕ) (setup : Configured) (hash : List ℕ → List ℕ) (f : Facts) (caller : ℕ) (call : Call) → Sound f → Differ of f
+    → ((c : ℕ) (bytes : List ℕ) (now : ℕ) → Clears of f c (effect_of_line setup hash f c bytes now)) → Differ of (after setup hash f caller call)
+after-differ of setup hash f caller (Join peer challenge now) sound differ clears = joining-differ of setup hash f caller peer challenge now sound differ
+after-differ of setup hash f caller (Line c bytes now) sound differ clears = line-differ of setup hash f caller c bytes now sound differ (clears c bytes now)
+after-differ of setup hash f caller (Quit c) sound differ clears = quit-differ of setup hash f caller c sound differ
+after-differ of setup hash f caller (Take c count) sound differ clears = taking-differ of setup hash f caller c count differ
+
+-- ---- every history
+
+pub nicks_differ_in : (setup : Configured) (hash : List ℕ → List ℕ) (h : List Entry) → setup.max_users ≤ 900 → Differ key_in (facts setup hash h)
+unfolding facts
+nicks_differ_in setup hash [] small = λ c d there-c there-d same. absurd (false≢true there-c)
+nicks_differ_in setup hash (e ∷ h) small =
+    after-differ key_in setup hash (facts setup hash h) e.caller e.call (sound_of setup hash h) (nicks_differ_in setup hash h small)
+    (λ c bytes now. clears-from key_in has_key knows-key setup (facts setup hash h) c (effect_of_line setup hash (facts setup hash h) c bytes now)
+    (sound_of setup hash h) (numbered_of setup hash h small) (fits-line setup hash (facts setup hash h) c bytes now) (nicks_differ_in setup hash h small)
+    (clear-line (sight_of setup (facts setup hash h)) (own_of ((facts setup hash h).about c)) (prepared setup hash ((facts setup hash h).about c).challenge bytes) now
+    (infs setup hash h c) (told_of setup hash h c).tells).nick)
+
+pub cids_differ_in : (setup : Configured) (hash : List ℕ → List ℕ) (h : List Entry) → setup.max_users ≤ 900 → Differ cid_in (facts setup hash h)
+unfolding facts
+cids_differ_in setup hash [] small = λ c d there-c there-d same. absurd (false≢true there-c)
+cids_differ_in setup hash (e ∷ h) small =
+    after-differ cid_in setup hash (facts setup hash h) e.caller e.call (sound_of setup hash h) (cids_differ_in setup hash h small)
+    (λ c bytes now. clears-from cid_in has_cid knows-cid setup (facts setup hash h) c (effect_of_line setup hash (facts setup hash h) c bytes now)
+    (sound_of setup hash h) (numbered_of setup hash h small) (fits-line setup hash (facts setup hash h) c bytes now) (cids_differ_in setup hash h small)
+    (clear-line (sight_of setup (facts setup hash h)) (own_of ((facts setup hash h).about c)) (prepared setup hash ((facts setup hash h).about c).challenge bytes) now
+    (infs setup hash h c) (told_of setup hash h c).tells).cid)
+
+pub nicks_differ : NicksDiffer
+nicks_differ setup hash h small c d there-c there-d same = nicks_differ_in setup hash h small c d there-c there-d same
+
+pub cids_differ : CidsDiffer
+cids_differ setup hash h small c d there-c there-d same = cids_differ_in setup hash h small c d there-c there-d same

@@ -1,0 +1,249 @@
+-- Those who are present stand in the order in which they entered.
+use Rattle.std.proofs.Common.{◌≡◌, ◌∙◌, sym, ap, ap₂, refl, subst, ℕ, ◌+◌, Bool, true, false, not, ◌&&◌, ◌||◌, ◌==◌, eqb, ◌≤◌, cond, List, [], ◌∷◌, ◌++◌, filter, append-nil, arith}
+use Rattle.std.proofs.lemmas.Bool.{false≢true, eqb-true, eq-eqb}
+use Rattle.std.proofs.lemmas.List.Elements.{filter-append}
+use Rattle.login_state.specs.declared.stage.Stage.{Stage}
+use Rattle.login_state.specs.declared.stage.Stage.TheVariants as stages
+use Rattle.hub_rules.specs.declared.effect.Effect.{Effect}
+use Rattle.hub_rules.specs.declared.effect.Turn.{Turn}
+use Rattle.hub_rules.specs.declared.history.Call.{Call}
+use Rattle.hub_rules.specs.declared.history.Call.TheVariants.{Join, Line, Quit, Take}
+use Rattle.hub_rules.specs.declared.history.Entry.{Entry}
+use Rattle.hub_rules.specs.Configured.{Configured}
+use Rattle.hub_rules.specs.Effects.{departure, is_over, is_present}
+use Rattle.hub_rules.specs.Entering.{PresentInOrder, brought_in, entrants}
+use Rattle.hub_rules.specs.Facts.{Facts, facts, after, about_after, closed, effect_of_line, enters, given, happens, has_joins, has_place, joined, newcomer, newcomer_if, next_sid, own_of, sight_of}
+use Rattle.hub_rules.specs.Prepared.{prepared}
+use Rattle.hub_rules.specs.Shares.{About, chosen, stage_after}
+use Rattle.hub_invariants.proofs.Calls.{sound_of}
+use Rattle.hub_invariants.proofs.Fits.{Fits, fits-departure}
+use Rattle.hub_invariants.proofs.Lines.{fits-line}
+use Rattle.hub_invariants.proofs.Members.{and-false, has, has-append}
+use Rattle.hub_invariants.proofs.Sound.{Sound, about-stage, alone-at, happens-open, not-over, or-false, or-true, over-next, present-entered, present-next, removed_by, stage_next}
+use Rattle.hub_laws.proofs.Turning.{is_settled, keeps-line, keeps-settled}
+
+-- ---- lists
+
+-- two filters one after the other are one, where the second lets through only what the first does
+narrower : (p q : ℕ → Bool) (x : ℕ) (xs : List ℕ) (first second : Bool) → p x ≡ first → q x ≡ second → (q x ≡ true → p x ≡ true)
+    → filter q (filter p xs) ≡ filter q xs → filter q (cond first (x ∷ filter p xs) (filter p xs)) ≡ cond second (x ∷ filter q xs) (filter q xs)
+narrower p q x xs true true is-p is-q only rest = ap₂ (λ b (ys : List ℕ). cond b (x ∷ ys) ys) is-q rest
+narrower p q x xs true false is-p is-q only rest = ap₂ (λ b (ys : List ℕ). cond b (x ∷ ys) ys) is-q rest
+narrower p q x xs false true is-p is-q only rest = absurd (false≢true (sym is-p ∙ only is-q))
+narrower p q x xs false false is-p is-q only rest = rest
+
+filter-narrow : (p q : ℕ → Bool) (xs : List ℕ) → ((d : ℕ) → has d xs ≡ true → q d ≡ true → p d ≡ true) → filter q (filter p xs) ≡ filter q xs
+filter-narrow p q [] only = refl
+filter-narrow p q (x ∷ xs) only =
+    narrower p q x xs (p x) (q x) refl refl (only x (ap (λ b. b || has x xs) (eq-eqb x x refl)))
+    (filter-narrow p q xs (λ d there. only d (ap (λ b. eqb x d || b) there ∙ or-true (eqb x d))))
+
+-- ---- stages
+
+present-settled : (s : Stage) → is_settled s ≡ true → is_over s ≡ false → is_present s ≡ true
+present-settled stages.Normal settled over = refl
+present-settled stages.Gone settled over = absurd (false≢true (sym over))
+present-settled stages.Protocol settled over = absurd (false≢true settled)
+present-settled stages.Identify settled over = absurd (false≢true settled)
+present-settled stages.Verify settled over = absurd (false≢true settled)
+
+settled-present : (s : Stage) → is_present s ≡ true → is_settled s ≡ true
+settled-present stages.Normal here = refl
+settled-present stages.Gone here = absurd (false≢true here)
+settled-present stages.Protocol here = absurd (false≢true here)
+settled-present stages.Identify here = absurd (false≢true here)
+settled-present stages.Verify here = absurd (false≢true here)
+
+next-settled : (removed is_caller : Bool) (turn : Turn) (stage : Stage) → (is_caller ≡ true → is_settled (stage_after turn stage) ≡ true) → is_settled stage ≡ true
+    → is_settled (stage_next removed is_caller turn stage) ≡ true
+next-settled true is_caller turn stage turned settled = refl
+next-settled false true turn stage turned settled = turned refl
+next-settled false false turn stage turned settled = settled
+
+-- ---- one effect
+
+-- an effect under which nobody who entered enters again
+pub record Steady (stage : Stage) (effect : Effect) : Type 0 where
+  pub settled : is_settled stage ≡ true → is_settled (stage_after effect.turn stage) ≡ true
+
+about-settled : (c : ℕ) (effect : Effect) (f : Facts) → Steady (f.about c).stage effect → (d : ℕ) → is_settled (f.about d).stage ≡ true
+    → is_settled (about_after c effect f.about d).stage ≡ true
+about-settled c effect f steady d settled =
+    ap is_settled (about-stage c effect f d)
+    ∙ next-settled (removed_by effect (f.about d)) (d == c) effect.turn (f.about d).stage
+    (λ is. subst (λ x. is_settled (f.about x).stage ≡ true → is_settled (stage_after effect.turn (f.about x).stage) ≡ true) (sym (eqb-true d c is)) steady.settled settled)
+    settled
+
+was-present : (c : ℕ) (effect : Effect) (f : Facts) → Fits (f.about c).stage effect → (d : ℕ) → is_settled (f.about d).stage ≡ true
+    → is_present (about_after c effect f.about d).stage ≡ true → is_present (f.about d).stage ≡ true
+was-present c effect f suits d settled here =
+    present-settled (f.about d).stage settled
+    (over-next (removed_by effect (f.about d)) (d == c) effect.turn (f.about d).stage
+    (λ is. subst (λ x. is_over (f.about x).stage ≡ true → is_over (stage_after effect.turn (f.about x).stage) ≡ true) (sym (eqb-true d c is)) suits.stays_over)
+    (ap is_over (sym (about-stage c effect f d)) ∙ not-over (about_after c effect f.about d).stage here))
+
+-- who enters is who comes to the stage of users
+brought-by : (enter before now : Bool) → (enter ≡ true → before ≡ false) → (enter ≡ true → now ≡ true) → (enter ≡ false → now ≡ true → before ≡ true)
+    → enter ≡ (not before && now)
+brought-by true true now once comes from = absurd (false≢true (sym (once refl)))
+brought-by true false now once comes from = sym (comes refl)
+brought-by false true now once comes from = refl
+brought-by false false true once comes from = absurd (false≢true (from refl refl))
+brought-by false false false once comes from = refl
+
+enters-is : (c : ℕ) (effect : Effect) (f : Facts) → Fits (f.about c).stage effect
+    → enters effect.turn ≡ (not (is_present (f.about c).stage) && is_present (about_after c effect f.about c).stage)
+enters-is c effect f suits =
+    brought-by (enters effect.turn) (is_present (f.about c).stage) (is_present (about_after c effect f.about c).stage) suits.enters_once
+    (λ enter. ap is_present (about-stage c effect f c)
+    ∙ ap₂ (λ r b. is_present (stage_next r b effect.turn (f.about c).stage))
+    (alone-at c effect f suits c (ap₂ ◌&&◌ (eq-eqb c c refl) enter)) (eq-eqb c c refl)
+    ∙ present-entered effect.turn (f.about c).stage enter)
+    (λ quiet here. present-next (removed_by effect (f.about c)) (c == c) effect.turn (f.about c).stage
+    (ap (λ b. (c == c) && b) quiet ∙ and-false (c == c)) (ap is_present (sym (about-stage c effect f c)) ∙ here))
+
+-- ---- every call
+
+pub record Ordered (f : Facts) (cs : List ℕ) : Type 0 where
+  pub all_settled : (d : ℕ) → has d cs ≡ true → is_settled (f.about d).stage ≡ true
+  pub all_joined : (d : ℕ) → has d cs ≡ true → d ≤ f.joins
+  pub in_order : f.present ≡ filter (λ d. is_present (f.about d).stage) cs
+
+either : (a b : Bool) → (a || b) ≡ true → (a ≡ false → b ≡ true)
+either true b e other = absurd (false≢true (sym other))
+either false b e other = e
+
+in-newcomer : (enter : Bool) (c d : ℕ) → has d (newcomer_if enter c) ≡ true → (enter ≡ true) × (c ≡ d)
+in-newcomer true c d there = (refl, eqb-true c d (sym (or-false (eqb c d)) ∙ there))
+in-newcomer false c d there = absurd (false≢true there)
+
+grown : (P : ℕ → Type 0) (cs more : List ℕ) (d : ℕ) (first : Bool) → has d cs ≡ first → (has d cs ≡ true → P d) → (has d more ≡ true → P d) → has d (cs ++ more) ≡ true → P d
+grown P cs more d true is old new there = old is
+grown P cs more d false is old new there = new (either (has d cs) (has d more) (sym (has-append d cs more) ∙ there) is)
+
+newcomer-stays : (p : ℕ → Bool) (enter : Bool) (c : ℕ) → (enter ≡ true → p c ≡ true) → filter p (newcomer_if enter c) ≡ newcomer_if enter c
+newcomer-stays p true c here = ap (λ b. cond b (c ∷ []) []) (here refl)
+newcomer-stays p false c here = refl
+
+entered-here : (c : ℕ) (effect : Effect) (f : Facts) → Fits (f.about c).stage effect → enters effect.turn ≡ true → is_present (about_after c effect f.about c).stage ≡ true
+entered-here c effect f suits enter =
+    ap is_present (about-stage c effect f c)
+    ∙ ap₂ (λ r b. is_present (stage_next r b effect.turn (f.about c).stage)) (alone-at c effect f suits c (ap₂ ◌&&◌ (eq-eqb c c refl) enter)) (eq-eqb c c refl)
+    ∙ present-entered effect.turn (f.about c).stage enter
+
+happens-ordered : (c : ℕ) (effect : Effect) (f : Facts) (cs : List ℕ) → Sound f → Fits (f.about c).stage effect → Steady (f.about c).stage effect → Ordered f cs
+    → Ordered (happens c effect f) (cs ++ newcomer_if (enters effect.turn) c)
+unfolding happens
+happens-ordered c effect f cs sound suits steady ordered = record {
+  all_settled = λ d there. grown (λ x. is_settled (about_after c effect f.about x).stage ≡ true) cs (newcomer_if (enters effect.turn) c) d (has d cs) refl
+      (λ old. about-settled c effect f steady d (ordered.all_settled d old))
+      (λ new. let is = in-newcomer (enters effect.turn) c d new in
+      subst (λ x. is_settled (about_after c effect f.about x).stage ≡ true) is.1
+      (settled-present (about_after c effect f.about c).stage (entered-here c effect f suits is.0)))
+      there;
+  all_joined = λ d there. grown (λ x. x ≤ f.joins) cs (newcomer_if (enters effect.turn) c) d (has d cs) refl
+      (ordered.all_joined d)
+      (λ new. let is = in-newcomer (enters effect.turn) c d new in
+      subst (λ x. x ≤ f.joins) is.1
+      (sound.counted c (happens-open c effect f sound suits c (not-over (about_after c effect f.about c).stage (entered-here c effect f suits is.0)))))
+      there;
+  in_order =
+      ap (λ xs. filter (λ d. is_present (about_after c effect f.about d).stage) xs ++ newcomer_if (enters effect.turn) c) ordered.in_order
+      ∙ ap (λ xs. xs ++ newcomer_if (enters effect.turn) c)
+      (filter-narrow (λ d. is_present (f.about d).stage) (λ d. is_present (about_after c effect f.about d).stage) cs
+      (λ d there. was-present c effect f suits d (ordered.all_settled d there)))
+      ∙ ap (λ xs. filter (λ d. is_present (about_after c effect f.about d).stage) cs ++ xs)
+      (sym (newcomer-stays (λ d. is_present (about_after c effect f.about d).stage) (enters effect.turn) c (entered-here c effect f suits)))
+      ∙ sym (filter-append (λ d. is_present (about_after c effect f.about d).stage) cs (newcomer_if (enters effect.turn) c));
+}
+
+-- the same of facts whose stages are the same where somebody entered
+filter-same : (p q : ℕ → Bool) (xs : List ℕ) → ((d : ℕ) → has d xs ≡ true → p d ≡ q d) → filter p xs ≡ filter q xs
+filter-same p q [] same = refl
+filter-same p q (x ∷ xs) same =
+    ap₂ (λ b (ys : List ℕ). cond b (x ∷ ys) ys) (same x (ap (λ b. b || has x xs) (eq-eqb x x refl)))
+    (filter-same p q xs (λ d there. same d (ap (λ b. eqb x d || b) there ∙ or-true (eqb x d))))
+
+ordered-same : (f g : Facts) (cs : List ℕ) → f.joins ≤ g.joins → g.present ≡ f.present → ((d : ℕ) → d ≤ f.joins → (g.about d).stage ≡ (f.about d).stage)
+    → Ordered f cs → Ordered g cs
+ordered-same f g cs more present same ordered = record {
+  all_settled = λ d there. ap is_settled (same d (ordered.all_joined d there)) ∙ ordered.all_settled d there;
+  all_joined = λ d there. omega (arith, ordered.all_joined d there, more);
+  in_order = present ∙ ordered.in_order
+      ∙ filter-same (λ d. is_present (f.about d).stage) (λ d. is_present (g.about d).stage) cs (λ d there. ap is_present (sym (same d (ordered.all_joined d there))));
+}
+
+join-stage : (f : Facts) (owner : ℕ) (peer challenge : List ℕ) (d : ℕ) (same : Bool) → (d == (f.joins + 1)) ≡ same → d ≤ f.joins
+    → (chosen same (newcomer owner (next_sid f) peer challenge) (f.about d)).stage ≡ (f.about d).stage
+join-stage f owner peer challenge d true is below = let e : d ≡ f.joins + 1 = eqb-true d (f.joins + 1) is in absurd (omega (arith, e, below))
+join-stage f owner peer challenge d false is below = refl
+
+joined-ordered : (f : Facts) (owner : ℕ) (peer challenge : List ℕ) (cs : List ℕ) → Ordered f cs → Ordered (joined f owner peer challenge) cs
+unfolding joined
+joined-ordered f owner peer challenge cs ordered =
+    ordered-same f _ cs (omega arith) refl (λ d below. join-stage f owner peer challenge d (d == (f.joins + 1)) refl below) ordered
+
+join-ordered : (f : Facts) (owner : ℕ) (peer challenge : List ℕ) (cs : List ℕ) (accepted : Bool) → Ordered f cs → Ordered (chosen accepted (joined f owner peer challenge) f) cs
+join-ordered f owner peer challenge cs true ordered = joined-ordered f owner peer challenge cs ordered
+join-ordered f owner peer challenge cs false ordered = ordered
+
+closed-ordered : (c : ℕ) (f : Facts) (cs : List ℕ) → Ordered f cs → Ordered (closed c f) cs
+unfolding closed
+closed-ordered c f cs ordered = ordered-same f _ cs (omega arith) refl (λ d below. refl) ordered
+
+take-stage : (count : ℕ) (a : About) (same : Bool) → (chosen same (given count a) a).stage ≡ a.stage
+take-stage count a true = refl
+take-stage count a false = refl
+
+steady-line : (setup : Configured) (hash : List ℕ → List ℕ) (f : Facts) (c : ℕ) (bytes : List ℕ) (now : ℕ) → Steady (f.about c).stage (effect_of_line setup hash f c bytes now)
+steady-line setup hash f c bytes now = record {
+  settled = λ is. keeps-settled (effect_of_line setup hash f c bytes now).turn (f.about c).stage
+      (keeps-line (sight_of setup f) (own_of (f.about c)) (prepared setup hash (f.about c).challenge bytes) now is) is;
+}
+
+line-ordered : (setup : Configured) (hash : List ℕ → List ℕ) (f : Facts) (caller c : ℕ) (bytes : List ℕ) (now : ℕ) (cs : List ℕ) → Sound f → Ordered f cs
+    → Ordered (after setup hash f caller (Line c bytes now)) (cs ++ brought_in setup hash f caller (Line c bytes now))
+unfolding after happens
+line-ordered setup hash f caller c bytes now cs sound ordered =
+    subst (λ b. Ordered (happens c (effect_of_line setup hash f c bytes now) f) (cs ++ newcomer_if b c))
+    (enters-is c (effect_of_line setup hash f c bytes now) f (fits-line setup hash f c bytes now))
+    (happens-ordered c (effect_of_line setup hash f c bytes now) f cs sound (fits-line setup hash f c bytes now) (steady-line setup hash f c bytes now) ordered)
+
+quit-ordered : (f : Facts) (c : ℕ) (cs : List ℕ) → Sound f → Ordered f cs → Ordered (closed c (happens c (departure (f.about c).stage (f.about c).sid) f)) (cs ++ [])
+quit-ordered f c cs sound ordered =
+    closed-ordered c (happens c (departure (f.about c).stage (f.about c).sid) f) (cs ++ [])
+    (happens-ordered c (departure (f.about c).stage (f.about c).sid) f cs sound
+    (fits-departure (f.about c).stage (f.about c).stage (f.about c).sid) (record { settled = λ is. refl }) ordered)
+
+other-ordered : (setup : Configured) (hash : List ℕ → List ℕ) (f : Facts) (caller : ℕ) (peer challenge : List ℕ) (now : ℕ) (cs : List ℕ) → Ordered f cs
+    → Ordered (after setup hash f caller (Join peer challenge now)) cs
+unfolding after
+other-ordered setup hash f caller peer challenge now cs ordered = join-ordered f caller peer challenge cs (has_place setup f && has_joins f) ordered
+
+closing : (setup : Configured) (hash : List ℕ → List ℕ) (f : Facts) (caller c : ℕ) (cs : List ℕ) → Sound f → Ordered f cs
+    → Ordered (after setup hash f caller (Quit c)) (cs ++ [])
+unfolding after
+closing setup hash f caller c cs sound ordered = quit-ordered f c cs sound ordered
+
+taking : (setup : Configured) (hash : List ℕ → List ℕ) (f : Facts) (caller c count : ℕ) (cs : List ℕ) → Ordered f cs
+    → Ordered (after setup hash f caller (Take c count)) cs
+unfolding after
+taking setup hash f caller c count cs ordered = ordered-same f _ cs (omega arith) refl (λ d below. take-stage count (f.about d) (d == c)) ordered
+
+after-ordered : (setup : Configured) (hash : List ℕ → List ℕ) (f : Facts) (caller : ℕ) (call : Call) (cs : List ℕ) → Sound f → Ordered f cs
+    → Ordered (after setup hash f caller call) (cs ++ brought_in setup hash f caller call)
+after-ordered setup hash f caller (Line c bytes now) cs sound ordered = line-ordered setup hash f caller c bytes now cs sound ordered
+after-ordered setup hash f caller (Join peer challenge now) cs sound ordered =
+    subst (Ordered (after setup hash f caller (Join peer challenge now))) (sym (append-nil cs)) (other-ordered setup hash f caller peer challenge now cs ordered)
+after-ordered setup hash f caller (Quit c) cs sound ordered = closing setup hash f caller c cs sound ordered
+after-ordered setup hash f caller (Take c count) cs sound ordered =
+    subst (Ordered (after setup hash f caller (Take c count))) (sym (append-nil cs)) (taking setup hash f caller c count cs ordered)
+
+ordered_of : (setup : Configured) (hash : List ℕ → List ℕ) (h : List Entry) → Ordered (facts setup hash h) (entrants setup hash h)
+unfolding facts entrants
+ordered_of setup hash [] = record { all_settled = λ d there. absurd (false≢true there); all_joined = λ d there. absurd (false≢true there); in_order = refl }
+ordered_of setup hash (e ∷ h) =
+    after-ordered setup hash (facts setup hash h) e.caller e.call (entrants setup hash h) (sound_of setup hash h) (ordered_of setup hash h)
+
+pub present_in_order : PresentInOrder
+present_in_order setup hash h = (ordered_of setup hash h).in_order

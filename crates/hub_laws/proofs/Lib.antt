@@ -1,0 +1,14 @@
+pub mod Apart
+pub mod Clearing
+pub mod Conversations
+pub mod Delivery
+pub mod Distinct
+pub mod Entries
+pub mod Heard
+pub mod Joining
+pub mod Lagging
+pub mod Scenes
+pub mod Searching
+pub mod Stages
+pub mod Turning
+pub mod Worlds

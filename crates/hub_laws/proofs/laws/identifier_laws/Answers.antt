@@ -1,0 +1,18 @@
+use Rattle.hub_invariants.proofs.Kept.{sids_differ, sids_are_given, few_are_open}
+use Rattle.hub_laws.proofs.Joining.{joins_are_counted, joins_stay}
+use Rattle.hub_laws.proofs.laws.identifier_laws.Goals as goal
+
+pub returns-clause-differ : goal.returns-clause-differ
+returns-clause-differ c = sids_differ
+
+pub returns-clause-given : goal.returns-clause-given
+returns-clause-given c = sids_are_given
+
+pub returns-clause-few : goal.returns-clause-few
+returns-clause-few c = few_are_open
+
+pub returns-clause-stay : goal.returns-clause-stay
+returns-clause-stay c = joins_stay
+
+pub returns-clause-counted : goal.returns-clause-counted
+returns-clause-counted c = joins_are_counted

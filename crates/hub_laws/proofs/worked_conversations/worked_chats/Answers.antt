@@ -1,0 +1,8 @@
+use Rattle.hub_laws.proofs.Conversations.{chat-is-heard, lag-owes-nothing}
+use Rattle.hub_laws.proofs.worked_conversations.worked_chats.Goals as goal
+
+pub returns-clause-heard : goal.returns-clause-heard
+returns-clause-heard c = chat-is-heard
+
+pub returns-clause-lag : goal.returns-clause-lag
+returns-clause-lag c = lag-owes-nothing

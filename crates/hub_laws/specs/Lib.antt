@@ -1,0 +1,4 @@
+pub mod Scenes
+pub mod Conversations
+pub mod Delivery
+pub mod Joining

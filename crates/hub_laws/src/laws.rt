@@ -1,0 +1,69 @@
+//! The laws that every history keeps, in the words of the protocol. Each law is proved of the rules themselves.
+
+ghost use Rattle.hub_rules.specs.Promises.{FewAreOpen, OthersAreOut, PresentAreUsers, SidsAreGiven, SidsDiffer, TakenIsTheSum, UsersAreOpen};
+ghost use Rattle.hub_rules.specs.Differing.{CidsDiffer, NicksDiffer};
+ghost use Rattle.hub_rules.specs.Entering.{PresentInOrder};
+ghost use Rattle.hub_rules.specs.Lagging.{LagIsTheFirst, OwedAreShares};
+ghost use Rattle.hub_rules.specs.Opening.{OpenAreThoseThatStayed};
+ghost use Rattle.hub_rules.specs.Stepping.{StageIsLastMade};
+ghost use Rattle.hub_rules.specs.Said.{FeaturesAreLastAdded, InfoIsMerged};
+ghost use Rattle.hub_rules.specs.Searched.{SearchIsTheLast, TotalsAreSums};
+ghost use Rattle.hub_rules.specs.World.{BanIsTheLastAct, TopicIsTheLast};
+ghost use Rattle.hub_laws.specs.Delivery.{DeliveredAreTheFirst};
+ghost use Rattle.hub_laws.specs.Joining.{JoinsAreCounted, JoinsStay};
+
+/// Says who is present: exactly those whose connections are at the stage NORMAL, all of them open; who never joined, or
+/// quit, is shut out (ADC 1.0, "States"). They stand in the order of the entries by which they entered. In a legal history
+/// open are those that joined and did not quit. A stage is what the last entry that changes it made it.
+pub fn presence_laws()
+    ensures users { PresentAreUsers }
+    ensures open { UsersAreOpen }
+    ensures others { OthersAreOut }
+    ensures order { PresentInOrder }
+    ensures stayed { OpenAreThoseThatStayed }
+    ensures stage { StageIsLastMade }
+{}
+
+/// Says of session identifiers: two open connections have two, none has `AAAA`, and no more are open than the hub admits
+/// (ADC 1.0, "SID"). In a legal history a connection has, whatever came later, the first identifier that was free when it
+/// joined, and the owner, the address and the challenge of its join; joins are as many as the replies that accept one.
+pub fn identifier_laws()
+    ensures differ { SidsDiffer }
+    ensures given { SidsAreGiven }
+    ensures few { FewAreOpen }
+    ensures stay { JoinsStay }
+    ensures counted { JoinsAreCounted }
+{}
+
+/// Says of takes: in a legal history what a connection took is the sum over the replies to its takes, and the bytes of these replies,
+/// joined, are those of the first lines that it was owed. It is owed the shares of all calls in order, up to the first that
+/// did not fit with what then waited, by lines or by bytes; from that one on it lags.
+pub fn take_laws()
+    ensures taken { TakenIsTheSum }
+    ensures delivered { DeliveredAreTheFirst }
+    ensures owed { OwedAreShares }
+    ensures lag { LagIsTheFirst }
+{}
+
+/// Says what operators left: of a ban what the last act on its client identifier leaves, and the topic that was set last.
+pub fn operator_laws()
+    ensures bans { BanIsTheLastAct }
+    ensures topic { TopicIsTheLast }
+{}
+
+/// Says what is known of a client: it supports the features whose last mention in any of its accepted SUP adds them (ADC
+/// 1.0, "SUP"). Its user's fields are the merge of all its accepted INF, without what is not passed on (ADC 1.0, "INF").
+/// Two users who are present have two nicks, by their normal forms C, and two client identifiers.
+pub fn knowledge_laws()
+    ensures features { FeaturesAreLastAdded }
+    ensures info { InfoIsMerged }
+    ensures nicks { NicksDiffer }
+    ensures identifiers { CidsDiffer }
+{}
+
+/// Says of searches that the interval between them is counted from the last accepted one (ADC 1.0, "SCH"). The totals are
+/// how many users are present, and the sums of what their fields SS and SF say (ADC-EXT, "PING").
+pub fn counting_laws()
+    ensures search { SearchIsTheLast }
+    ensures totals { TotalsAreSums }
+{}

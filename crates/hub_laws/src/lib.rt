@@ -1,0 +1,10 @@
+//! The laws of the hub: what its rules come to over whole histories, and conversations that are computed from them.
+#![tactic(auto)]
+
+mod laws;
+mod worked_conversations;
+
+pub use laws::{
+    counting_laws, identifier_laws, knowledge_laws, operator_laws, presence_laws, take_laws,
+};
+pub use worked_conversations::{worked_chats, worked_logins};
