@@ -2,3 +2,4 @@ pub mod Scenes
 pub mod Conversations
 pub mod Delivery
 pub mod Joining
+pub mod Routing

@@ -11,6 +11,7 @@ ghost use Rattle.hub_rules.specs.Searched.{SearchIsTheLast, TotalsAreSums};
 ghost use Rattle.hub_rules.specs.World.{BanIsTheLastAct, TopicIsTheLast};
 ghost use Rattle.hub_laws.specs.Delivery.{DeliveredAreTheFirst};
 ghost use Rattle.hub_laws.specs.Joining.{JoinsAreCounted, JoinsStay};
+ghost use Rattle.hub_laws.specs.Routing.{EmptyLinesOweNothing, JoinsAndTakesOweNothing, MessagesAreRouted, QuietQuits, WhoIsOutIsNotHeard};
 
 /// Says who is present: exactly those whose connections are at the stage NORMAL, all of them open; who never joined, or
 /// quit, is shut out (ADC 1.0, "States"). They stand in the order of the entries by which they entered. In a legal history
@@ -43,6 +44,17 @@ pub fn take_laws()
     ensures delivered { DeliveredAreTheFirst }
     ensures owed { OwedAreShares }
     ensures lag { LagIsTheFirst }
+{}
+
+/// Says who is owed a message that a user may send, by its type: all who are present, its target, target and sender, or those
+/// who have certain features (ADC 1.0, "Message types"). A join, a take, an empty line, a line of a connection that is shut
+/// out, and the quit of one whose user was not present owe nobody anything.
+pub fn routing_laws()
+    ensures messages { MessagesAreRouted }
+    ensures calls { JoinsAndTakesOweNothing }
+    ensures empty { EmptyLinesOweNothing }
+    ensures out { WhoIsOutIsNotHeard }
+    ensures quits { QuietQuits }
 {}
 
 /// Says what operators left: of a ban what the last act on its client identifier leaves, and the topic that was set last.
