@@ -139,7 +139,7 @@ own-silent setup hash f d c bytes now true is over =
     line-silent (sight_of setup f) (own_of (f.about c)) (prepared setup hash (f.about c).challenge bytes) now (subst (λ x. is_over (f.about x).stage ≡ true) e over)
 own-silent setup hash f d c bytes now false is over = refl
 
-share-beyond : (setup : Configured) (hash : List ℕ → List ℕ) (f : Facts) (d : ℕ) (call : Call) → is_over (f.about d).stage ≡ true → share setup hash f d call ≡ []
+pub share-beyond : (setup : Configured) (hash : List ℕ → List ℕ) (f : Facts) (d : ℕ) (call : Call) → is_over (f.about d).stage ≡ true → share setup hash f d call ≡ []
 share-beyond setup hash f d (Join peer challenge now) over = refl
 share-beyond setup hash f d (Line c bytes now) over =
     not-heard (d == c) (effect_of_line setup hash f c bytes now) (f.about d) (present-over (f.about d).stage over) (own-silent setup hash f d c bytes now (d == c) refl over)

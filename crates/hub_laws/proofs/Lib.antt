@@ -7,6 +7,7 @@ pub mod Entries
 pub mod Heard
 pub mod Joining
 pub mod Lagging
+pub mod Leaving
 pub mod Routing
 pub mod Scenes
 pub mod Searching

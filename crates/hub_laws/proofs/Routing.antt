@@ -169,7 +169,7 @@ hears-nothing false false = refl
 owes-nothing : (is_caller : Bool) (a : About) → owes is_caller nothing a ≡ []
 owes-nothing is_caller a = hears-nothing (is_present a.stage && hears_those is_caller nothing.hearers a) is_caller
 
-silent-over : (hub : Sight) (own : Own) (prepared : PreparedLine) (now : ℕ) → own.stage ≡ Gone → line_effect hub own prepared now ≡ nothing
+pub silent-over : (hub : Sight) (own : Own) (prepared : PreparedLine) (now : ℕ) → own.stage ≡ Gone → line_effect hub own prepared now ≡ nothing
 unfolding line_effect
 silent-over hub own prepared now over =
     ap (λ (s : Stage). unless_over (is_over s) (length prepared.bytes == 0) (heard hub own prepared now (lines.reading prepared.bytes))) over

@@ -3,3 +3,4 @@ pub mod Conversations
 pub mod Delivery
 pub mod Joining
 pub mod Routing
+pub mod Leaving

@@ -11,6 +11,7 @@ ghost use Rattle.hub_rules.specs.Searched.{SearchIsTheLast, TotalsAreSums};
 ghost use Rattle.hub_rules.specs.World.{BanIsTheLastAct, TopicIsTheLast};
 ghost use Rattle.hub_laws.specs.Delivery.{DeliveredAreTheFirst};
 ghost use Rattle.hub_laws.specs.Joining.{JoinsAreCounted, JoinsStay};
+ghost use Rattle.hub_laws.specs.Leaving.{KicksShutOut, OutIsForGood, WhoIsOutHearsNothing};
 ghost use Rattle.hub_laws.specs.Routing.{EmptyLinesOweNothing, JoinsAndTakesOweNothing, MessagesAreRouted, QuietQuits, WhoIsOutIsNotHeard};
 
 /// Says who is present: exactly those whose connections are at the stage NORMAL, all of them open; who never joined, or
@@ -55,6 +56,14 @@ pub fn routing_laws()
     ensures empty { EmptyLinesOweNothing }
     ensures out { WhoIsOutIsNotHeard }
     ensures quits { QuietQuits }
+{}
+
+/// Says of who is shut out: it is owed nothing more by any call, and stays shut out. A kick or a ban of a user who is present
+/// shuts its connection out (ADC 1.0, "QUI").
+pub fn leaving_laws()
+    ensures nothing { WhoIsOutHearsNothing }
+    ensures stays { OutIsForGood }
+    ensures kicks { KicksShutOut }
 {}
 
 /// Says what operators left: of a ban what the last act on its client identifier leaves, and the topic that was set last.
