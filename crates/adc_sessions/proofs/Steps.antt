@@ -1,5 +1,5 @@
 -- Single calls of a session, and calls one after another.
-use Rattle.std.proofs.Common.{◌≡◌, ◌≤◌, ◌<◌, length-take, ◌+◌, ◌-◌, take, drop, take_all, length-drop, drop-drop, take-append-drop, ◌++◌, ℕ, true, false, true≢false, List, [], ◌∷◌, length, Some, refl, sym, ap, subst, ◌∙◌, append_assoc, append-nil, length-append, arith}
+use Rattle.std.proofs.Common.{◌≡◌, ◌≢◌, ◌≤◌, ◌<◌, length-take, ◌+◌, ◌-◌, take, drop, take_all, length-drop, drop-drop, take-append-drop, ◌++◌, ℕ, Bool, leb, true, false, true≢false, List, [], ◌∷◌, length, Some, refl, sym, ap, subst, ◌∙◌, append_assoc, append-nil, length-append, arith}
 use Rattle.std.proofs.lemmas.List.Elements.{All-nil, All-cons}
 use Rattle.hub_rules.specs.declared.history.Verdict.{Verdict}
 use Rattle.outboxes.specs.declared.taken.Taken.{Taken}
@@ -7,10 +7,10 @@ use Rattle.adc_line.specs.Frames.{lf}
 use Rattle.adc_line.specs.Stream.{IsLine}
 use Rattle.adc_sessions.specs.declared.ending.End.{End}
 use Rattle.adc_sessions.specs.declared.ending.End.TheVariants as ends
-use Rattle.adc_sessions.specs.Events.{StreamCall, PortCall, Event, read, met_end, read_failed, wrote, write_failed, handed, took, refused, on_stream, on_port, over_by, IsFault, HasNoFault, StopsAtFault, EndsWith}
-use Rattle.adc_sessions.specs.Machine.{State, Step, Moves, MovesIn, EndsAs, FinishesIn, GivesIn, Gives}
+use Rattle.adc_sessions.specs.Events.{StreamCall, PortCall, Event, read, met_end, read_failed, wrote, write_failed, handed, took, refused, on_stream, on_port, over_by, fresh_by, after, IsFault, HasNoFault, StopsAtFault, EndsWith}
+use Rattle.adc_sessions.specs.Machine.{State, begun, Step, Moves, MovesIn, MovesBy, EndsAs, FinishesIn, GivesIn, Gives}
 
-HasNoFault-append : (before events : List Event) → HasNoFault before → HasNoFault events → HasNoFault (before ++ events)
+pub HasNoFault-append : (before events : List Event) → HasNoFault before → HasNoFault events → HasNoFault (before ++ events)
 HasNoFault-append [] events first second = second
 HasNoFault-append (event ∷ before) events first second = (first.0, HasNoFault-append before events first.1 second)
 
@@ -19,8 +19,8 @@ StopsAtFault-append [] events first second = second
 StopsAtFault-append (event ∷ before) events first second = (λ fault. absurd (first.0 fault), StopsAtFault-append before events first.1 second)
 
 module _ {S P : Type 0} (told : S → StreamCall → S → Type 0) (calls : P → PortCall → P → Type 0) where
-  pub did_read : (x y : State S P) (bytes : List ℕ) → told x.stream (read bytes) y.stream → y.port ≡ x.port → y.unread ≡ x.unread ++ bytes → y.pending ≡ x.pending → y.met ≡ x.met → y.told ≡ x.told → y.over ≡ x.over → x.over ≡ false → Step told calls x (on_stream (read bytes)) y
-  did_read x y bytes step port unread pending met last over hearing = record {
+  pub did_read : (x y : State S P) (bytes : List ℕ) → told x.stream (read bytes) y.stream → y.port ≡ x.port → y.unread ≡ x.unread ++ bytes → y.pending ≡ x.pending → y.met ≡ x.met → y.told ≡ x.told → y.over ≡ x.over → y.owes ≡ x.owes → y.fresh ≡ x.fresh → x.over ≡ false → x.fresh ≡ false → Step told calls x (on_stream (read bytes)) y
+  did_read x y bytes step port unread pending met last over owes fresh hearing taken = record {
     happened = (step, port);
     lines_kept = sym unread;
     bytes_kept = append-nil x.pending ∙ sym pending;
@@ -28,12 +28,15 @@ module _ {S P : Type 0} (told : S → StreamCall → S → Type 0) (calls : P �
     met_kept = met;
     told_kept = last;
     over_kept = over;
-    takes = λ is. absurd is;
+    owes_kept = owes;
+    fresh_kept = fresh;
+    is_written = λ is. absurd is;
     hears = λ was. absurd (true≢false (sym was ∙ hearing));
+    begins = λ was. absurd (true≢false (sym was ∙ taken));
   }
 
-  pub did_meet_end : (x y : State S P) → told x.stream met_end y.stream → y.port ≡ x.port → y.unread ≡ x.unread → y.pending ≡ x.pending → y.met ≡ true → y.told ≡ x.told → y.over ≡ x.over → x.over ≡ false → Step told calls x (on_stream met_end) y
-  did_meet_end x y step port unread pending met last over hearing = record {
+  pub did_meet_end : (x y : State S P) → told x.stream met_end y.stream → y.port ≡ x.port → y.unread ≡ x.unread → y.pending ≡ x.pending → y.met ≡ true → y.told ≡ x.told → y.over ≡ x.over → y.owes ≡ true → y.fresh ≡ x.fresh → x.over ≡ false → x.fresh ≡ false → Step told calls x (on_stream met_end) y
+  did_meet_end x y step port unread pending met last over owes fresh hearing taken = record {
     happened = (step, port);
     lines_kept = append-nil x.unread ∙ sym unread;
     bytes_kept = append-nil x.pending ∙ sym pending;
@@ -41,12 +44,15 @@ module _ {S P : Type 0} (told : S → StreamCall → S → Type 0) (calls : P �
     met_kept = met;
     told_kept = last;
     over_kept = over;
-    takes = λ is. absurd is;
+    owes_kept = owes;
+    fresh_kept = fresh;
+    is_written = λ is. absurd is;
     hears = λ was. absurd (true≢false (sym was ∙ hearing));
+    begins = λ was. absurd (true≢false (sym was ∙ taken));
   }
 
-  pub did_fail_to_read : (x y : State S P) → told x.stream read_failed y.stream → y.port ≡ x.port → y.unread ≡ x.unread → y.pending ≡ x.pending → y.met ≡ x.met → y.told ≡ x.told → y.over ≡ x.over → x.over ≡ false → Step told calls x (on_stream read_failed) y
-  did_fail_to_read x y step port unread pending met last over hearing = record {
+  pub did_fail_to_read : (x y : State S P) → told x.stream read_failed y.stream → y.port ≡ x.port → y.unread ≡ x.unread → y.pending ≡ x.pending → y.met ≡ x.met → y.told ≡ x.told → y.over ≡ x.over → y.owes ≡ x.owes → y.fresh ≡ x.fresh → x.over ≡ false → x.fresh ≡ false → Step told calls x (on_stream read_failed) y
+  did_fail_to_read x y step port unread pending met last over owes fresh hearing taken = record {
     happened = (step, port);
     lines_kept = append-nil x.unread ∙ sym unread;
     bytes_kept = append-nil x.pending ∙ sym pending;
@@ -54,12 +60,15 @@ module _ {S P : Type 0} (told : S → StreamCall → S → Type 0) (calls : P �
     met_kept = met;
     told_kept = last;
     over_kept = over;
-    takes = λ is. absurd is;
+    owes_kept = owes;
+    fresh_kept = fresh;
+    is_written = λ is. absurd is;
     hears = λ was. absurd (true≢false (sym was ∙ hearing));
+    begins = λ was. absurd (true≢false (sym was ∙ taken));
   }
 
-  pub did_write : (x y : State S P) (bytes : List ℕ) → told x.stream (wrote bytes) y.stream → y.port ≡ x.port → y.unread ≡ x.unread → x.pending ≡ bytes ++ y.pending → y.met ≡ x.met → y.told ≡ x.told → y.over ≡ x.over → Step told calls x (on_stream (wrote bytes)) y
-  did_write x y bytes step port unread pending met last over = record {
+  pub did_write : (x y : State S P) (bytes : List ℕ) → told x.stream (wrote bytes) y.stream → y.port ≡ x.port → y.unread ≡ x.unread → x.pending ≡ bytes ++ y.pending → y.met ≡ x.met → y.told ≡ x.told → y.over ≡ x.over → y.owes ≡ x.owes → y.fresh ≡ x.fresh → Step told calls x (on_stream (wrote bytes)) y
+  did_write x y bytes step port unread pending met last over owes fresh = record {
     happened = (step, port);
     lines_kept = append-nil x.unread ∙ sym unread;
     bytes_kept = append-nil x.pending ∙ pending;
@@ -67,12 +76,15 @@ module _ {S P : Type 0} (told : S → StreamCall → S → Type 0) (calls : P �
     met_kept = met;
     told_kept = last;
     over_kept = over;
-    takes = λ is. absurd is;
+    owes_kept = owes;
+    fresh_kept = fresh;
+    is_written = λ is. absurd is;
     hears = λ was. tt {0};
+    begins = λ was. tt {0};
   }
 
-  pub did_fail_to_write : (x y : State S P) → told x.stream write_failed y.stream → y.port ≡ x.port → y.unread ≡ x.unread → y.pending ≡ x.pending → y.met ≡ x.met → y.told ≡ x.told → y.over ≡ x.over → Step told calls x (on_stream write_failed) y
-  did_fail_to_write x y step port unread pending met last over = record {
+  pub did_fail_to_write : (x y : State S P) → told x.stream write_failed y.stream → y.port ≡ x.port → y.unread ≡ x.unread → y.pending ≡ x.pending → y.met ≡ x.met → y.told ≡ x.told → y.over ≡ x.over → y.owes ≡ x.owes → y.fresh ≡ x.fresh → Step told calls x (on_stream write_failed) y
+  did_fail_to_write x y step port unread pending met last over owes fresh = record {
     happened = (step, port);
     lines_kept = append-nil x.unread ∙ sym unread;
     bytes_kept = append-nil x.pending ∙ sym pending;
@@ -80,12 +92,15 @@ module _ {S P : Type 0} (told : S → StreamCall → S → Type 0) (calls : P �
     met_kept = met;
     told_kept = last;
     over_kept = over;
-    takes = λ is. absurd is;
+    owes_kept = owes;
+    fresh_kept = fresh;
+    is_written = λ is. absurd is;
     hears = λ was. tt {0};
+    begins = λ was. tt {0};
   }
 
-  pub did_hand : (x y : State S P) (line : List ℕ) (verdict : Verdict) → calls x.port (handed line verdict) y.port → y.stream ≡ x.stream → x.unread ≡ line ++ lf ∷ y.unread → IsLine line → y.pending ≡ x.pending → y.met ≡ x.met → y.told ≡ x.told → y.over ≡ over_by x.over (on_port (handed line verdict)) → x.over ≡ false → Step told calls x (on_port (handed line verdict)) y
-  did_hand x y line verdict step stream unread is pending met last over hearing = record {
+  pub did_hand : (x y : State S P) (line : List ℕ) (verdict : Verdict) → calls x.port (handed line verdict) y.port → y.stream ≡ x.stream → x.unread ≡ line ++ lf ∷ y.unread → IsLine line → y.pending ≡ x.pending → y.met ≡ x.met → y.told ≡ x.told → y.over ≡ over_by x.over (on_port (handed line verdict)) → y.owes ≡ true → y.fresh ≡ false → x.pending ≡ [] → x.over ≡ false → x.fresh ≡ false → Step told calls x (on_port (handed line verdict)) y
+  did_hand x y line verdict step stream unread is pending met last over owes fresh none hearing taken = record {
     happened = (step, stream);
     lines_kept = append-nil x.unread ∙ unread ∙ sym (append_assoc line (lf ∷ []) y.unread) ∙ ap (λ front. front ++ y.unread) (sym (append-nil (line ++ lf ∷ [])));
     bytes_kept = append-nil x.pending ∙ sym pending;
@@ -93,12 +108,15 @@ module _ {S P : Type 0} (told : S → StreamCall → S → Type 0) (calls : P �
     met_kept = met;
     told_kept = last;
     over_kept = over;
-    takes = λ is. absurd is;
+    owes_kept = owes;
+    fresh_kept = fresh;
+    is_written = λ is. none;
     hears = λ was. absurd (true≢false (sym was ∙ hearing));
+    begins = λ was. absurd (true≢false (sym was ∙ taken));
   }
 
-  pub did_take : (x y : State S P) (bytes : List ℕ) (taken : Taken) → calls x.port (took bytes taken) y.port → y.stream ≡ x.stream → y.unread ≡ x.unread → y.pending ≡ x.pending ++ bytes → y.met ≡ x.met → y.told ≡ Some taken → y.over ≡ x.over → x.pending ≡ [] → Step told calls x (on_port (took bytes taken)) y
-  did_take x y bytes taken step stream unread pending met last over none = record {
+  pub did_take : (x y : State S P) (count : ℕ) (bytes : List ℕ) (taken : Taken) → calls x.port (took count bytes taken) y.port → y.stream ≡ x.stream → y.unread ≡ x.unread → y.pending ≡ x.pending ++ bytes → y.met ≡ x.met → y.told ≡ Some taken → y.over ≡ x.over → y.owes ≡ leb count taken.lines → y.fresh ≡ false → x.pending ≡ [] → Step told calls x (on_port (took count bytes taken)) y
+  did_take x y count bytes taken step stream unread pending met last over owes fresh none = record {
     happened = (step, stream);
     lines_kept = append-nil x.unread ∙ sym unread;
     bytes_kept = sym pending;
@@ -106,12 +124,15 @@ module _ {S P : Type 0} (told : S → StreamCall → S → Type 0) (calls : P �
     met_kept = met;
     told_kept = last;
     over_kept = over;
-    takes = λ is. none;
+    owes_kept = owes;
+    fresh_kept = fresh;
+    is_written = λ is. none;
     hears = λ was. tt {0};
+    begins = λ was. tt {0};
   }
 
-  pub was_refused : (x y : State S P) → calls x.port refused y.port → y.stream ≡ x.stream → y.unread ≡ x.unread → y.pending ≡ x.pending → y.met ≡ x.met → y.told ≡ x.told → y.over ≡ x.over → Step told calls x (on_port refused) y
-  was_refused x y step stream unread pending met last over = record {
+  pub was_refused : (x y : State S P) → calls x.port refused y.port → y.stream ≡ x.stream → y.unread ≡ x.unread → y.pending ≡ x.pending → y.met ≡ x.met → y.told ≡ x.told → y.over ≡ x.over → y.owes ≡ true → y.fresh ≡ false → x.pending ≡ [] → Step told calls x (on_port refused) y
+  was_refused x y step stream unread pending met last over owes fresh none = record {
     happened = (step, stream);
     lines_kept = append-nil x.unread ∙ sym unread;
     bytes_kept = append-nil x.pending ∙ sym pending;
@@ -119,15 +140,22 @@ module _ {S P : Type 0} (told : S → StreamCall → S → Type 0) (calls : P �
     met_kept = met;
     told_kept = last;
     over_kept = over;
-    takes = λ is. absurd is;
+    owes_kept = owes;
+    fresh_kept = fresh;
+    is_written = λ is. none;
     hears = λ was. tt {0};
+    begins = λ was. tt {0};
   }
 
-  pub one_call : (x y : State S P) (event : Event) → Step told calls x event y → (IsFault event → ⊥) → MovesIn told calls 1 x y
-  one_call x y event step sound = (event ∷ [], (y, step, refl), omega arith, (sound, tt {0}))
+  pub one_call : (x y : State S P) (event : Event) → Step told calls x event y → (IsFault event → ⊥) → MovesBy told calls 1 x y
+  one_call x y event step sound = (event ∷ [], (y, step, refl), refl, (sound, tt {0}))
 
-  pub no_call : (x : State S P) → MovesIn told calls 0 x x
-  no_call x = ([], refl, omega arith, tt {0})
+  pub no_call : (x : State S P) → MovesBy told calls 0 x x
+  no_call x = ([], refl, refl, tt {0})
+
+  -- exactly so many calls are at most so many
+  pub at_most : (n most : ℕ) (x y : State S P) → n ≤ most → MovesBy told calls n x y → MovesIn told calls most x y
+  at_most n most x y enough moves = (moves.0, moves.1, omega (arith, enough, moves.2), moves.3)
 
   -- an end that is come to without a call
   pub ends_here : (end : End) (x : State S P) → EndsAs end [] x → FinishesIn told calls 1 x end x.stream x.port
@@ -141,14 +169,11 @@ module _ {S P : Type 0} (told : S → StreamCall → S → Type 0) (calls : P �
   Moves-append [] events x y z first second = subst (λ (w : State S P). Moves told calls w events z) (sym first) second
   Moves-append (event ∷ before) events x y z first second = (first.0, first.1, Moves-append before events first.0 y z first.2 second)
 
-  pub MovesIn-append : (n m : ℕ) (x y z : State S P) → MovesIn told calls n x y → MovesIn told calls m y z → MovesIn told calls (n + m) x z
-  MovesIn-append n m x y z first second =
+  pub MovesBy-append : (n m : ℕ) (x y z : State S P) → MovesBy told calls n x y → MovesBy told calls m y z → MovesBy told calls (n + m) x z
+  MovesBy-append n m x y z first second =
       (first.0 ++ second.0, Moves-append first.0 second.0 x y z first.1 second.1, omega (arith, first.2, second.2, length-append first.0 second.0), HasNoFault-append first.0 second.0 first.3 second.3)
 
-  pub MovesIn-more : (n m : ℕ) (x y : State S P) → n ≤ m → MovesIn told calls n x y → MovesIn told calls m x y
-  MovesIn-more n m x y more moves = (moves.0, moves.1, omega (arith, moves.2), moves.3)
-
-EndsWith-append : (event : Event) (before events : List Event) → EndsWith event events → EndsWith event (before ++ events)
+pub EndsWith-append : (event : Event) (before events : List Event) → EndsWith event events → EndsWith event (before ++ events)
 EndsWith-append event before events last = (before ++ last.0, ap (λ es. before ++ es) last.1 ∙ sym (append_assoc before last.0 (event ∷ [])))
 
 EndsAs-append : {S P : Type 0} (end : End) (before events : List Event) (z : State S P) → EndsAs end events z → EndsAs end (before ++ events) z
@@ -184,6 +209,49 @@ module _ {S P : Type 0} (told : S → StreamCall → S → Type 0) (calls : P �
   GivesIn-left leaves most x end a b p q left finish stream port quit =
       (q, (finish.0, finish.1, finish.2, finish.3, finish.4 ∙ sym stream, finish.5 ∙ sym port, finish.6, finish.7), quit)
 
+still_not : (f g : Bool) (event : Event) → (f ≡ true → g ≡ true) → fresh_by f event ≡ true → fresh_by g event ≡ true
+still_not f g (on_stream call) less is = less is
+still_not f g (on_port call) less is = absurd (true≢false (sym is))
+
+EndsAs-forget : {S P : Type 0} (end : End) (events : List Event) (z : State S P) (f : Bool) → EndsAs end events z → EndsAs end events (record z { fresh = f })
+EndsAs-forget ends.Closed events z f is = is
+EndsAs-forget ends.Ended events z f is = is
+EndsAs-forget ends.ReadFailed events z f is = is
+EndsAs-forget ends.WriteFailed events z f is = is
+EndsAs-forget ends.TooLong events z f is = is
+EndsAs-forget ends.Memory events z f is = is
+
+module _ {S P : Type 0} (told : S → StreamCall → S → Type 0) (calls : P → PortCall → P → Type 0) where
+  -- a call that may be the first of a poll may also be another
+  Step-forget : (x y : State S P) (event : Event) (f : Bool) → (f ≡ true → x.fresh ≡ true) → Step told calls x event y → Step told calls (record x { fresh = f }) event (record y { fresh = fresh_by f event })
+  Step-forget x y event f less step = record {
+    happened = step.happened;
+    lines_kept = step.lines_kept;
+    bytes_kept = step.bytes_kept;
+    are_lines = step.are_lines;
+    met_kept = step.met_kept;
+    told_kept = step.told_kept;
+    over_kept = step.over_kept;
+    owes_kept = step.owes_kept;
+    fresh_kept = refl;
+    is_written = step.is_written;
+    hears = step.hears;
+    begins = λ is. step.begins (less is);
+  }
+
+  Moves-forget : (events : List Event) (x y : State S P) (f : Bool) → (f ≡ true → x.fresh ≡ true) → Moves told calls x events y → Moves told calls (record x { fresh = f }) events (record y { fresh = after fresh_by f events })
+  Moves-forget [] x y f less moves = ap (λ (z : State S P). let w : State S P = record z { fresh = f } in w) moves
+  Moves-forget (event ∷ events) x y f less moves =
+      let next = moves.0 in
+      (record next { fresh = fresh_by f event }, Step-forget x next event f less moves.1, Moves-forget events next y (fresh_by f event) (λ is. moves.1.fresh_kept ∙ still_not f x.fresh event less is) moves.2)
+
+  -- what may come out where a poll begins may come out
+  pub Gives-forget : {Left : Type 0} (leaves : P → Left → Type 0) (x : State S P) (end : End) (stream : S) (left : Left) → Gives told calls leaves (begun x) end stream left → Gives told calls leaves x end stream left
+  Gives-forget leaves x end stream left gives =
+      let finish = gives.1.1 in
+      let f : Bool = after fresh_by x.fresh finish.0 in
+      (gives.0, (gives.1.0, (finish.0, record finish.1 { fresh = f }, Moves-forget finish.0 (begun x) finish.1 x.fresh (λ is. refl) finish.2, EndsAs-forget end finish.0 finish.1 f finish.3, finish.4, finish.5, finish.6, finish.7), gives.1.2))
+
 -- a write of the first bytes of what waits leaves the rest
 pub written_front : (xs ys : List ℕ) (start n : ℕ) → ys ≡ xs → drop start xs ≡ take n (take (length ys - start) (drop start ys)) ++ drop (start + n) xs
 written_front xs ys start n same =
@@ -193,3 +261,7 @@ written_front xs ys start n same =
 -- something waits
 pub waiting : (xs ys : List ℕ) (start : ℕ) → ys ≡ xs → start < length xs → 0 < length (take (length ys - start) (drop start ys))
 waiting xs ys start same less = rw same (omega (arith, less, length-take (length xs - start) (drop start xs), length-drop start xs))
+
+-- what waits to be written is something
+pub waits_still : (xs : List ℕ) (start : ℕ) → start < length xs → drop start xs ≢ []
+waits_still xs start less none = let count = ap length none in omega (arith, less, length-drop start xs, count)

@@ -10,10 +10,11 @@ use Rattle.adc_line.proofs.FrameLemmas.{lines-more, lines-too_long}
 use Rattle.adc_line.proofs.StreamLemmas.{lines-joined}
 use Rattle.adc_sessions.specs.declared.ending.End.{End}
 use Rattle.adc_sessions.specs.declared.ending.End.TheVariants as ends
-use Rattle.adc_sessions.specs.Events.{StreamCall, PortCall, Event, Happen, bytes_read, bytes_written, lines_handed, bytes_taken, met_by, told_by, after, all_read, all_written, all_handed, all_taken, FallsSilent, waiting_by, TakesWhenWritten}
+use Rattle.adc_sessions.specs.Events.{StreamCall, PortCall, Event, Happen, bytes_read, bytes_written, lines_handed, bytes_taken, met_by, told_by, owes_by, after, all_read, all_written, all_handed, all_taken, FallsSilent, waiting_by, CallsWhenWritten}
 use Rattle.adc_sessions.specs.Machine.{State, Step, Moves, EndsAs, Gives}
 use Rattle.adc_sessions.specs.State.{fresh}
 use Rattle.adc_sessions.specs.Served.{handed_all, wrote_all, Cause, Served}
+use Rattle.adc_sessions.proofs.Takes.{drained}
 
 joined-all : (events : List Event) → joined (all_handed events) ≡ flat_map (λ event. joined (lines_handed event)) events
 joined-all [] = refl
@@ -42,7 +43,7 @@ module _ {S P : Type 0} (told : S → StreamCall → S → Type 0) (calls : P �
   all_are_lines (event ∷ events) x y moves = All-append IsLine (lines_handed event) (all_handed events) moves.1.are_lines (all_are_lines events moves.0 y moves.2)
 
   -- what the fold over all calls says of a value that each call changes
-  followed : {A : Type 0} (by : A → Event → A) (value : State S P → A) → ((x y : State S P) (event : Event) → Step told calls x event y → value y ≡ by (value x) event)
+  pub followed : {A : Type 0} (by : A → Event → A) (value : State S P → A) → ((x y : State S P) (event : Event) → Step told calls x event y → value y ≡ by (value x) event)
       → (events : List Event) (x y : State S P) → Moves told calls x events y → value y ≡ after by (value x) events
   followed by value each [] x y moves = ap value (sym moves)
   followed by value each (event ∷ events) x y moves = followed by value each events moves.0 y moves.2 ∙ ap (λ now. after by now events) (each x moves.0 event moves.1)
@@ -61,11 +62,11 @@ module _ {S P : Type 0} (told : S → StreamCall → S → Type 0) (calls : P �
   counts x y event step =
       omega (arith, ap length step.bytes_kept, length-append x.pending (bytes_taken event), length-append (bytes_written event) y.pending)
 
-  takes_when_written : (events : List Event) (x y : State S P) → Moves told calls x events y → TakesWhenWritten (length x.pending) events
-  takes_when_written [] x y moves = tt {0}
-  takes_when_written (event ∷ events) x y moves = (
-    λ is. ap length (moves.1.takes is),
-    subst (λ (count : ℕ). TakesWhenWritten count events) (counts x moves.0 event moves.1) (takes_when_written events moves.0 y moves.2),
+  calls_when_written : (events : List Event) (x y : State S P) → Moves told calls x events y → CallsWhenWritten (length x.pending) events
+  calls_when_written [] x y moves = tt {0}
+  calls_when_written (event ∷ events) x y moves = (
+    λ is. ap length (moves.1.is_written is),
+    subst (λ (count : ℕ). CallsWhenWritten count events) (counts x moves.0 event moves.1) (calls_when_written events moves.0 y moves.2),
   )
 
 no_more : (end : End) (events : List Event) {S P : Type 0} (y : State S P) → EndsAs end events y → handed_all end ≡ true → lines y.unread ≡ []
@@ -84,13 +85,14 @@ nothing_waits ends.WriteFailed events y is all = cc
 nothing_waits ends.TooLong events y is all = cc
 nothing_waits ends.Memory events y is all = cc
 
-cause_of : (end : End) (events : List Event) {S P : Type 0} (y : State S P) → EndsAs end events y → y.met ≡ after met_by false events → y.told ≡ after told_by None events → all_read events ≡ joined (all_handed events) ++ y.unread → Cause end events
-cause_of ends.Closed events y is met last kept = (sym met ∙ is.0, subst (λ (t : Option Taken). IsSomeAnd t (λ taken. taken.lines ≡ 0)) last is.3)
-cause_of ends.Ended events y is met last kept = subst (λ (t : Option Taken). IsSomeAnd t (λ taken. taken.ended ≡ true)) last is.1
-cause_of ends.ReadFailed events y is met last kept = is.1
-cause_of ends.WriteFailed events y is met last kept = is
-cause_of ends.TooLong events y is met last kept = (y.unread, kept, is.0, is.1)
-cause_of ends.Memory events y is met last kept = is
+cause_of : (end : End) (events : List Event) {S P : Type 0} (y : State S P) → EndsAs end events y → y.met ≡ after met_by false events → y.told ≡ after told_by None events → y.owes ≡ after owes_by true events → all_read events ≡ joined (all_handed events) ++ y.unread → Cause end events
+cause_of ends.Closed events y is met last owes kept =
+    drained events (sym owes ∙ is.4) (sym met ∙ is.0) (subst (λ (t : Option Taken). IsSomeAnd t (λ taken. taken.lines ≡ 0)) last is.3)
+cause_of ends.Ended events y is met last owes kept = subst (λ (t : Option Taken). IsSomeAnd t (λ taken. taken.ended ≡ true)) last is.1
+cause_of ends.ReadFailed events y is met last owes kept = is.1
+cause_of ends.WriteFailed events y is met last owes kept = is
+cause_of ends.TooLong events y is met last owes kept = (y.unread, kept, is.0, is.1)
+cause_of ends.Memory events y is met last owes kept = is
 
 module _ {S P Left : Type 0} (told : S → StreamCall → S → Type 0) (calls : P → PortCall → P → Type 0) (leaves : P → Left → Type 0) where
   -- what comes out of a session that has read, written and taken nothing
@@ -106,6 +108,7 @@ module _ {S P Left : Type 0} (told : S → StreamCall → S → Type 0) (calls :
       let handed : lines (all_read events) ≡ all_handed events ++ lines y.unread = ap lines kept ∙ lines-joined (all_handed events) y.unread (all_are_lines told calls events x y finish.2) in
       let met_now : y.met ≡ after met_by false events = followed told calls met_by (λ (z : State S P). z.met) (λ a b event step. step.met_kept) events x y finish.2 in
       let told_now : y.told ≡ after told_by None events = followed told calls told_by (λ (z : State S P). z.told) (λ a b event step. step.told_kept) events x y finish.2 in
+      let owes_now : y.owes ≡ after owes_by true events = followed told calls owes_by (λ (z : State S P). z.owes) (λ a b event step. step.owes_kept) events x y finish.2 in
       let same_stream : y.stream ≡ stream' = finish.4 in
       let same_port : y.port ≡ port' = finish.5 in
       record {
@@ -117,8 +120,8 @@ module _ {S P Left : Type 0} (told : S → StreamCall → S → Type 0) (calls :
         all_lines = λ all. handed ∙ ap (λ rest. all_handed events ++ rest) (no_more end events y finish.3 all) ∙ append-nil (all_handed events);
         first_bytes = (y.pending, written);
         all_bytes = λ all. written ∙ ap (λ rest. all_written events ++ rest) (nothing_waits end events y finish.3 all) ∙ append-nil (all_written events);
-        takes = takes_when_written told calls events x y finish.2;
+        is_written = calls_when_written told calls events x y finish.2;
         stops = finish.7;
         silent = falls_silent told calls events x y finish.2;
-        cause = cause_of end events y finish.3 met_now told_now kept;
+        cause = cause_of end events y finish.3 met_now told_now owes_now kept;
       }

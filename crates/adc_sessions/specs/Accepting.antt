@@ -1,8 +1,9 @@
 -- How many streams were accepted, and why no more are.
-use Rattle.std.specs.Prelude.{◌≡◌, ◌+◌, ◌≤◌, ℕ, Option, Some, None}
+use Rattle.std.specs.Prelude.{◌≡◌, ◌+◌, ◌≤◌, ℕ, List, length, fold, Option, Some, None}
 use Rattle.adc_sessions.specs.declared.accept.Accept.{Accept}
 use Rattle.adc_sessions.specs.declared.accept.AcceptEnd.{AcceptEnd}
 use Rattle.adc_sessions.specs.declared.accept.AcceptEnd.TheVariants.{Stopped, AcceptFailed}
+use Rattle.adc_sessions.specs.Arrivals.{Arrival, Brings, streams, faults_by}
 
 abbrev pub starter_of : {I T : Type 0} → Accept I T → T
 starter_of accept = accept.starter
@@ -20,11 +21,17 @@ abbrev pub LeavesAfter : Option ℕ → ℕ → Option ℕ → Type 0
 LeavesAfter None count later = later ≡ None
 LeavesAfter (Some left) count later = (now : ℕ) × (later ≡ Some now) × (now + count ≡ left)
 
--- some streams were accepted, at most so many; each was started, and is one less to accept
-abbrev pub AcceptsIn : {I T : Type 0} → (T → ℕ → T → Type 0) → ℕ → Accept I T → Accept I T → Type 0
-AcceptsIn starts most a b = (count : ℕ) × (count ≤ most) × starts a.starter count b.starter × LeavesAfter a.left count b.left
+-- at most so many calls of the source; each stream that came was started, and is one less to accept
+abbrev pub AcceptsIn : {I T : Type 0} → (I → Arrival → I → Type 0) → (T → ℕ → T → Type 0) → ℕ → Accept I T → Accept I T → Type 0
+AcceptsIn brings starts most a b =
+    (arrivals : List Arrival) × (length arrivals ≤ most) × Brings brings a.incoming arrivals b.incoming × starts a.starter (streams arrivals) b.starter
+    × LeavesAfter a.left (streams arrivals) b.left × (b.faults ≡ fold faults_by a.faults arrivals)
 
 -- all were accepted, or 64 faults came in a row
 abbrev pub OverBy : {I T : Type 0} → AcceptEnd → Accept I T → Type 0
 OverBy Stopped accept = accept.left ≡ Some 0
 OverBy AcceptFailed accept = accept.faults ≡ 64
+
+-- from this state on, this end is come to
+abbrev pub AcceptGives : {I T : Type 0} → (I → Arrival → I → Type 0) → (T → ℕ → T → Type 0) → Accept I T → AcceptEnd → Type 0
+AcceptGives {I} {T} brings starts accept end = (most : ℕ) × (later : Accept I T) × AcceptsIn brings starts most accept later × OverBy end later

@@ -1,6 +1,6 @@
 -- What passes between a session, its stream and its port, one call after another.
-use Rattle.std.specs.Prelude.{◌≡◌, ◌⊎◌, ◌++◌, ◌+◌, ◌-◌, length, ℕ, Bool, true, List, [], ◌∷◌, Option, Some, ⊤}
-use Rattle.std.specs.List.{flat_map}
+use Rattle.std.specs.Prelude.{◌≡◌, ◌⊎◌, ◌<◌, ◌++◌, ◌+◌, ◌-◌, length, ℕ, leb, Bool, true, false, List, [], ◌∷◌, Option, Some, ⊤}
+use Rattle.std.specs.List.{All, flat_map}
 use Rattle.std.specs.declared.io.Error.{Error}
 use Rattle.tokio.specs.Io.Moved.{Passes}
 use Rattle.hub_rules.specs.declared.history.Verdict.{Verdict}
@@ -15,10 +15,10 @@ pub data StreamCall : Type 0 where
   wrote : List ℕ → StreamCall
   write_failed : StreamCall
 
--- a call of the port: a line and what was said of it, the bytes of a take and what it told, or a refusal
+-- a call of the port: a line and what was said of it; for how many lines a take asked, its bytes and what it told; or a refusal
 pub data PortCall : Type 0 where
   handed : List ℕ → Verdict → PortCall
-  took : List ℕ → Taken → PortCall
+  took : ℕ → List ℕ → Taken → PortCall
   refused : PortCall
 
 pub data Event : Type 0 where
@@ -63,13 +63,13 @@ bytes_written (on_port call) = []
 abbrev pub lines_handed : Event → List (List ℕ)
 lines_handed (on_stream call) = []
 lines_handed (on_port (handed line verdict)) = line ∷ []
-lines_handed (on_port (took bytes taken)) = []
+lines_handed (on_port (took count bytes taken)) = []
 lines_handed (on_port refused) = []
 
 abbrev pub bytes_taken : Event → List ℕ
 bytes_taken (on_stream call) = []
 bytes_taken (on_port (handed line verdict)) = []
-bytes_taken (on_port (took bytes taken)) = bytes
+bytes_taken (on_port (took count bytes taken)) = bytes
 bytes_taken (on_port refused) = []
 
 -- whether the end of the input was met, once this happened too
@@ -85,7 +85,7 @@ met_by met (on_port call) = met
 abbrev pub told_by : Option Taken → Event → Option Taken
 told_by before (on_stream call) = before
 told_by before (on_port (handed line verdict)) = before
-told_by before (on_port (took bytes taken)) = Some taken
+told_by before (on_port (took count bytes taken)) = Some taken
 told_by before (on_port refused) = before
 
 -- whether the port said that it hears nothing more, once this happened too
@@ -93,7 +93,7 @@ abbrev pub over_by : Bool → Event → Bool
 over_by over (on_stream call) = over
 over_by over (on_port (handed line Kept)) = over
 over_by over (on_port (handed line Ended)) = true
-over_by over (on_port (took bytes taken)) = over
+over_by over (on_port (took count bytes taken)) = over
 over_by over (on_port refused) = over
 
 -- nothing is read and no line is handed over
@@ -104,7 +104,7 @@ HearsNothing (on_stream read_failed) = ⊥
 HearsNothing (on_stream (wrote bytes)) = ⊤
 HearsNothing (on_stream write_failed) = ⊤
 HearsNothing (on_port (handed line verdict)) = ⊥
-HearsNothing (on_port (took bytes taken)) = ⊤
+HearsNothing (on_port (took count bytes taken)) = ⊤
 HearsNothing (on_port refused) = ⊤
 
 -- once the port said that it hears nothing more, it is told nothing more; `over` says that it did so before
@@ -112,20 +112,22 @@ abbrev pub FallsSilent : Bool → List Event → Type 0
 FallsSilent over [] = ⊤
 FallsSilent over (event ∷ events) = (over ≡ true → HearsNothing event) × FallsSilent (over_by over event) events
 
-abbrev pub IsTake : Event → Type 0
-IsTake (on_stream call) = ⊥
-IsTake (on_port (handed line verdict)) = ⊥
-IsTake (on_port (took bytes taken)) = ⊤
-IsTake (on_port refused) = ⊥
+abbrev pub IsOfPort : Event → Type 0
+IsOfPort (on_stream call) = ⊥
+IsOfPort (on_port call) = ⊤
+
+abbrev pub IsOfStream : Event → Type 0
+IsOfStream (on_stream call) = ⊤
+IsOfStream (on_port call) = ⊥
 
 -- how many bytes were taken and are not written, once this happened too
 abbrev pub waiting_by : ℕ → Event → ℕ
 waiting_by count event = (count + length (bytes_taken event)) - length (bytes_written event)
 
--- a take is made only once all that was taken before is written; `count` bytes wait at first
-abbrev pub TakesWhenWritten : ℕ → List Event → Type 0
-TakesWhenWritten count [] = ⊤
-TakesWhenWritten count (event ∷ events) = (IsTake event → count ≡ 0) × TakesWhenWritten (waiting_by count event) events
+-- the port is called only once all that was taken before is written; `count` bytes wait at first
+abbrev pub CallsWhenWritten : ℕ → List Event → Type 0
+CallsWhenWritten count [] = ⊤
+CallsWhenWritten count (event ∷ events) = (IsOfPort event → count ≡ 0) × CallsWhenWritten (waiting_by count event) events
 
 -- a call that failed, or was refused
 abbrev pub IsFault : Event → Type 0
@@ -135,7 +137,7 @@ IsFault (on_stream read_failed) = ⊤
 IsFault (on_stream (wrote bytes)) = ⊥
 IsFault (on_stream write_failed) = ⊤
 IsFault (on_port (handed line verdict)) = ⊥
-IsFault (on_port (took bytes taken)) = ⊥
+IsFault (on_port (took count bytes taken)) = ⊥
 IsFault (on_port refused) = ⊤
 
 abbrev pub HasNoFault : List Event → Type 0
@@ -167,3 +169,48 @@ all_taken = flat_map bytes_taken
 -- this is the last event of all
 abbrev pub EndsWith : Event → List Event → Type 0
 EndsWith event events = (before : List Event) × (events ≡ before ++ event ∷ [])
+
+-- Whether a take has to follow, as something may wait of which nobody tells, once this happened too: behind a line, behind the end of the
+-- input, and behind a take that gave as many lines as it asked for.
+abbrev pub owes_by : Bool → Event → Bool
+owes_by owes (on_stream (read bytes)) = owes
+owes_by owes (on_stream met_end) = true
+owes_by owes (on_stream read_failed) = owes
+owes_by owes (on_stream (wrote bytes)) = owes
+owes_by owes (on_stream write_failed) = owes
+owes_by owes (on_port (handed line verdict)) = true
+owes_by owes (on_port (took count bytes taken)) = leb count taken.lines
+owes_by owes (on_port refused) = true
+
+-- the last call of the port is a take that gave fewer lines than it asked for: so it came behind the last line that was handed over
+abbrev pub IsCaughtUp : List Event → Type 0
+IsCaughtUp events =
+    (before later : List Event) × (count : ℕ) × (bytes : List ℕ) × (taken : Taken)
+    × (events ≡ before ++ on_port (took count bytes taken) ∷ later) × (taken.lines < count) × All IsOfStream later
+
+-- the last call of the port is a take that gave no line, and the end of the input was met before it
+abbrev pub IsDrained : List Event → Type 0
+IsDrained events =
+    (before later : List Event) × (count : ℕ) × (bytes : List ℕ) × (taken : Taken)
+    × (events ≡ before ++ on_port (took count bytes taken) ∷ later) × (taken.lines ≡ 0) × (after met_by false before ≡ true) × All IsOfStream later
+
+-- whether the port was not called yet, once this happened too
+abbrev pub fresh_by : Bool → Event → Bool
+fresh_by fresh (on_stream call) = fresh
+fresh_by fresh (on_port call) = false
+
+-- a write, or a take
+abbrev pub GoesFirst : Event → Type 0
+GoesFirst (on_stream (read bytes)) = ⊥
+GoesFirst (on_stream met_end) = ⊥
+GoesFirst (on_stream read_failed) = ⊥
+GoesFirst (on_stream (wrote bytes)) = ⊤
+GoesFirst (on_stream write_failed) = ⊤
+GoesFirst (on_port (handed line verdict)) = ⊥
+GoesFirst (on_port (took count bytes taken)) = ⊤
+GoesFirst (on_port refused) = ⊤
+
+-- the first call that is no write is a take; `fresh` says that the port was not called before
+abbrev pub TakesFirst : Bool → List Event → Type 0
+TakesFirst fresh [] = ⊤
+TakesFirst fresh (event ∷ events) = (fresh ≡ true → GoesFirst event) × TakesFirst (fresh_by fresh event) events

@@ -1,4 +1,6 @@
+pub mod Accepted
 pub mod Accepting
+pub mod Arrivals
 pub mod Events
 pub mod Machine
 pub mod Outcome

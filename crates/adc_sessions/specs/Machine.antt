@@ -1,15 +1,16 @@
 -- A session as a machine: what it holds, and how each call changes that.
-use Rattle.std.specs.Prelude.{◌≡◌, ◌≤◌, ◌<◌, ◌++◌, ◌+◌, ℕ, Bool, true, List, [], ◌∷◌, length, take, Option, IsSomeAnd, ⊤}
+use Rattle.std.specs.Prelude.{◌≡◌, ◌≢◌, ◌⊎◌, ◌≤◌, ◌<◌, ◌++◌, ◌+◌, ℕ, Bool, true, false, List, [], ◌∷◌, length, take, Option, IsSomeAnd, ⊤}
 use Rattle.std.specs.List.{All}
 use Rattle.outboxes.specs.declared.taken.Taken.{Taken}
 use Rattle.adc_line.specs.Frames.{max_line, HasNoLf}
 use Rattle.adc_line.specs.Stream.{joined, IsLine}
 use Rattle.adc_sessions.specs.declared.ending.End.{End}
 use Rattle.adc_sessions.specs.declared.ending.End.TheVariants as ends
-use Rattle.adc_sessions.specs.Events.{StreamCall, PortCall, Event, on_stream, read_failed, write_failed, Happens, bytes_read, bytes_written, lines_handed, bytes_taken, met_by, told_by, over_by, HearsNothing, IsTake, HasNoFault, StopsAtFault, EndsWith}
+use Rattle.adc_sessions.specs.Events.{StreamCall, PortCall, Event, on_stream, read_failed, wrote, write_failed, Happens, bytes_read, bytes_written, lines_handed, bytes_taken, met_by, told_by, over_by, owes_by, fresh_by, HearsNothing, IsOfPort, GoesFirst, TakesFirst, IsCaughtUp, HasNoFault, StopsAtFault, EndsWith}
 
 -- the stream, the port, the bytes that were read and are in no line handed over, the bytes that were taken and are not written,
--- whether the end of the input was met, what the last take told, and whether the port said that it hears nothing more
+-- whether the end of the input was met, what the last take told, whether the port said that it hears nothing more, whether a take has to
+-- follow, and whether the port was not called yet in this poll
 pub record State (S P : Type 0) : Type 0 where
   pub stream : S
   pub port : P
@@ -18,6 +19,8 @@ pub record State (S P : Type 0) : Type 0 where
   pub met : Bool
   pub told : Option Taken
   pub over : Bool
+  pub owes : Bool
+  pub fresh : Bool
 
 module _ {S P : Type 0} (told : S → StreamCall → S → Type 0) (calls : P → PortCall → P → Type 0) where
   -- one call: no byte is lost or made up between what comes in and what goes out
@@ -29,8 +32,11 @@ module _ {S P : Type 0} (told : S → StreamCall → S → Type 0) (calls : P �
     pub met_kept : b.met ≡ met_by a.met event
     pub told_kept : b.told ≡ told_by a.told event
     pub over_kept : b.over ≡ over_by a.over event
-    pub takes : IsTake event → a.pending ≡ []
+    pub owes_kept : b.owes ≡ owes_by a.owes event
+    pub fresh_kept : b.fresh ≡ fresh_by a.fresh event
+    pub is_written : IsOfPort event → a.pending ≡ []
     pub hears : a.over ≡ true → HearsNothing event
+    pub begins : a.fresh ≡ true → GoesFirst event
 
   abbrev pub Moves : State S P → List Event → State S P → Type 0
   Moves a [] b = a ≡ b
@@ -40,20 +46,43 @@ module _ {S P : Type 0} (told : S → StreamCall → S → Type 0) (calls : P �
   abbrev pub MovesIn : ℕ → State S P → State S P → Type 0
   MovesIn most a b = (events : List Event) × Moves a events b × (length events ≤ most) × HasNoFault events
 
+  -- exactly so many calls
+  abbrev pub MovesBy : ℕ → State S P → State S P → Type 0
+  MovesBy count a b = (events : List Event) × Moves a events b × (length events ≡ count) × HasNoFault events
+
+  -- a call of the stream that would take no byte of those that wait to be written
+  abbrev pub Stalls : State S P → State S P → Type 0
+  Stalls a b = Step a (on_stream (wrote [])) b × (b.pending ≢ [])
+
+-- Why a poll ends that made these calls, at most so many, and left bytes to write: it made them all, and the task is woken; or the stream
+-- would not take what waits to be written; or the port has no more to give, and the bell was not rung.
+abbrev pub Pauses : Type 0 → Type 0 → ℕ → List Event → List ℕ → Type 0
+Pauses is_woken listens most events pending =
+    ((length events ≡ most) × is_woken) ⊎ ((EndsWith (on_stream (wrote [])) events × (pending ≢ [])) ⊎ (IsCaughtUp events × listens))
+
 -- the last take told this
 abbrev pub LastTook : {S P : Type 0} → State S P → (Taken → Type 0) → Type 0
 LastTook state P = IsSomeAnd state.told P
 
 -- what holds where a session ends this way after these events
 abbrev pub EndsAs : {S P : Type 0} → End → List Event → State S P → Type 0
-EndsAs ends.Closed events state = (state.met ≡ true) × HasNoLf state.unread × (state.pending ≡ []) × LastTook state (λ taken. taken.lines ≡ 0)
+EndsAs ends.Closed events state = (state.met ≡ true) × HasNoLf state.unread × (state.pending ≡ []) × LastTook state (λ taken. taken.lines ≡ 0) × (state.owes ≡ false)
 EndsAs ends.Ended events state = (state.pending ≡ []) × LastTook state (λ taken. taken.ended ≡ true)
 EndsAs ends.ReadFailed events state = HasNoLf state.unread × EndsWith (on_stream read_failed) events
 EndsAs ends.WriteFailed events state = EndsWith (on_stream write_failed) events
 EndsAs ends.TooLong events state = (max_line < length state.unread) × HasNoLf (take (max_line + 1) state.unread)
 EndsAs ends.Memory events state = ⊤
 
+-- a state in which a poll begins
+abbrev pub begun : {S P : Type 0} → State S P → State S P
+begun state = record state { fresh = true }
+
 module _ {S P : Type 0} (told : S → StreamCall → S → Type 0) (calls : P → PortCall → P → Type 0) where
+  -- a poll that is pending, which began in one state and left another
+  abbrev pub PausesIn : Type 0 → Type 0 → ℕ → State S P → State S P → Type 0
+  PausesIn is_woken listens most a b =
+      (events : List Event) × Moves told calls (begun a) events b × (length events ≤ most) × HasNoFault events × TakesFirst true events × Pauses is_woken listens most events b.pending
+
   -- from a state on, an end is come to with this stream and this port, by at most so many calls
   abbrev pub FinishesIn : ℕ → State S P → End → S → P → Type 0
   FinishesIn most a end stream port =

@@ -4,7 +4,7 @@ use Rattle.adc_line.specs.Frames.{max_line, HasNoLf}
 use Rattle.adc_line.specs.Stream.{lines, joined}
 use Rattle.adc_sessions.specs.declared.ending.End.{End}
 use Rattle.adc_sessions.specs.declared.ending.End.TheVariants as ends
-use Rattle.adc_sessions.specs.Events.{StreamCall, PortCall, Event, on_stream, read_failed, write_failed, Happen, all_read, all_written, all_handed, all_taken, after, met_by, told_by, FallsSilent, TakesWhenWritten, StopsAtFault, EndsWith}
+use Rattle.adc_sessions.specs.Events.{StreamCall, PortCall, Event, on_stream, read_failed, write_failed, Happen, all_read, all_written, all_handed, all_taken, after, told_by, FallsSilent, CallsWhenWritten, IsDrained, StopsAtFault, EndsWith}
 
 -- a session that ends this way has handed over all lines that came
 abbrev pub handed_all : End → Bool
@@ -30,7 +30,7 @@ IsTooLong events = (rest : List ℕ) × (all_read events ≡ joined (all_handed 
 
 -- why a session ended
 abbrev pub Cause : End → List Event → Type 0
-Cause ends.Closed events = (after met_by false events ≡ true) × IsSomeAnd (after told_by None events) (λ taken. taken.lines ≡ 0)
+Cause ends.Closed events = IsDrained events
 Cause ends.Ended events = IsSomeAnd (after told_by None events) (λ taken. taken.ended ≡ true)
 Cause ends.ReadFailed events = EndsWith (on_stream read_failed) events
 Cause ends.WriteFailed events = EndsWith (on_stream write_failed) events
@@ -50,8 +50,8 @@ pub record Served {S P Left : Type 0} (told : S → StreamCall → S → Type 0)
   -- the bytes written are the first of the bytes taken
   pub first_bytes : (more : List ℕ) × (all_taken events ≡ all_written events ++ more)
   pub all_bytes : wrote_all end ≡ true → all_taken events ≡ all_written events
-  -- a take is made only once all that was taken before is written
-  pub takes : TakesWhenWritten 0 events
+  -- the port is called only once all that was taken before is written
+  pub is_written : CallsWhenWritten 0 events
   -- nothing comes after a call that failed or was refused
   pub stops : StopsAtFault events
   -- once the port said that it hears nothing more, nothing is read and no line is handed over

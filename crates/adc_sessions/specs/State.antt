@@ -1,5 +1,5 @@
 -- The state of a session that runs, read off its fields.
-use Rattle.std.specs.Prelude.{◌∷◌, ◌++◌, ℕ, false, List, [], None, drop}
+use Rattle.std.specs.Prelude.{◌≡◌, ◌⊎◌, ◌∷◌, ◌++◌, ℕ, true, false, List, [], None, drop}
 use Rattle.futures.specs.declared.task.Poll.{Poll}
 use Rattle.futures.specs.declared.task.Poll.TheVariants.{Ready, Pending}
 use Rattle.adc_sessions.specs.declared.ending.End.{End}
@@ -8,7 +8,7 @@ use Rattle.adc_sessions.specs.declared.live.Turn.{Turn}
 use Rattle.adc_sessions.specs.declared.live.Turn.TheVariants.{Again, Rest, Over}
 use Rattle.adc_line.specs.Frames.{lf}
 use Rattle.adc_sessions.specs.Events.{StreamCall, PortCall}
-use Rattle.adc_sessions.specs.Machine.{State, MovesIn, FinishesIn}
+use Rattle.adc_sessions.specs.Machine.{State, begun, MovesIn, MovesBy, Stalls, PausesIn, FinishesIn}
 
 abbrev pub state_of : {S P B : Type 0} → Live S P B → State S P
 state_of live = record {
@@ -19,6 +19,8 @@ state_of live = record {
   met = live.has_met_end;
   told = live.taken;
   over = live.is_over;
+  owes = live.owes_take;
+  fresh = live.is_fresh;
 }
 
 -- nothing was read, taken or written
@@ -31,6 +33,8 @@ fresh stream port = record {
   met = false;
   told = None;
   over = false;
+  owes = true;
+  fresh = true;
 }
 
 -- with a line that came out of the framer put back before the unread bytes
@@ -38,13 +42,14 @@ abbrev pub with_line : {S P : Type 0} → List ℕ → State S P → State S P
 with_line line state = record state { unread = line ++ lf ∷ state.unread }
 
 module _ {S P : Type 0} (told : S → StreamCall → S → Type 0) (calls : P → PortCall → P → Type 0) where
-  -- one turn makes at most one call
-  abbrev pub Turned : State S P → Turn → State S P → Type 0
-  Turned a Again b = MovesIn told calls 1 a b
-  Turned a Rest b = MovesIn told calls 1 a b
-  Turned a (Over end) b = FinishesIn told calls 1 a end b.stream b.port
+  -- One turn makes at most one call, and exactly one where another may follow. It rests where bytes wait that the stream would not take, or
+  -- where no take has to follow and the bell was not rung.
+  abbrev pub Turned : State S P → Turn → State S P → Type 0 → Type 0
+  Turned a Again b listens = MovesBy told calls 1 a b
+  Turned a Rest b listens = Stalls told calls a b ⊎ (MovesIn told calls 1 a b × (b.owes ≡ false) × (b.fresh ≡ false) × listens)
+  Turned a (Over end) b listens = FinishesIn told calls 1 a end b.stream b.port
 
   -- one poll makes at most so many calls
-  abbrev pub Polled : ℕ → State S P → Poll End → State S P → Type 0
-  Polled most a Pending b = MovesIn told calls most a b
-  Polled most a (Ready end) b = FinishesIn told calls most a end b.stream b.port
+  abbrev pub Polled : ℕ → State S P → Poll End → State S P → Type 0 → Type 0 → Type 0
+  Polled most a Pending b is_woken listens = PausesIn told calls is_woken listens most a b
+  Polled most a (Ready end) b is_woken listens = FinishesIn told calls most (begun a) end b.stream b.port

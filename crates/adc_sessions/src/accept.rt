@@ -1,4 +1,4 @@
-ghost use Rattle.std.specs.Prelude.{◌≡◌, ◌+◌, ◌≤◌, Some, IfSome};
+ghost use Rattle.std.specs.Prelude.{◌≡◌, ◌≤◌};
 ghost use Rattle.futures.specs.Task.{IsArmed, Keeps};
 ghost use Rattle.futures.specs.Poll.{IfReady, OnPending};
 
@@ -44,12 +44,16 @@ pub struct Accept<I, T> {
 
 impl<I: Incoming, T: Starter<I::Stream>> Accept<I, T> {
     ghost use Rattle.adc_sessions.specs.Accepting.{starter_of, left_of, faults_of, AcceptsIn, OverBy};
+    ghost use Rattle.adc_sessions.specs.Accepted.{Accepted};
 
-    /// Accepts so many streams, or without end where no number is given.
+    /// Accepts so many streams, or without end where no number is given. What comes of it stands in `serves` (definitions in
+    /// `specs/Accepted` and `specs/Arrivals`): each stream that came was started, and `AcceptFailed` comes only where the last
+    /// 64 answers of the source were faults.
     pub fn new(incoming: I, starter: T, stop_after: Option<u64>) -> Accept<I, T>
         ensures starter { starter_of result ≡ starter }
         ensures left { left_of result ≡ stop_after }
         ensures faults { faults_of result ≡ 0 }
+        ensures serves { (end : AcceptEnd) → ⟦<Accept<I, T> as Future>⟧.gives result end → Accepted I.brings T.starts incoming starter stop_after end }
     {
         Accept {
             incoming,
@@ -60,7 +64,7 @@ impl<I: Incoming, T: Starter<I::Stream>> Accept<I, T> {
     }
 
     fn turn(&mut self, cx: &mut Context<'_>) -> Attempt
-        ensures accepts { AcceptsIn T.starts 1 self.old self.new }
+        ensures accepts { AcceptsIn I.brings T.starts 1 self.old self.new }
         ensures over { (end : AcceptEnd) → result ≡ Attempt.Over end → OverBy end self.new }
         ensures registered { result ≡ Attempt.Rest → IsArmed cx.new }
         ensures kept { Keeps cx.old cx.new }
@@ -90,14 +94,18 @@ impl<I: Incoming, T: Starter<I::Stream>> Accept<I, T> {
 }
 
 impl<I: Incoming, T: Starter<I::Stream>> Future for Accept<I, T> {
-    ghost use Rattle.adc_sessions.specs.Accepting.{AcceptsIn, OverBy};
+    ghost use Rattle.adc_sessions.specs.Accepting.{AcceptsIn, OverBy, AcceptGives};
 
     type Output = AcceptEnd;
 
+    ghost gives = { λ accept end. AcceptGives I.brings T.starts accept end };
+
     /// Accepts at most 16 streams. Where it is over, further polls say so again.
     fn poll(&mut self, cx: &mut Context<'_>) -> Poll<AcceptEnd>
-        ensures accepts { AcceptsIn T.starts 16 self.old self.new }
+        ensures accepts { AcceptsIn I.brings T.starts 16 self.old self.new }
         ensures over { IfReady result (λ end. OverBy end self.new) }
+        ensures value { IfReady result (λ end. AcceptGives I.brings T.starts self.old end) }
+        ensures same { OnPending result ((end : _) → AcceptGives I.brings T.starts self.new end → AcceptGives I.brings T.starts self.old end) }
         ensures registered { OnPending result (IsArmed cx.new) }
         ensures kept { Keeps cx.old cx.new }
     {

@@ -1,6 +1,7 @@
 ghost use Rattle.std.specs.Prelude.{◌+◌, ℕ};
 ghost use Rattle.futures.specs.Task.{IsArmed, Keeps};
 ghost use Rattle.futures.specs.Poll.{OnPending};
+ghost use Rattle.adc_sessions.specs.Arrivals.{Arrival, arrival_of};
 
 use futures::task::{Context, Poll};
 use std::io;
@@ -17,8 +18,12 @@ pub trait Incoming: Drop {
     /// The streams that it brings.
     type Stream: Drop;
 
+    /// The relation of two states: a call in the first came to this, and left the second.
+    ghost brings: { Self → Arrival → Self → Type 0 };
+
     /// Gives the next stream, and its peer.
     fn poll_incoming(&mut self, cx: &mut Context<'_>) -> Poll<io::Result<(Self::Stream, Peer)>>
+        ensures brings { brings self.old (arrival_of result) self.new }
         ensures registered { OnPending result (IsArmed cx.new) }
         ensures kept { Keeps cx.old cx.new };
 }

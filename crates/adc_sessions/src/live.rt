@@ -51,7 +51,7 @@ pub(crate) struct Live<S, P, B> {
     taken: Option<Taken>,
     // The poll began, and made no take yet.
     is_fresh: bool,
-    // Lines may wait, whatever the bell says.
+    // Lines may wait, whatever the bell says: so a take has to follow.
     owes_take: bool,
     // The last call but writes was a take, so that a read is next.
     reads_next: bool,
@@ -92,9 +92,10 @@ impl<S: AsyncRead + AsyncWrite, P: Port, B: Bell> Live<S, P, B> {
         }
     }
 
-    /// Makes up to 64 turns, each of which makes at most one call of the stream or the port.
+    /// Makes up to 64 turns, each of which makes at most one call of the stream or the port. It rests before only where no
+    /// take has to follow, or where the stream would not take what waits.
     pub(crate) fn run(&mut self, cx: &mut Context<'_>) -> Poll<End>
-        ensures polled { Polled (StreamStep S.reads S.is_at_end S.AsyncRead.fails S.writes S.is_full S.AsyncWrite.fails) P.step 64 (state_of self.old) result (state_of self.new) }
+        ensures polled { Polled (StreamStep S.reads S.is_at_end S.AsyncRead.fails S.writes S.is_full S.AsyncWrite.fails) P.step 64 (state_of self.old) result (state_of self.new) (cx.new.is_woken ≡ true) (self.new.is_listening ≡ true) }
         ensures registered { OnPending result (IsArmed cx.new) }
         ensures kept { Keeps cx.old cx.new }
     {
@@ -119,7 +120,7 @@ impl<S: AsyncRead + AsyncWrite, P: Port, B: Bell> Live<S, P, B> {
 
     /// Makes one turn. Bytes that wait to be written go first; then the take that each poll makes; then lines.
     fn turn(&mut self, cx: &mut Context<'_>) -> Turn
-        ensures turned { Turned (StreamStep S.reads S.is_at_end S.AsyncRead.fails S.writes S.is_full S.AsyncWrite.fails) P.step (state_of self.old) result (state_of self.new) }
+        ensures turned { Turned (StreamStep S.reads S.is_at_end S.AsyncRead.fails S.writes S.is_full S.AsyncWrite.fails) P.step (state_of self.old) result (state_of self.new) (self.new.is_listening ≡ true) }
         ensures registered { result ≡ Turn.Rest → IsArmed cx.new }
         ensures kept { Keeps cx.old cx.new }
     {
@@ -156,7 +157,8 @@ impl<S: AsyncRead + AsyncWrite, P: Port, B: Bell> Live<S, P, B> {
     fn advance(&mut self, cx: &mut Context<'_>) -> Turn
         requires written { length self.old.output.items ≤ self.old.written }
         requires heard { self.old.is_over ≡ false }
-        ensures turned { Turned (StreamStep S.reads S.is_at_end S.AsyncRead.fails S.writes S.is_full S.AsyncWrite.fails) P.step (state_of self.old) result (state_of self.new) }
+        requires taken { self.old.is_fresh ≡ false }
+        ensures turned { Turned (StreamStep S.reads S.is_at_end S.AsyncRead.fails S.writes S.is_full S.AsyncWrite.fails) P.step (state_of self.old) result (state_of self.new) (self.new.is_listening ≡ true) }
         ensures registered { result ≡ Turn.Rest → IsArmed cx.new }
         ensures kept { Keeps cx.old cx.new }
     {
@@ -184,7 +186,7 @@ impl<S: AsyncRead + AsyncWrite, P: Port, B: Bell> Live<S, P, B> {
     /// and no more.
     fn take(&mut self) -> Turn
         requires { length self.old.output.items ≤ self.old.written }
-        ensures turned { Turned (StreamStep S.reads S.is_at_end S.AsyncRead.fails S.writes S.is_full S.AsyncWrite.fails) P.step (state_of self.old) result (state_of self.new) }
+        ensures turned { Turned (StreamStep S.reads S.is_at_end S.AsyncRead.fails S.writes S.is_full S.AsyncWrite.fails) P.step (state_of self.old) result (state_of self.new) (self.new.is_listening ≡ true) }
         ensures goes_on { result ≢ Turn.Rest }
     {
         self.output.clear();
@@ -204,8 +206,10 @@ impl<S: AsyncRead + AsyncWrite, P: Port, B: Bell> Live<S, P, B> {
     /// Hands over the line that came out of the framer.
     fn hand(&mut self) -> Turn
         requires is_line { IsLine self.old.line.items }
+        requires written { length self.old.output.items ≤ self.old.written }
         requires heard { self.old.is_over ≡ false }
-        ensures turned { Turned (StreamStep S.reads S.is_at_end S.AsyncRead.fails S.writes S.is_full S.AsyncWrite.fails) P.step (with_line self.old.line.items (state_of self.old)) result (state_of self.new) }
+        requires taken { self.old.is_fresh ≡ false }
+        ensures turned { Turned (StreamStep S.reads S.is_at_end S.AsyncRead.fails S.writes S.is_full S.AsyncWrite.fails) P.step (with_line self.old.line.items (state_of self.old)) result (state_of self.new) (self.new.is_listening ≡ true) }
         ensures goes_on { result ≢ Turn.Rest }
     {
         self.owes_take = true;
@@ -221,8 +225,9 @@ impl<S: AsyncRead + AsyncWrite, P: Port, B: Bell> Live<S, P, B> {
 
     /// Waits for lines to take, where the port is to hear nothing now, or nothing more: what it still gives is written.
     fn wait_to_take(&mut self, cx: &mut Context<'_>) -> Turn
-        requires { length self.old.output.items ≤ self.old.written }
-        ensures turned { Turned (StreamStep S.reads S.is_at_end S.AsyncRead.fails S.writes S.is_full S.AsyncWrite.fails) P.step (state_of self.old) result (state_of self.new) }
+        requires written { length self.old.output.items ≤ self.old.written }
+        requires taken { self.old.is_fresh ≡ false }
+        ensures turned { Turned (StreamStep S.reads S.is_at_end S.AsyncRead.fails S.writes S.is_full S.AsyncWrite.fails) P.step (state_of self.old) result (state_of self.new) (self.new.is_listening ≡ true) }
         ensures registered { result ≡ Turn.Rest → IsArmed cx.new }
         ensures kept { Keeps cx.old cx.new }
     {
@@ -242,7 +247,8 @@ impl<S: AsyncRead + AsyncWrite, P: Port, B: Bell> Live<S, P, B> {
         requires written { length self.old.output.items ≤ self.old.written }
         requires no_line { HasNoLf self.old.framer }
         requires heard { self.old.is_over ≡ false }
-        ensures turned { Turned (StreamStep S.reads S.is_at_end S.AsyncRead.fails S.writes S.is_full S.AsyncWrite.fails) P.step (state_of self.old) result (state_of self.new) }
+        requires taken { self.old.is_fresh ≡ false }
+        ensures turned { Turned (StreamStep S.reads S.is_at_end S.AsyncRead.fails S.writes S.is_full S.AsyncWrite.fails) P.step (state_of self.old) result (state_of self.new) (self.new.is_listening ≡ true) }
         ensures registered { result ≡ Turn.Rest → IsArmed cx.new }
         ensures kept { Keeps cx.old cx.new }
     {
@@ -267,9 +273,10 @@ impl<S: AsyncRead + AsyncWrite, P: Port, B: Bell> Live<S, P, B> {
         requires written { length self.old.output.items ≤ self.old.written }
         requires no_line { HasNoLf self.old.framer }
         requires met { self.old.has_met_end ≡ true }
-        ensures turned { Turned (StreamStep S.reads S.is_at_end S.AsyncRead.fails S.writes S.is_full S.AsyncWrite.fails) P.step (state_of self.old) result (state_of self.new) }
+        ensures turned { Turned (StreamStep S.reads S.is_at_end S.AsyncRead.fails S.writes S.is_full S.AsyncWrite.fails) P.step (state_of self.old) result (state_of self.new) (self.new.is_listening ≡ true) }
         ensures goes_on { result ≢ Turn.Rest }
     {
+        // The last lines may have answers.
         if self.owes_take {
             return self.take();
         }
@@ -283,7 +290,8 @@ impl<S: AsyncRead + AsyncWrite, P: Port, B: Bell> Live<S, P, B> {
     fn read(&mut self, cx: &mut Context<'_>) -> Turn
         requires no_line { HasNoLf self.old.framer }
         requires heard { self.old.is_over ≡ false }
-        ensures turned { Turned (StreamStep S.reads S.is_at_end S.AsyncRead.fails S.writes S.is_full S.AsyncWrite.fails) P.step (state_of self.old) result (state_of self.new) }
+        requires taken { self.old.is_fresh ≡ false }
+        ensures turned { Turned (StreamStep S.reads S.is_at_end S.AsyncRead.fails S.writes S.is_full S.AsyncWrite.fails) P.step (state_of self.old) result (state_of self.new) (self.new.is_listening ≡ true) }
         ensures registered { result ≡ Turn.Rest → IsArmed cx.new }
         ensures kept { Keeps cx.old cx.new }
     {
@@ -315,7 +323,7 @@ impl<S: AsyncRead + AsyncWrite, P: Port, B: Bell> Live<S, P, B> {
     }
 
     fn may_rest(&self) -> bool
-        ensures { result ≡ true → self.now.is_listening ≡ true }
+        ensures { result ≡ true → (self.now.is_listening ≡ true) × (self.now.owes_take ≡ false) }
     {
         self.is_listening & !self.owes_take
     }
@@ -323,7 +331,7 @@ impl<S: AsyncRead + AsyncWrite, P: Port, B: Bell> Live<S, P, B> {
     /// Offers the stream all that waits, in one write.
     fn write(&mut self, cx: &mut Context<'_>) -> Turn
         requires { self.old.written < length self.old.output.items }
-        ensures turned { Turned (StreamStep S.reads S.is_at_end S.AsyncRead.fails S.writes S.is_full S.AsyncWrite.fails) P.step (state_of self.old) result (state_of self.new) }
+        ensures turned { Turned (StreamStep S.reads S.is_at_end S.AsyncRead.fails S.writes S.is_full S.AsyncWrite.fails) P.step (state_of self.old) result (state_of self.new) (self.new.is_listening ≡ true) }
         ensures registered { result ≡ Turn.Rest → IsArmed cx.new }
         ensures kept { Keeps cx.old cx.new }
     {

@@ -31,7 +31,7 @@ pub trait Port: Drop {
     fn take(&mut self, count: usize, out: &mut Vec<u8>) -> Result<Taken, TakeRefused>
         requires some { 1 ≤ count }
         requires few { count ≤ 256 }
-        ensures ok { IfOk result (λ taken. (more : List ℕ) × (out.new.items ≡ out.old.items ++ more) × step self.old (PortCall.took more taken) self.new) }
+        ensures ok { IfOk result (λ taken. (more : List ℕ) × (out.new.items ≡ out.old.items ++ more) × step self.old (PortCall.took count more taken) self.new) }
         ensures err { OnErr result ((out.new.items ≡ out.old.items) × step self.old PortCall.refused self.new) };
 
     /// Leaves the hub.

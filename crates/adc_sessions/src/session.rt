@@ -22,8 +22,9 @@ const ROOM: usize = 4_096;
 /// The output of the future is how it ended, the stream, and what the port left; `quit` is called once, last. The promises
 /// that hold of them stand at [`Session::new`] (`serves`; definitions in `specs/Served`). The lines handed over are the
 /// first lines of the bytes read, and all of them at `Closed`, `ReadFailed` and `TooLong`. The bytes written are the first
-/// of the bytes taken, and all of them at `Closed` and `Ended`. Each end comes only where its cause is there, and nothing
-/// follows a call that failed or was refused. Once the port has answered a line by `Ended`, nothing is read and no line is
+/// of the bytes taken, and all of them at `Closed` and `Ended`. Each end comes only where its cause is there: so before
+/// `Closed` a take that followed the last line and the end of the input gave no line. Nothing follows a call that failed or
+/// was refused. Once the port has answered a line by `Ended`, nothing is read and no line is
 /// handed over.
 ///
 /// Reads and takes alternate, and each poll takes once before it reads, unless bytes still wait to be written: so a client
@@ -72,12 +73,14 @@ impl<S: AsyncRead + AsyncWrite, P: Port, B: Bell> Future for Session<S, P, B> {
     ghost gives = { λ session out. SessionGives (StreamStep S.reads S.is_at_end S.AsyncRead.fails S.writes S.is_full S.AsyncWrite.fails) P.step P.leaves session out };
 
     /// Makes at most 64 calls of the stream and the port together: so it hands over at most 64 lines and writes
-    /// at most 64 times. After the end it does nothing but ask to be polled again.
+    /// at most 64 times. The first call that is no write is a take. Where it is pending, it has made all 64 and has woken its
+    /// task; or the stream would not take what waits to be written; or its last call of the port is a take that gave fewer
+    /// lines than it asked for, and the bell was not rung. After the end it does nothing but ask to be polled again.
     fn poll(&mut self, cx: &mut Context<'_>) -> Poll<Self::Output>
         ensures value { IfReady result (λ out. SessionGives (StreamStep S.reads S.is_at_end S.AsyncRead.fails S.writes S.is_full S.AsyncWrite.fails) P.step P.leaves self.old out) }
         ensures same { OnPending result ((out : _) → SessionGives (StreamStep S.reads S.is_at_end S.AsyncRead.fails S.writes S.is_full S.AsyncWrite.fails) P.step P.leaves self.new out → SessionGives (StreamStep S.reads S.is_at_end S.AsyncRead.fails S.writes S.is_full S.AsyncWrite.fails) P.step P.leaves self.old out) }
         ensures ends_in_few { IfReady result (λ out. EndsIn (StreamStep S.reads S.is_at_end S.AsyncRead.fails S.writes S.is_full S.AsyncWrite.fails) P.step P.leaves 64 self.old out) }
-        ensures goes_on_in_few { OnPending result (GoesOnIn (StreamStep S.reads S.is_at_end S.AsyncRead.fails S.writes S.is_full S.AsyncWrite.fails) P.step 64 self.old self.new) }
+        ensures goes_on_in_few { OnPending result (GoesOnIn (StreamStep S.reads S.is_at_end S.AsyncRead.fails S.writes S.is_full S.AsyncWrite.fails) P.step 64 cx.new self.old self.new) }
         ensures registered { OnPending result (IsArmed cx.new) }
         ensures kept { Keeps cx.old cx.new }
     {

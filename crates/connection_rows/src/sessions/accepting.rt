@@ -36,6 +36,8 @@ impl Script {
 impl Incoming for Script {
     type Stream = ();
 
+    ghost brings = { λ _ _ _. ⊤ };
+
     fn poll_incoming(&mut self, cx: &mut Context<'_>) -> Poll<io::Result<((), Peer)>> {
         let Some(is_stream) = self.steps.get(self.at) else {
             return cx.yield_now();

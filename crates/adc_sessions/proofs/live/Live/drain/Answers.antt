@@ -6,4 +6,4 @@ use Rattle.adc_sessions.proofs.live.Live.drain.Goals as goal
 pub returns-then-has_given_nothing-clause-turned : goal.returns-then-has_given_nothing-clause-turned
 returns-then-has_given_nothing-clause-turned g c =
     let none = drop_all c.args.self.now.written c.args.self.now.output.items c.requires.written in
-    ends_here _ _ ends.Closed _ (c.requires.met, c.requires.no_line, none, c.has_given_nothing.ensures c.if-has_given_nothing.true)
+    ends_here _ _ ends.Closed _ (c.requires.met, c.requires.no_line, none, c.has_given_nothing.ensures c.if-has_given_nothing.true, cc)

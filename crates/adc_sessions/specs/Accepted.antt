@@ -1,0 +1,22 @@
+-- What holds of accepting as a whole, from its beginning to its end.
+use Rattle.std.specs.Prelude.{◌≡◌, ◌≤◌, ℕ, List, Option, Some, IfSome}
+use Rattle.adc_sessions.specs.declared.accept.AcceptEnd.{AcceptEnd}
+use Rattle.adc_sessions.specs.declared.accept.AcceptEnd.TheVariants.{Stopped, AcceptFailed}
+use Rattle.adc_sessions.specs.Arrivals.{Arrival, Brings, streams, EndsInFaults}
+
+-- why no more streams are accepted
+abbrev pub AcceptCause : AcceptEnd → Option ℕ → List Arrival → Type 0
+AcceptCause Stopped stop_after arrivals = stop_after ≡ Some (streams arrivals)
+AcceptCause AcceptFailed stop_after arrivals = EndsInFaults arrivals
+
+-- what accepting from this source for this starter, at most so many streams where a number is set, comes to
+pub record Accepted {I T : Type 0} (brings : I → Arrival → I → Type 0) (starts : T → ℕ → T → Type 0) (incoming : I) (starter : T) (stop_after : Option ℕ) (end : AcceptEnd) : Type 0 where
+  pub arrivals : List Arrival
+  pub incoming' : I
+  pub starter' : T
+  -- all calls of the source, in order
+  pub brought : Brings brings incoming arrivals incoming'
+  -- each stream that came was started
+  pub started : starts starter (streams arrivals) starter'
+  pub few : IfSome stop_after (λ most. streams arrivals ≤ most)
+  pub cause : AcceptCause end stop_after arrivals
