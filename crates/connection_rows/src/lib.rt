@@ -14,4 +14,6 @@ mod slots;
 #[cfg(test)]
 mod streams;
 #[cfg(test)]
+mod warnings;
+#[cfg(test)]
 mod writes;

@@ -10,6 +10,7 @@ use hub_endings::Ending;
 use hub_stream::{RunFault, run_one};
 use session_hash::First24;
 use std::alloc::{AllocError, AllocGlobal, Global};
+use std::env::Env;
 use std::fs::Files;
 use std::io::{Read, Write};
 use std::net::Net;
@@ -23,8 +24,9 @@ use std::time::Clock;
 /// `stdin` runs a hub for one connection, whose lines are `input` and whose answers go to `output`. The status is 0, or 4
 /// where memory ran out, or 5 where the input or the output failed, a line was too long or there were too many reads.
 /// `serve` and the path of a settings file run a server. The status is 1 where the settings or the seed file are at fault,
-/// 2 where the file of Tiger's tables is, and else as [`serve_on`](hub_server::serve_on) says. With other words the status
-/// is 1, and neither is used.
+/// 2 where the file of Tiger's tables is, and else as [`serve_on`](hub_server::serve_on) says. Where the variable
+/// `JOURNAL_STREAM` is set in the environment, `errors` is the journal of systemd, and has what
+/// [`serve_for_journal`](hub_server::serve_for_journal) says there. With other words the status is 1, and neither is used.
 ///
 /// One line on `errors` says what went wrong; that it cannot be written changes nothing.
 pub fn program<R, I, O, E>(
@@ -35,7 +37,7 @@ pub fn program<R, I, O, E>(
     errors: &mut E,
 ) -> u8
 where
-    R: Wait + Threads + Clock + Net + RandomSource + AllocGlobal + Files + Sync,
+    R: Wait + Threads + Clock + Net + RandomSource + AllocGlobal + Files + Env + Sync,
     I: Read,
     O: Write,
     E: Write + Send,

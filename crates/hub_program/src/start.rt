@@ -1,10 +1,11 @@
 ghost use Rattle.std.specs.Prelude.{◌≡◌};
 
 use hub_endings::Ending;
-use hub_server::{moment, serve_on};
+use hub_server::{moment, serve_for_journal, serve_on};
 use hub_settings::{HashName, KeyName, Settings, SettingsFault, read_settings};
-use session_hash::{First24, TableTiger, TablesFault};
+use session_hash::{First24, SessionHash, TableTiger, TablesFault};
 use std::alloc::{AllocError, AllocFailed, AllocGlobal};
+use std::env::{Env, FillError};
 use std::fs::{self, Files};
 use std::io::{self, Read, Write};
 use std::net::Net;
@@ -44,7 +45,7 @@ impl<T: Drop> From<AllocFailed<T>> for StartFault {
 /// the file of Tiger's tables if the hash is Tiger, and then the address.
 pub(crate) fn serve_file<R, W, E>(rt: &R, path: &str, output: &mut W, errors: &mut E) -> u8
 where
-    R: Wait + Threads + Clock + Net + RandomSource + AllocGlobal + Files + Sync,
+    R: Wait + Threads + Clock + Net + RandomSource + AllocGlobal + Files + Env + Sync,
     W: Write,
     E: Write + Send,
 {
@@ -67,7 +68,7 @@ fn say_key<E: Write>(key: &str, errors: &mut E) -> u8
 
 fn start<R, W, E>(rt: &R, path: &str, output: &mut W, errors: &mut E) -> Result<u8, StartFault>
 where
-    R: Wait + Threads + Clock + Net + RandomSource + AllocGlobal + Files + Sync,
+    R: Wait + Threads + Clock + Net + RandomSource + AllocGlobal + Files + Env + Sync,
     W: Write,
     E: Write + Send,
 {
@@ -76,12 +77,44 @@ where
     match settings.hash() {
         HashName::First24 => {
             let hash = Arc::new(rt.alloc(), First24)?;
-            Ok(serve_on(rt, &settings, hash, seed, output, errors))
+            Ok(serve(rt, &settings, path, hash, seed, output, errors))
         }
         HashName::Tiger => {
             let hash = Arc::new(rt.alloc(), tables_in(rt, settings.tables())?)?;
-            Ok(serve_on(rt, &settings, hash, seed, output, errors))
+            Ok(serve(rt, &settings, path, hash, seed, output, errors))
         }
+    }
+}
+
+/// Serves the hub of these settings, which stand in this file.
+fn serve<H, R, W, E>(
+    rt: &R,
+    settings: &Settings,
+    path: &str,
+    hash: Arc<H>,
+    seed: [u8; 32],
+    output: &mut W,
+    errors: &mut E,
+) -> u8
+where
+    H: SessionHash + Send + Sync + Drop,
+    R: Wait + Threads + Clock + Net + RandomSource + AllocGlobal + Env + Sync,
+    W: Write,
+    E: Write + Send,
+{
+    if has_journal(rt) {
+        serve_for_journal(rt, settings, path, hash, seed, output, errors)
+    } else {
+        serve_on(rt, settings, hash, seed, output, errors)
+    }
+}
+
+/// Answers whether standard error is the journal, as systemd says by a variable of the environment.
+fn has_journal<R: Env>(rt: &R) -> bool {
+    let mut value = [0; 64];
+    match rt.var("JOURNAL_STREAM", &mut value) {
+        Err(FillError::NotPresent) => false,
+        Ok(_) | Err(FillError::TooLong) => true,
     }
 }
 

@@ -3,6 +3,7 @@ ghost use Rattle.std.specs.Prelude.{◌≡◌, Some};
 use crate::free_slot::OfHub;
 use hub_shared::Pass;
 use std::marker::PhantomData;
+use std::net::SocketAddrV4;
 use tokio::net::TcpStream;
 
 /// A connection that was accepted, and has joined the named hub.
@@ -11,14 +12,20 @@ pub(crate) struct Accepted<B: OfHub<H>, H> {
     pub(crate) stream: TcpStream,
     pub(crate) pass: Pass<H>,
     pub(crate) challenge: [u8; 24],
+    pub(crate) peer: SocketAddrV4,
     of: PhantomData<B>,
     pub(crate) ghost here: { B.home ≡ Some pass.home },
     pub(crate) ghost challenged: { pass.challenge ≡ challenge },
 }
 
 impl<B: OfHub<H>, H> Accepted<B, H> {
-    /// Keeps a socket with the pass for which it joined.
-    pub(crate) fn new(stream: TcpStream, pass: Pass<H>, challenge: [u8; 24]) -> Accepted<B, H>
+    /// Keeps a socket with the pass for which it joined, and the address from which it comes.
+    pub(crate) fn new(
+        stream: TcpStream,
+        pass: Pass<H>,
+        challenge: [u8; 24],
+        peer: SocketAddrV4,
+    ) -> Accepted<B, H>
         requires here { B.home ≡ Some pass.home }
         requires challenged { pass.challenge ≡ challenge }
     {
@@ -26,6 +33,7 @@ impl<B: OfHub<H>, H> Accepted<B, H> {
             stream,
             pass,
             challenge,
+            peer,
             of: PhantomData,
         }
     }

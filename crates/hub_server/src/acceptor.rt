@@ -8,9 +8,11 @@ use adc_sessions::{Peer, Starter};
 use hub_challenges::Challenges;
 use hub_core::JoinRefused;
 use hub_shared::Pass;
-use log::{Log, warn};
+use hub_warnings::{Cause, Warnings};
+use log::Log;
 use session_hash::SessionHash;
 use std::alloc::AllocGlobal;
+use std::net::{Ipv4Addr, SocketAddr, SocketAddrV4};
 use std::sync::Wait;
 use std::time::Clock;
 use tokio::net::TcpStream;
@@ -23,7 +25,7 @@ const HUB_FULL: &[u8] = b"ISTA 211 Hub\\sfull\n";
 pub(crate) struct Acceptor<'a, B: OfHub<H>, H: SessionHash, R, L> {
     server: &'a Server<'a, B, H, R>,
     challenges: Challenges,
-    log: &'a L,
+    warnings: &'a Warnings<L>,
 }
 
 impl<'a, B: OfHub<H>, H: SessionHash, R: Wait + Clock + AllocGlobal, L: Log> Acceptor<
@@ -36,12 +38,12 @@ impl<'a, B: OfHub<H>, H: SessionHash, R: Wait + Clock + AllocGlobal, L: Log> Acc
     pub(crate) fn new(
         server: &'a Server<'a, B, H, R>,
         challenges: Challenges,
-        log: &'a L,
+        warnings: &'a Warnings<L>,
     ) -> Acceptor<'a, B, H, R, L> {
         Acceptor {
             server,
             challenges,
-            log,
+            warnings,
         }
     }
 
@@ -104,19 +106,33 @@ impl<B: OfHub<H>, H: SessionHash, R: Wait + Clock + AllocGlobal, L: Log> Starter
 
     fn start(&mut self, stream: TcpStream, peer: Peer) {
         let challenge = self.challenges.next();
+        let address = address_of(&stream, peer);
         // Lines are written in one piece each, so that waiting for more would only delay them.
         let _ = stream.set_nodelay(true);
         match self.join(peer, challenge) {
             Ok(joined) => {
                 let (pass, slot) = joined;
-                self.hand_over(Accepted::new(stream, pass, challenge), slot);
+                self.hand_over(Accepted::new(stream, pass, challenge, address), slot);
             }
             Err(JoinRefused::Memory) => {
-                warn!(self.log; "a connection was refused by {}", "Memory");
                 drop(stream);
                 self.server.shared.wakers.make_room();
+                self.warnings
+                    .warn(self.server.rt, Some(address), Cause::Refused);
             }
             Err(JoinRefused::Full | JoinRefused::JoinsSpent) => self.refuse(stream),
+        }
+    }
+}
+
+/// Gives the address and the port from which a connection comes, for who reads warnings. The port is 0 where the connection is
+/// gone already.
+fn address_of(stream: &TcpStream, peer: Peer) -> SocketAddrV4 {
+    match stream.peer_addr() {
+        Ok(SocketAddr::V4(address)) => address,
+        _ => {
+            let [a, b, c, d] = peer.address;
+            SocketAddrV4::new(Ipv4Addr::new(a, b, c, d), 0)
         }
     }
 }

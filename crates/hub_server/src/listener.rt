@@ -5,9 +5,11 @@ ghost use Rattle.futures.specs.Poll.{OnPending};
 use adc_sessions::{Incoming, Peer};
 use connection_slots::{AcceptError, Wakers, accept_error_of};
 use futures::task::{Context, Poll};
-use log::{Log, warn};
+use hub_warnings::{Cause, Warnings};
+use log::Log;
 use std::io;
 use std::net::SocketAddr;
+use std::sync::Wait;
 use std::time::{Clock, Duration, Instant};
 use tokio::net::{TcpListener, TcpStream};
 use tokio::time::Sleep;
@@ -46,25 +48,25 @@ pub struct Listener<'a, R, L, I> {
     socket: I,
     wakers: &'a Wakers,
     rt: &'a R,
-    log: &'a L,
+    warnings: &'a Warnings<L>,
     timer: Sleep,
     is_resting: bool,
 }
 
-impl<'a, R: Clock, L: Log, I: Listens> Listener<'a, R, L, I> {
-    /// Makes a listener of a socket. It uses this timer, whatever it is set to, and says on the log where memory was wanting.
+impl<'a, R: Wait + Clock, L: Log, I: Listens> Listener<'a, R, L, I> {
+    /// Makes a listener of a socket. It uses this timer, whatever it is set to, and warns where memory was wanting.
     pub fn new(
         socket: I,
         wakers: &'a Wakers,
         rt: &'a R,
-        log: &'a L,
+        warnings: &'a Warnings<L>,
         timer: Sleep,
     ) -> Listener<'a, R, L, I> {
         Listener {
             socket,
             wakers,
             rt,
-            log,
+            warnings,
             timer,
             is_resting: false,
         }
@@ -105,7 +107,7 @@ impl<'a, R: Clock, L: Log, I: Listens> Listener<'a, R, L, I> {
     fn goes_on(&mut self, error: &io::Error) -> bool {
         match accept_error_of(error) {
             AcceptError::Memory => {
-                warn!(self.log; "a connection was lost by {}", "Memory");
+                self.warnings.warn(self.rt, None, Cause::Lost);
                 self.rest().is_some()
             }
             AcceptError::Room => self.rest().is_some(),
@@ -115,7 +117,7 @@ impl<'a, R: Clock, L: Log, I: Listens> Listener<'a, R, L, I> {
     }
 }
 
-impl<R: Clock, L: Log, I: Listens> Incoming for Listener<'_, R, L, I> {
+impl<R: Wait + Clock, L: Log, I: Listens> Incoming for Listener<'_, R, L, I> {
     type Stream = TcpStream;
 
     fn poll_incoming(&mut self, cx: &mut Context<'_>) -> Poll<io::Result<(TcpStream, Peer)>> {

@@ -5,25 +5,27 @@ ghost use Rattle.hub_shared.specs.declared.about.About.{About};
 
 use crate::acceptor::Acceptor;
 use crate::bind::Bind;
+use crate::clock::moment;
 use crate::free_slot::{FreeSlot, OfHub};
 use crate::listener::{Listener, Listens};
 use crate::server::Server;
 use crate::task::AcceptTask;
 use crate::tasks::Tasks;
+use crate::time_task::TimeTask;
 use adc_sessions::Accept;
 use connection_slots::{Fault, Startup, Ticker, descriptor_limit, descriptors_needed};
 use hub_challenges::Challenges;
 use hub_endings::Ending;
 use hub_settings::Settings;
 use hub_shared::{Host, Hub, Report, Visitor};
-use log::sink::Locked;
-use log::{Level, Log, Logged, warn};
+use hub_warnings::{End, Journal, Moment, Start, Warnings};
+use log::{Level, Log, Logged, info, warn};
 use session_hash::SessionHash;
 use std::alloc::{AllocGlobal, Global};
 use std::io;
 use std::io::Write;
 use std::marker::Brand;
-use std::net::Net;
+use std::net::{Net, SocketAddr};
 use std::random::RandomSource;
 use std::sync::{Arc, Wait};
 use std::thread::Threads;
@@ -35,8 +37,9 @@ use tokio::time::{self, Sleep};
 ///
 /// On `output` it says `listening` and the address that was bound, as `a.b.c.d:port`, once all of its tasks came to be, and
 /// at the end `joins`, the number of joins that were accepted, `present 0`. On `errors` goes a warning for each session
-/// that ends by a fault of its connection or for want of memory. One more goes there at the start where the system allows
-/// fewer descriptors than as many users need as the settings admit.
+/// that ends by a fault of its connection or for want of memory, with the time, the peer's address and the cause; of equal
+/// ones of one address within a minute the first, and a line with the number of the others. One more goes there at the start
+/// where the system allows fewer descriptors than as many users need as the settings admit.
 ///
 /// The status is 0 once as many connections were accepted as the settings say, and all are over. It is 3 where the address
 /// cannot be had, or accepting failed 64 times in a row by a fault of the listener. It is 4 where memory or threads cannot
@@ -76,34 +79,113 @@ where
     W: Write,
     E: Write + Send,
 {
-    let ending = match serve(rt, settings, &*hash, seed, address, output, errors) {
-        Ok(()) => Ending::Served,
-        Err(ending) => ending,
-    };
-    ending.tell(errors)
+    serve_with(rt, settings, hash, seed, address, None, output, errors)
 }
 
-fn serve<H, R, A, W, E>(
+/// Serves as [`serve_on`] does, where `errors` is the journal of systemd. Each warning begins with its priority there, as
+/// `<4>`. A line at the start has the version, the path of the settings' file, the address, and how many descriptors are
+/// needed and allowed; one at the end says why the server ended, and how many joins were accepted.
+pub fn serve_for_journal<H, R, W, E>(
     rt: &R,
     settings: &Settings,
-    hash: &H,
+    settings_file: &str,
+    hash: Arc<H>,
     seed: [u8; 32],
-    address: A,
     output: &mut W,
     errors: &mut E,
-) -> Result<(), Ending>
+) -> u8
 where
-    H: SessionHash + Send + Sync,
+    H: SessionHash + Send + Sync + Drop,
+    R: Wait + Threads + Clock + Net + RandomSource + AllocGlobal + Sync,
+    W: Write,
+    E: Write + Send,
+{
+    let address = settings.listen();
+    let file = Some(settings_file);
+    serve_with(rt, settings, hash, seed, address, file, output, errors)
+}
+
+/// Serves, for the journal where there is a path of the settings' file, which it names.
+fn serve_with<H, R, A, W, E>(
+    rt: &R,
+    settings: &Settings,
+    hash: Arc<H>,
+    seed: [u8; 32],
+    address: A,
+    settings_file: Option<&str>,
+    output: &mut W,
+    errors: &mut E,
+) -> u8
+where
+    H: SessionHash + Send + Sync + Drop,
     R: Wait + Threads + Clock + Net + RandomSource + AllocGlobal + Sync,
     A: Bind,
     W: Write,
     E: Write + Send,
 {
+    let journal = Journal::new(rt, settings_file.is_some(), &mut *errors);
+    let warnings = Warnings::new(Logged::new((), Level::Info, journal));
+    let served = serve(
+        rt,
+        settings,
+        &*hash,
+        seed,
+        address,
+        settings_file,
+        output,
+        &warnings,
+    );
+    warnings.tell_all(rt);
+    let (ending, joins) = match served {
+        Ok(joins) => (Ending::Served, Some(joins)),
+        Err(ending) => (ending, None),
+    };
+    if settings_file.is_some() {
+        let end = End {
+            moment: Moment::from_seconds(moment(rt)),
+            why: reason_of(ending),
+            joins,
+        };
+        info!(warnings.log; "{}", end);
+    }
+    drop(warnings);
+    ending.tell(errors)
+}
+
+/// Says why a server ended, for who reads the journal.
+fn reason_of(ending: Ending) -> &'static str {
+    match ending {
+        Ending::Served => "as many connections were served as stop_after says",
+        Ending::Address => "the address cannot be had, or accepting failed",
+        Ending::Memory => "memory or threads cannot be had",
+        Ending::Transfer => "standard output failed",
+        Ending::Usage | Ending::Tables => "it was not started",
+    }
+}
+
+/// Serves, and gives the number of joins that were accepted.
+fn serve<H, R, A, W, L>(
+    rt: &R,
+    settings: &Settings,
+    hash: &H,
+    seed: [u8; 32],
+    address: A,
+    settings_file: Option<&str>,
+    output: &mut W,
+    warnings: &Warnings<L>,
+) -> Result<u64, Ending>
+where
+    H: SessionHash + Send + Sync,
+    R: Wait + Threads + Clock + Net + RandomSource + AllocGlobal + Sync,
+    A: Bind,
+    W: Write,
+    L: Log + Sync,
+{
     let (hub, host) = open(rt.alloc(), settings, hash)?;
     // Settings ask for one at least.
     let threads = settings.threads().max(1) as usize;
     let mut runtime = Runtime::with_worker_threads(rt, threads).map_err(|_| Ending::Memory)?;
-    let (host, visitors) = run::<Brand, H, R, A, W, E>(
+    let (host, visitors) = run::<Brand, H, R, A, W, L>(
         rt,
         &mut runtime,
         settings,
@@ -112,11 +194,15 @@ where
         host,
         seed,
         address,
+        settings_file,
         output,
-        errors,
+        warnings,
     )?;
     match hub.close(host, visitors) {
-        Ok(report) => say_report(&report, output),
+        Ok(report) => {
+            say_report(&report, output)?;
+            Ok(report.joins)
+        }
         Err(_) => Err(Ending::Memory),
     }
 }
@@ -136,7 +222,7 @@ fn open<H: SessionHash>(
 }
 
 /// Runs the server, and gives the host back with all visitors of the hub, or those that are left where memory ran out.
-fn run<B, H, R, A, W, E>(
+fn run<B, H, R, A, W, L>(
     rt: &R,
     runtime: &mut Runtime,
     settings: &Settings,
@@ -145,8 +231,9 @@ fn run<B, H, R, A, W, E>(
     host: Host<H>,
     seed: [u8; 32],
     address: A,
+    settings_file: Option<&str>,
     output: &mut W,
-    errors: &mut E,
+    warnings: &Warnings<L>,
 ) -> Result<(Host<H>, Vec<Visitor<H>>), Ending>
 where
     B: OfHub<H> + Send + Sync,
@@ -154,7 +241,7 @@ where
     R: Wait + Threads + Clock + Net + RandomSource + AllocGlobal + Sync,
     A: Bind,
     W: Write,
-    E: Write + Send,
+    L: Log + Sync,
     requires here { B.home ≡ Some hub.now.home }
     requires host { host ≡ record { home = hub.now.home; admitted = 0 } }
     requires set { hub.now.setup ≡ settings.now.hub }
@@ -170,16 +257,19 @@ where
     let free = admit::<B, H>(alloc, &mut host, hub, count)?;
     let visitors = Vec::with_capacity(alloc, count)?;
     let server = Server::new(alloc, rt, hub, hash, settings.setup(), count, free)?;
-    let log = Logged::new((), Level::Warn, Locked::new(rt, errors));
-    warn_of_descriptors(&log, users);
+    warn_of_descriptors(rt, &warnings.log, users);
     let listener = match address.bind(rt, runtime.handle().reactor()) {
         Ok(listener) => listener,
         Err(error) => return Err(ending_of(&error)),
     };
+    if let Some(settings_file) = settings_file {
+        let address = listener.address().map_err(|error| ending_of(&error))?;
+        say_start(rt, &warnings.log, settings_file, address, users);
+    }
     serve_all(
         runtime,
         &server,
-        &log,
+        warnings,
         listener,
         Challenges::from_seed(seed),
         settings,
@@ -192,7 +282,7 @@ where
 fn serve_all<'a, B, H, R, L, I, W>(
     runtime: &mut Runtime,
     server: &'a Server<'a, B, H, R>,
-    log: &'a L,
+    warnings: &'a Warnings<L>,
     listener: I,
     challenges: Challenges,
     settings: &Settings,
@@ -209,11 +299,11 @@ where
     let time = runtime.handle().time();
     let address = listener.address().map_err(|error| ending_of(&error))?;
     let startup = Startup::new(&server.shared, server.rt, output, address);
-    let timer = timer(server.rt, time)?;
-    let ticker = Ticker::new(&server.shared, server.rt, timer);
-    let accept = accept_task(server, log, listener, challenges, settings, time)?;
+    let ticker = Ticker::new(&server.shared, server.rt, timer(server.rt, time)?);
+    let time_task = TimeTask::new(ticker, timer(server.rt, time)?, server.rt, warnings);
+    let accept = accept_task(server, warnings, listener, challenges, settings, time)?;
     let count = settings.setup().max_users() as usize + 1;
-    let tasks = Tasks::new(ticker, count, accept, startup, server, log);
+    let tasks = Tasks::new(time_task, count, accept, startup, server, warnings);
     match runtime.run_all(server.rt, tasks) {
         Ok(()) => ending_by(server.shared.fault()),
         Err(_) => Err(Ending::Memory),
@@ -223,7 +313,7 @@ where
 /// Makes the task that accepts connections.
 fn accept_task<'a, B, H, R, L, I>(
     server: &'a Server<'a, B, H, R>,
-    log: &'a L,
+    warnings: &'a Warnings<L>,
     listener: I,
     challenges: Challenges,
     settings: &Settings,
@@ -241,8 +331,8 @@ where
         count => Some(u64::from(count)),
     };
     let timer = timer(server.rt, time)?;
-    let listener = Listener::new(listener, &server.shared.wakers, server.rt, log, timer);
-    let acceptor = Acceptor::new(server, challenges, log);
+    let listener = Listener::new(listener, &server.shared.wakers, server.rt, warnings, timer);
+    let acceptor = Acceptor::new(server, challenges, warnings);
     let accept = Accept::new(listener, acceptor, stop_after);
     Ok(AcceptTask::new(accept, server))
 }
@@ -263,13 +353,26 @@ fn ending_by(fault: Option<Fault>) -> Result<(), Ending> {
 }
 
 /// Says where the system allows fewer descriptors than so many users need.
-fn warn_of_descriptors<L: Log>(log: &L, users: u32) {
+fn warn_of_descriptors<R: Clock, L: Log>(rt: &R, log: &L, users: u32) {
     let needed = descriptors_needed(users);
     if let Some(allowed) = descriptor_limit()
         && allowed < needed
     {
-        warn!(log; "{} users need {} descriptors, and the system allows {}", users, needed, allowed);
+        let now = Moment::from_seconds(moment(rt));
+        warn!(log; "{} {} users need {} descriptors, and the system allows {}", now, users, needed, allowed);
     }
+}
+
+/// Says that a server of these settings, for so many users, begins to listen there.
+fn say_start<R: Clock, L: Log>(rt: &R, log: &L, settings: &str, address: SocketAddr, users: u32) {
+    let start = Start {
+        moment: Moment::from_seconds(moment(rt)),
+        settings,
+        address,
+        needed: descriptors_needed(users),
+        allowed: descriptor_limit(),
+    };
+    info!(log; "{}", start);
 }
 
 /// Admits so many visitors, who take the slots in their order.

@@ -9,9 +9,11 @@ use crate::slot_bell::SlotBell;
 use adc_sessions::{End, Port, Session};
 use futures::Future;
 use futures::task::{Context, Poll};
-use log::{Log, warn};
+use hub_warnings::{Cause, Warnings};
+use log::Log;
 use session_hash::SessionHash;
 use std::alloc::AllocGlobal;
+use std::net::SocketAddrV4;
 use std::sync::Wait;
 use std::time::Clock;
 use tokio::net::TcpStream;
@@ -24,7 +26,9 @@ pub(crate) struct SlotTask<'a, B: OfHub<H>, H: SessionHash, R, L> {
     session: Option<HubSession<'a, B, H, R>>,
     server: &'a Server<'a, B, H, R>,
     slot: usize,
-    log: &'a L,
+    // The address from which the connection of the session comes.
+    peer: Option<SocketAddrV4>,
+    warnings: &'a Warnings<L>,
 }
 
 impl<'a, B: OfHub<H>, H: SessionHash, R: Wait + Clock + AllocGlobal, L: Log> SlotTask<
@@ -37,13 +41,14 @@ impl<'a, B: OfHub<H>, H: SessionHash, R: Wait + Clock + AllocGlobal, L: Log> Slo
     pub(crate) fn new(
         server: &'a Server<'a, B, H, R>,
         slot: usize,
-        log: &'a L,
+        warnings: &'a Warnings<L>,
     ) -> SlotTask<'a, B, H, R, L> {
         SlotTask {
             session: None,
             server,
             slot,
-            log,
+            peer: None,
+            warnings,
         }
     }
 
@@ -91,8 +96,10 @@ impl<'a, B: OfHub<H>, H: SessionHash, R: Wait + Clock + AllocGlobal, L: Log> Slo
             stream,
             pass,
             challenge,
+            peer,
             ..
         } = accepted;
+        self.peer = Some(peer);
         let connection = Connection::new(server, pass, challenge, self.slot);
         let bell = connection.bell();
         match Session::new(server.rt.alloc(), stream, connection, bell) {
@@ -111,19 +118,19 @@ impl<'a, B: OfHub<H>, H: SessionHash, R: Wait + Clock + AllocGlobal, L: Log> Slo
             drop(stream);
         }
         server.shared.wakers.make_room();
-        if let Some(name) = warning_of(end) {
-            warn!(self.log; "a session ended by {}", name);
+        if let Some(cause) = cause_of(end) {
+            self.warnings.warn(server.rt, self.peer, cause);
         }
     }
 }
 
-/// Gives the word by which a session's end is warned of. Nothing where it ended as it should.
-pub fn warning_of(end: End) -> Option<&'static str> {
+/// Gives the cause by which a session's end is warned of. Nothing where it ended as it should.
+pub fn cause_of(end: End) -> Option<Cause> {
     match end {
         End::Closed | End::Ended => None,
-        End::ReadFailed => Some("ReadFailed"),
-        End::WriteFailed => Some("WriteFailed"),
-        End::TooLong => Some("TooLong"),
-        End::Memory => Some("Memory"),
+        End::ReadFailed => Some(Cause::ReadFailed),
+        End::WriteFailed => Some(Cause::WriteFailed),
+        End::TooLong => Some(Cause::TooLong),
+        End::Memory => Some(Cause::OutOfMemory),
     }
 }

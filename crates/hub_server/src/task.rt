@@ -1,14 +1,14 @@
 ghost use Rattle.futures.specs.Task.{IsArmed, Keeps};
 ghost use Rattle.futures.specs.Poll.{OnPending};
 
-use crate::accepted::Accepted;
 use crate::acceptor::Acceptor;
 use crate::free_slot::OfHub;
 use crate::listener::{Listener, Listens};
 use crate::server::Server;
 use crate::slot_task::SlotTask;
+use crate::time_task::TimeTask;
 use adc_sessions::{Accept, AcceptEnd};
-use connection_slots::{Fault, Ticker};
+use connection_slots::Fault;
 use futures::Future;
 use futures::task::{Context, Poll};
 use log::Log;
@@ -27,7 +27,7 @@ pub(crate) type Accepts<'a, B, H, R, L, I> = Accept<
 #[derive(Drop)]
 pub(crate) enum Task<'a, B: OfHub<H>, H: SessionHash, R, L, I> {
     /// Keeps time.
-    Ticking(Ticker<'a, Accepted<B, H>, R>),
+    Ticking(TimeTask<'a, B, H, R, L>),
     /// Serves the connections of one slot.
     Serving(SlotTask<'a, B, H, R, L>),
     /// Accepts connections.
@@ -50,7 +50,7 @@ impl<B: OfHub<H>, H: SessionHash, R: Wait + Clock + AllocGlobal, L: Log, I: List
 
     fn poll(&mut self, cx: &mut Context<'_>) -> Poll<()> {
         let polled = match self {
-            Task::Ticking(ticker) => ticker.poll_over(cx),
+            Task::Ticking(time) => time.poll_over(cx),
             Task::Serving(slot) => slot.poll_over(cx),
             Task::Accepting(accept) => accept.poll_over(cx),
             Task::Done => cx.yield_now(),

@@ -4,9 +4,11 @@ use crate::listener::Listens;
 use crate::server::Server;
 use crate::slot_task::SlotTask;
 use crate::task::{AcceptTask, Task};
-use connection_slots::{Startup, Ticker};
+use crate::time_task::TimeTask;
+use connection_slots::Startup;
 use futures::Stream;
 use futures::task::{Context, Poll};
+use hub_warnings::Warnings;
 use log::Log;
 use session_hash::SessionHash;
 use std::alloc::AllocGlobal;
@@ -18,14 +20,14 @@ use std::time::Clock;
 /// that accepts connections. So what comes later needs no memory for a task.
 #[derive(Drop)]
 pub(crate) struct Tasks<'a, B: OfHub<H>, H: SessionHash, R: Wait, L, I, W> {
-    ticker: Option<Ticker<'a, Accepted<B, H>, R>>,
+    time: Option<TimeTask<'a, B, H, R, L>>,
     // The slot of the next task, and how many slots there are.
     next: usize,
     count: usize,
     accept: Option<AcceptTask<'a, B, H, R, L, I>>,
     startup: Startup<'a, Accepted<B, H>, R, W>,
     server: &'a Server<'a, B, H, R>,
-    log: &'a L,
+    warnings: &'a Warnings<L>,
 }
 
 impl<
@@ -39,21 +41,21 @@ impl<
 > Tasks<'a, B, H, R, L, I, W> {
     /// Makes the tasks for so many slots.
     pub(crate) fn new(
-        ticker: Ticker<'a, Accepted<B, H>, R>,
+        time: TimeTask<'a, B, H, R, L>,
         count: usize,
         accept: AcceptTask<'a, B, H, R, L, I>,
         startup: Startup<'a, Accepted<B, H>, R, W>,
         server: &'a Server<'a, B, H, R>,
-        log: &'a L,
+        warnings: &'a Warnings<L>,
     ) -> Tasks<'a, B, H, R, L, I, W> {
         Tasks {
-            ticker: Some(ticker),
+            time: Some(time),
             next: 0,
             count,
             accept: Some(accept),
             startup,
             server,
-            log,
+            warnings,
         }
     }
 }
@@ -71,13 +73,13 @@ impl<
 
     /// Gives the next task. It ends once all tasks came to be; then the server opens.
     fn poll_next(&mut self, _cx: &mut Context<'_>) -> Poll<Option<Self::Item>> {
-        if let Some(ticker) = self.ticker.take() {
-            return Poll::Ready(Some(Task::Ticking(ticker)));
+        if let Some(time) = self.time.take() {
+            return Poll::Ready(Some(Task::Ticking(time)));
         }
         let slot = self.next;
         if slot < self.count {
             self.next = slot + 1;
-            let task = SlotTask::new(self.server, slot, self.log);
+            let task = SlotTask::new(self.server, slot, self.warnings);
             return Poll::Ready(Some(Task::Serving(task)));
         }
         if let Some(accept) = self.accept.take() {

@@ -2,6 +2,7 @@
 use hub_program::program;
 use second_try::again;
 use std::alloc::{AllocError, AllocGlobal, Global};
+use std::env::Env;
 use std::fs::Files;
 use std::io::{self, Read, Write};
 use std::net::Net;
@@ -93,7 +94,7 @@ fn strings(alloc: Global, words: &[&str]) -> Result<Vec<String>, AllocError> {
 }
 
 /// Runs the program with a greeting for its input.
-fn attempt<T: Wait + Threads + Clock + Net + RandomSource + AllocGlobal + Files + Sync>(
+fn attempt<T: Wait + Threads + Clock + Net + RandomSource + AllocGlobal + Files + Env + Sync>(
     rt: &T,
     words: &[&str],
     broken: Broken,
@@ -114,7 +115,7 @@ fn attempt<T: Wait + Threads + Clock + Net + RandomSource + AllocGlobal + Files 
 }
 
 /// Runs the program, and once more where memory was refused, as it then says.
-fn run<T: Wait + Threads + Clock + Net + RandomSource + AllocGlobal + Files + Sync + Abort>(
+fn run<T: Wait + Threads + Clock + Net + RandomSource + AllocGlobal + Files + Env + Sync + Abort>(
     rt: &T,
     words: &[&str],
     broken: Broken,
@@ -131,7 +132,7 @@ fn run<T: Wait + Threads + Clock + Net + RandomSource + AllocGlobal + Files + Sy
 
 /// Stops the test unless the program, asked like this, leaves just that. Where it says nothing, it does not try to.
 pub(crate) fn asks<
-    T: Wait + Threads + Clock + Net + RandomSource + AllocGlobal + Files + Sync + Abort,
+    T: Wait + Threads + Clock + Net + RandomSource + AllocGlobal + Files + Env + Sync + Abort,
 >(rt: &T, words: &[&str], broken: Broken, status: u8, output: &[u8], errors: &[u8]) {
     let left = run(rt, words, broken);
     assert!(rt;

@@ -2,6 +2,7 @@
 use crate::program::asking::{Broken, asks};
 use second_try::again;
 use std::alloc::AllocGlobal;
+use std::env::Env;
 use std::fs::{self, Files};
 use std::net::Net;
 use std::process::Abort;
@@ -48,12 +49,9 @@ impl Scratch {
     }
 
     /// Stops the test unless the program, asked to serve the hub of this file, ends by this status, and says just this.
-    fn refuses<R: Wait + Threads + Clock + Net + RandomSource + AllocGlobal + Files + Sync + Abort>(
-        &self,
-        rt: &R,
-        status: u8,
-        said: &[u8],
-    ) {
+    fn refuses<
+        R: Wait + Threads + Clock + Net + RandomSource + AllocGlobal + Files + Env + Sync + Abort,
+    >(&self, rt: &R, status: u8, said: &[u8]) {
         asks(
             rt,
             &["serve", self.path.as_str()],

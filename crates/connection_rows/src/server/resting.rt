@@ -4,6 +4,7 @@ use connection_slots::Wakers;
 use futures::task::{Context, Poll};
 use futures::test::MockTask;
 use hub_server::{Listener, Listens};
+use hub_warnings::Warnings;
 use log::sink::Discard;
 use log::{Level, Logged};
 use std::alloc::AllocGlobal;
@@ -11,6 +12,7 @@ use std::io;
 use std::net::{Ipv4Addr, Net, SocketAddr, SocketAddrV4};
 use std::process::Abort;
 use std::random::RandomSource;
+use std::sync::Wait;
 use std::time::{Clock, Duration};
 use tokio::net::TcpStream;
 use tokio::runtime::Runtime;
@@ -45,13 +47,16 @@ enum Did {
     Rested,
 }
 
-fn try_listener<R: Clock + Net + RandomSource + AllocGlobal>(rt: &R, number: i32) -> Option<Did> {
+fn try_listener<R: Wait + Clock + Net + RandomSource + AllocGlobal>(
+    rt: &R,
+    number: i32,
+) -> Option<Did> {
     let runtime = Runtime::with_worker_threads(rt, 1).ok()?;
     let timer = runtime.handle().time().sleep(rt, Duration::ZERO).ok()?;
     let wakers = Wakers::new(rt.alloc(), 1).ok()?;
-    let log = Logged::new((), Level::Warn, Discard);
+    let warnings = Warnings::new(Logged::new((), Level::Warn, Discard));
     let task = MockTask::new(rt).ok()?;
-    let mut listener = Listener::new(Failing { number }, &wakers, rt, &log, timer);
+    let mut listener = Listener::new(Failing { number }, &wakers, rt, &warnings, timer);
     for _rest in 0..RESTS {
         match task.enter(|cx| listener.poll_incoming(cx)) {
             Poll::Ready(_) => return Some(Did::Failed),
@@ -68,7 +73,7 @@ fn try_listener<R: Clock + Net + RandomSource + AllocGlobal>(rt: &R, number: i32
 /// Stops the test unless a listener does this whose socket fails with that number.
 fn does<R>(rt: &R, number: i32, did: Did)
 where
-    R: Clock + Net + RandomSource + AllocGlobal + Abort,
+    R: Wait + Clock + Net + RandomSource + AllocGlobal + Abort,
 {
     for _ in 0..2 {
         if let Some(done) = try_listener(rt, number) {

@@ -3,7 +3,7 @@ use crate::server::conversation::{Step, plays};
 use crate::server::flaky::Flaky;
 use crate::server::gate::GateHash;
 use futures::spin::lock;
-use hub_server::{serve_at, serve_on};
+use hub_server::{serve_at, serve_for_journal, serve_on};
 use hub_settings::{Settings, read_settings};
 use std::alloc::{AllocError, AllocGlobal, Global};
 use std::io::{self, Write};
@@ -183,6 +183,8 @@ pub enum Way {
     AsSet,
     /// There, but at first it accepts nobody.
     Flaky,
+    /// The way that its settings say, with the journal for its standard error.
+    Journal,
 }
 
 /// Serves while the clients play these parts.
@@ -215,6 +217,15 @@ where
                 let mut output = Told { rt, heard };
                 let status = match way {
                     Way::AsSet => serve_on(rt, settings, served, [0; 32], &mut output, errors),
+                    Way::Journal => serve_for_journal(
+                        rt,
+                        settings,
+                        "/etc/adc-hub/hub.toml",
+                        served,
+                        [0; 32],
+                        &mut output,
+                        errors,
+                    ),
                     Way::Flaky => {
                         let address = Flaky(settings.listen());
                         serve_at(rt, settings, served, [0; 32], address, &mut output, errors)

@@ -4,6 +4,9 @@ use crate::server::conversation::Step::{self, Connects, DigestBegins, DigestEnds
 use crate::server::conversation::Who::{Ana, Bob};
 use crate::server::gate::GateHash;
 use crate::server::run::{Ran, Way, runs};
+use crate::warnings::shape;
+use connection_slots::descriptor_limit;
+use second_try::again;
 use std::alloc::AllocGlobal;
 use std::net::{Net, TcpListener, TcpStream};
 use std::process::Abort;
@@ -133,8 +136,8 @@ where
     assert!(rt; ran.errors.is_empty());
 }
 
-/// Runs a server that warns of one session, which ended like this, and stops the test as [`ran`] does.
-fn warns<R>(rt: &R, text: &str, parts: &[&[Step<'_>]], said: &[u8], end: &[u8])
+/// Runs a server that says this on standard error, times and ports apart, and stops the test as [`ran`] does.
+fn warns<R>(rt: &R, text: &str, way: Way, parts: &[&[Step<'_>]], said: &[u8], errors: &[u8])
 where
     R: Wait
         + Threads
@@ -145,10 +148,9 @@ where
         + Abort
         + Sync,
 {
-    let ran = ran(rt, text, Way::AsSet, &gate(rt, true), parts, said);
-    let lines = ran.errors.iter().filter(|byte| **byte == b'\n').count();
-    assert!(rt; lines == 1 && ran.errors.ends_with(b"\n"), "{lines}");
-    assert!(rt; ran.says(end));
+    let ran = ran(rt, text, way, &gate(rt, true), parts, said);
+    let shape = again!(rt; shape(rt.alloc(), &ran.errors));
+    assert!(rt; shape.as_slice() == errors);
 }
 
 #[test]
@@ -357,7 +359,57 @@ fn a_line_too_long_is_warned_of(rt: HostRuntime) {
         Does(Ana, Act::Floods),
         Does(Ana, Act::WaitsForClose),
     ];
-    warns(&rt, ONE, &[flood.as_slice()], ONE_JOINED, b"TooLong");
+    warns(
+        &rt,
+        ONE,
+        Way::AsSet,
+        &[flood.as_slice()],
+        ONE_JOINED,
+        b"TIME 127.0.0.1:PORT a session ended by TooLong\n",
+    );
+}
+
+#[test]
+fn equal_warnings_are_counted(rt: HostRuntime) {
+    let floods = [
+        Connects(Ana),
+        Does(Ana, Act::Floods),
+        Does(Ana, Act::WaitsForClose),
+        Connects(Bob),
+        Does(Bob, Act::Floods),
+        Does(Bob, Act::WaitsForClose),
+    ];
+    warns(
+        &rt,
+        TWO,
+        Way::AsSet,
+        &[floods.as_slice()],
+        TWO_JOINED,
+        b"TIME 127.0.0.1:PORT a session ended by TooLong\n\
+TIME 127.0.0.1 a session ended by TooLong, 1 more since TIME\n",
+    );
+}
+
+#[test]
+fn a_journal_has_priorities_and_a_start_and_an_end(rt: HostRuntime) {
+    let flood = [
+        Connects(Ana),
+        Does(Ana, Act::Floods),
+        Does(Ana, Act::WaitsForClose),
+    ];
+    let allowed = descriptor_limit().expect(&rt, "a limit");
+    let said = again!(&rt; format!(in rt.alloc();
+        "<6>TIME adc_hub 1.0 serves /etc/adc-hub/hub.toml at 127.0.0.1:PORT, descriptors: 36 needed, {allowed} allowed\n\
+<4>TIME 127.0.0.1:PORT a session ended by TooLong\n\
+<6>TIME adc_hub ended: as many connections were served as stop_after says, joins 1\n"));
+    warns(
+        &rt,
+        ONE,
+        Way::Journal,
+        &[flood.as_slice()],
+        ONE_JOINED,
+        said.as_bytes(),
+    );
 }
 
 #[test]
@@ -375,7 +427,14 @@ fn a_connection_that_breaks_off_is_warned_of(rt: HostRuntime) {
         &ANA_CHATS,
         &leaves,
     ];
-    warns(&rt, TWO, &parts, TWO_JOINED, b"ReadFailed");
+    warns(
+        &rt,
+        TWO,
+        Way::AsSet,
+        &parts,
+        TWO_JOINED,
+        b"TIME 127.0.0.1:PORT a session ended by ReadFailed\n",
+    );
 }
 
 #[test]

@@ -1,21 +1,22 @@
 // Tests of what is warned of, and what a failed call of the listener means.
 use adc_sessions::End;
 use connection_slots::{AcceptError, accept_error_of, descriptor_limit, descriptors_needed};
-use hub_server::warning_of;
+use hub_server::cause_of;
+use hub_warnings::Cause;
 use std::io;
 
 #[test]
-fn each_end_by_a_fault_has_its_word(rt: HostRuntime) {
+fn each_end_by_a_fault_has_its_cause(rt: HostRuntime) {
     let rows = [
         (End::Closed, None),
         (End::Ended, None),
-        (End::ReadFailed, Some("ReadFailed")),
-        (End::WriteFailed, Some("WriteFailed")),
-        (End::TooLong, Some("TooLong")),
-        (End::Memory, Some("Memory")),
+        (End::ReadFailed, Some(Cause::ReadFailed)),
+        (End::WriteFailed, Some(Cause::WriteFailed)),
+        (End::TooLong, Some(Cause::TooLong)),
+        (End::Memory, Some(Cause::OutOfMemory)),
     ];
-    for (end, word) in rows {
-        assert!(&rt; warning_of(end) == word, "{end:?}");
+    for (end, cause) in rows {
+        assert!(&rt; cause_of(end) == cause, "{end:?}");
     }
 }
 

@@ -1,0 +1,75 @@
+ghost use Rattle.futures.specs.Task.{IsArmed, Keeps};
+ghost use Rattle.futures.specs.Poll.{OnPending};
+
+use crate::accepted::Accepted;
+use crate::free_slot::OfHub;
+use connection_slots::Ticker;
+use futures::task::{Context, Poll};
+use hub_warnings::Warnings;
+use log::Log;
+use std::sync::Wait;
+use std::time::{Clock, Duration, Instant};
+use tokio::time::Sleep;
+
+/// The number of seconds after which it is looked again what was counted.
+const PERIOD: u64 = 1;
+
+/// The task that keeps time: it ticks, and says each second how many equal warnings were counted in minutes that are over.
+#[derive(Drop)]
+pub(crate) struct TimeTask<'a, B: OfHub<H>, H, R, L> {
+    ticker: Ticker<'a, Accepted<B, H>, R>,
+    timer: Sleep,
+    rt: &'a R,
+    warnings: &'a Warnings<L>,
+}
+
+impl<'a, B: OfHub<H>, H, R: Wait + Clock, L: Log> TimeTask<'a, B, H, R, L> {
+    /// Makes the task, which uses this timer, whatever it is set to.
+    pub(crate) fn new(
+        ticker: Ticker<'a, Accepted<B, H>, R>,
+        timer: Sleep,
+        rt: &'a R,
+        warnings: &'a Warnings<L>,
+    ) -> TimeTask<'a, B, H, R, L> {
+        TimeTask {
+            ticker,
+            timer,
+            rt,
+            warnings,
+        }
+    }
+
+    /// Works as a task does. It is over once the ticker is.
+    pub(crate) fn poll_over(&mut self, cx: &mut Context<'_>) -> Poll<()>
+        ensures registered { OnPending result (IsArmed cx.new) }
+        ensures kept { Keeps cx.old cx.new }
+    {
+        match self.ticker.poll_over(cx) {
+            Poll::Pending => self.wait(cx),
+            Poll::Ready(()) => Poll::Ready(()),
+        }
+    }
+
+    /// Waits for the next second, or says what was counted.
+    fn wait(&mut self, cx: &mut Context<'_>) -> Poll<()>
+        ensures registered { OnPending result (IsArmed cx.new) }
+        ensures kept { Keeps cx.old cx.new }
+    {
+        match self.timer.poll_elapsed(cx) {
+            Poll::Pending => Poll::Pending,
+            Poll::Ready(_) => {
+                self.warnings.tell_over(self.rt);
+                self.set();
+                cx.yield_now()
+            }
+        }
+    }
+
+    fn set(&mut self) {
+        if let Ok(now) = Instant::now(self.rt)
+            && let Some(next) = now.checked_add(Duration::from_secs(PERIOD))
+        {
+            self.timer.reset(next);
+        }
+    }
+}

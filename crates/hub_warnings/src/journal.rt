@@ -1,0 +1,89 @@
+ghost use Rattle.std.specs.Prelude.{◌≡◌, true, [], Some};
+ghost use Rattle.hub_warnings.specs.Texts.{priority_text};
+
+use log::kv::Source;
+use log::span::Spans;
+use log::{Level, Log, Metadata, Record};
+use std::fmt::Display;
+use std::io::Write;
+use std::sync::{Mutex, Wait};
+
+/// Writes the message of each record as a line to `W`, under a lock, so that lines of threads do not mix. For the journal of
+/// systemd a line begins with its priority, as `<4>`. A write that fails is dropped, and a line that stopped part way is
+/// ended before the next.
+#[derive(Drop)]
+pub struct Journal<R: Wait, W> {
+    rt: R,
+    has_priorities: bool,
+    out: Mutex<Out<W>>,
+}
+
+// A writer, and that its last line stopped part way.
+#[derive(Drop)]
+struct Out<W> {
+    writer: W,
+    is_torn: bool,
+}
+
+impl<R: Wait, W: Write> Journal<R, W> {
+    /// Makes a journal over this writer, which the lock of `rt` guards.
+    pub fn new(rt: R, has_priorities: bool, writer: W) -> Journal<R, W> {
+        Journal {
+            rt,
+            has_priorities,
+            out: Mutex::new(Out {
+                writer,
+                is_torn: false,
+            }),
+        }
+    }
+}
+
+impl<W: Write> Out<W> {
+    fn line<D: Display>(&mut self, priority: &str, text: &D) {
+        if self.is_torn && self.writer.write_all(b"\n").is_err() {
+            return;
+        }
+        self.is_torn = writeln!(self.writer, "{priority}{text}").is_err();
+    }
+}
+
+/// Gives what stands before a line of this level for the journal: its priority as in syslog (RFC 5424, section 6.2.1).
+#[tactic(auto, unfolding(crate::specs::Texts::priority_text))]
+fn priority(level: Level) -> &'static str
+    ensures { result.now ≡ priority_text level }
+{
+    match level {
+        Level::Error => "<3>",
+        Level::Warn => "<4>",
+        Level::Info => "<6>",
+        Level::Debug | Level::Trace => "<7>",
+    }
+}
+
+impl<R: Wait, W: Write> Log for Journal<R, W> {
+    ghost enables = { λ _ _ _. Some true };
+
+    ghost target_of = { λ _. Some [] };
+
+    fn enabled(&self, _metadata: &Metadata<'_>) -> bool {
+        true
+    }
+
+    fn log<D: Display, K: Source, S: Spans>(&self, record: &Record<'_, D, K, S>) {
+        let priority = if self.has_priorities {
+            priority(record.level())
+        } else {
+            ""
+        };
+        self.out.lock(&self.rt).line(priority, record.args());
+    }
+
+    fn flush(&self) {
+        let _ = self.out.lock(&self.rt).writer.flush();
+    }
+
+    fn target(&self) -> &str {
+        ""
+    }
+}
