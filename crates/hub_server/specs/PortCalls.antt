@@ -14,10 +14,10 @@ module _ {H : Type 0} (setup : Configured) (hash : List ℕ → List ℕ) where
   IsSamePass a b = b ≡ record a { caller = b.caller }
 
   -- A line that is handed over is one call of the hub with exactly that line, and what is said of it is the hub's answer. A take is one
-  -- take of the hub, and gives exactly the bytes that the hub answered. Where a call is refused, the hub has answered no call.
+  -- take of the hub of as many lines, and gives exactly the bytes that the hub answered. Where a call is refused, the hub has answered no call.
   abbrev pub Calls : PassState H → PortCall → PassState H → Type 0
   Calls a (handed line verdict) b = IsSamePass a b × ((now : ℕ) × Made setup hash a.caller (Line a.connection line now) (Said verdict) b.caller)
-  Calls a (took bytes taken) b = IsSamePass a b × ((count : ℕ) × Made setup hash a.caller (Take a.connection count) (Took bytes taken.lines taken.ended) b.caller)
+  Calls a (took count bytes taken) b = IsSamePass a b × Made setup hash a.caller (Take a.connection count) (Took bytes taken.lines taken.ended) b.caller
   Calls a refused b = IsSamePass a b × ((b.caller ≡ a.caller) ⊎ Saw setup hash a.caller b.caller)
 
   -- to leave is to quit the hub

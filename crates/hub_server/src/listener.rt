@@ -120,6 +120,11 @@ impl<'a, R: Wait + Clock, L: Log, I: Listens> Listener<'a, R, L, I> {
 impl<R: Wait + Clock, L: Log, I: Listens> Incoming for Listener<'_, R, L, I> {
     type Stream = TcpStream;
 
+    ghost use Rattle.std.specs.Prelude.{⊤};
+
+    // A socket's contract says nothing of who comes, so nothing is said of whom a listener brings.
+    ghost brings = { λ _ _ _. ⊤ };
+
     fn poll_incoming(&mut self, cx: &mut Context<'_>) -> Poll<io::Result<(TcpStream, Peer)>> {
         for attempt in 0..ATTEMPTS {
             if !self.has_rested(cx) {
