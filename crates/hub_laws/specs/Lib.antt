@@ -4,3 +4,4 @@ pub mod Delivery
 pub mod Joining
 pub mod Routing
 pub mod Leaving
+pub mod Registered

@@ -57,9 +57,9 @@ MessagesAreRouted =
     (setup : Configured) (hash : List ℕ → List ℕ) (h : List Entry) (c d : ℕ) (bytes : List ℕ) (now : ℕ) (line : Reading) → IsMessage setup hash h c bytes now line
     → share setup hash (facts setup hash h) d (Line c bytes now)
     ≡ given_if
-        (is_present (stage setup hash h d)
-        && is_for line.kind line (is_target_here (sight_of setup (facts setup hash h)) line.target) (sid setup hash h c) (sid setup hash h d) (su_in (info setup hash h d)))
-        (ended line.text ∷ [])
+    (is_present (stage setup hash h d)
+    && is_for line.kind line (is_target_here (sight_of setup (facts setup hash h)) line.target) (sid setup hash h c) (sid setup hash h d) (su_in (info setup hash h d)))
+    (ended line.text ∷ [])
 
 -- ---- what owes nobody anything
 

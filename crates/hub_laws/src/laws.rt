@@ -12,6 +12,7 @@ ghost use Rattle.hub_rules.specs.World.{BanIsTheLastAct, TopicIsTheLast};
 ghost use Rattle.hub_laws.specs.Delivery.{DeliveredAreTheFirst};
 ghost use Rattle.hub_laws.specs.Joining.{JoinsAreCounted, JoinsStay};
 ghost use Rattle.hub_laws.specs.Leaving.{KicksShutOut, OutIsForGood, WhoIsOutHearsNothing};
+ghost use Rattle.hub_laws.specs.Registered.{NicksAreProved, OnlyAccountsEnter};
 ghost use Rattle.hub_laws.specs.Routing.{EmptyLinesOweNothing, JoinsAndTakesOweNothing, MessagesAreRouted, QuietQuits, WhoIsOutIsNotHeard};
 
 /// Says who is present: exactly those whose connections are at the stage NORMAL, all of them open; who never joined, or
@@ -64,6 +65,14 @@ pub fn leaving_laws()
     ensures nothing { WhoIsOutHearsNothing }
     ensures stays { OutIsForGood }
     ensures kicks { KicksShutOut }
+{}
+
+/// Says who is who: whoever is present under the nick of an account gave, while the hub waited for it, a password that is the account's,
+/// hashed with the challenge of its own join (ADC 1.0, "GPA", "PAS"). Where only registered users may enter, all who are present have
+/// accounts.
+pub fn account_laws()
+    ensures proved { NicksAreProved }
+    ensures registered { OnlyAccountsEnter }
 {}
 
 /// Says what operators left: of a ban what the last act on its client identifier leaves, and the topic that was set last.
