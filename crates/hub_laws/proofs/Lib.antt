@@ -10,6 +10,7 @@ pub mod Heard
 pub mod Joining
 pub mod Lagging
 pub mod Leaving
+pub mod Operating
 pub mod Passing
 pub mod Routing
 pub mod Scenes

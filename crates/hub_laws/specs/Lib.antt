@@ -5,3 +5,4 @@ pub mod Joining
 pub mod Routing
 pub mod Leaving
 pub mod Registered
+pub mod Operating

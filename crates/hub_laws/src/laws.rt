@@ -12,6 +12,7 @@ ghost use Rattle.hub_rules.specs.World.{BanIsTheLastAct, TopicIsTheLast};
 ghost use Rattle.hub_laws.specs.Delivery.{DeliveredAreTheFirst};
 ghost use Rattle.hub_laws.specs.Joining.{JoinsAreCounted, JoinsStay};
 ghost use Rattle.hub_laws.specs.Leaving.{KicksShutOut, OutIsForGood, WhoIsOutHearsNothing};
+ghost use Rattle.hub_laws.specs.Operating.{NobodyBannedEnters, OnlyOperatorsBan, OnlyOperatorsSetTopics, OnlyOperatorsShutOut};
 ghost use Rattle.hub_laws.specs.Registered.{NicksAreProved, OnlyAccountsEnter};
 ghost use Rattle.hub_laws.specs.Routing.{EmptyLinesOweNothing, JoinsAndTakesOweNothing, MessagesAreRouted, QuietQuits, WhoIsOutIsNotHeard};
 
@@ -75,10 +76,16 @@ pub fn account_laws()
     ensures registered { OnlyAccountsEnter }
 {}
 
-/// Says what operators left: of a ban what the last act on its client identifier leaves, and the topic that was set last.
+/// Says what operators left: of a ban what the last act on its client identifier leaves, and the topic that was set last. Nobody
+/// enters while its client identifier has a ban. A call that is no line of an operator who is present changes no ban, no topic, and
+/// the stage of no connection but its own.
 pub fn operator_laws()
     ensures bans { BanIsTheLastAct }
     ensures topic { TopicIsTheLast }
+    ensures banned { NobodyBannedEnters }
+    ensures only_bans { OnlyOperatorsBan }
+    ensures only_topics { OnlyOperatorsSetTopics }
+    ensures only_removals { OnlyOperatorsShutOut }
 {}
 
 /// Says what is known of a client: it supports the features whose last mention in any of its accepted SUP adds them (ADC
