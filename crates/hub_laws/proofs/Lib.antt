@@ -1,4 +1,5 @@
 pub mod Apart
+pub mod Banning
 pub mod Checked
 pub mod Clearing
 pub mod Conversations
@@ -7,6 +8,7 @@ pub mod Distinct
 pub mod Entrances
 pub mod Entries
 pub mod Heard
+pub mod Holding
 pub mod Joining
 pub mod Lagging
 pub mod Leaving

@@ -52,15 +52,15 @@ use Rattle.hub_laws.proofs.Worlds.{step-bans, step-topic}
 abbrev may_act : Sight → Own → Bool
 may_act hub own = is_present own.stage && is_operator hub own
 
-same-denial : (own : Own) (deny : Deny) → (denial own deny).world ≡ worlds.Same
+pub same-denial : (own : Own) (deny : Deny) → (denial own deny).world ≡ worlds.Same
 unfolding denial
 same-denial own deny = refl
 
-same-greets : (hub : Sight) (own : Own) (now : ℕ) (r : Result (List (List ℕ)) SupFault) → (greets hub own now r).world ≡ worlds.Same
+pub same-greets : (hub : Sight) (own : Own) (now : ℕ) (r : Result (List (List ℕ)) SupFault) → (greets hub own now r).world ≡ worlds.Same
 same-greets hub own now (Ok features) = refl
 same-greets hub own now (Err fault) = refl
 
-same-learns : (r : Result (List (List ℕ)) SupFault) → (learns r).world ≡ worlds.Same
+pub same-learns : (r : Result (List (List ℕ)) SupFault) → (learns r).world ≡ worlds.Same
 same-learns (Ok features) = refl
 same-learns (Err fault) = refl
 
@@ -68,11 +68,11 @@ same-admits : (hub : Sight) (own : Own) (line : PreparedLine) (u : List Field) (
 same-admits hub own line u true = refl
 same-admits hub own line u false = refl
 
-same-login : (hub : Sight) (own : Own) (line : PreparedLine) (r : Result (List Field) InfFault) → (logs_in hub own line r).world ≡ worlds.Same
+pub same-login : (hub : Sight) (own : Own) (line : PreparedLine) (r : Result (List Field) InfFault) → (logs_in hub own line r).world ≡ worlds.Same
 same-login hub own line (Ok u) = same-admits hub own line u (is_account hub (user_after own u).key)
 same-login hub own line (Err fault) = refl
 
-same-update : (own : Own) (r : Result (List Field) InfFault) → (updates_user own r).world ≡ worlds.Same
+pub same-update : (own : Own) (r : Result (List Field) InfFault) → (updates_user own r).world ≡ worlds.Same
 same-update own (Ok u) = refl
 same-update own (Err fault) = refl
 

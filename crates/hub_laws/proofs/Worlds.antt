@@ -30,7 +30,7 @@ one-topic (worlds.Ban banned) before = refl
 one-topic (worlds.Unban cid) before = refl
 one-topic (worlds.Topic text) before = refl
 
-join-bans : (f : Facts) (owner : ℕ) (peer challenge : List ℕ) (accepted : Bool) → (chosen accepted (joined f owner peer challenge) f).bans ≡ f.bans
+pub join-bans : (f : Facts) (owner : ℕ) (peer challenge : List ℕ) (accepted : Bool) → (chosen accepted (joined f owner peer challenge) f).bans ≡ f.bans
 unfolding joined
 join-bans f owner peer challenge true = refl
 join-bans f owner peer challenge false = refl

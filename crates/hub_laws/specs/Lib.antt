@@ -6,3 +6,4 @@ pub mod Routing
 pub mod Leaving
 pub mod Registered
 pub mod Operating
+pub mod Holding

@@ -10,6 +10,7 @@ ghost use Rattle.hub_rules.specs.Said.{FeaturesAreLastAdded, InfoIsMerged};
 ghost use Rattle.hub_rules.specs.Searched.{SearchIsTheLast, TotalsAreSums};
 ghost use Rattle.hub_rules.specs.World.{BanIsTheLastAct, TopicIsTheLast};
 ghost use Rattle.hub_laws.specs.Delivery.{DeliveredAreTheFirst};
+ghost use Rattle.hub_laws.specs.Holding.{BansAreApart, BansAreFew};
 ghost use Rattle.hub_laws.specs.Joining.{JoinsAreCounted, JoinsStay};
 ghost use Rattle.hub_laws.specs.Leaving.{KicksShutOut, OutIsForGood, WhoIsOutHearsNothing};
 ghost use Rattle.hub_laws.specs.Operating.{NobodyBannedEnters, OnlyOperatorsBan, OnlyOperatorsSetTopics, OnlyOperatorsShutOut};
@@ -77,12 +78,14 @@ pub fn account_laws()
 {}
 
 /// Says what operators left: of a ban what the last act on its client identifier leaves, and the topic that was set last. Nobody
-/// enters while its client identifier has a ban. A call that is no line of an operator who is present changes no ban, no topic, and
+/// enters while its client identifier has a ban; at most 1,024 client identifiers have one, and each has one. A call that is no line of an operator who is present changes no ban, no topic, and
 /// the stage of no connection but its own.
 pub fn operator_laws()
     ensures bans { BanIsTheLastAct }
     ensures topic { TopicIsTheLast }
     ensures banned { NobodyBannedEnters }
+    ensures few { BansAreFew }
+    ensures apart { BansAreApart }
     ensures only_bans { OnlyOperatorsBan }
     ensures only_topics { OnlyOperatorsSetTopics }
     ensures only_removals { OnlyOperatorsShutOut }

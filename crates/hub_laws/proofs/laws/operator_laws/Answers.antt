@@ -1,3 +1,4 @@
+use Rattle.hub_laws.proofs.Banning.{bans_are_apart, bans_are_few}
 use Rattle.hub_laws.proofs.Operating.{nobody_banned_enters, only_operators_ban, only_operators_set_topics, only_operators_shut_out}
 use Rattle.hub_laws.proofs.Worlds.{ban_is_the_last_act, topic_is_the_last}
 use Rattle.hub_laws.proofs.laws.operator_laws.Goals as goal
@@ -19,3 +20,9 @@ returns-clause-only_topics c = only_operators_set_topics
 
 pub returns-clause-only_removals : goal.returns-clause-only_removals
 returns-clause-only_removals c = only_operators_shut_out
+
+pub returns-clause-few : goal.returns-clause-few
+returns-clause-few c = bans_are_few
+
+pub returns-clause-apart : goal.returns-clause-apart
+returns-clause-apart c = bans_are_apart
