@@ -15,11 +15,11 @@ use Rattle.hub_laws.specs.Joining.{IsAsJoined, JoinsAreCounted, JoinsStay, accep
 use Rattle.hub_invariants.proofs.Kept.{joins-grow}
 
 -- a connection has what it joined with
-record IsSame (a b : About) : Type 0 where
-  owner : b.owner ≡ a.owner
-  peer : b.peer ≡ a.peer
-  challenge : b.challenge ≡ a.challenge
-  sid : b.sid ≡ a.sid
+pub record IsSame (a b : About) : Type 0 where
+  pub owner : b.owner ≡ a.owner
+  pub peer : b.peer ≡ a.peer
+  pub challenge : b.challenge ≡ a.challenge
+  pub sid : b.sid ≡ a.sid
 
 unchanged : (a : About) → IsSame a a
 unchanged a = record { owner = refl; peer = refl; challenge = refl; sid = refl }
@@ -42,7 +42,7 @@ removed-same : (removed : Bool) (a b : About) → IsSame a b → IsSame a (remov
 removed-same true a b same = record { owner = same.owner; peer = same.peer; challenge = same.challenge; sid = same.sid }
 removed-same false a b same = same
 
-effect-same : (c : ℕ) (effect : Effect) (f : Facts) (d : ℕ) → IsSame (f.about d) (about_after c effect f.about d)
+pub effect-same : (c : ℕ) (effect : Effect) (f : Facts) (d : ℕ) → IsSame (f.about d) (about_after c effect f.about d)
 effect-same c effect f d =
     removed-same (is_present (f.about d).stage && is_removed effect.world (f.about d).sid) (f.about d) _
     (turned-same (d == c) effect (f.about d) (with_share (f.about d) (owes (d == c) effect (f.about d))) (with_share-same (f.about d) (owes (d == c) effect (f.about d))))

@@ -30,7 +30,7 @@ one-topic (worlds.Ban banned) before = refl
 one-topic (worlds.Unban cid) before = refl
 one-topic (worlds.Topic text) before = refl
 
-join-bans : (f : Facts) (owner : ℕ) (peer challenge : List ℕ) (accepted : Bool) → (chosen accepted (joined f owner peer challenge) f).bans ≡ f.bans
+pub join-bans : (f : Facts) (owner : ℕ) (peer challenge : List ℕ) (accepted : Bool) → (chosen accepted (joined f owner peer challenge) f).bans ≡ f.bans
 unfolding joined
 join-bans f owner peer challenge true = refl
 join-bans f owner peer challenge false = refl
@@ -40,7 +40,7 @@ unfolding joined
 join-topic f owner peer challenge true = refl
 join-topic f owner peer challenge false = refl
 
-step-bans : (setup : Configured) (hash : List ℕ → List ℕ) (f : Facts) (caller : ℕ) (call : Call)
+pub step-bans : (setup : Configured) (hash : List ℕ → List ℕ) (f : Facts) (caller : ℕ) (call : Call)
     → (after setup hash f caller call).bans ≡ fold act_on f.bans (ban_act_of (world_of setup hash f call))
 unfolding after happens closed
 step-bans setup hash f caller (Join peer challenge now) = join-bans f caller peer challenge (has_place setup f && has_joins f)
@@ -48,7 +48,7 @@ step-bans setup hash f caller (Line c bytes now) = one-act (effect_of_line setup
 step-bans setup hash f caller (Quit c) = refl
 step-bans setup hash f caller (Take c count) = refl
 
-step-topic : (setup : Configured) (hash : List ℕ → List ℕ) (f : Facts) (caller : ℕ) (call : Call)
+pub step-topic : (setup : Configured) (hash : List ℕ → List ℕ) (f : Facts) (caller : ℕ) (call : Call)
     → (after setup hash f caller call).topic ≡ topic_of (world_of setup hash f call) f.topic
 unfolding after happens closed
 step-topic setup hash f caller (Join peer challenge now) = join-topic f caller peer challenge (has_place setup f && has_joins f)

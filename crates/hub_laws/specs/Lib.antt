@@ -4,3 +4,6 @@ pub mod Delivery
 pub mod Joining
 pub mod Routing
 pub mod Leaving
+pub mod Registered
+pub mod Operating
+pub mod Holding

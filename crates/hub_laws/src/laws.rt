@@ -10,8 +10,11 @@ ghost use Rattle.hub_rules.specs.Said.{FeaturesAreLastAdded, InfoIsMerged};
 ghost use Rattle.hub_rules.specs.Searched.{SearchIsTheLast, TotalsAreSums};
 ghost use Rattle.hub_rules.specs.World.{BanIsTheLastAct, TopicIsTheLast};
 ghost use Rattle.hub_laws.specs.Delivery.{DeliveredAreTheFirst};
+ghost use Rattle.hub_laws.specs.Holding.{BansAreApart, BansAreFew};
 ghost use Rattle.hub_laws.specs.Joining.{JoinsAreCounted, JoinsStay};
 ghost use Rattle.hub_laws.specs.Leaving.{KicksShutOut, OutIsForGood, WhoIsOutHearsNothing};
+ghost use Rattle.hub_laws.specs.Operating.{NobodyBannedEnters, OnlyOperatorsBan, OnlyOperatorsSetTopics, OnlyOperatorsShutOut};
+ghost use Rattle.hub_laws.specs.Registered.{NicksAreProved, OnlyAccountsEnter};
 ghost use Rattle.hub_laws.specs.Routing.{EmptyLinesOweNothing, JoinsAndTakesOweNothing, MessagesAreRouted, QuietQuits, WhoIsOutIsNotHeard};
 
 /// Says who is present: exactly those whose connections are at the stage NORMAL, all of them open; who never joined, or
@@ -66,10 +69,26 @@ pub fn leaving_laws()
     ensures kicks { KicksShutOut }
 {}
 
-/// Says what operators left: of a ban what the last act on its client identifier leaves, and the topic that was set last.
+/// Says who is who: whoever is present under the nick of an account gave, while the hub waited for it, a password that is the account's,
+/// hashed with the challenge of its own join (ADC 1.0, "GPA", "PAS"). Where only registered users may enter, all who are present have
+/// accounts.
+pub fn account_laws()
+    ensures proved { NicksAreProved }
+    ensures registered { OnlyAccountsEnter }
+{}
+
+/// Says what operators left: of a ban what the last act on its client identifier leaves, and the topic that was set last. Nobody
+/// enters while its client identifier has a ban; at most 1,024 client identifiers have one, and each has one. A call that is no line of an operator who is present changes no ban, no topic, and
+/// the stage of no connection but its own.
 pub fn operator_laws()
     ensures bans { BanIsTheLastAct }
     ensures topic { TopicIsTheLast }
+    ensures banned { NobodyBannedEnters }
+    ensures few { BansAreFew }
+    ensures apart { BansAreApart }
+    ensures only_bans { OnlyOperatorsBan }
+    ensures only_topics { OnlyOperatorsSetTopics }
+    ensures only_removals { OnlyOperatorsShutOut }
 {}
 
 /// Says what is known of a client: it supports the features whose last mention in any of its accepted SUP adds them (ADC

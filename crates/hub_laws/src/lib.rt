@@ -5,7 +5,7 @@ mod laws;
 mod worked_conversations;
 
 pub use laws::{
-    counting_laws, identifier_laws, knowledge_laws, leaving_laws, operator_laws, presence_laws,
-    routing_laws, take_laws,
+    account_laws, counting_laws, identifier_laws, knowledge_laws, leaving_laws, operator_laws,
+    presence_laws, routing_laws, take_laws,
 };
 pub use worked_conversations::{worked_chats, worked_logins};
