@@ -96,13 +96,16 @@ impl<'a, B: OfHub<H>, H: SessionHash, R: Wait + Clock + AllocGlobal, L: Log> Acc
 
 impl<B: OfHub<H>, H: SessionHash, R: Wait + Clock + AllocGlobal, L: Log> Starter<TcpStream>
     for Acceptor<'_, B, H, R, L> {
-    ghost use Rattle.std.specs.Prelude.{⊤};
+    ghost use Rattle.std.specs.Prelude.{◌≡◌};
+    ghost use Rattle.hub_challenges.specs.Dealing.{after_dealt};
+    ghost use Rattle.hub_challenges.proofs.Dealing.{after-more, after-none};
 
-    ghost starts = { λ _ _ _. ⊤ };
+    // Each stream that was accepted has drawn a challenge of its own, the next one.
+    ghost starts = { λ a n b. b.challenges ≡ after_dealt n a.challenges };
 
-    ghost starts_nothing = { λ _. tt };
+    ghost starts_nothing = { λ a. after-none a.challenges };
 
-    ghost starts_in_order = { λ _ _ _ _ _ _ _. tt };
+    ghost starts_in_order = { λ a n b m c. after-more n m a.challenges b.challenges c.challenges };
 
     fn start(&mut self, stream: TcpStream, peer: Peer) {
         let challenge = self.challenges.next();
