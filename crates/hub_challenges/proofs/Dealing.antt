@@ -1,19 +1,16 @@
 -- Challenges one after another.
-use Rattle.std.proofs.Common.{◌≡◌, ◌∙◌, sym, ap, refl, ℕ, zero, suc, ◌+◌, arith}
+use Rattle.std.proofs.Common.{◌≡◌, ◌∙◌, ap, refl, ℕ, zero, suc, ◌+◌, arith}
 use Rattle.rand_chacha.specs.ChaCha.{ChaCha}
 use Rattle.hub_challenges.specs.Dealing.{after_dealt, dealt}
 
 pub after-none : (stream : ChaCha) → stream ≡ after_dealt 0 stream
-unfolding after_dealt
 after-none stream = refl
 
 pub after-one : (stream next : ChaCha) → next ≡ (dealt stream).1 → next ≡ after_dealt 1 stream
-unfolding after_dealt
 after-one stream next is = is
 
 -- so many, and then so many more
 more : (n m : ℕ) (stream : ChaCha) → after_dealt m (after_dealt n stream) ≡ after_dealt (n + m) stream
-unfolding after_dealt
 more zero m stream = let e : m ≡ 0 + m = omega arith in ap (λ k. after_dealt k stream) e
 more (suc n) m stream =
     let e : suc (n + m) ≡ suc n + m = omega arith in

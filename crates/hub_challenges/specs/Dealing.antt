@@ -8,6 +8,6 @@ abbrev pub dealt : ChaCha → List ℕ × ChaCha
 dealt stream = fill_via_u32 (next_word 10) 24 stream
 
 -- the stream behind so many challenges
-unfoldable pub after_dealt : ℕ → ChaCha → ChaCha
+abbrev pub after_dealt : ℕ → ChaCha → ChaCha
 after_dealt zero stream = stream
 after_dealt (suc n) stream = after_dealt n (dealt stream).1
