@@ -14,9 +14,11 @@ pub mod Lagging
 pub mod Leaving
 pub mod Operating
 pub mod Passing
+pub mod Public
 pub mod Routing
 pub mod Scenes
 pub mod Searching
+pub mod Secrets
 pub mod Stages
 pub mod Turning
 pub mod Vouching

@@ -7,3 +7,4 @@ pub mod Leaving
 pub mod Registered
 pub mod Operating
 pub mod Holding
+pub mod Secrets

@@ -16,6 +16,7 @@ ghost use Rattle.hub_laws.specs.Leaving.{KicksShutOut, OutIsForGood, WhoIsOutHea
 ghost use Rattle.hub_laws.specs.Operating.{NobodyBannedEnters, OnlyOperatorsBan, OnlyOperatorsSetTopics, OnlyOperatorsShutOut};
 ghost use Rattle.hub_laws.specs.Registered.{NicksAreProved, OnlyAccountsEnter};
 ghost use Rattle.hub_laws.specs.Routing.{EmptyLinesOweNothing, JoinsAndTakesOweNothing, MessagesAreRouted, QuietQuits, WhoIsOutIsNotHeard};
+ghost use Rattle.hub_laws.specs.Secrets.{InfoIsPublic};
 
 /// Says who is present: exactly those whose connections are at the stage NORMAL, all of them open; who never joined, or
 /// quit, is shut out (ADC 1.0, "States"). They stand in the order of the entries by which they entered. In a legal history
@@ -75,6 +76,12 @@ pub fn leaving_laws()
 pub fn account_laws()
     ensures proved { NicksAreProved }
     ensures registered { OnlyAccountsEnter }
+{}
+
+/// Says what stays secret: what is known of a user holds no private identifier (PD), nothing that a hub alone may say (CT), no address that
+/// the hub can't check (I6, U6), and no other I4 than the address that the hub sees (ADC 1.0, "INF").
+pub fn secret_laws()
+    ensures info { InfoIsPublic }
 {}
 
 /// Says what operators left: of a ban what the last act on its client identifier leaves, and the topic that was set last. Nobody
