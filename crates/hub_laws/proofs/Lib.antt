@@ -22,4 +22,5 @@ pub mod Secrets
 pub mod Stages
 pub mod Turning
 pub mod Vouching
+pub mod Welcoming
 pub mod Worlds

@@ -1,8 +1,7 @@
 -- After every history what is known of a user may be known.
-use Rattle.std.proofs.Common.{◌≡◌, ◌∙◌, sym, ap, ap₂, refl, subst, ℕ, ◌+◌, Bool, true, false, not, ◌&&◌, ◌⊎◌, inl, inr, ◌==◌, List, [], ◌∷◌, Option, Some, None, Result, Ok, Err}
-use Rattle.std.specs.Prelude.{if◌then◌else◌}
+use Rattle.std.proofs.Common.{◌≡◌, ◌∙◌, sym, refl, subst, ℕ, ◌+◌, Bool, true, false, ◌&&◌, ◌==◌, List, [], ◌∷◌, Option, None, Result, Ok, Err}
 use Rattle.std.specs.List.{AllByRecursion}
-use Rattle.std.proofs.lemmas.Bool.{false≢true, eqb-true}
+use Rattle.std.proofs.lemmas.Bool.{eqb-true}
 use Rattle.adc_line.specs.Lines.{Reading}
 use Rattle.inf_fields.specs.Cleaning.{clean}
 use Rattle.inf_fields.specs.Field.{Field}
@@ -29,7 +28,6 @@ use Rattle.user_table.specs.Listed.{Listed}
 use Rattle.hub_rules.specs.declared.effect.Effect.{Effect}
 use Rattle.hub_rules.specs.declared.history.Call.{Call}
 use Rattle.hub_rules.specs.declared.history.Call.TheVariants.{Join, Line, Quit, Take}
-use Rattle.hub_rules.specs.declared.history.Entry.{Entry}
 use Rattle.hub_rules.specs.declared.request.Request.{Request}
 use Rattle.hub_rules.specs.declared.request.Request.TheVariants as requests
 use Rattle.hub_rules.specs.Acts.{act_effect}
@@ -41,7 +39,6 @@ use Rattle.hub_rules.specs.Facts.{Facts, facts, about_after, after, closed, effe
 use Rattle.hub_rules.specs.Identities as identities
 use Rattle.hub_rules.specs.Identities.{listed}
 use Rattle.hub_rules.specs.Prepared.{prepared}
-use Rattle.hub_rules.specs.Quiet.{nothing}
 use Rattle.hub_rules.specs.Requests.{request_of}
 use Rattle.hub_rules.specs.Shares.{About, chosen, fields_after}
 use Rattle.hub_rules.specs.Sights.{Own, PreparedLine, Sight, is_account, user_after}

@@ -8,3 +8,4 @@ pub mod Registered
 pub mod Operating
 pub mod Holding
 pub mod Secrets
+pub mod Welcoming

@@ -17,6 +17,7 @@ ghost use Rattle.hub_laws.specs.Operating.{NobodyBannedEnters, OnlyOperatorsBan,
 ghost use Rattle.hub_laws.specs.Registered.{NicksAreProved, OnlyAccountsEnter};
 ghost use Rattle.hub_laws.specs.Routing.{EmptyLinesOweNothing, JoinsAndTakesOweNothing, MessagesAreRouted, QuietQuits, WhoIsOutIsNotHeard};
 ghost use Rattle.hub_laws.specs.Secrets.{InfoIsPublic};
+ghost use Rattle.hub_laws.specs.Welcoming.{EntrantsAreWelcomed, EntriesAreHeard};
 
 /// Says who is present: exactly those whose connections are at the stage NORMAL, all of them open; who never joined, or
 /// quit, is shut out (ADC 1.0, "States"). They stand in the order of the entries by which they entered. In a legal history
@@ -52,10 +53,14 @@ pub fn take_laws()
 {}
 
 /// Says who is owed a message that a user may send, by its type: all who are present, its target, target and sender, or those
-/// who have certain features (ADC 1.0, "Message types"). A join, a take, an empty line, a line of a connection that is shut
-/// out, and the quit of one whose user was not present owe nobody anything.
+/// who have certain features (ADC 1.0, "Message types"). Where a user enters, all who are present hear who it is, once; it
+/// hears who they are, in order of entry, who it is itself, and the menu, where its client has one (ADC 1.0, "INF"; ADC-EXT,
+/// "UCMD"). A join, a take, an empty line, a line of a connection that is shut out, and the quit of one whose user was not
+/// present owe nobody anything.
 pub fn routing_laws()
     ensures messages { MessagesAreRouted }
+    ensures entries { EntriesAreHeard }
+    ensures entrants { EntrantsAreWelcomed }
     ensures calls { JoinsAndTakesOweNothing }
     ensures empty { EmptyLinesOweNothing }
     ensures out { WhoIsOutIsNotHeard }
