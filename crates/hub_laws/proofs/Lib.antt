@@ -12,6 +12,7 @@ pub mod Holding
 pub mod Joining
 pub mod Lagging
 pub mod Leaving
+pub mod Naming
 pub mod Operating
 pub mod Passing
 pub mod Public
@@ -21,6 +22,7 @@ pub mod Searching
 pub mod Secrets
 pub mod Stages
 pub mod Turning
+pub mod Updating
 pub mod Vouching
 pub mod Welcoming
 pub mod Worlds

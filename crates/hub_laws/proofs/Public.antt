@@ -59,21 +59,21 @@ right-address : (severity : Severity) (address : Address) → wrong_address seve
 right-address severity Right none = refl
 right-address severity (Wrong peer) none = absurd (some-none (denials.Address severity peer) none)
 
-login-address : (hub : Sight) (now : ℕ) (peer : List ℕ) (digest : Option (List ℕ)) (u : List Field) (user : Listed)
+pub login-address : (hub : Sight) (now : ℕ) (peer : List ℕ) (digest : Option (List ℕ)) (u : List Field) (user : Listed)
     → (login_ask hub now peer digest u user).address ≡ address_found peer (identities.given address_name u)
 unfolding login_ask
 login-address hub now peer digest u user = refl
 
-update-address : (hub : Sight) (own : Own) (u : List Field) (user : Listed) → (update_ask hub own u user).address ≡ address_found own.peer (identities.given address_name u)
+pub update-address : (hub : Sight) (own : Own) (u : List Field) (user : Listed) → (update_ask hub own u user).address ≡ address_found own.peer (identities.given address_name u)
 unfolding update_ask
 update-address hub own u user = refl
 
-login-right : (ask : InfAsk) → first_denial (inf_rules ask) ≡ checks.Go → ask.address ≡ Right
+pub login-right : (ask : InfAsk) → first_denial (inf_rules ask) ≡ checks.Go → ask.address ≡ Right
 login-right ask gone =
     let none : AllNone (inf_rules ask) = all-none (inf_rules ask) gone in
     right-address Fatal ask.address none.1.1.1.1.1.1.1.1.1.1.1.0
 
-update-right : (ask : UpdateAsk) → first_denial (update_rules ask) ≡ checks.Go → ask.address ≡ Right
+pub update-right : (ask : UpdateAsk) → first_denial (update_rules ask) ≡ checks.Go → ask.address ≡ Right
 update-right ask gone =
     let none : AllNone (update_rules ask) = all-none (update_rules ask) gone in
     right-address Recoverable ask.address none.1.1.1.1.1.1.0

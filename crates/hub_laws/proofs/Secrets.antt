@@ -56,7 +56,7 @@ named (f ∷ u) = (
 -- ---- what may be passed on
 
 -- an update of which others may hear: it has nothing that is held back, and names no address but the one that the hub sees, or none
-pub record IsPassed (peer : List ℕ) (u : List Field) : Type 0 where
+pub record HasPassed (peer : List ℕ) (u : List Field) : Type 0 where
   pub kept : AllByRecursion (λ (f : Field). is_held_back f ≡ false) u
   pub address : (v : List ℕ) → value_of address_name u ≡ Some v → (v ≡ []) ⊎ (v ≡ dotted peer)
 
@@ -81,7 +81,7 @@ clean-kept (f ∷ u) peer = keep-if peer f (filter (λ g. not (is_held_back g)) 
 -- ---- the address in it
 
 -- an address is filled in where the client asks for that
-abbrev filled : List ℕ → List ℕ → List ℕ
+abbrev pub filled : List ℕ → List ℕ → List ℕ
 filled peer v = if bytes_eq any_address v then dotted peer else v
 
 held-name : (name : List ℕ) → bytes_eq address_name name ≡ true → is_held_back (field name []) ≡ false
@@ -132,14 +132,14 @@ is-right peer w false true own is-none is-any is-own right = inr (ap (filled pee
 is-right peer w false false true is-none is-any is-own right = inr (ap (filled peer) ((bytes_eq-Decides w (dotted peer)).0 is-own) ∙ filled-own peer (bytes_eq any_address (dotted peer)))
 is-right peer w false false false is-none is-any is-own right = let none : ⊥ = cc right in absurd none
 
-passed-address : (peer : List ℕ) (o : Option (List ℕ)) (v : List ℕ) → address_found peer (unwrap_or o []) ≡ Right → option_map (filled peer) o ≡ Some v → (v ≡ []) ⊎ (v ≡ dotted peer)
+pub passed-address : (peer : List ℕ) (o : Option (List ℕ)) (v : List ℕ) → address_found peer (unwrap_or o []) ≡ Right → option_map (filled peer) o ≡ Some v → (v ≡ []) ⊎ (v ≡ dotted peer)
 passed-address peer None v right is = let none : ⊥ = cc is in absurd none
 passed-address peer (Some w) v right is =
     let e : filled peer w ≡ v = cc is in
     subst (λ (x : List ℕ). (x ≡ []) ⊎ (x ≡ dotted peer)) e
     (is-right peer w (length w == 0) (bytes_eq w asks.any_address) (bytes_eq w (dotted peer)) refl refl refl right)
 
-pub clean-passed : (u : List Field) (peer : List ℕ) → address_found peer (given address_name u) ≡ Right → IsPassed peer (clean u peer)
+pub clean-passed : (u : List Field) (peer : List ℕ) → address_found peer (given address_name u) ≡ Right → HasPassed peer (clean u peer)
 clean-passed u peer right = record {
   kept = clean-kept u peer;
   address = λ v is. passed-address peer (value_of address_name u) v right (sym (address-clean u peer) ∙ is);
@@ -159,7 +159,7 @@ renewed-value : (peer : List ℕ) (name value : List ℕ) (o : Option (List ℕ)
 renewed-value peer name value None address own stays = own refl
 renewed-value peer name value (Some v) address own stays = by-value peer v (address v refl) stays
 
-renewed-public : (peer : List ℕ) (u : List Field) (f : Field) → IsPassed peer u → is_held_back f ≡ false
+renewed-public : (peer : List ℕ) (u : List Field) (f : Field) → HasPassed peer u → is_held_back f ≡ false
     → (is_called address_name f ≡ true → value_of f.name u ≡ None → f.value ≡ dotted peer) → leave (u ∷ []) f.name ≡ true → IsPublic peer (renewed u f)
 renewed-public peer u f passed held own stays = (
   held,
@@ -184,7 +184,7 @@ none-named : (o : Option (List ℕ)) → is_some o ≡ true → o ≡ None → �
 none-named None some none = false≢true some
 none-named (Some v) some none = cc none
 
-both-named : (peer : List ℕ) (u xs : List Field) → IsPassed peer u → AllByRecursion (λ (f : Field). is_held_back f ≡ false) xs → AllByRecursion (IsNamed u) xs
+both-named : (peer : List ℕ) (u xs : List Field) → HasPassed peer u → AllByRecursion (λ (f : Field). is_held_back f ≡ false) xs → AllByRecursion (IsNamed u) xs
     → AllByRecursion (IsRenewed peer u) xs
 both-named peer u [] passed kept names = tt
 both-named peer u (f ∷ xs) passed kept names = (
@@ -192,7 +192,7 @@ both-named peer u (f ∷ xs) passed kept names = (
   both-named peer u xs passed kept.1 names.1,
 )
 
-pub merged-public : (peer : List ℕ) (fields u : List Field) → AllByRecursion (IsPublic peer) fields → IsPassed peer u → AllByRecursion (IsPublic peer) (merged_with fields u)
+pub merged-public : (peer : List ℕ) (fields u : List Field) → AllByRecursion (IsPublic peer) fields → HasPassed peer u → AllByRecursion (IsPublic peer) (merged_with fields u)
 unfolding merged_with
 merged-public peer fields u all passed =
     settled-public peer u (followed_by fields u)

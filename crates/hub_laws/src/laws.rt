@@ -16,7 +16,7 @@ ghost use Rattle.hub_laws.specs.Leaving.{KicksShutOut, OutIsForGood, WhoIsOutHea
 ghost use Rattle.hub_laws.specs.Operating.{NobodyBannedEnters, OnlyOperatorsBan, OnlyOperatorsSetTopics, OnlyOperatorsShutOut};
 ghost use Rattle.hub_laws.specs.Registered.{NicksAreProved, OnlyAccountsEnter};
 ghost use Rattle.hub_laws.specs.Routing.{EmptyLinesOweNothing, JoinsAndTakesOweNothing, MessagesAreRouted, QuietQuits, WhoIsOutIsNotHeard};
-ghost use Rattle.hub_laws.specs.Secrets.{InfoIsPublic};
+ghost use Rattle.hub_laws.specs.Secrets.{InfoIsPublic, UpdatesAreHeard, UpdatesArePassed};
 ghost use Rattle.hub_laws.specs.Welcoming.{EntrantsAreWelcomed, EntriesAreHeard};
 
 /// Says who is present: exactly those whose connections are at the stage NORMAL, all of them open; who never joined, or
@@ -83,10 +83,14 @@ pub fn account_laws()
     ensures registered { OnlyAccountsEnter }
 {}
 
-/// Says what stays secret: what is known of a user holds no private identifier (PD), nothing that a hub alone may say (CT), no address that
-/// the hub can't check (I6, U6), and no other I4 than the address that the hub sees (ADC 1.0, "INF").
+/// Says what stays secret: what is known of a user, which is all that the lines of an entry say of it, holds no private identifier
+/// (PD), nothing that a hub alone may say (CT), no address that the hub can't check (I6, U6), and no other I4 than the address
+/// that the hub sees (ADC 1.0, "INF"). What an accepted update says that is passed on holds none of that either, where an I4 may be
+/// empty; all who are present hear that, and nobody anything else.
 pub fn secret_laws()
     ensures info { InfoIsPublic }
+    ensures passed { UpdatesArePassed }
+    ensures heard { UpdatesAreHeard }
 {}
 
 /// Says what operators left: of a ban what the last act on its client identifier leaves, and the topic that was set last. Nobody
