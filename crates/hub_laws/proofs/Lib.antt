@@ -21,6 +21,7 @@ pub mod Scenes
 pub mod Searching
 pub mod Secrets
 pub mod Stages
+pub mod Strangers
 pub mod Turning
 pub mod Updating
 pub mod Vouching

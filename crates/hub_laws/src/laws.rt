@@ -15,7 +15,7 @@ ghost use Rattle.hub_laws.specs.Joining.{JoinsAreCounted, JoinsStay};
 ghost use Rattle.hub_laws.specs.Leaving.{KicksShutOut, OutIsForGood, WhoIsOutHearsNothing};
 ghost use Rattle.hub_laws.specs.Operating.{NobodyBannedEnters, OnlyOperatorsBan, OnlyOperatorsSetTopics, OnlyOperatorsShutOut};
 ghost use Rattle.hub_laws.specs.Registered.{NicksAreProved, OnlyAccountsEnter};
-ghost use Rattle.hub_laws.specs.Routing.{EmptyLinesOweNothing, JoinsAndTakesOweNothing, MessagesAreRouted, QuietQuits, WhoIsOutIsNotHeard};
+ghost use Rattle.hub_laws.specs.Routing.{EmptyLinesOweNothing, JoinsAndTakesOweNothing, MessagesAreRouted, QuietQuits, StrangersAreNotHeard, WhoIsOutIsNotHeard};
 ghost use Rattle.hub_laws.specs.Secrets.{InfoIsPublic, UpdatesAreHeard, UpdatesArePassed};
 ghost use Rattle.hub_laws.specs.Welcoming.{EntrantsAreWelcomed, EntriesAreHeard};
 
@@ -56,7 +56,7 @@ pub fn take_laws()
 /// who have certain features (ADC 1.0, "Message types"). Where a user enters, all who are present hear who it is, once; it
 /// hears who they are, in order of entry, who it is itself, and the menu, where its client has one (ADC 1.0, "INF"; ADC-EXT,
 /// "UCMD"). A join, a take, an empty line, a line of a connection that is shut out, and the quit of one whose user was not
-/// present owe nobody anything.
+/// present owe nobody anything; nor does a line by which one who is not present does not enter owe others anything.
 pub fn routing_laws()
     ensures messages { MessagesAreRouted }
     ensures entries { EntriesAreHeard }
@@ -65,6 +65,7 @@ pub fn routing_laws()
     ensures empty { EmptyLinesOweNothing }
     ensures out { WhoIsOutIsNotHeard }
     ensures quits { QuietQuits }
+    ensures strangers { StrangersAreNotHeard }
 {}
 
 /// Says of who is shut out: it is owed nothing more by any call, and stays shut out. A kick or a ban of a user who is present

@@ -1,4 +1,5 @@
 use Rattle.hub_laws.proofs.Routing.{empty_lines_owe_nothing, joins_and_takes_owe_nothing, messages_are_routed, quiet_quits, who_is_out_is_not_heard}
+use Rattle.hub_laws.proofs.Strangers.{strangers_are_not_heard}
 use Rattle.hub_laws.proofs.Welcoming.{entrants_are_welcomed, entries_are_heard}
 use Rattle.hub_laws.proofs.laws.routing_laws.Goals as goal
 
@@ -22,3 +23,6 @@ returns-clause-entries c = entries_are_heard
 
 pub returns-clause-entrants : goal.returns-clause-entrants
 returns-clause-entrants c = entrants_are_welcomed
+
+pub returns-clause-strangers : goal.returns-clause-strangers
+returns-clause-strangers c = strangers_are_not_heard
