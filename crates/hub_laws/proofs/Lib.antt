@@ -22,6 +22,7 @@ pub mod Searching
 pub mod Secrets
 pub mod Stages
 pub mod Strangers
+pub mod Telling
 pub mod Turning
 pub mod Updating
 pub mod Vouching

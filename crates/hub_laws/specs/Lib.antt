@@ -8,4 +8,5 @@ pub mod Registered
 pub mod Operating
 pub mod Holding
 pub mod Secrets
+pub mod Telling
 pub mod Welcoming

@@ -17,6 +17,7 @@ ghost use Rattle.hub_laws.specs.Operating.{NobodyBannedEnters, OnlyOperatorsBan,
 ghost use Rattle.hub_laws.specs.Registered.{NicksAreProved, OnlyAccountsEnter};
 ghost use Rattle.hub_laws.specs.Routing.{EmptyLinesOweNothing, JoinsAndTakesOweNothing, MessagesAreRouted, QuietQuits, StrangersAreNotHeard, WhoIsOutIsNotHeard};
 ghost use Rattle.hub_laws.specs.Secrets.{InfoIsPublic, UpdatesAreHeard, UpdatesArePassed};
+ghost use Rattle.hub_laws.specs.Telling.{ActsAreHeard};
 ghost use Rattle.hub_laws.specs.Welcoming.{EntrantsAreWelcomed, EntriesAreHeard};
 
 /// Says who is present: exactly those whose connections are at the stage NORMAL, all of them open; who never joined, or
@@ -95,8 +96,9 @@ pub fn secret_laws()
 {}
 
 /// Says what operators left: of a ban what the last act on its client identifier leaves, and the topic that was set last. Nobody
-/// enters while its client identifier has a ban; at most 1,024 client identifiers have one, and each has one. A call that is no line of an operator who is present changes no ban, no topic, and
-/// the stage of no connection but its own.
+/// enters while its client identifier has a ban; at most 1,024 client identifiers have one, and each has one. A call that is no
+/// line of an operator who is present changes no ban, no topic, and the stage of no connection but its own. All who are present
+/// hear of an act, once, and the operator that it is done (ADC 1.0, "QUI").
 pub fn operator_laws()
     ensures bans { BanIsTheLastAct }
     ensures topic { TopicIsTheLast }
@@ -106,6 +108,7 @@ pub fn operator_laws()
     ensures only_bans { OnlyOperatorsBan }
     ensures only_topics { OnlyOperatorsSetTopics }
     ensures only_removals { OnlyOperatorsShutOut }
+    ensures heard { ActsAreHeard }
 {}
 
 /// Says what is known of a client: it supports the features whose last mention in any of its accepted SUP adds them (ADC
