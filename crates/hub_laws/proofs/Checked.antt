@@ -32,11 +32,11 @@ abbrev goes : Check → Bool
 goes checks.Go = true
 goes (checks.Deny deny) = false
 
-abbrev AllNone : List (Option Deny) → Type 0
+abbrev pub AllNone : List (Option Deny) → Type 0
 AllNone [] = Unit {0}
 AllNone (rule ∷ rules) = (rule ≡ None) × AllNone rules
 
-all-none : (rules : List (Option Deny)) → first_denial rules ≡ checks.Go → AllNone rules
+pub all-none : (rules : List (Option Deny)) → first_denial rules ≡ checks.Go → AllNone rules
 all-none [] gone = tt
 all-none (None ∷ rules) gone = (refl, all-none rules gone)
 all-none (Some deny ∷ rules) gone = absurd (false≢true (ap goes gone))

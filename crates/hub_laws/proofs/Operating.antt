@@ -180,11 +180,11 @@ unbanned hub own now said effect absent (inr (inl unasked)) = unasked.logs.unban
 unbanned hub own now said effect absent (inr (inr gives)) = gives.unbanned
 
 -- who was not at the stage of users and is now took a turn to it
-record TakesTurn (same : Bool) (turn : Turn) (stage : Stage) : Type 0 where
-  is_caller : same ≡ true
-  turns : stage_after turn stage ≡ stages.Normal
+pub record TakesTurn (same : Bool) (turn : Turn) (stage : Stage) : Type 0 where
+  pub is_caller : same ≡ true
+  pub turns : stage_after turn stage ≡ stages.Normal
 
-takes-turn : (removed same : Bool) (turn : Turn) (stage : Stage) → (stage ≡ stages.Normal → ⊥) → stage_next removed same turn stage ≡ stages.Normal → TakesTurn same turn stage
+pub takes-turn : (removed same : Bool) (turn : Turn) (stage : Stage) → (stage ≡ stages.Normal → ⊥) → stage_next removed same turn stage ≡ stages.Normal → TakesTurn same turn stage
 takes-turn true same turn stage absent is = let none : ⊥ = cc is in absurd none
 takes-turn false true turn stage absent is = record { is_caller = refl; turns = is }
 takes-turn false false turn stage absent is = absurd (absent is)

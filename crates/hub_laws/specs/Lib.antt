@@ -7,3 +7,6 @@ pub mod Leaving
 pub mod Registered
 pub mod Operating
 pub mod Holding
+pub mod Secrets
+pub mod Telling
+pub mod Welcoming

@@ -85,3 +85,9 @@ abbrev pub QuietQuits : Type 0
 QuietQuits =
     (setup : Configured) (hash : List ℕ → List ℕ) (h : List Entry) (c d : ℕ)
     → is_present (stage setup hash h c) ≡ false → share setup hash (facts setup hash h) d (Quit c) ≡ []
+
+-- a line of one who is present neither before it nor after it, to anybody else: so nobody hears a login that fails, or a password
+abbrev pub StrangersAreNotHeard : Type 0
+StrangersAreNotHeard =
+    (setup : Configured) (hash : List ℕ → List ℕ) (h : List Entry) (e : Entry) (c d : ℕ) (bytes : List ℕ) (now : ℕ) → e.call ≡ Line c bytes now → (d == c) ≡ false
+    → is_present (stage setup hash h c) ≡ false → is_present (stage setup hash (e ∷ h) c) ≡ false → share setup hash (facts setup hash h) d e.call ≡ []

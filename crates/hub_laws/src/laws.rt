@@ -15,7 +15,10 @@ ghost use Rattle.hub_laws.specs.Joining.{JoinsAreCounted, JoinsStay};
 ghost use Rattle.hub_laws.specs.Leaving.{KicksShutOut, OutIsForGood, WhoIsOutHearsNothing};
 ghost use Rattle.hub_laws.specs.Operating.{NobodyBannedEnters, OnlyOperatorsBan, OnlyOperatorsSetTopics, OnlyOperatorsShutOut};
 ghost use Rattle.hub_laws.specs.Registered.{NicksAreProved, OnlyAccountsEnter};
-ghost use Rattle.hub_laws.specs.Routing.{EmptyLinesOweNothing, JoinsAndTakesOweNothing, MessagesAreRouted, QuietQuits, WhoIsOutIsNotHeard};
+ghost use Rattle.hub_laws.specs.Routing.{EmptyLinesOweNothing, JoinsAndTakesOweNothing, MessagesAreRouted, QuietQuits, StrangersAreNotHeard, WhoIsOutIsNotHeard};
+ghost use Rattle.hub_laws.specs.Secrets.{InfoIsPublic, UpdatesAreHeard, UpdatesArePassed};
+ghost use Rattle.hub_laws.specs.Telling.{ActsAreHeard};
+ghost use Rattle.hub_laws.specs.Welcoming.{EntrantsAreWelcomed, EntriesAreHeard};
 
 /// Says who is present: exactly those whose connections are at the stage NORMAL, all of them open; who never joined, or
 /// quit, is shut out (ADC 1.0, "States"). They stand in the order of the entries by which they entered. In a legal history
@@ -51,14 +54,19 @@ pub fn take_laws()
 {}
 
 /// Says who is owed a message that a user may send, by its type: all who are present, its target, target and sender, or those
-/// who have certain features (ADC 1.0, "Message types"). A join, a take, an empty line, a line of a connection that is shut
-/// out, and the quit of one whose user was not present owe nobody anything.
+/// who have certain features (ADC 1.0, "Message types"). Where a user enters, all who are present hear who it is, once; it
+/// hears who they are, in order of entry, who it is itself, and the menu, where its client has one (ADC 1.0, "INF"; ADC-EXT,
+/// "UCMD"). A join, a take, an empty line, a line of a connection that is shut out, and the quit of one whose user was not
+/// present owe nobody anything; nor does a line by which one who is not present does not enter owe others anything.
 pub fn routing_laws()
     ensures messages { MessagesAreRouted }
+    ensures entries { EntriesAreHeard }
+    ensures entrants { EntrantsAreWelcomed }
     ensures calls { JoinsAndTakesOweNothing }
     ensures empty { EmptyLinesOweNothing }
     ensures out { WhoIsOutIsNotHeard }
     ensures quits { QuietQuits }
+    ensures strangers { StrangersAreNotHeard }
 {}
 
 /// Says of who is shut out: it is owed nothing more by any call, and stays shut out. A kick or a ban of a user who is present
@@ -77,9 +85,20 @@ pub fn account_laws()
     ensures registered { OnlyAccountsEnter }
 {}
 
+/// Says what stays secret: what is known of a user, which is all that the lines of an entry say of it, holds no private identifier
+/// (PD), nothing that a hub alone may say (CT), no address that the hub can't check (I6, U6), and no other I4 than the address
+/// that the hub sees (ADC 1.0, "INF"). What an accepted update says that is passed on holds none of that either, where an I4 may be
+/// empty; all who are present hear that, and nobody anything else.
+pub fn secret_laws()
+    ensures info { InfoIsPublic }
+    ensures passed { UpdatesArePassed }
+    ensures heard { UpdatesAreHeard }
+{}
+
 /// Says what operators left: of a ban what the last act on its client identifier leaves, and the topic that was set last. Nobody
-/// enters while its client identifier has a ban; at most 1,024 client identifiers have one, and each has one. A call that is no line of an operator who is present changes no ban, no topic, and
-/// the stage of no connection but its own.
+/// enters while its client identifier has a ban; at most 1,024 client identifiers have one, and each has one. A call that is no
+/// line of an operator who is present changes no ban, no topic, and the stage of no connection but its own. All who are present
+/// hear of an act, once, and the operator that it is done (ADC 1.0, "QUI").
 pub fn operator_laws()
     ensures bans { BanIsTheLastAct }
     ensures topic { TopicIsTheLast }
@@ -89,6 +108,7 @@ pub fn operator_laws()
     ensures only_bans { OnlyOperatorsBan }
     ensures only_topics { OnlyOperatorsSetTopics }
     ensures only_removals { OnlyOperatorsShutOut }
+    ensures heard { ActsAreHeard }
 {}
 
 /// Says what is known of a client: it supports the features whose last mention in any of its accepted SUP adds them (ADC

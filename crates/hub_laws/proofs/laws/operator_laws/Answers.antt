@@ -1,5 +1,6 @@
 use Rattle.hub_laws.proofs.Banning.{bans_are_apart, bans_are_few}
 use Rattle.hub_laws.proofs.Operating.{nobody_banned_enters, only_operators_ban, only_operators_set_topics, only_operators_shut_out}
+use Rattle.hub_laws.proofs.Telling.{acts_are_heard}
 use Rattle.hub_laws.proofs.Worlds.{ban_is_the_last_act, topic_is_the_last}
 use Rattle.hub_laws.proofs.laws.operator_laws.Goals as goal
 
@@ -26,3 +27,6 @@ returns-clause-few c = bans_are_few
 
 pub returns-clause-apart : goal.returns-clause-apart
 returns-clause-apart c = bans_are_apart
+
+pub returns-clause-heard : goal.returns-clause-heard
+returns-clause-heard c = acts_are_heard

@@ -1,4 +1,6 @@
 use Rattle.hub_laws.proofs.Routing.{empty_lines_owe_nothing, joins_and_takes_owe_nothing, messages_are_routed, quiet_quits, who_is_out_is_not_heard}
+use Rattle.hub_laws.proofs.Strangers.{strangers_are_not_heard}
+use Rattle.hub_laws.proofs.Welcoming.{entrants_are_welcomed, entries_are_heard}
 use Rattle.hub_laws.proofs.laws.routing_laws.Goals as goal
 
 pub returns-clause-messages : goal.returns-clause-messages
@@ -15,3 +17,12 @@ returns-clause-out c = who_is_out_is_not_heard
 
 pub returns-clause-quits : goal.returns-clause-quits
 returns-clause-quits c = quiet_quits
+
+pub returns-clause-entries : goal.returns-clause-entries
+returns-clause-entries c = entries_are_heard
+
+pub returns-clause-entrants : goal.returns-clause-entrants
+returns-clause-entrants c = entrants_are_welcomed
+
+pub returns-clause-strangers : goal.returns-clause-strangers
+returns-clause-strangers c = strangers_are_not_heard

@@ -1,0 +1,201 @@
+-- What is passed on of an accepted update may be known, and what is merged of such updates too.
+use Rattle.std.proofs.Common.{◌≡◌, ◌∙◌, sym, ap, refl, subst, ℕ, Bool, true, false, cond, not, ◌&&◌, ◌||◌, ◌⊎◌, inl, inr, ◌==◌, List, [], ◌∷◌, ◌++◌, length, map, filter, Option, Some, None, is_some, unwrap_or, arith}
+use Rattle.std.specs.Prelude.{if◌then◌else◌}
+use Rattle.std.specs.List.{AllByRecursion}
+use Rattle.std.specs.Option.{option_map}
+use Rattle.std.specs.Str.{bytes_eq}
+use Rattle.std.proofs.lemmas.Bool.{eqb-true, false≢true}
+use Rattle.std.proofs.lemmas.Slice.Eq.{bytes_eq-Decides}
+use Rattle.inf_fields.specs.Cleaning.{any_address, asks_for_address, clean, dotted, is_held_back, with_address}
+use Rattle.inf_fields.specs.Field.{Field, besides, field, has_name, is_called, value_of}
+use Rattle.inf_fields.specs.FieldNames.{address_name}
+use Rattle.inf_fields.specs.Merging.{followed_by, is_empty_value, latest, leave, merged_with, settled}
+use Rattle.login_state.specs.declared.findings.Address.TheVariants.{Right, Wrong}
+use Rattle.hub_rules.specs.Asks as asks
+use Rattle.hub_rules.specs.Asks.{address_found}
+use Rattle.hub_rules.specs.Identities.{given}
+use Rattle.hub_laws.specs.Secrets.{IsPublic}
+
+-- ---- lists
+
+all-append : {X : Type 0} (P : X → Type 0) (xs ys : List X) → AllByRecursion P xs → AllByRecursion P ys → AllByRecursion P (xs ++ ys)
+all-append P [] ys first second = second
+all-append P (x ∷ xs) ys first second = (first.0, all-append P xs ys first.1 second)
+
+all-cond : {X : Type 0} (P : X → Type 0) (b : Bool) (x : X) (xs : List X) → P x → AllByRecursion P xs → AllByRecursion P (cond b (x ∷ xs) xs)
+all-cond P true x xs one rest = (one, rest)
+all-cond P false x xs one rest = rest
+
+all-filter : {X : Type 0} (P : X → Type 0) (test : X → Bool) (xs : List X) → AllByRecursion P xs → AllByRecursion P (filter test xs)
+all-filter P test [] all = tt
+all-filter P test (x ∷ xs) all = all-cond P (test x) x (filter test xs) all.0 (all-filter P test xs all.1)
+
+all-as : {X : Type 0} (P Q : X → Type 0) (xs : List X) → ((x : X) → P x → Q x) → AllByRecursion P xs → AllByRecursion Q xs
+all-as P Q [] implied all = tt
+all-as P Q (x ∷ xs) implied all = (implied x all.0, all-as P Q xs implied all.1)
+
+-- ---- an update names what it has
+
+is-called : (f : Field) → is_called f.name f ≡ true
+is-called f = (bytes_eq-Decides f.name f.name).1 refl
+
+some-if : (b : Bool) (x : List ℕ) (o : Option (List ℕ)) → is_some o ≡ true → is_some (if b then Some x else o) ≡ true
+some-if true x o some = refl
+some-if false x o some = some
+
+abbrev IsNamed : List Field → Field → Type 0
+IsNamed u f = is_some (value_of f.name u) ≡ true
+
+named : (u : List Field) → AllByRecursion (IsNamed u) u
+named [] = tt
+named (f ∷ u) = (
+  ap (λ b. is_some (if b then Some f.value else value_of f.name u)) (is-called f),
+  all-as (IsNamed u) (IsNamed (f ∷ u)) u (λ g some. some-if (is_called g.name f) f.value (value_of g.name u) some) (named u),
+)
+
+-- ---- what may be passed on
+
+-- an update of which others may hear: it has nothing that is held back, and names no address but the one that the hub sees, or none
+pub record HasPassed (peer : List ℕ) (u : List Field) : Type 0 where
+  pub kept : AllByRecursion (λ (f : Field). is_held_back f ≡ false) u
+  pub address : (v : List ℕ) → value_of address_name u ≡ Some v → (v ≡ []) ⊎ (v ≡ dotted peer)
+
+not-held : (b : Bool) → not b ≡ true → b ≡ false
+not-held true is = absurd (false≢true is)
+not-held false is = refl
+
+addressed-held : (peer : List ℕ) (f : Field) (b : Bool) → is_held_back f ≡ false → is_held_back (if b then field f.name (dotted peer) else f) ≡ false
+addressed-held peer f true held = held
+addressed-held peer f false held = held
+
+keep-if : (peer : List ℕ) (f : Field) (xs : List Field) (held : Bool) → is_held_back f ≡ held → AllByRecursion (λ (g : Field). is_held_back g ≡ false) (map (with_address peer) xs)
+    → AllByRecursion (λ (g : Field). is_held_back g ≡ false) (map (with_address peer) (cond (not held) (f ∷ xs) xs))
+keep-if peer f xs true is rest = rest
+keep-if peer f xs false is rest = (addressed-held peer f (asks_for_address f) is, rest)
+
+clean-kept : (u : List Field) (peer : List ℕ) → AllByRecursion (λ (f : Field). is_held_back f ≡ false) (clean u peer)
+unfolding clean
+clean-kept [] peer = tt
+clean-kept (f ∷ u) peer = keep-if peer f (filter (λ g. not (is_held_back g)) u) (is_held_back f) refl (clean-kept u peer)
+
+-- ---- the address in it
+
+-- an address is filled in where the client asks for that
+abbrev pub filled : List ℕ → List ℕ → List ℕ
+filled peer v = if bytes_eq any_address v then dotted peer else v
+
+held-name : (name : List ℕ) → bytes_eq address_name name ≡ true → is_held_back (field name []) ≡ false
+held-name name is = ap (λ n. is_held_back (field n [])) (sym ((bytes_eq-Decides address_name name).0 is))
+
+address-here : (peer : List ℕ) (f : Field) (any : Bool) → bytes_eq any_address f.value ≡ any → (if any then field f.name (dotted peer) else f).value ≡ (if any then dotted peer else f.value)
+address-here peer f true is = refl
+address-here peer f false is = refl
+
+same-name : (b : Bool) (f g : Field) → g.name ≡ f.name → (if b then g else f).name ≡ f.name
+same-name true f g same = same
+same-name false f g same = refl
+
+address-cons : (peer : List ℕ) (f : Field) (u : List Field) (held called : Bool) → is_held_back f ≡ held → is_called address_name f ≡ called
+    → value_of address_name (map (with_address peer) (filter (λ g. not (is_held_back g)) u)) ≡ option_map (filled peer) (value_of address_name u)
+    → value_of address_name (map (with_address peer) (cond (not held) (f ∷ filter (λ g. not (is_held_back g)) u) (filter (λ g. not (is_held_back g)) u)))
+    ≡ option_map (filled peer) (if called then Some f.value else value_of address_name u)
+address-cons peer f u true true is-held is-called rest = absurd (false≢true (sym (held-name f.name is-called) ∙ is-held))
+address-cons peer f u true false is-held is-called rest = rest
+address-cons peer f u false true is-held is-called rest =
+    ap (λ b. if b then Some (with_address peer f).value else value_of address_name (map (with_address peer) (filter (λ g. not (is_held_back g)) u)))
+    (ap (bytes_eq address_name) (same-name (asks_for_address f) f (field f.name (dotted peer)) refl) ∙ is-called)
+    ∙ ap Some (ap (λ b. (if (b && bytes_eq any_address f.value) then field f.name (dotted peer) else f).value) is-called
+    ∙ address-here peer f (bytes_eq any_address f.value) refl)
+address-cons peer f u false false is-held is-called rest =
+    ap (λ b. if b then Some (with_address peer f).value else value_of address_name (map (with_address peer) (filter (λ g. not (is_held_back g)) u)))
+    (ap (bytes_eq address_name) (same-name (asks_for_address f) f (field f.name (dotted peer)) refl) ∙ is-called)
+    ∙ rest
+
+address-clean : (u : List Field) (peer : List ℕ) → value_of address_name (clean u peer) ≡ option_map (filled peer) (value_of address_name u)
+unfolding clean
+address-clean [] peer = refl
+address-clean (f ∷ u) peer = address-cons peer f u (is_held_back f) (is_called address_name f) refl refl (address-clean u peer)
+
+-- an address that is right is none, one to fill in, or the one that the hub sees
+length-nil : (w : List ℕ) → (length w == 0) ≡ true → w ≡ []
+length-nil [] is = refl
+length-nil (b ∷ more) is = let e : length (b ∷ more) ≡ 0 = eqb-true (length (b ∷ more)) 0 is in absurd (omega (arith, e))
+
+filled-own : (peer : List ℕ) (any : Bool) → (if any then dotted peer else dotted peer) ≡ dotted peer
+filled-own peer true = refl
+filled-own peer false = refl
+
+is-right : (peer w : List ℕ) (none any own : Bool) → (length w == 0) ≡ none → bytes_eq w asks.any_address ≡ any → bytes_eq w (dotted peer) ≡ own
+    → (if none || any || own then Right else Wrong peer) ≡ Right → (filled peer w ≡ []) ⊎ (filled peer w ≡ dotted peer)
+is-right peer w true any own is-none is-any is-own right = inl (ap (filled peer) (length-nil w is-none))
+is-right peer w false true own is-none is-any is-own right = inr (ap (filled peer) ((bytes_eq-Decides w asks.any_address).0 is-any))
+is-right peer w false false true is-none is-any is-own right = inr (ap (filled peer) ((bytes_eq-Decides w (dotted peer)).0 is-own) ∙ filled-own peer (bytes_eq any_address (dotted peer)))
+is-right peer w false false false is-none is-any is-own right = let none : ⊥ = cc right in absurd none
+
+pub passed-address : (peer : List ℕ) (o : Option (List ℕ)) (v : List ℕ) → address_found peer (unwrap_or o []) ≡ Right → option_map (filled peer) o ≡ Some v → (v ≡ []) ⊎ (v ≡ dotted peer)
+passed-address peer None v right is = let none : ⊥ = cc is in absurd none
+passed-address peer (Some w) v right is =
+    let e : filled peer w ≡ v = cc is in
+    subst (λ (x : List ℕ). (x ≡ []) ⊎ (x ≡ dotted peer)) e
+    (is-right peer w (length w == 0) (bytes_eq w asks.any_address) (bytes_eq w (dotted peer)) refl refl refl right)
+
+pub clean-passed : (u : List Field) (peer : List ℕ) → address_found peer (given address_name u) ≡ Right → HasPassed peer (clean u peer)
+clean-passed u peer right = record {
+  kept = clean-kept u peer;
+  address = λ v is. passed-address peer (value_of address_name u) v right (sym (address-clean u peer) ∙ is);
+}
+
+-- ---- merging
+
+abbrev renewed : List Field → Field → Field
+renewed u f = field f.name (latest (u ∷ []) f.name f.value)
+
+by-value : (peer v : List ℕ) → (v ≡ []) ⊎ (v ≡ dotted peer) → (not (is_empty_value (Some v)) && true) ≡ true → v ≡ dotted peer
+by-value peer v (inl none) stays = absurd (false≢true (sym (ap (λ (x : List ℕ). not (is_empty_value (Some x)) && true) none) ∙ stays))
+by-value peer v (inr is) stays = is
+
+renewed-value : (peer : List ℕ) (name value : List ℕ) (o : Option (List ℕ)) → ((v : List ℕ) → o ≡ Some v → (v ≡ []) ⊎ (v ≡ dotted peer)) → (o ≡ None → value ≡ dotted peer)
+    → (not (is_empty_value o) && true) ≡ true → unwrap_or o value ≡ dotted peer
+renewed-value peer name value None address own stays = own refl
+renewed-value peer name value (Some v) address own stays = by-value peer v (address v refl) stays
+
+renewed-public : (peer : List ℕ) (u : List Field) (f : Field) → HasPassed peer u → is_held_back f ≡ false
+    → (is_called address_name f ≡ true → value_of f.name u ≡ None → f.value ≡ dotted peer) → leave (u ∷ []) f.name ≡ true → IsPublic peer (renewed u f)
+renewed-public peer u f passed held own stays = (
+  held,
+  λ called. renewed-value peer f.name f.value (value_of f.name u)
+      (λ v is. passed.address v (ap (λ n. value_of n u) ((bytes_eq-Decides address_name f.name).0 called) ∙ is)) (own called) stays,
+)
+
+abbrev IsRenewed : List ℕ → List Field → Field → Type 0
+IsRenewed peer u f = leave (u ∷ []) f.name ≡ true → IsPublic peer (renewed u f)
+
+settle-if : (peer : List ℕ) (u : List Field) (f : Field) (xs : List Field) (stays : Bool) → leave (u ∷ []) f.name ≡ stays → IsRenewed peer u f
+    → AllByRecursion (IsPublic peer) (map (renewed u) xs) → AllByRecursion (IsPublic peer) (map (renewed u) (cond stays (f ∷ xs) xs))
+settle-if peer u f xs true is one rest = (one is, rest)
+settle-if peer u f xs false is one rest = rest
+
+settled-public : (peer : List ℕ) (u xs : List Field) → AllByRecursion (IsRenewed peer u) xs → AllByRecursion (IsPublic peer) (settled (u ∷ []) xs)
+settled-public peer u [] all = tt
+settled-public peer u (f ∷ xs) all =
+    settle-if peer u f (filter (λ g. leave (u ∷ []) g.name) xs) (leave (u ∷ []) f.name) refl all.0 (settled-public peer u xs all.1)
+
+none-named : (o : Option (List ℕ)) → is_some o ≡ true → o ≡ None → ⊥
+none-named None some none = false≢true some
+none-named (Some v) some none = cc none
+
+both-named : (peer : List ℕ) (u xs : List Field) → HasPassed peer u → AllByRecursion (λ (f : Field). is_held_back f ≡ false) xs → AllByRecursion (IsNamed u) xs
+    → AllByRecursion (IsRenewed peer u) xs
+both-named peer u [] passed kept names = tt
+both-named peer u (f ∷ xs) passed kept names = (
+  (λ stays. renewed-public peer u f passed kept.0 (λ called none. absurd (none-named (value_of f.name u) names.0 none)) stays),
+  both-named peer u xs passed kept.1 names.1,
+)
+
+pub merged-public : (peer : List ℕ) (fields u : List Field) → AllByRecursion (IsPublic peer) fields → HasPassed peer u → AllByRecursion (IsPublic peer) (merged_with fields u)
+unfolding merged_with
+merged-public peer fields u all passed =
+    settled-public peer u (followed_by fields u)
+    (all-append (IsRenewed peer u) fields (besides fields u)
+    (all-as (IsPublic peer) (IsRenewed peer u) fields (λ f is stays. renewed-public peer u f passed is.0 (λ called none. is.1 called) stays) all)
+    (all-filter (IsRenewed peer u) (λ f. not (has_name f.name fields)) u (both-named peer u u passed passed.kept (named u))))

@@ -1,0 +1,208 @@
+-- What a line owes that brings a user in.
+use Rattle.std.proofs.Common.{◌≡◌, ◌∙◌, sym, ap, ap₂, refl, subst, ℕ, Bool, true, false, ◌&&◌, ◌⊎◌, inl, inr, ◌==◌, List, [], ◌∷◌, ◌++◌, map, Result, Ok, Err}
+use Rattle.std.proofs.lemmas.Bool.{false≢true, eqb-true, eq-eqb}
+use Rattle.adc_line.specs.Lines.{Reading}
+use Rattle.inf_fields.specs.Field.{Field}
+use Rattle.inf_fields.specs.Cleaning.{clean}
+use Rattle.inf_fields.specs.Merging.{merged_with}
+use Rattle.inf_fields.specs.Updates as updates
+use Rattle.inf_fields.specs.declared.fault.InfFault.{InfFault}
+use Rattle.login_state.specs.declared.deny.Deny.{Deny}
+use Rattle.login_state.specs.declared.fault.SupFault.{SupFault}
+use Rattle.login_state.specs.declared.stage.Stage.{Stage}
+use Rattle.login_state.specs.declared.stage.Stage.TheVariants as stages
+use Rattle.login_state.specs.Denials.{is_fatal}
+use Rattle.login_state.specs.Mentions.{ucmd}
+use Rattle.login_state.specs.Support.{has_feature}
+use Rattle.login_state.specs.SupportAnswers.{applied}
+use Rattle.hub_rules.specs.declared.effect.Effect.{Effect}
+use Rattle.hub_rules.specs.declared.effect.Hearers.{Hearers}
+use Rattle.hub_rules.specs.declared.effect.Hearers.TheVariants.{Others}
+use Rattle.hub_rules.specs.declared.history.Call.TheVariants.{Line}
+use Rattle.hub_rules.specs.declared.history.Entry.{Entry}
+use Rattle.hub_rules.specs.declared.request.Request.{Request}
+use Rattle.hub_rules.specs.declared.request.Request.TheVariants as requests
+use Rattle.hub_rules.specs.Accounts.{account_with}
+use Rattle.hub_rules.specs.Acts.{act_effect}
+use Rattle.hub_rules.specs.Configured.{Configured}
+use Rattle.hub_rules.specs.Effects.{accepted, admits, denial, fall_if, given_if, greets, is_present, learns, line_effect, line_of, logs_in, updates_user}
+use Rattle.hub_rules.specs.Facts.{Facts, facts, about_after, after, effect_of_line, happens, own_of, sight_of, user_of}
+use Rattle.hub_rules.specs.Identities.{key_in, listed}
+use Rattle.hub_rules.specs.Lagging.{share}
+use Rattle.hub_rules.specs.Prepared.{prepared}
+use Rattle.hub_rules.specs.Requests.{request_of}
+use Rattle.hub_rules.specs.Shares.{About, chosen, fields_after, hears_those, owes, stage_after}
+use Rattle.hub_rules.specs.Sights.{Own, PreparedLine, Sight, account_of, is_account, user_after}
+use Rattle.hub_rules.specs.Texts.{menu_line, user_line}
+use Rattle.hub_laws.specs.Welcoming.{EntrantsAreWelcomed, EntriesAreHeard}
+use Rattle.hub_invariants.proofs.Members.{and-false}
+use Rattle.hub_invariants.proofs.Outcomes.{by_act, by_line}
+use Rattle.hub_invariants.proofs.Saying.{about-fields}
+use Rattle.hub_invariants.proofs.Sids.{about-sid}
+use Rattle.hub_invariants.proofs.Sound.{about-stage, removed_by}
+use Rattle.hub_laws.proofs.Operating.{nobody_banned_enters, takes-turn}
+
+-- ---- one line
+
+abbrev line_by : Sight → Own → List Field → List ℕ
+line_by hub own fields = user_line own.sid fields (account_of hub (key_in fields))
+
+-- the user comes in with these fields
+record Welcomes (hub : Sight) (own : Own) (effect : Effect) (fields : List Field) : Type 0 where
+  others : effect.others ≡ line_by hub own fields ∷ []
+  hearers : effect.hearers ≡ Others
+  welcomes : effect.own ≡ map (line_of hub) hub.users ++ line_by hub own fields ∷ given_if (has_feature ucmd own.features) (map menu_line hub.setup.menu)
+
+abbrev IsWelcome : Sight → Own → Effect → Type 0
+IsWelcome hub own effect = stage_after effect.turn own.stage ≡ stages.Normal → (own.stage ≡ stages.Normal) ⊎ Welcomes hub own effect (fields_after effect.turn own.fields)
+
+gone-normal : stages.Gone ≡ stages.Normal → ⊥
+gone-normal is = cc is
+
+identify-normal : stages.Identify ≡ stages.Normal → ⊥
+identify-normal is = cc is
+
+verify-normal : stages.Verify ≡ stages.Normal → ⊥
+verify-normal is = cc is
+
+welcome-still : (hub : Sight) (own : Own) (effect : Effect) → stage_after effect.turn own.stage ≡ own.stage → IsWelcome hub own effect
+welcome-still hub own effect same here = inl (sym same ∙ here)
+
+welcome-fall : (hub : Sight) (own : Own) (effect : Effect) (b : Bool) → effect.turn ≡ fall_if b → IsWelcome hub own effect
+welcome-fall hub own effect true is here = let none : stages.Gone ≡ stages.Normal = sym (ap (λ turn. stage_after turn own.stage) is) ∙ here in absurd (gone-normal none)
+welcome-fall hub own effect false is here = inl (sym (ap (λ turn. stage_after turn own.stage) is) ∙ here)
+
+welcome-denial : (hub : Sight) (own : Own) (deny : Deny) → IsWelcome hub own (denial own deny)
+unfolding denial
+welcome-denial hub own deny here = welcome-fall hub own _ (is_fatal deny) refl here
+
+welcome-greets : (hub : Sight) (own : Own) (now : ℕ) (r : Result (List (List ℕ)) SupFault) → IsWelcome hub own (greets hub own now r)
+welcome-greets hub own now (Ok features) here = absurd (identify-normal here)
+welcome-greets hub own now (Err fault) here = inl here
+
+welcome-learns : (hub : Sight) (own : Own) (r : Result (List (List ℕ)) SupFault) → IsWelcome hub own (learns r)
+welcome-learns hub own (Ok features) here = inl here
+welcome-learns hub own (Err fault) here = inl here
+
+welcome-admits : (hub : Sight) (own : Own) (line : PreparedLine) (fields : List Field) (b : Bool) → IsWelcome hub own (admits hub own line b (listed own.sid fields))
+unfolding listed
+welcome-admits hub own line fields true here = absurd (verify-normal here)
+welcome-admits hub own line fields false here = inr (record { others = refl; hearers = refl; welcomes = refl })
+
+welcome-login : (hub : Sight) (own : Own) (line : PreparedLine) (r : Result (List Field) InfFault) → IsWelcome hub own (logs_in hub own line r)
+welcome-login hub own line (Ok u) here = welcome-admits hub own line (merged_with own.fields (clean u own.peer)) (is_account hub (user_after own u).key) here
+welcome-login hub own line (Err fault) here = inl here
+
+welcome-update : (hub : Sight) (own : Own) (r : Result (List Field) InfFault) → IsWelcome hub own (updates_user own r)
+welcome-update hub own (Ok u) here = inl here
+welcome-update hub own (Err fault) here = inl here
+
+welcome-act : (hub : Sight) (own : Own) (now : ℕ) (params : List (List ℕ)) → IsWelcome hub own (act_effect hub own now params)
+welcome-act hub own now params = by_act hub own now params (IsWelcome hub own) (λ here. inl here) (λ others world here. inl here)
+
+welcome-accepted : (hub : Sight) (own : Own) (line : PreparedLine) (now : ℕ) (reading : Reading) (request : Request) → IsWelcome hub own (accepted hub own line now reading request)
+unfolding accepted listed
+welcome-accepted hub own line now reading requests.Greeting here = welcome-greets hub own now (applied own.features reading.params) here
+welcome-accepted hub own line now reading requests.Login here = welcome-login hub own line (updates.reading reading.params) here
+welcome-accepted hub own line now reading requests.Password here = inr (record { others = refl; hearers = refl; welcomes = refl })
+welcome-accepted hub own line now reading requests.Update here = welcome-update hub own (updates.reading reading.params) here
+welcome-accepted hub own line now reading requests.Support here = welcome-learns hub own (applied own.features reading.params) here
+welcome-accepted hub own line now reading requests.Act here = welcome-act hub own now reading.params here
+welcome-accepted hub own line now reading requests.Search here = inl here
+welcome-accepted hub own line now reading requests.Message here = inl here
+welcome-accepted hub own line now reading requests.Nothing here = inl here
+
+welcome-line : (hub : Sight) (own : Own) (line : PreparedLine) (now : ℕ) → IsWelcome hub own (line_effect hub own line now)
+welcome-line hub own line now =
+    by_line hub own line now (IsWelcome hub own) (λ here. inl here) (λ deny still. welcome-denial hub own deny)
+    (λ reading still none. welcome-accepted hub own line now reading (request_of own.stage reading.kind reading.command))
+
+-- ---- the call that brings a user in
+
+entered : (hub : Sight) (own : Own) (effect : Effect) (fields : List Field) → (own.stage ≡ stages.Normal → ⊥) → (own.stage ≡ stages.Normal) ⊎ Welcomes hub own effect fields
+    → Welcomes hub own effect fields
+entered hub own effect fields absent (inl here) = absurd (absent here)
+entered hub own effect fields absent (inr is) = is
+
+-- what is so of the line that brought a user in
+record Brings (setup : Configured) (hash : List ℕ → List ℕ) (h : List Entry) (e : Entry) (c : ℕ) : Type 0 where
+  bytes : List ℕ
+  now : ℕ
+  call : e.call ≡ Line c bytes now
+  welcomes : Welcomes (sight_of setup (facts setup hash h)) (own_of ((facts setup hash h).about c)) (effect_of_line setup hash (facts setup hash h) c bytes now) ((facts setup hash (e ∷ h)).about c).fields
+  same_sid : ((facts setup hash (e ∷ h)).about c).sid ≡ ((facts setup hash h).about c).sid
+
+record BringsBy (setup : Configured) (hash : List ℕ → List ℕ) (f g : Facts) (c : ℕ) (bytes : List ℕ) (now : ℕ) : Type 0 where
+  welcomes : Welcomes (sight_of setup f) (own_of (f.about c)) (effect_of_line setup hash f c bytes now) (g.about c).fields
+  same_sid : (g.about c).sid ≡ (f.about c).sid
+
+brings-by : (setup : Configured) (hash : List ℕ → List ℕ) (f : Facts) (caller c : ℕ) (bytes : List ℕ) (now : ℕ) → ((f.about c).stage ≡ stages.Normal → ⊥)
+    → ((after setup hash f caller (Line c bytes now)).about c).stage ≡ stages.Normal → BringsBy setup hash f (after setup hash f caller (Line c bytes now)) c bytes now
+unfolding after happens
+brings-by setup hash f caller c bytes now absent here =
+    let effect : Effect = effect_of_line setup hash f c bytes now in
+    let takes = takes-turn (removed_by effect (f.about c)) (c == c) effect.turn (f.about c).stage absent (sym (about-stage c effect f c) ∙ here) in
+    let fields : (about_after c effect f.about c).fields ≡ fields_after effect.turn (f.about c).fields =
+    about-fields c effect f c ∙ ap (λ b. chosen b (fields_after effect.turn (f.about c).fields) (f.about c).fields) (eq-eqb c c refl) in
+    record {
+      welcomes = subst (Welcomes (sight_of setup f) (own_of (f.about c)) effect) (sym fields)
+          (entered (sight_of setup f) (own_of (f.about c)) effect (fields_after effect.turn (f.about c).fields) absent
+          (welcome-line (sight_of setup f) (own_of (f.about c)) (prepared setup hash (f.about c).challenge bytes) now takes.turns));
+      same_sid = about-sid c effect f c;
+    }
+
+brings : (setup : Configured) (hash : List ℕ → List ℕ) (h : List Entry) (e : Entry) (c : ℕ) → (((facts setup hash h).about c).stage ≡ stages.Normal → ⊥)
+    → ((facts setup hash (e ∷ h)).about c).stage ≡ stages.Normal → Brings setup hash h e c
+unfolding facts
+brings setup hash h e c absent here =
+    let f : Facts = facts setup hash h in
+    let line = nobody_banned_enters setup hash h e c absent here in
+    let by : BringsBy setup hash f (after setup hash f e.caller e.call) c line.0 line.1 =
+    subst (λ call. BringsBy setup hash f (after setup hash f e.caller call) c line.0 line.1) (sym line.2)
+    (brings-by setup hash f e.caller c line.0 line.1 absent (subst (λ call. ((after setup hash f e.caller call).about c).stage ≡ stages.Normal) line.2 here)) in
+    record { bytes = line.0; now = line.1; call = line.2; welcomes = by.welcomes; same_sid = by.same_sid }
+
+-- ---- who is owed it
+
+other-caller : (f : Facts) (c d : ℕ) (same : Bool) → (d == c) ≡ same → ((f.about c).stage ≡ stages.Normal → ⊥) → (f.about d).stage ≡ stages.Normal → same ≡ false
+other-caller f c d true is absent here = absurd (absent (subst (λ x. (f.about x).stage ≡ stages.Normal) (eqb-true d c is) here))
+other-caller f c d false is absent here = refl
+
+hears-one : (is_caller : Bool) (effect : Effect) (a : About) (line : List ℕ) → effect.others ≡ line ∷ [] → effect.hearers ≡ Others → is_caller ≡ false → a.stage ≡ stages.Normal
+    → owes is_caller effect a ≡ line ∷ []
+hears-one true effect a line others hearers other here = absurd (false≢true (sym other))
+hears-one false effect a line others hearers other here =
+    ap₂ (λ (hs : Hearers) (ls : List (List ℕ)). given_if (is_present a.stage && hears_those false hs a) ls ++ []) hearers others
+    ∙ ap (λ (s : Stage). given_if (is_present s && true) (line ∷ []) ++ []) here
+
+hears-own : (is_caller : Bool) (effect : Effect) (a : About) → effect.hearers ≡ Others → is_caller ≡ true → owes is_caller effect a ≡ effect.own
+hears-own true effect a hearers is =
+    ap (λ (hs : Hearers). given_if (is_present a.stage && hears_those true hs a) effect.others ++ effect.own) hearers
+    ∙ ap (λ b. given_if b effect.others ++ effect.own) (and-false (is_present a.stage))
+hears-own false effect a hearers is = absurd (false≢true is)
+
+pub entries_are_heard : EntriesAreHeard
+entries_are_heard setup hash h e c d absent here there =
+    let f : Facts = facts setup hash h in
+    let by = brings setup hash h e c absent here in
+    ap (share setup hash f d) by.call
+    ∙ hears-one (d == c) (effect_of_line setup hash f c by.bytes by.now) (f.about d) _ by.welcomes.others by.welcomes.hearers
+    (other-caller f c d (d == c) refl absent there) there
+    ∙ ap (λ s. user_line s ((facts setup hash (e ∷ h)).about c).fields (account_with (key_in ((facts setup hash (e ∷ h)).about c).fields) setup.accounts) ∷ []) (sym by.same_sid)
+
+lines-of : (setup : Configured) (f : Facts) (present : List ℕ)
+    → map (line_of (sight_of setup f)) (map (user_of f.about) present)
+    ≡ map (λ c. user_line (f.about c).sid (f.about c).fields (account_with (key_in (f.about c).fields) setup.accounts)) present
+unfolding listed
+lines-of setup f [] = refl
+lines-of setup f (c ∷ present) = ap (λ ls. user_line (f.about c).sid (f.about c).fields (account_with (key_in (f.about c).fields) setup.accounts) ∷ ls) (lines-of setup f present)
+
+pub entrants_are_welcomed : EntrantsAreWelcomed
+entrants_are_welcomed setup hash h e c absent here =
+    let f : Facts = facts setup hash h in
+    let by = brings setup hash h e c absent here in
+    ap (share setup hash f c) by.call
+    ∙ hears-own (c == c) (effect_of_line setup hash f c by.bytes by.now) (f.about c) by.welcomes.hearers (eq-eqb c c refl)
+    ∙ by.welcomes.welcomes
+    ∙ ap₂ (λ first s. first ++ user_line s ((facts setup hash (e ∷ h)).about c).fields (account_with (key_in ((facts setup hash (e ∷ h)).about c).fields) setup.accounts)
+    ∷ given_if (has_feature ucmd (f.about c).features) (map menu_line setup.menu)) (lines-of setup f f.present) (sym by.same_sid)
