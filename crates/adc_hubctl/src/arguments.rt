@@ -95,40 +95,50 @@ fn subcommand<'a>(alloc: Global, name: &'a str, about: &'a str) -> Command<'a> {
     Command::new(alloc, name).about(about).after_help(STATUSES)
 }
 
-/// A subcommand that logs in.
+/// A subcommand that logs in. Each argument is made where it is added, so that few are held where memory runs out.
 fn login<'a>(alloc: Global, name: &'a str, about: &'a str) -> Result<Command<'a>, AllocError> {
-    let nick = Arg::new(alloc, "nick")
+    subcommand(alloc, name, about)
+        .arg(address(alloc))?
+        .arg(nick(alloc))?
+        .arg(password_file(alloc))?
+        .arg(hash(alloc))?
+        .arg(tables(alloc))?
+        .arg(seconds(alloc))
+}
+
+fn nick<'a>(alloc: Global) -> Arg<'a> {
+    Arg::new(alloc, "nick")
         .long("nick")
         .value_name("NICK")
         .required(true)
-        .help("As whom to log in");
-    let file = Arg::new(alloc, "password-file")
+        .help("As whom to log in")
+}
+
+fn password_file<'a>(alloc: Global) -> Arg<'a> {
+    Arg::new(alloc, "password-file")
         .long("password-file")
         .value_name("FILE")
         .help(
             "The file whose first line is the password; else it is that of standard input, once the hub asks",
-        );
-    let hash = Arg::new(alloc, "hash")
+        )
+}
+
+fn hash<'a>(alloc: Global) -> Arg<'a> {
+    Arg::new(alloc, "hash")
         .long("hash")
         .value_name("HASH")
         .value_parser(["tiger", "first24"].as_slice())
         .default_value("tiger")
-        .help("The hub's hash");
-    let tables = Arg::new(alloc, "tables")
+        .help("The hub's hash")
+}
+
+fn tables<'a>(alloc: Global) -> Arg<'a> {
+    Arg::new(alloc, "tables")
         .long("tables")
         .value_name("FILE")
         .help(
             "The file of Tiger's tables [default: tiger.bin, or else /usr/share/adc-hub/tiger.bin]",
-        );
-    Command::new(alloc, name)
-        .about(about)
-        .after_help(STATUSES)
-        .arg(address(alloc))?
-        .arg(nick)?
-        .arg(file)?
-        .arg(hash)?
-        .arg(tables)?
-        .arg(seconds(alloc))
+        )
 }
 
 fn word<'a>(alloc: Global, name: &'a str, help: &'a str) -> Arg<'a> {
