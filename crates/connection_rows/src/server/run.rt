@@ -17,6 +17,9 @@ use std::time::{Clock, Duration};
 /// The number of times that a thread looks for what another does, a millisecond or more apart.
 const LOOKS: u32 = 30_000;
 
+/// The number of times that the clients look whether the server ends with them, before they come and go.
+const LAST_LOOKS: u32 = 10_000;
+
 /// The number of times that the server looks whether its clients have a thread. Where they have none, it is in vain: they
 /// would come after it.
 const FIRST_LOOKS: u32 = 500;
@@ -97,7 +100,19 @@ impl Heard {
         false
     }
 
-    /// Comes and goes until the server has served enough, where the clients did not do all that they should.
+    /// Answers whether the server ends with its clients. It does not where a connection was dropped for want of memory, which
+    /// counts for nothing.
+    fn ends_with_them<R: Clock>(&self, rt: &R) -> bool {
+        for _look in 0..LAST_LOOKS {
+            if self.is_over() {
+                return true;
+            }
+            rt.sleep(Duration::from_millis(1));
+        }
+        false
+    }
+
+    /// Comes and goes until the server has served enough.
     fn ends_soon<R: Clock + Net>(&self, rt: &R, address: SocketAddr) {
         for _look in 0..LOOKS {
             if self.is_over() {
@@ -108,18 +123,25 @@ impl Heard {
         }
     }
 
-    /// Answers whether the clients do all of this, once the server listens.
-    fn sees<R: Clock + Net>(&self, rt: &R, gate: &GateHash, parts: &[&[Step<'_>]]) -> bool {
+    /// Plays these parts, once the server listens. Answers whether the clients do all of this, and whether the server waited for
+    /// others after them.
+    fn sees<R: Clock + Net>(
+        &self,
+        rt: &R,
+        gate: &GateHash,
+        parts: &[&[Step<'_>]],
+    ) -> (bool, bool) {
         self.begin();
         let Some(address) = self.waits_for_address(rt) else {
-            return false;
+            return (false, false);
         };
         let went_well = plays(rt, address, gate, parts).is_some();
         gate.open();
-        if !went_well {
+        let waited = went_well && !self.ends_with_them(rt);
+        if !went_well || waited {
             self.ends_soon(rt, address);
         }
-        went_well
+        (went_well, waited)
     }
 }
 
@@ -150,12 +172,14 @@ pub struct Ran {
     pub errors: Vec<u8>,
     /// All its clients heard what they should.
     pub went_well: bool,
+    /// The server waited for others after them.
+    pub waited: bool,
 }
 
 impl Ran {
     /// Answers whether memory was refused, and not only to a client.
     fn met_memory(&self) -> bool {
-        self.status == 4 || self.output.is_empty() || self.says(b"Memory")
+        self.status == 4 || self.output.is_empty() || self.waited || self.says(b"Memory")
     }
 
     /// Answers whether this word is said on standard error.
@@ -208,7 +232,7 @@ where
     let heard = Heard::new(rt.alloc())?;
     let served = hash.clone()?;
     let mut errors = Vec::with_capacity(rt.alloc(), 1024)?;
-    let (went_well, status) = {
+    let ((went_well, waited), status) = {
         let (settings, heard, gate, errors) = (&settings, &heard, &**hash, &mut errors);
         join(
             rt,
@@ -242,6 +266,7 @@ where
         output: bytes.into_inner(),
         errors,
         went_well,
+        waited,
     })
 }
 

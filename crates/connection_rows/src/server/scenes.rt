@@ -114,7 +114,7 @@ where
         + Sync,
 {
     let ran = runs(rt, text, way, gate, parts);
-    assert!(rt; ran.went_well);
+    assert!(rt; ran.went_well && !ran.waited);
     assert!(rt; ran.status == 0, "{}", ran.status);
     assert!(rt; ran.output.starts_with(b"listening 127.0.0.1:") && ran.output.ends_with(said));
     ran
