@@ -1,5 +1,5 @@
-//! The times that the parts of a hub take, and its calls, for one thread and for threads that share it. It prints figures
-//! where it is given an argument.
+//! The times that the calls of a hub take, for one thread and for threads that share it. It prints figures where it is given an
+//! argument.
 #![tactic(auto)]
 
 mod calls;
@@ -7,7 +7,6 @@ mod crowd;
 mod door;
 mod hub_of_one;
 mod measure;
-mod parts;
 mod report;
 mod shared_hub;
 mod user;
@@ -18,7 +17,6 @@ fn main(rt: HostRuntime) -> io::Result<()> {
     if env::args(&rt)?.len() < 2 {
         return Ok(());
     }
-    parts::report_parts(&rt, rt.alloc())?;
     for users in [10, 100, 500, 900] {
         report::report_calls(&rt, rt.alloc(), users)?;
     }

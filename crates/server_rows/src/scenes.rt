@@ -1,9 +1,9 @@
 // Scenes that clients see of a server on loopback sockets.
-use crate::server::client::Act;
-use crate::server::conversation::Step::{self, Connects, DigestBegins, DigestEnds, Does};
-use crate::server::conversation::Who::{Ana, Bob};
-use crate::server::gate::GateHash;
-use crate::server::run::{Ran, Way, runs};
+use crate::client::Act;
+use crate::conversation::Step::{self, Connects, DigestBegins, DigestEnds, Does};
+use crate::conversation::Who::{Ana, Bob};
+use crate::gate::GateHash;
+use crate::run::{Ran, Way, runs};
 use crate::warnings::shape;
 use connection_slots::descriptor_limit;
 use second_try::again;

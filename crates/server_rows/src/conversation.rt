@@ -1,6 +1,6 @@
 // Conversations of clients: what they say and hear, one thing after the other.
-use crate::server::client::{Act, Client, connect};
-use crate::server::gate::GateHash;
+use crate::client::{Act, Client, connect};
+use crate::gate::GateHash;
 use std::net::{Net, SocketAddr};
 
 /// The actor of a step.

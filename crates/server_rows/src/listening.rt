@@ -1,6 +1,6 @@
 // Servers that cannot be had, or not for long.
 
-use crate::server::run::settings;
+use crate::run::settings;
 use hub_server::{Bind, serve_at};
 use session_hash::First24;
 use std::alloc::AllocGlobal;

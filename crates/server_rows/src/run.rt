@@ -1,7 +1,7 @@
 // A server over loopback sockets, and the clients that it serves.
-use crate::server::conversation::{Step, plays};
-use crate::server::flaky::Flaky;
-use crate::server::gate::GateHash;
+use crate::conversation::{Step, plays};
+use crate::flaky::Flaky;
+use crate::gate::GateHash;
 use futures::spin::lock;
 use hub_server::{serve_at, serve_for_journal, serve_on};
 use hub_settings::{Settings, read_settings};

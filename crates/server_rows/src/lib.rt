@@ -1,0 +1,27 @@
+//! Worked conversations with a server, over sockets and over memory, and what the program makes of its command line: tests alone.
+#![tactic(auto)]
+
+#[cfg(test)]
+mod client;
+#[cfg(test)]
+mod conversation;
+#[cfg(test)]
+mod flaky;
+#[cfg(test)]
+mod gate;
+#[cfg(test)]
+mod listening;
+#[cfg(test)]
+mod over_memory;
+#[cfg(test)]
+mod program;
+#[cfg(test)]
+mod resting;
+#[cfg(test)]
+mod run;
+#[cfg(test)]
+mod scenes;
+#[cfg(test)]
+mod slots;
+#[cfg(test)]
+mod warnings;
