@@ -1,9 +1,11 @@
 pub mod Apart
+pub mod Asking
 pub mod Banning
 pub mod Checked
 pub mod Clearing
 pub mod Conversations
 pub mod Delivery
+pub mod Departing
 pub mod Distinct
 pub mod Entrances
 pub mod Entries
@@ -14,8 +16,11 @@ pub mod Lagging
 pub mod Leaving
 pub mod Naming
 pub mod Operating
+pub mod Ordering
 pub mod Passing
+pub mod Passwords
 pub mod Public
+pub mod Removing
 pub mod Routing
 pub mod Scenes
 pub mod Searching
@@ -25,6 +30,7 @@ pub mod Strangers
 pub mod Telling
 pub mod Turning
 pub mod Updating
+pub mod Veiling
 pub mod Vouching
 pub mod Welcoming
 pub mod Worlds

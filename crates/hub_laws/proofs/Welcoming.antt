@@ -168,7 +168,7 @@ other-caller : (f : Facts) (c d : ℕ) (same : Bool) → (d == c) ≡ same → (
 other-caller f c d true is absent here = absurd (absent (subst (λ x. (f.about x).stage ≡ stages.Normal) (eqb-true d c is) here))
 other-caller f c d false is absent here = refl
 
-hears-one : (is_caller : Bool) (effect : Effect) (a : About) (line : List ℕ) → effect.others ≡ line ∷ [] → effect.hearers ≡ Others → is_caller ≡ false → a.stage ≡ stages.Normal
+pub hears-one : (is_caller : Bool) (effect : Effect) (a : About) (line : List ℕ) → effect.others ≡ line ∷ [] → effect.hearers ≡ Others → is_caller ≡ false → a.stage ≡ stages.Normal
     → owes is_caller effect a ≡ line ∷ []
 hears-one true effect a line others hearers other here = absurd (false≢true (sym other))
 hears-one false effect a line others hearers other here =

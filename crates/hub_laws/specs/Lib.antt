@@ -10,3 +10,7 @@ pub mod Holding
 pub mod Secrets
 pub mod Telling
 pub mod Welcoming
+pub mod Ordering
+pub mod Removing
+pub mod Passwords
+pub mod Departing

@@ -10,11 +10,15 @@ ghost use Rattle.hub_rules.specs.Said.{FeaturesAreLastAdded, InfoIsMerged};
 ghost use Rattle.hub_rules.specs.Searched.{SearchIsTheLast, TotalsAreSums};
 ghost use Rattle.hub_rules.specs.World.{BanIsTheLastAct, TopicIsTheLast};
 ghost use Rattle.hub_laws.specs.Delivery.{DeliveredAreTheFirst};
+ghost use Rattle.hub_laws.specs.Departing.{DeparturesAreHeard};
 ghost use Rattle.hub_laws.specs.Holding.{BansAreApart, BansAreFew};
 ghost use Rattle.hub_laws.specs.Joining.{JoinsAreCounted, JoinsStay};
 ghost use Rattle.hub_laws.specs.Leaving.{KicksShutOut, OutIsForGood, WhoIsOutHearsNothing};
 ghost use Rattle.hub_laws.specs.Operating.{NobodyBannedEnters, OnlyOperatorsBan, OnlyOperatorsSetTopics, OnlyOperatorsShutOut};
+ghost use Rattle.hub_laws.specs.Ordering.{CallsKeepTheirOrder, MessagesKeepTheirOrder, OwedGrows, SendersAreNamed};
+ghost use Rattle.hub_laws.specs.Passwords.{ChallengesAreTold, PasswordsAreNotTold};
 ghost use Rattle.hub_laws.specs.Registered.{NicksAreProved, OnlyAccountsEnter};
+ghost use Rattle.hub_laws.specs.Removing.{NamesakesComeLater, OnlyUsersAreRemoved, RemovalsAreHeard, RemovalsComeFirst};
 ghost use Rattle.hub_laws.specs.Routing.{EmptyLinesOweNothing, JoinsAndTakesOweNothing, MessagesAreRouted, QuietQuits, StrangersAreNotHeard, WhoIsOutIsNotHeard};
 ghost use Rattle.hub_laws.specs.Secrets.{InfoIsPublic, UpdatesAreHeard, UpdatesArePassed};
 ghost use Rattle.hub_laws.specs.Telling.{ActsAreHeard};
@@ -53,6 +57,17 @@ pub fn take_laws()
     ensures lag { LagIsTheFirst }
 {}
 
+/// Says in which order lines of others come: each call adds its lines behind all that a connection was owed before. So it hears of
+/// each other connection what that one's lines and its quit owe it, in the order of these calls; and of that one's messages those
+/// that are for it, byte for byte, each once for each time that it was sent, in the order in which they were sent: all of them, or,
+/// where it lags, the first of them. Each names its sender.
+pub fn order_laws()
+    ensures grows { OwedGrows }
+    ensures calls { CallsKeepTheirOrder }
+    ensures named { SendersAreNamed }
+    ensures messages { MessagesKeepTheirOrder }
+{}
+
 /// Says who is owed a message that a user may send, by its type: all who are present, its target, target and sender, or those
 /// who have certain features (ADC 1.0, "Message types"). Where a user enters, all who are present hear who it is, once; it
 /// hears who they are, in order of entry, who it is itself, and the menu, where its client has one (ADC 1.0, "INF"; ADC-EXT,
@@ -70,11 +85,23 @@ pub fn routing_laws()
 {}
 
 /// Says of who is shut out: it is owed nothing more by any call, and stays shut out. A kick or a ban of a user who is present
-/// shuts its connection out (ADC 1.0, "QUI").
+/// shuts its connection out. Where a user leaves, or is shut out for its own line, each other who is present hears that, once
+/// (ADC 1.0, "QUI").
 pub fn leaving_laws()
     ensures nothing { WhoIsOutHearsNothing }
     ensures stays { OutIsForGood }
     ensures kicks { KicksShutOut }
+    ensures departures { DeparturesAreHeard }
+{}
+
+/// Says how others hear of a kick or a ban: all who are present are owed the line that says it, once, and the operator then that it is
+/// done (ADC 1.0, "QUI"); and nobody is shut out but who is present. Who does not lag is owed it before whatever comes later; and whoever
+/// is present under that nick afterwards took it later, so that no line of a user who has it then comes before.
+pub fn removal_laws()
+    ensures heard { RemovalsAreHeard }
+    ensures users { OnlyUsersAreRemoved }
+    ensures first { RemovalsComeFirst }
+    ensures namesakes { NamesakesComeLater }
 {}
 
 /// Says who is who: whoever is present under the nick of an account gave, while the hub waited for it, a password that is the account's,
@@ -93,6 +120,15 @@ pub fn secret_laws()
     ensures info { InfoIsPublic }
     ensures passed { UpdatesArePassed }
     ensures heard { UpdatesAreHeard }
+{}
+
+/// Says what is told of passwords: whether they were right. Where two hubs differ in the passwords of their accounts alone, and the same
+/// calls are made of both, but that clients give other passwords, each right in both hubs or in neither, each connection is owed the
+/// same lines in both. So none of them is made of a password, of its digest, or of what a client gave as one. Where a password is asked
+/// for, the connection is owed the challenge of its own join, and nothing else (ADC 1.0, "GPA", "PAS").
+pub fn password_laws()
+    ensures alike { PasswordsAreNotTold }
+    ensures asked { ChallengesAreTold }
 {}
 
 /// Says what operators left: of a ban what the last act on its client identifier leaves, and the topic that was set last. Nobody

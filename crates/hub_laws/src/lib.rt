@@ -6,6 +6,6 @@ mod worked_conversations;
 
 pub use laws::{
     account_laws, counting_laws, identifier_laws, knowledge_laws, leaving_laws, operator_laws,
-    presence_laws, routing_laws, secret_laws, take_laws,
+    order_laws, password_laws, presence_laws, removal_laws, routing_laws, secret_laws, take_laws,
 };
 pub use worked_conversations::{worked_chats, worked_logins};

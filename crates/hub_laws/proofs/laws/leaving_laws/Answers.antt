@@ -1,3 +1,4 @@
+use Rattle.hub_laws.proofs.Departing.{departures_are_heard}
 use Rattle.hub_laws.proofs.Leaving.{kicks_shut_out, out_is_for_good, who_is_out_hears_nothing}
 use Rattle.hub_laws.proofs.laws.leaving_laws.Goals as goal
 
@@ -9,3 +10,6 @@ returns-clause-stays c = out_is_for_good
 
 pub returns-clause-kicks : goal.returns-clause-kicks
 returns-clause-kicks c = kicks_shut_out
+
+pub returns-clause-departures : goal.returns-clause-departures
+returns-clause-departures c = departures_are_heard

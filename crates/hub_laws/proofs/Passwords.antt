@@ -1,0 +1,359 @@
+-- Two hubs that differ in passwords alone come to the same, whatever is called, but for the digests that they wait for.
+use Rattle.std.proofs.Common.{◌≡◌, ◌∙◌, sym, ap, ap₂, refl, subst, ℕ, ◌+◌, Bool, true, false, not, ◌&&◌, ◌==◌, ◌⊎◌, inl, inr, List, [], ◌∷◌, ◌++◌, map, filter, cond}
+use Rattle.adc_line.specs.Lines as lines
+use Rattle.login_state.specs.declared.stage.Stage.{Stage}
+use Rattle.login_state.specs.declared.stage.Stage.TheVariants as stages
+use Rattle.inf_fields.specs.Field.{Field}
+use Rattle.user_table.specs.Listed.{Listed}
+use Rattle.hub_rules.specs.declared.effect.Effect.{Effect}
+use Rattle.hub_rules.specs.declared.effect.Hearers.{Hearers}
+use Rattle.hub_rules.specs.declared.effect.Hearers.TheVariants.{Others, Those}
+use Rattle.hub_rules.specs.declared.effect.Turn.{Turn}
+use Rattle.hub_rules.specs.declared.effect.Turn.TheVariants as turns
+use Rattle.hub_rules.specs.declared.history.Call.{Call}
+use Rattle.hub_rules.specs.declared.history.Call.TheVariants.{Join, Line, Quit, Take}
+use Rattle.hub_rules.specs.declared.history.Entry.{Entry}
+use Rattle.hub_rules.specs.Configured.{Account, Configured}
+use Rattle.hub_rules.specs.Effects.{departure, given_if, is_present, line_effect}
+use Rattle.hub_rules.specs.Facts.{Facts, facts, about_after, after, bans_after, closed, effect_of_line, enters, given, happens, has_joins, has_place, joined, newcomer, newcomer_if, next_sid, own_of, present_after, sight_of, topic_after, user_of}
+use Rattle.adc_base32.specs.Turns.{next_free}
+use Rattle.hub_rules.specs.History.{owed}
+use Rattle.hub_rules.specs.Identities.{listed}
+use Rattle.hub_rules.specs.Prepared.{prepared}
+use Rattle.hub_rules.specs.Shares.{About, affected, chosen, features_after, fields_after, given_share, has_room, hears_those, is_removed, owes, removed_if, stage_after, turned, with_share}
+use Rattle.hub_rules.specs.Sights.{Own, Sight}
+use Rattle.hub_laws.specs.Passwords.{AreLikeCalls, AreLikeHistories, PasswordsAreNotTold, is_password, is_right, without_passwords}
+use Rattle.hub_laws.proofs.Veiling.{AreAlike, other_hub, other_line, other_own, passwords-alike, same-line-alike, veiled, veiled_turn}
+
+-- what is known of a connection, but for the digest that is waited for
+abbrev unasked : About → About
+unasked a = record a { expected = [] }
+
+record AreSame (f g : Facts) : Type 0 where
+  rest : g ≡ record f { about = g.about }
+  about : (d : ℕ) → unasked (f.about d) ≡ unasked (g.about d)
+
+-- ---- what a decision looks at
+
+own-same : (a b : About) → unasked a ≡ unasked b → own_of b ≡ other_own (own_of a) b.expected
+own-same a b same = ap (λ (x : About). own_of (record x { expected = b.expected })) (sym same)
+
+users-same : (about others : ℕ → About) (cs : List ℕ) → ((d : ℕ) → unasked (about d) ≡ unasked (others d)) → map (user_of others) cs ≡ map (user_of about) cs
+users-same about others [] same = refl
+users-same about others (c ∷ cs) same =
+    ap₂ (λ (user : Listed) users. user ∷ users) (ap (λ (a : About). listed a.sid a.fields) (sym (same c))) (users-same about others cs same)
+
+abbrev with_accounts : Configured → List Account → Configured
+with_accounts setup accounts = record setup { accounts = accounts }
+
+sight-same : (setup : Configured) (accounts : List Account) (f g : Facts) → AreSame f g → sight_of (with_accounts setup accounts) g ≡ other_hub (sight_of setup f) accounts
+sight-same setup accounts f g same =
+    ap (λ (x : Facts). record { setup = with_accounts setup accounts; users = map (user_of g.about) x.present; bans = x.bans; topic = x.topic }) same.rest
+    ∙ ap (λ (users : List Listed). record { setup = with_accounts setup accounts; users = users; bans = f.bans; topic = f.topic }) (users-same f.about g.about f.present same.about)
+
+-- ---- what an effect makes of a connection
+
+stage-veiled : (turn : Turn) (stage : Stage) → stage_after turn stage ≡ stage_after (veiled_turn turn) stage
+stage-veiled turns.Stays stage = refl
+stage-veiled (turns.Greets features) stage = refl
+stage-veiled (turns.Waits entrant expected) stage = refl
+stage-veiled turns.Enters stage = refl
+stage-veiled (turns.EntersAs entrant) stage = refl
+stage-veiled (turns.Learns features) stage = refl
+stage-veiled (turns.Updates change) stage = refl
+stage-veiled turns.Falls stage = refl
+
+features-veiled : (turn : Turn) (features : List (List ℕ)) → features_after turn features ≡ features_after (veiled_turn turn) features
+features-veiled turns.Stays features = refl
+features-veiled (turns.Greets now) features = refl
+features-veiled (turns.Waits entrant expected) features = refl
+features-veiled turns.Enters features = refl
+features-veiled (turns.EntersAs entrant) features = refl
+features-veiled (turns.Learns now) features = refl
+features-veiled (turns.Updates change) features = refl
+features-veiled turns.Falls features = refl
+
+fields-veiled : (turn : Turn) (fields : List Field) → fields_after turn fields ≡ fields_after (veiled_turn turn) fields
+fields-veiled turns.Stays fields = refl
+fields-veiled (turns.Greets features) fields = refl
+fields-veiled (turns.Waits entrant expected) fields = refl
+fields-veiled turns.Enters fields = refl
+fields-veiled (turns.EntersAs entrant) fields = refl
+fields-veiled (turns.Learns features) fields = refl
+fields-veiled (turns.Updates change) fields = refl
+fields-veiled turns.Falls fields = refl
+
+enters-veiled : (turn : Turn) → enters turn ≡ enters (veiled_turn turn)
+enters-veiled turns.Stays = refl
+enters-veiled (turns.Greets features) = refl
+enters-veiled (turns.Waits entrant expected) = refl
+enters-veiled turns.Enters = refl
+enters-veiled (turns.EntersAs entrant) = refl
+enters-veiled (turns.Learns features) = refl
+enters-veiled (turns.Updates change) = refl
+enters-veiled turns.Falls = refl
+
+turned-veiled : (effect : Effect) (a : About) → unasked (turned effect a) ≡ unasked (turned (veiled effect) (unasked a))
+turned-veiled effect a =
+    ap₂ (λ stage features. record (unasked (turned effect a)) { stage = stage; features = features }) (stage-veiled effect.turn a.stage) (features-veiled effect.turn a.features)
+    ∙ ap (λ fields. record (unasked (turned effect a)) {
+      stage = stage_after (veiled_turn effect.turn) a.stage;
+      features = features_after (veiled_turn effect.turn) a.features;
+      fields = fields;
+    }) (fields-veiled effect.turn a.fields)
+
+share-veiled : (room : Bool) (a : About) (share : List (List ℕ)) → unasked (given_share room a share) ≡ given_share room (unasked a) share
+share-veiled true a share = refl
+share-veiled false a share = refl
+
+with-veiled : (a : About) (share : List (List ℕ)) → unasked (with_share a share) ≡ with_share (unasked a) share
+unfolding with_share
+with-veiled a share = share-veiled (has_room a share) a share
+
+chosen-veiled : (is_caller : Bool) (effect : Effect) (a : About)
+    → unasked (chosen is_caller (turned effect a) a) ≡ unasked (chosen is_caller (turned (veiled effect) (unasked a)) (unasked a))
+chosen-veiled true effect a = turned-veiled effect a
+chosen-veiled false effect a = refl
+
+removed-veiled : (removed : Bool) (a b : About) → unasked a ≡ unasked b → unasked (removed_if removed a) ≡ unasked (removed_if removed b)
+removed-veiled true a b same = ap (λ (x : About). record x { stage = stages.Gone }) same
+removed-veiled false a b same = same
+
+hears-veiled : (is_caller : Bool) (hearers : Hearers) (a : About) → hears_those is_caller hearers a ≡ hears_those is_caller hearers (unasked a)
+hears-veiled is_caller Others a = refl
+hears-veiled is_caller (Those audience) a = refl
+
+owes-veiled : (is_caller : Bool) (effect : Effect) (a : About) → owes is_caller effect a ≡ owes is_caller (veiled effect) (unasked a)
+owes-veiled is_caller effect a =
+    ap (λ b. given_if (is_present a.stage && b) effect.others ++ given_if is_caller effect.own) (hears-veiled is_caller effect.hearers a)
+
+-- what becomes of a connection that is owed this
+abbrev affected_by : Bool → Effect → About → List (List ℕ) → About
+affected_by is_caller effect a share =
+    removed_if (is_present a.stage && is_removed effect.world a.sid) (chosen is_caller (turned effect (with_share a share)) (with_share a share))
+
+by-veiled : (is_caller : Bool) (effect : Effect) (a : About) (share : List (List ℕ))
+    → unasked (affected_by is_caller effect a share) ≡ unasked (affected_by is_caller (veiled effect) (unasked a) share)
+by-veiled is_caller effect a share =
+    removed-veiled (is_present a.stage && is_removed effect.world a.sid) (chosen is_caller (turned effect (with_share a share)) (with_share a share))
+    (chosen is_caller (turned (veiled effect) (with_share (unasked a) share)) (with_share (unasked a) share))
+    (chosen-veiled is_caller effect (with_share a share)
+    ∙ ap (λ (b : About). unasked (chosen is_caller (turned (veiled effect) b) b)) (with-veiled a share))
+
+affected-veiled : (is_caller : Bool) (effect : Effect) (a : About) → unasked (affected is_caller effect a) ≡ unasked (affected is_caller (veiled effect) (unasked a))
+affected-veiled is_caller effect a =
+    by-veiled is_caller effect a (owes is_caller effect a)
+    ∙ ap (λ share. unasked (affected_by is_caller (veiled effect) (unasked a) share)) (owes-veiled is_caller effect a)
+
+affected-same : (is_caller : Bool) (effect another : Effect) (a b : About) → veiled effect ≡ veiled another → unasked a ≡ unasked b
+    → unasked (affected is_caller effect a) ≡ unasked (affected is_caller another b)
+affected-same is_caller effect another a b alike same =
+    affected-veiled is_caller effect a ∙ ap₂ (λ (e : Effect) (x : About). unasked (affected is_caller e x)) alike same ∙ sym (affected-veiled is_caller another b)
+
+-- ---- what an effect makes of the hub
+
+filter-same : (p q : ℕ → Bool) (xs : List ℕ) → ((x : ℕ) → p x ≡ q x) → filter p xs ≡ filter q xs
+filter-same p q [] same = refl
+filter-same p q (x ∷ xs) same = ap₂ (λ b ys. cond b (x ∷ ys) (filter p xs)) (same x) (filter-same p q xs same) ∙ ap (λ ys. cond (q x) (x ∷ filter q xs) ys) (filter-same p q xs same)
+
+present-same : (c : ℕ) (effect another : Effect) (about others : ℕ → About) (present : List ℕ) → veiled effect ≡ veiled another
+    → ((d : ℕ) → unasked (about d) ≡ unasked (others d)) → present_after c another others present ≡ present_after c effect about present
+present-same c effect another about others present alike same =
+    ap₂ (λ (ds : List ℕ) b. ds ++ newcomer_if b c)
+    (filter-same (λ d. is_present (about_after c another others d).stage) (λ d. is_present (about_after c effect about d).stage) present
+    (λ d. ap (λ (a : About). is_present a.stage) (sym (affected-same (d == c) effect another (about d) (others d) alike (same d)))))
+    (enters-veiled another.turn ∙ ap (λ (e : Effect). enters e.turn) (sym alike) ∙ sym (enters-veiled effect.turn))
+
+happens-same : (c : ℕ) (effect another : Effect) (f g : Facts) → veiled effect ≡ veiled another → AreSame f g → AreSame (happens c effect f) (happens c another g)
+unfolding happens
+happens-same c effect another f g alike same = record {
+  rest = ap (λ (x : Facts). record x {
+    present = present_after c another g.about x.present;
+    bans = bans_after another.world x.bans;
+    topic = topic_after another.world x.topic;
+    about = about_after c another g.about;
+  }) same.rest
+      ∙ ap₂ (λ (present : List ℕ) (e : Effect). record f {
+        present = present;
+        bans = bans_after e.world f.bans;
+        topic = topic_after e.world f.topic;
+        about = about_after c another g.about;
+      }) (present-same c effect another f.about g.about f.present alike same.about) (sym alike);
+  about = λ d. affected-same (d == c) effect another (f.about d) (g.about d) alike (same.about d);
+}
+
+-- ---- the same line, or two passwords
+
+bytes-same : (setup : Configured) (accounts : List Account) (hash : List ℕ → List ℕ) (challenge bytes : List ℕ)
+    → prepared (with_accounts setup accounts) hash challenge bytes
+    ≡ other_line (prepared setup hash challenge bytes) (prepared (with_accounts setup accounts) hash challenge bytes).password
+unfolding prepared
+bytes-same setup accounts hash challenge bytes = refl
+
+abbrev AreAlikeLines : List ℕ → List ℕ → Type 0
+AreAlikeLines bytes others = (bytes ≡ others) ⊎ ((is_password (lines.reading bytes) ≡ true) × (is_password (lines.reading others) ≡ true))
+
+decided-same : (setup : Configured) (accounts : List Account) (hash : List ℕ → List ℕ) (hub : Sight) (own : Own) (expected challenge bytes others : List ℕ) (now : ℕ)
+    → AreAlike hub.setup.accounts accounts → AreAlikeLines bytes others
+    → (own.stage ≡ stages.Verify → is_right own.expected (lines.reading bytes) ≡ is_right expected (lines.reading others))
+    → veiled (line_effect hub own (prepared setup hash challenge bytes) now)
+    ≡ veiled (line_effect (other_hub hub accounts) (other_own own expected) (prepared (with_accounts setup accounts) hash challenge others) now)
+unfolding prepared
+decided-same setup accounts hash hub own expected challenge bytes others now alike (inl same) right =
+    same-line-alike hub accounts own expected (prepared setup hash challenge bytes) (prepared (with_accounts setup accounts) hash challenge bytes).password now alike
+    (λ waits. right waits ∙ ap (λ bs. is_right expected (lines.reading bs)) (sym same))
+    ∙ ap (λ bs. veiled (line_effect (other_hub hub accounts) (other_own own expected) (prepared (with_accounts setup accounts) hash challenge bs) now)) same
+decided-same setup accounts hash hub own expected challenge bytes others now alike (inr passwords) right =
+    passwords-alike hub accounts own expected (prepared setup hash challenge bytes) (prepared (with_accounts setup accounts) hash challenge others) now alike
+    passwords.0 passwords.1 right
+
+effect-same : (setup : Configured) (accounts : List Account) (hash : List ℕ → List ℕ) (f g : Facts) (c : ℕ) (bytes others : List ℕ) (now : ℕ)
+    → AreAlike setup.accounts accounts → AreSame f g → AreAlikeLines bytes others
+    → ((f.about c).stage ≡ stages.Verify → is_right (f.about c).expected (lines.reading bytes) ≡ is_right (g.about c).expected (lines.reading others))
+    → veiled (effect_of_line setup hash f c bytes now) ≡ veiled (effect_of_line (with_accounts setup accounts) hash g c others now)
+effect-same setup accounts hash f g c bytes others now alike same like right =
+    decided-same setup accounts hash (sight_of setup f) (own_of (f.about c)) (g.about c).expected (f.about c).challenge bytes others now alike like right
+    ∙ ap (λ (a : About).
+    veiled (line_effect (other_hub (sight_of setup f) accounts) (other_own (own_of (f.about c)) (g.about c).expected)
+    (prepared (with_accounts setup accounts) hash a.challenge others) now)) (same.about c)
+    ∙ ap₂ (λ (hub : Sight) (own : Own). veiled (line_effect hub own (prepared (with_accounts setup accounts) hash (g.about c).challenge others) now))
+    (sym (sight-same setup accounts f g same)) (sym (own-same (f.about c) (g.about c) (same.about c)))
+
+-- ---- every call
+
+sids-same : (about others : ℕ → About) (cs : List ℕ) → ((d : ℕ) → unasked (about d) ≡ unasked (others d)) → map (λ c. (others c).sid) cs ≡ map (λ c. (about c).sid) cs
+sids-same about others [] same = refl
+sids-same about others (c ∷ cs) same = ap₂ (λ (n : ℕ) ns. n ∷ ns) (ap (λ (a : About). a.sid) (sym (same c))) (sids-same about others cs same)
+
+next-same : (f g : Facts) → AreSame f g → next_sid g ≡ next_sid f
+next-same f g same =
+    ap (λ (x : Facts). next_free x.last (map (λ c. (g.about c).sid) x.opened)) same.rest ∙ ap (next_free f.last) (sids-same f.about g.about f.opened same.about)
+
+newcomer-same : (is_new : Bool) (a b new : About) → unasked a ≡ unasked b → unasked (chosen is_new new a) ≡ unasked (chosen is_new new b)
+newcomer-same true a b new same = refl
+newcomer-same false a b new same = same
+
+joined-same : (f g : Facts) (owner : ℕ) (peer challenge : List ℕ) → AreSame f g → AreSame (joined f owner peer challenge) (joined g owner peer challenge)
+unfolding joined
+joined-same f g owner peer challenge same = record {
+  rest = ap (λ (x : Facts). record x {
+    joins = x.joins + 1;
+    last = next_sid g;
+    opened = x.opened ++ (x.joins + 1) ∷ [];
+    about = λ d. chosen (d == (g.joins + 1)) (newcomer owner (next_sid g) peer challenge) (g.about d);
+  }) same.rest
+      ∙ ap (λ n. record f {
+        joins = f.joins + 1;
+        last = n;
+        opened = f.opened ++ (f.joins + 1) ∷ [];
+        about = λ d. chosen (d == (g.joins + 1)) (newcomer owner (next_sid g) peer challenge) (g.about d);
+      }) (next-same f g same);
+  about = λ d. newcomer-same (d == (f.joins + 1)) (f.about d) (g.about d) (newcomer owner (next_sid f) peer challenge) (same.about d)
+      ∙ ap₂ (λ joins n. unasked (chosen (d == (joins + 1)) (newcomer owner n peer challenge) (g.about d))) (ap (λ (x : Facts). x.joins) (sym same.rest)) (sym (next-same f g same));
+}
+
+chosen-same : (is_accepted : Bool) (f g x y : Facts) → AreSame x y → AreSame f g → AreSame (chosen is_accepted x f) (chosen is_accepted y g)
+chosen-same true f g x y first second = first
+chosen-same false f g x y first second = second
+
+closed-same : (c : ℕ) (f g : Facts) → AreSame f g → AreSame (closed c f) (closed c g)
+unfolding closed
+closed-same c f g same = record { rest = ap (λ (x : Facts). record x { opened = filter (λ d. not (d == c)) x.opened }) same.rest; about = same.about }
+
+given-same : (is_caller : Bool) (count : ℕ) (a b : About) → unasked a ≡ unasked b → unasked (chosen is_caller (given count a) a) ≡ unasked (chosen is_caller (given count b) b)
+given-same true count a b same = ap (given count) same
+given-same false count a b same = same
+
+taken-same : (f g : Facts) (c count : ℕ) → AreSame f g
+    → AreSame (record f { about = λ d. chosen (d == c) (given count (f.about d)) (f.about d) }) (record g { about = λ d. chosen (d == c) (given count (g.about d)) (g.about d) })
+taken-same f g c count same = record {
+  rest = ap (λ (x : Facts). record x { about = λ d. chosen (d == c) (given count (g.about d)) (g.about d) }) same.rest;
+  about = λ d. given-same (d == c) count (f.about d) (g.about d) (same.about d);
+}
+
+-- calls that are like each other in two hubs
+abbrev LikeCalls : (f g : Facts) → Call → Call → Type 0
+LikeCalls f g (Line c bytes now) (Line d others later) =
+    (c ≡ d) × (now ≡ later) × AreAlikeLines bytes others
+    × ((f.about c).stage ≡ stages.Verify → is_right (f.about c).expected (lines.reading bytes) ≡ is_right (g.about c).expected (lines.reading others))
+LikeCalls f g call another = call ≡ another
+
+line-same : (setup : Configured) (accounts : List Account) (hash : List ℕ → List ℕ) (f g : Facts) (c d : ℕ) (bytes others : List ℕ) (now later : ℕ)
+    → AreAlike setup.accounts accounts → AreSame f g → LikeCalls f g (Line c bytes now) (Line d others later)
+    → AreSame (happens c (effect_of_line setup hash f c bytes now) f) (happens d (effect_of_line (with_accounts setup accounts) hash g d others later) g)
+line-same setup accounts hash f g c d bytes others now later alike same like =
+    subst (λ x. AreSame (happens c (effect_of_line setup hash f c bytes now) f) (happens x (effect_of_line (with_accounts setup accounts) hash g x others later) g)) like.0
+    (subst (λ t. AreSame (happens c (effect_of_line setup hash f c bytes now) f) (happens c (effect_of_line (with_accounts setup accounts) hash g c others t) g)) like.1
+    (happens-same c (effect_of_line setup hash f c bytes now) (effect_of_line (with_accounts setup accounts) hash g c others now) f g
+    (effect-same setup accounts hash f g c bytes others now alike same like.2 like.3) same))
+
+places-same : (setup : Configured) (accounts : List Account) (f g : Facts) → AreSame f g
+    → (has_place (with_accounts setup accounts) g && has_joins g) ≡ (has_place setup f && has_joins f)
+places-same setup accounts f g same = ap (λ (x : Facts). has_place (with_accounts setup accounts) x && has_joins x) same.rest
+
+join-same : (setup : Configured) (accounts : List Account) (f g : Facts) (caller : ℕ) (peer challenge : List ℕ) → AreSame f g
+    → AreSame (chosen (has_place setup f && has_joins f) (joined f caller peer challenge) f)
+    (chosen (has_place (with_accounts setup accounts) g && has_joins g) (joined g caller peer challenge) g)
+join-same setup accounts f g caller peer challenge same =
+    subst (λ b. AreSame (chosen (has_place setup f && has_joins f) (joined f caller peer challenge) f) (chosen b (joined g caller peer challenge) g))
+    (sym (places-same setup accounts f g same))
+    (chosen-same (has_place setup f && has_joins f) f g (joined f caller peer challenge) (joined g caller peer challenge) (joined-same f g caller peer challenge same) same)
+
+quit-same : (f g : Facts) (c : ℕ) → AreSame f g
+    → AreSame (closed c (happens c (departure (f.about c).stage (f.about c).sid) f)) (closed c (happens c (departure (g.about c).stage (g.about c).sid) g))
+quit-same f g c same =
+    closed-same c (happens c (departure (f.about c).stage (f.about c).sid) f) (happens c (departure (g.about c).stage (g.about c).sid) g)
+    (happens-same c (departure (f.about c).stage (f.about c).sid) (departure (g.about c).stage (g.about c).sid) f g
+    (ap (λ (a : About). veiled (departure a.stage a.sid)) (same.about c)) same)
+
+after-same : (setup : Configured) (accounts : List Account) (hash : List ℕ → List ℕ) (f g : Facts) (caller : ℕ) (call another : Call) → AreAlike setup.accounts accounts
+    → AreSame f g → LikeCalls f g call another → AreSame (after setup hash f caller call) (after (with_accounts setup accounts) hash g caller another)
+unfolding after
+after-same setup accounts hash f g caller (Join peer challenge now) another alike same like =
+    subst (λ (x : Call). AreSame (after setup hash f caller (Join peer challenge now)) (after (with_accounts setup accounts) hash g caller x)) like
+    (join-same setup accounts f g caller peer challenge same)
+after-same setup accounts hash f g caller (Line c bytes now) (Line d others later) alike same like =
+    line-same setup accounts hash f g c d bytes others now later alike same like
+after-same setup accounts hash f g caller (Line c bytes now) (Join peer challenge later) alike same like = let none : ⊥ = cc like in absurd none
+after-same setup accounts hash f g caller (Line c bytes now) (Quit d) alike same like = let none : ⊥ = cc like in absurd none
+after-same setup accounts hash f g caller (Line c bytes now) (Take d count) alike same like = let none : ⊥ = cc like in absurd none
+after-same setup accounts hash f g caller (Quit c) another alike same like =
+    subst (λ (x : Call). AreSame (after setup hash f caller (Quit c)) (after (with_accounts setup accounts) hash g caller x)) like (quit-same f g c same)
+after-same setup accounts hash f g caller (Take c count) another alike same like =
+    subst (λ (x : Call). AreSame (after setup hash f caller (Take c count)) (after (with_accounts setup accounts) hash g caller x)) like (taken-same f g c count same)
+
+-- ---- every history
+
+like-calls : (setup other : Configured) (hash : List ℕ → List ℕ) (h g : List Entry) (call another : Call) → AreLikeCalls setup other hash h g call another
+    → LikeCalls (facts setup hash h) (facts other hash g) call another
+like-calls setup other hash h g (Join peer challenge now) another like = like
+like-calls setup other hash h g (Line c bytes now) (Line d others later) like = (like.0, like.1, like.2.alike, like.2.right)
+like-calls setup other hash h g (Line c bytes now) (Join peer challenge later) like = like
+like-calls setup other hash h g (Line c bytes now) (Quit d) like = like
+like-calls setup other hash h g (Line c bytes now) (Take d count) like = like
+like-calls setup other hash h g (Quit c) another like = like
+like-calls setup other hash h g (Take c count) another like = like
+
+same-of : (setup : Configured) (accounts : List Account) (hash : List ℕ → List ℕ) (h g : List Entry) → AreAlike setup.accounts accounts
+    → AreLikeHistories setup (with_accounts setup accounts) hash h g → AreSame (facts setup hash h) (facts (with_accounts setup accounts) hash g)
+unfolding facts AreLikeHistories
+same-of setup accounts hash [] [] alike like = record { rest = refl; about = λ d. refl }
+same-of setup accounts hash [] (x ∷ g) alike like = absurd like
+same-of setup accounts hash (e ∷ h) [] alike like = absurd like
+same-of setup accounts hash (e ∷ h) (x ∷ g) alike like =
+    subst
+    (λ caller. AreSame (after setup hash (facts setup hash h) e.caller e.call) (after (with_accounts setup accounts) hash (facts (with_accounts setup accounts) hash g) caller x.call))
+    like.1
+    (after-same setup accounts hash (facts setup hash h) (facts (with_accounts setup accounts) hash g) e.caller e.call x.call alike (same-of setup accounts hash h g alike like.0)
+    (like-calls setup (with_accounts setup accounts) hash h g e.call x.call like.2))
+
+-- the other hub is this one with other accounts
+other-setup : (setup other : Configured) → without_passwords setup ≡ without_passwords other → with_accounts setup other.accounts ≡ other
+other-setup setup other alike = ap (λ (s : Configured). with_accounts s other.accounts) alike
+
+pub passwords_are_not_told : PasswordsAreNotTold
+passwords_are_not_told setup other hash h g alike like d =
+    let same : with_accounts setup other.accounts ≡ other = other-setup setup other alike in
+    let accounts : AreAlike setup.accounts other.accounts = ap (λ (s : Configured). s.accounts) alike in
+    let both = same-of setup other.accounts hash h g accounts (subst (λ s. AreLikeHistories setup s hash h g) (sym same) like) in
+    ap (λ (a : About). a.owed) (both.about d) ∙ ap (λ s. owed s hash g d) same

@@ -1,0 +1,75 @@
+-- All who are present hear once of a user whom an operator shuts out, before they are owed any line of a later user with that nick.
+use Rattle.std.specs.Prelude.{◌≡◌, ℕ, ◌≤◌, ◌==◌, true, false, List, [], ◌∷◌, ◌++◌, Option, Some, None}
+use Rattle.login_state.specs.declared.stage.Stage.TheVariants.{Normal}
+use Rattle.hub_rules.specs.declared.effect.World.{World}
+use Rattle.hub_rules.specs.declared.effect.World.TheVariants as worlds
+use Rattle.hub_rules.specs.declared.history.Call.TheVariants.{Line}
+use Rattle.hub_rules.specs.declared.history.Entry.{Entry}
+use Rattle.hub_rules.specs.Configured.{Configured}
+use Rattle.hub_rules.specs.Effects.{given_if}
+use Rattle.hub_rules.specs.Facts.{facts}
+use Rattle.hub_rules.specs.History.{info, lags, owed, sid, stage}
+use Rattle.hub_rules.specs.Identities.{key_in}
+use Rattle.hub_rules.specs.Lagging.{share}
+use Rattle.hub_rules.specs.Shares.{is_removed}
+use Rattle.hub_rules.specs.Texts.{done_line, removal_line}
+use Rattle.hub_rules.specs.World.{world_of}
+
+-- the entry is a kick or a ban of the user of connection c, who is present
+pub record Removes (setup : Configured) (hash : List ℕ → List ℕ) (h : List Entry) (e : Entry) (c : ℕ) : Type 0 where
+  pub present : stage setup hash h c ≡ Normal
+  pub named : is_removed (world_of setup hash (facts setup hash h) e.call) (sid setup hash h c) ≡ true
+
+-- for how many seconds, where it is a ban
+abbrev pub seconds_of : World → Option ℕ
+seconds_of (worlds.Ban banned) = Some banned.seconds
+seconds_of world = None
+
+-- the line that says it: who was shut out, by which operator, for how long and why
+abbrev pub told_of_removal : Configured → (List ℕ → List ℕ) → List Entry → Entry → ℕ → ℕ → List ℕ → List ℕ
+told_of_removal setup hash h e c operator reason =
+    removal_line (sid setup hash h c) (sid setup hash h operator) (seconds_of (world_of setup hash (facts setup hash h) e.call)) reason
+
+-- it is a line of the operator's connection, and each user who is present, the one that is shut out too, is owed this line, once, and nothing
+-- else, but the operator, who is told then that it is done
+abbrev pub RemovalsAreHeard : Type 0
+RemovalsAreHeard =
+    (setup : Configured) (hash : List ℕ → List ℕ) (h : List Entry) (e : Entry) (c : ℕ) → Removes setup hash h e c
+    → (operator : ℕ) × (bytes : List ℕ) × (now : ℕ) × (reason : List ℕ) × (e.call ≡ Line operator bytes now)
+    × ((d : ℕ) → stage setup hash h d ≡ Normal
+    → share setup hash (facts setup hash h) d e.call ≡ told_of_removal setup hash h e c operator reason ∷ given_if (d == operator) (done_line ∷ []))
+
+-- who does not lag is owed it right behind all that it was owed before, and before whatever later entries add
+abbrev pub RemovalsComeFirst : Type 0
+RemovalsComeFirst =
+    (setup : Configured) (hash : List ℕ → List ℕ) (later earlier : List Entry) (e : Entry) (c d : ℕ) → Removes setup hash earlier e c
+    → stage setup hash earlier d ≡ Normal → lags setup hash (e ∷ earlier) d ≡ false
+    → (operator : ℕ) × (reason : List ℕ) × (rest : List (List ℕ))
+    × (owed setup hash (later ++ e ∷ earlier) d
+    ≡ owed setup hash earlier d ++ (told_of_removal setup hash earlier e c operator reason ∷ given_if (d == operator) (done_line ∷ [])) ++ rest)
+
+-- the identifier that a kick or a ban names is that of a user who is present: whoever is out is not shut out again
+abbrev pub OnlyUsersAreRemoved : Type 0
+OnlyUsersAreRemoved =
+    (setup : Configured) (hash : List ℕ → List ℕ) (h : List Entry) (e : Entry) (named : ℕ)
+    → is_removed (world_of setup hash (facts setup hash h) e.call) named ≡ true → (c : ℕ) × Removes setup hash h e c × (sid setup hash h c ≡ named)
+
+-- the user of connection n is present under the nick with this normal form C
+abbrev pub HasNick : Configured → (List ℕ → List ℕ) → List Entry → ℕ → List ℕ → Type 0
+HasNick setup hash h n key = (stage setup hash h n ≡ Normal) × (key_in (info setup hash h n) ≡ key)
+
+-- after h, one of these later entries gave it that nick
+pub record TakesNick (setup : Configured) (hash : List ℕ → List ℕ) (later h : List Entry) (n : ℕ) (key : List ℕ) : Type 0 where
+  pub after : List Entry
+  pub entry : Entry
+  pub between : List Entry
+  pub splits : later ≡ after ++ entry ∷ between
+  pub before : HasNick setup hash (between ++ h) n key → ⊥
+  pub takes : HasNick setup hash (entry ∷ between ++ h) n key
+
+-- whoever is present under that nick afterwards took it later: nobody has it when the user is shut out
+abbrev pub NamesakesComeLater : Type 0
+NamesakesComeLater =
+    (setup : Configured) (hash : List ℕ → List ℕ) (later earlier : List Entry) (e : Entry) (c n : ℕ) → setup.max_users ≤ 900 → Removes setup hash earlier e c
+    → HasNick setup hash (later ++ e ∷ earlier) n (key_in (info setup hash earlier c))
+    → TakesNick setup hash later (e ∷ earlier) n (key_in (info setup hash earlier c))
