@@ -1,0 +1,214 @@
+-- A user does not take what waits for it, computed from the rules: by induction, since so many lines wait.
+use Rattle.std.proofs.Common.{◌≡◌, ◌∙◌, ap, ap₂, refl, sym, ℕ, zero, suc, ◌+◌, ◌≤◌, true, false, ◌&&◌, List, [], ◌∷◌, ◌++◌, length, filter, drop, take, replicate, codes, Some, None, Ok, arith}
+use Rattle.std.specs.Prelude.{nat_le, if◌then◌else◌}
+use Rattle.std.specs.List.{concat}
+use Rattle.std.proofs.lemmas.Bool.Decides.{nat_tests}
+use Rattle.std.proofs.lemmas.List.{drop-append-le, drop_all, length-replicate, take_all}
+use Rattle.std.proofs.lemmas.List.Folds.{sum_by-replicate}
+use Rattle.std.proofs.lemmas.List.Sums.{sum_by-append}
+use Rattle.adc_base32.specs.Digits.{value_at}
+use Rattle.adc_base32.specs.Sids.{four_digits, sid_at}
+use Rattle.adc_line.specs.declared.kind.Kind.TheVariants as kinds
+use Rattle.adc_line.specs.Escapes.{is_escaped}
+use Rattle.adc_line.specs.Header.{addressed, head_at, header_of, kind_at}
+use Rattle.adc_line.specs.Lines.{Reading, reading}
+use Rattle.adc_line.specs.Parameters.{params_fault}
+use Rattle.feature_route.specs.Audiences.{audience, holds_words}
+use Rattle.feature_route.specs.declared.hearers.Audience.TheVariants as audiences
+use Rattle.outboxes.specs.Backlogs.{fits, size_of}
+use Rattle.hub_rules.specs.declared.effect.Effect.{Effect}
+use Rattle.hub_rules.specs.declared.history.Entry.{Entry}
+use Rattle.hub_rules.specs.declared.history.Reply.TheVariants.{Took}
+use Rattle.hub_rules.specs.declared.history.Verdict.TheVariants.{Kept}
+use Rattle.hub_rules.specs.Denied.{request_denied}
+use Rattle.hub_rules.specs.Effects.{accepted, is_present}
+use Rattle.hub_rules.specs.Identities.{listed}
+use Rattle.hub_rules.specs.Legal.{take_reply}
+use Rattle.hub_rules.specs.Requests.{refused, request_of}
+use Rattle.hub_rules.specs.Shares.{About, affected, given_share, has_room, turned, waiting, with_share}
+use Rattle.hub_laws.specs.Conversations.{one, plain, zeros}
+use Rattle.hub_laws.specs.Lags.{WhoTakesNothingLags, bob_ready, chatter, ho_text, ho_told, once_more, two_told}
+use Rattle.hub_laws.specs.Messages.{bob_entered}
+use Rattle.hub_laws.specs.Talking.{says, takes}
+use Rattle.hub_laws.proofs.Heard.{effect_of, reading-ascii}
+use Rattle.hub_laws.proofs.Known.{Known, about_in, facts_of, with_effect, with_taken}
+use Rattle.hub_laws.proofs.Messages.{ana_about, bob-enters, bob_about, bob_present, passed}
+use Rattle.hub_laws.proofs.Steps.{Comes, says-more, takes-more}
+
+-- what a user was owed that heard it so many times
+abbrev heard_so_far : List ℕ → ℕ → List (List ℕ)
+heard_so_far sid n = two_told sid ++ replicate n ho_told
+
+replicate-end : (n : ℕ) → replicate n ho_told ++ ho_told ∷ [] ≡ replicate (suc n) ho_told
+replicate-end zero = refl
+replicate-end (suc n) = ap (λ lines. ho_told ∷ lines) (replicate-end n)
+
+once-longer : (sid : List ℕ) (n : ℕ) → heard_so_far sid n ++ ho_told ∷ [] ≡ heard_so_far sid (suc n)
+once-longer sid n = ap (λ lines. two_told sid ++ lines) (replicate-end n)
+
+heard-length : (sid : List ℕ) (n : ℕ) → length (heard_so_far sid n) ≡ n + 5
+heard-length sid n = omega (arith, length-replicate n ho_told)
+
+true-le : (a b : ℕ) → a ≤ b → nat_le a b ≡ true
+true-le a b le = grind (arith, nat_tests)
+
+le-true : (a b : ℕ) → nat_le a b ≡ true → a ≤ b
+le-true a b is = grind (arith, nat_tests)
+
+-- ---- there is room for the line
+
+abbrev ana_by : ℕ → About
+ana_by n = ana_about (heard_so_far (codes "AAAB") n)
+
+-- bob took all that it heard so many times
+abbrev bob_by : ℕ → ℕ → About
+bob_by took n = record (bob_about (heard_so_far (codes "AAAC") n)) { taken = took + 5 }
+
+few-bytes : (n : ℕ) → n ≤ 1_018 → size_of (heard_so_far (codes "AAAB") n) + 13 ≤ 1_048_576
+few-bytes n few =
+    let before : size_of (two_told (codes "AAAB")) ≤ 1_000 = le-true (size_of (two_told (codes "AAAB"))) 1_000 refl in
+    omega (arith, few, before, sum_by-append length (two_told (codes "AAAB")) (replicate n ho_told), sum_by-replicate length n ho_told)
+
+room-for-ana : (n : ℕ) → n ≤ 1_018 → has_room (ana_by n) (ho_told ∷ []) ≡ true
+room-for-ana n few =
+    ap₂ (λ a b. a && b) (true-le (length (heard_so_far (codes "AAAB") n) + 1) 1_024 (omega (arith, few, heard-length (codes "AAAB") n)))
+    (true-le (size_of (heard_so_far (codes "AAAB") n) + 13) 1_048_576 (few-bytes n few))
+
+nothing-waits : (n : ℕ) → waiting (bob_by n n) ≡ []
+nothing-waits n = drop_all (n + 5) (heard_so_far (codes "AAAC") n) (omega (arith, heard-length (codes "AAAC") n))
+
+room-for-bob : (n : ℕ) → has_room (bob_by n n) (ho_told ∷ []) ≡ true
+room-for-bob n = ap (λ lines. fits (record { lines = lines; lags = false; cap = 1_024; bytes = 1_048_576 }) (ho_told ∷ [])) (nothing-waits n)
+
+line-waits : (n : ℕ) → waiting (bob_by n (suc n)) ≡ ho_told ∷ []
+line-waits n =
+    ap (λ lines. drop (n + 5) lines) (sym (once-longer (codes "AAAC") n))
+    ∙ drop-append-le (n + 5) (heard_so_far (codes "AAAC") n) (ho_told ∷ []) (omega (arith, heard-length (codes "AAAC") n))
+    ∙ ap (λ lines. lines ++ ho_told ∷ []) (nothing-waits n)
+
+-- ---- bob speaks
+
+abbrev ho_line : Reading
+ho_line = record { text = ho_text; kind = kinds.Broadcast; command = codes "MSG"; from = Some 2; target = None; features = None; params = codes "ho" ∷ [] }
+
+ho-read : reading ho_text ≡ Ok ho_line
+unfolding header_of head_at kind_at addressed params_fault is_escaped sid_at four_digits value_at
+ho-read = reading-ascii ho_text refl refl ∙ refl
+
+abbrev ho_effect : Effect
+ho_effect = passed ho_text audiences.All None
+
+abbrev crowd : About → About → Known
+crowd bob ana = record bob_present { abouts = bob ∷ ana ∷ [] }
+
+ana-hears : (n : ℕ) → n ≤ 1_018 → affected false ho_effect (ana_by n) ≡ ana_by (suc n)
+unfolding with_share holds_words
+ana-hears n few = ap (λ b. given_share b (ana_by n) (ho_told ∷ [])) (room-for-ana n few) ∙ ap ana_about (once-longer (codes "AAAB") n)
+
+bob-hears : (n : ℕ) → affected true ho_effect (bob_by n n) ≡ bob_by n (suc n)
+unfolding with_share holds_words
+bob-hears n =
+    ap (λ b. turned ho_effect (given_share b (bob_by n n) (ho_told ∷ []))) (room-for-bob n)
+    ∙ ap (λ lines. record (bob_about lines) { taken = n + 5 }) (once-longer (codes "AAAC") n)
+
+-- where it is known what the line makes of both, and that they stay
+both-hear : (bob ana bob_then ana_then : About) → affected true ho_effect bob ≡ bob_then → affected false ho_effect ana ≡ ana_then
+    → is_present bob_then.stage ≡ true → is_present ana_then.stage ≡ true → with_effect 2 ho_effect (crowd bob ana) ≡ crowd bob_then ana_then
+both-hear bob ana bob_then ana_then bob_hears ana_hears bob_stays ana_stays =
+    (λ i. record (crowd bob ana) {
+      present = filter (λ d. is_present (about_in (bob_hears i ∷ ana_hears i ∷ []) d).stage) (1 ∷ 2 ∷ []) ++ [];
+      abouts = bob_hears i ∷ ana_hears i ∷ [];
+    })
+    ∙ ap₂ (λ b a. record (crowd bob_then ana_then) { present = (if a then 1 ∷ (if b then 2 ∷ [] else []) else (if b then 2 ∷ [] else [])) ++ [] }) bob_stays ana_stays
+
+ho-decided : (hash : List ℕ → List ℕ) (n : ℕ) → effect_of plain hash (facts_of (crowd (bob_by n n) (ana_by n))) 2 ho_text 0 (Ok ho_line) ≡ ho_effect
+unfolding accepted refused request_denied request_of audience listed
+ho-decided hash n = refl
+
+bob-says : (hash : List ℕ → List ℕ) (h : List Entry) (n : ℕ) → n ≤ 1_018 → Comes plain hash h (crowd (bob_by n n) (ana_by n))
+    → Comes plain hash (says 2 ho_text 0 Kept h) (crowd (bob_by n (suc n)) (ana_by (suc n)))
+bob-says hash h n few before =
+    says-more plain hash h (crowd (bob_by n n) (ana_by n)) (crowd (bob_by n (suc n)) (ana_by (suc n))) 2 ho_line 0 ho_effect Kept before
+    (refl, refl, refl, ho-read, refl, refl) (ho-decided hash n)
+    (both-hear (bob_by n n) (ana_by n) (bob_by n (suc n)) (ana_by (suc n)) (bob-hears n) (ana-hears n few) refl refl) refl
+
+-- ---- and takes what it hears of it
+
+bob-given : (n : ℕ) → Took (concat (ho_told ∷ [])) 1 false ≡ take_reply 1 (bob_by n (suc n))
+bob-given n = ap (λ lines. Took (concat (take 1 lines)) (length (take 1 lines)) (nat_le (length lines) 1 && false)) (sym (line-waits n))
+
+one-later : (n : ℕ) → (n + 5) + 1 ≡ suc n + 5
+one-later n = omega arith
+
+bob-took : (n : ℕ) → with_taken 2 1 (crowd (bob_by n (suc n)) (ana_by (suc n))) ≡ crowd (bob_by (suc n) (suc n)) (ana_by (suc n))
+bob-took n =
+    ap (λ lines. crowd (record (bob_by n (suc n)) { taken = n + 5 + length (take 1 lines) }) (ana_by (suc n))) (line-waits n)
+    ∙ ap (λ took. crowd (record (bob_by n (suc n)) { taken = took }) (ana_by (suc n))) (one-later n)
+
+bob-takes : (hash : List ℕ → List ℕ) (h : List Entry) (n : ℕ) → Comes plain hash h (crowd (bob_by n (suc n)) (ana_by (suc n)))
+    → Comes plain hash (takes 2 1 (ho_told ∷ []) false h) (crowd (bob_by (suc n) (suc n)) (ana_by (suc n)))
+bob-takes hash h n before =
+    takes-more plain hash h (crowd (bob_by n (suc n)) (ana_by (suc n))) (crowd (bob_by (suc n) (suc n)) (ana_by (suc n))) 2 1 (ho_told ∷ []) false before
+    refl refl refl (bob-given n) (bob-took n)
+
+bob-is-ready : (hash : List ℕ → List ℕ) → hash zeros ≡ zeros → hash one ≡ one → Comes plain hash bob_ready (crowd (bob_by 0 0) (ana_by 0))
+bob-is-ready hash same same_one =
+    takes-more plain hash bob_entered bob_present (crowd (bob_by 0 0) (ana_by 0)) 2 256 (two_told (codes "AAAC")) false (bob-enters hash same same_one)
+    refl refl refl refl refl
+
+bob-chatters : (hash : List ℕ → List ℕ) → hash zeros ≡ zeros → hash one ≡ one → (n : ℕ) → n ≤ 1_019 → Comes plain hash (chatter n) (crowd (bob_by n n) (ana_by n))
+unfolding chatter
+bob-chatters hash same same_one zero few = bob-is-ready hash same same_one
+bob-chatters hash same same_one (suc n) few =
+    bob-takes hash (says 2 ho_text 0 Kept (chatter n)) n
+    (bob-says hash (chatter n) n (omega (arith, few)) (bob-chatters hash same same_one n (omega (arith, few))))
+
+-- ---- the line that does not fit
+
+false-le : (a b : ℕ) → b + 1 ≤ a → nat_le a b ≡ false
+false-le a b above = grind (arith, nat_tests, above)
+
+no-room-for-ana : (n : ℕ) → 1_019 ≤ n → has_room (ana_by n) (ho_told ∷ []) ≡ false
+no-room-for-ana n many =
+    ap (λ b. b && nat_le (size_of (heard_so_far (codes "AAAB") n) + 13) 1_048_576)
+    (false-le (length (heard_so_far (codes "AAAB") n) + 1) 1_024 (omega (arith, many, heard-length (codes "AAAB") n)))
+
+abbrev ana_lagging : ℕ → About
+ana_lagging n = record (ana_by n) { lags = true }
+
+ana-lags : (n : ℕ) → 1_019 ≤ n → affected false ho_effect (ana_by n) ≡ ana_lagging n
+unfolding with_share holds_words
+ana-lags n many = ap (λ b. given_share b (ana_by n) (ho_told ∷ [])) (no-room-for-ana n many)
+
+bob-says-more : (hash : List ℕ → List ℕ) (h : List Entry) (n : ℕ) → 1_019 ≤ n → Comes plain hash h (crowd (bob_by n n) (ana_by n))
+    → Comes plain hash (says 2 ho_text 0 Kept h) (crowd (bob_by n (suc n)) (ana_lagging n))
+bob-says-more hash h n many before =
+    says-more plain hash h (crowd (bob_by n n) (ana_by n)) (crowd (bob_by n (suc n)) (ana_lagging n)) 2 ho_line 0 ho_effect Kept before
+    (refl, refl, refl, ho-read, refl, refl) (ho-decided hash n)
+    (both-hear (bob_by n n) (ana_by n) (bob_by n (suc n)) (ana_lagging n) (bob-hears n) (ana-lags n many) refl refl) refl
+
+ana-given : (n : ℕ) → n ≤ 1_019 → Took (concat (heard_so_far (codes "AAAB") n)) (length (heard_so_far (codes "AAAB") n)) true ≡ take_reply 1_024 (ana_lagging n)
+ana-given n few =
+    let lines = heard_so_far (codes "AAAB") n in
+    let all : length lines ≤ 1_024 = omega (arith, few, heard-length (codes "AAAB") n) in
+    ap (λ given. Took (concat given) (length given) true) (sym (take_all 1_024 lines all))
+    ∙ ap (λ b. Took (concat (take 1_024 lines)) (length (take 1_024 lines)) (b && true)) (sym (true-le (length lines) 1_024 all))
+
+ana-takes : (hash : List ℕ → List ℕ) (h : List Entry) (n : ℕ) → n ≤ 1_019 → Comes plain hash h (crowd (bob_by n (suc n)) (ana_lagging n))
+    → Comes plain hash (takes 1 1_024 (heard_so_far (codes "AAAB") n) true h) (with_taken 1 1_024 (crowd (bob_by n (suc n)) (ana_lagging n)))
+ana-takes hash h n few before =
+    takes-more plain hash h (crowd (bob_by n (suc n)) (ana_lagging n)) (with_taken 1 1_024 (crowd (bob_by n (suc n)) (ana_lagging n))) 1 1_024
+    (heard_so_far (codes "AAAB") n) true before refl refl refl (ana-given n few) refl
+
+pub who-takes-nothing-lags : WhoTakesNothingLags
+who-takes-nothing-lags hash same same_one =
+    let before = bob-chatters hash same same_one 1_019 (omega arith) in
+    let more = bob-says-more hash (chatter 1_019) 1_019 (omega arith) before in
+    let taken = ana-takes hash once_more 1_019 (omega arith) more in (
+      taken.legal,
+      ap (λ f. (f.about 1).lags) before.known,
+      ap (λ f. (f.about 1).lags) more.known,
+      ap (λ f. (f.about 2).lags) more.known,
+      ap (λ f. (f.about 1).owed) more.known,
+      ap (λ f. (f.about 2).owed) more.known,
+    )
