@@ -14,6 +14,8 @@ mod field_limits;
 #[cfg(test)]
 mod first_words;
 #[cfg(test)]
+mod histories;
+#[cfg(test)]
 mod hub;
 #[cfg(test)]
 mod limits;

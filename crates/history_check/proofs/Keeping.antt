@@ -1,0 +1,103 @@
+-- No call but the join of a connection changes who joined it, or its challenge.
+use Rattle.std.proofs.Common.{◌≡◌, ◌∙◌, refl, ap, sym, subst, ℕ, ◌+◌, ◌<◌, Bool, true, false, ◌&&◌, ◌==◌, List, [], ◌∷◌, get_or, length}
+use Rattle.history_check.specs.declared.check.Joined.{Joined}
+use Rattle.history_check.specs.Following.{Follows, IsJoined}
+use Rattle.hub_core.specs.CoreState.{CoreState}
+use Rattle.hub_core.specs.Moves.{StandsAt, entry}
+use Rattle.hub_rules.specs.declared.effect.Effect.{Effect}
+use Rattle.hub_rules.specs.declared.history.Call.{Call}
+use Rattle.hub_rules.specs.declared.history.Call.TheVariants.{Join, Line, Quit, Take}
+use Rattle.hub_rules.specs.declared.history.Entry.{Entry}
+use Rattle.hub_rules.specs.declared.history.Reply.{Reply}
+use Rattle.hub_rules.specs.Configured.{Configured}
+use Rattle.hub_rules.specs.Effects.{departure, is_present}
+use Rattle.hub_rules.specs.Facts.{Facts, after, closed, effect_of_line, facts, given, happens, with_one}
+use Rattle.hub_rules.specs.Shares.{About, affected, chosen, given_share, has_room, is_removed, owes, removed_if, turned, with_share}
+
+-- who joined a connection, and with which challenge
+pub record Alike (a b : About) : Type 0 where
+  pub owner : a.owner ≡ b.owner
+  pub challenge : a.challenge ≡ b.challenge
+
+share-alike : (room : Bool) (a : About) (share : List (List ℕ)) → Alike (given_share room a share) a
+share-alike true a share = record { owner = refl; challenge = refl }
+share-alike false a share = record { owner = refl; challenge = refl }
+
+with_share-alike : (a : About) (share : List (List ℕ)) → Alike (with_share a share) a
+unfolding with_share
+with_share-alike a share = share-alike (has_room a share) a share
+
+removed-alike : (removed is_caller : Bool) (effect : Effect) (b : About) → Alike (removed_if removed (chosen is_caller (turned effect b) b)) b
+removed-alike true true effect b = record { owner = refl; challenge = refl }
+removed-alike true false effect b = record { owner = refl; challenge = refl }
+removed-alike false true effect b = record { owner = refl; challenge = refl }
+removed-alike false false effect b = record { owner = refl; challenge = refl }
+
+alike-by : (a b c : About) → Alike a b → Alike b c → Alike a c
+alike-by a b c one other = record { owner = one.owner ∙ other.owner; challenge = one.challenge ∙ other.challenge }
+
+affected-alike : (is_caller : Bool) (effect : Effect) (a : About) → Alike (affected is_caller effect a) a
+affected-alike is_caller effect a =
+    alike-by (affected is_caller effect a) (with_share a (owes is_caller effect a)) a
+    (removed-alike (is_present a.stage && is_removed effect.world a.sid) is_caller effect (with_share a (owes is_caller effect a)))
+    (with_share-alike a (owes is_caller effect a))
+
+happens-alike : (c : ℕ) (effect : Effect) (f : Facts) (d : ℕ) → Alike ((happens c effect f).about d) (f.about d)
+unfolding happens
+happens-alike c effect f d = affected-alike (d == c) effect (f.about d)
+
+happens-joins : (c : ℕ) (effect : Effect) (f : Facts) → (happens c effect f).joins ≡ f.joins
+unfolding happens
+happens-joins c effect f = refl
+
+taken-alike : (count : ℕ) (a : About) (same : Bool) → Alike (chosen same (given count a) a) a
+taken-alike count a true = record { owner = refl; challenge = refl }
+taken-alike count a false = record { owner = refl; challenge = refl }
+
+-- the hub after a call that is no join
+pub record Kept (after f : Facts) : Type 0 where
+  pub joins : after.joins ≡ f.joins
+  pub alike : (d : ℕ) → Alike (after.about d) (f.about d)
+
+pub line-kept : (setup : Configured) (hash : List ℕ → List ℕ) (f : Facts) (caller c : ℕ) (bytes : List ℕ) (now : ℕ)
+    → Kept (after setup hash f caller (Line c bytes now)) f
+unfolding after
+line-kept setup hash f caller c bytes now = record {
+  joins = happens-joins c (effect_of_line setup hash f c bytes now) f;
+  alike = happens-alike c (effect_of_line setup hash f c bytes now) f;
+}
+
+pub quit-kept : (setup : Configured) (hash : List ℕ → List ℕ) (f : Facts) (caller c : ℕ) → Kept (after setup hash f caller (Quit c)) f
+unfolding after closed
+quit-kept setup hash f caller c = record {
+  joins = happens-joins c (departure (f.about c).stage (f.about c).sid) f;
+  alike = happens-alike c (departure (f.about c).stage (f.about c).sid) f;
+}
+
+pub take-kept : (setup : Configured) (hash : List ℕ → List ℕ) (f : Facts) (caller c count : ℕ) → Kept (after setup hash f caller (Take c count)) f
+unfolding after
+take-kept setup hash f caller c count = record { joins = refl; alike = λ d. taken-alike count (f.about d) (d == c) }
+
+joined-kept : (before now : Facts) (c : ℕ) (j : Joined) → Kept now before → IsJoined before c j → IsJoined now c j
+joined-kept before now c j kept is = record {
+  number = is.number;
+  owner = (kept.alike c).owner ∙ is.owner;
+  challenge = (kept.alike c).challenge ∙ is.challenge;
+}
+
+pub facts-after : (setup : Configured) (hash : List ℕ → List ℕ) (h : List Entry) (caller : ℕ) (call : Call) (reply : Reply)
+    → facts setup hash (entry caller call reply ∷ h) ≡ after setup hash (facts setup hash h) caller call
+unfolding facts
+facts-after setup hash h caller call reply = refl
+
+-- whoever follows a history follows it on by such a call
+pub follows-on : (setup : Configured) (hash : List ℕ → List ℕ) (h : List Entry) (old new : CoreState) (joined : List Joined) (caller : ℕ) (call : Call) (reply : Reply)
+    → Kept (after setup hash (facts setup hash h) caller call) (facts setup hash h) → Follows setup hash h old joined
+    → StandsAt setup hash (entry caller call reply ∷ h) new → Follows setup hash (entry caller call reply ∷ h) new joined
+follows-on setup hash h old new joined caller call reply kept was stands =
+    let same : facts setup hash (entry caller call reply ∷ h) ≡ after setup hash (facts setup hash h) caller call = facts-after setup hash h caller call reply in
+    record {
+      stands = stands;
+      counted = was.counted ∙ sym kept.joins ∙ ap (λ (f : Facts). f.joins) (sym same);
+      known = λ i j within is. subst (λ (f : Facts). IsJoined f (i + 1) j) (sym same) (joined-kept (facts setup hash h) (after setup hash (facts setup hash h) caller call) (i + 1) j kept (was.known i j within is));
+    }

@@ -1,0 +1,5 @@
+pub mod Finding
+pub mod Joining
+pub mod Judging
+pub mod Keeping
+pub mod Making

@@ -1,0 +1,14 @@
+//! Decides whether a written history of a hub is legal: whether each reply in it is what the rules give at that point.
+#![tactic(auto)]
+
+mod check;
+mod reading;
+mod report;
+mod words;
+mod written;
+
+pub use check::{Demand, Judgement, check_history};
+pub use hub_core::Verdict;
+pub use reading::{ReadFault, Written, read_history};
+pub use report::report_history;
+pub use written::{Call, Entry, LineCount, Reply};

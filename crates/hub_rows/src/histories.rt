@@ -1,0 +1,311 @@
+// A history that is legal, and changes of one line after which it is not.
+use history_check::report_history;
+use hub_core::{Account, Options, Setup};
+use second_try::again;
+use session_hash::First24;
+use std::alloc::{AllocError, AllocGlobal, Global};
+use std::process::Abort;
+use std::sync::Arc;
+
+/// An operator and a user enter and talk, the user is kicked; a third cannot agree on a hash.
+const HISTORY: [&str; 36] = [
+    "# Two users enter, talk, and one is kicked; a third cannot agree on a hash.",
+    "1 join 127.0.0.1 AAAAAAAAAAAAAAAAAAAAAAAAAAAAAAAAAAAAAAA 0 joined 1",
+    "1 line 1 0 kept HSUP ADBASE ADTIGR",
+    "1 take 1 256 3 more ISUP ADBASE ADTIGR ADPING ADUCMD%0AISID AAAB%0AIINF CT32 NIHub VEadc-hub\\s1.0%0A",
+    "1 line 1 0 kept BINF AAAB IDAAAAAAAAAAAAAAAAAAAAAAAAAAAAAAAAAAAAAAA PDAAAAAAAAAAAAAAAAAAAAAAAAAAAAAAAAAAAAAAA NIop",
+    "1 take 1 1 1 more IGPA AAAAAAAAAAAAAAAAAAAAAAAAAAAAAAAAAAAAAAA%0A",
+    "1 line 1 0 kept HPAS ONSWG4TFOQAAAAAAAAAAAAAAAAAAAAAAAAAAAAA",
+    "1 take 1 256 1 more BINF AAAB IDAAAAAAAAAAAAAAAAAAAAAAAAAAAAAAAAAAAAAAA NIop CT4%0A",
+    "2 join 10.0.0.2 AAAAAAAAAAAAAAAAAAAAAAAAAAAAAAAAAAAAAAA 5 joined 2",
+    "2 line 2 5 kept HSUP ADBASE ADTIGR",
+    "2 line 2 5 kept BINF AAAC IDAAAAAAAAAAAAAAAAAAAAAAAAAAAAAAAAAAAAAAI PDAAAAAAAAAAAAAAAAAAAAAAAAAAAAAAAAAAAAAAI NIbob SS5 SF1 SUTCP4",
+    "2 take 2 256 5 more ISUP ADBASE ADTIGR ADPING ADUCMD%0AISID AAAC%0AIINF CT32 NIHub VEadc-hub\\s1.0%0ABINF AAAB IDAAAAAAAAAAAAAAAAAAAAAAAAAAAAAAAAAAAAAAA NIop CT4%0ABINF AAAC IDAAAAAAAAAAAAAAAAAAAAAAAAAAAAAAAAAAAAAAI NIbob SS5 SF1 SUTCP4%0A",
+    "1 take 1 256 1 more BINF AAAC IDAAAAAAAAAAAAAAAAAAAAAAAAAAAAAAAAAAAAAAI NIbob SS5 SF1 SUTCP4%0A",
+    "2 line 2 6 kept BMSG AAAC hi",
+    "1 take 1 256 1 more BMSG AAAC hi%0A",
+    "2 take 2 256 1 more BMSG AAAC hi%0A",
+    "1 line 1 7 kept DMSG AAAB AAAC yo",
+    "2 take 2 256 1 more DMSG AAAB AAAC yo%0A",
+    "1 take 1 256 0 more",
+    "2 line 2 8 kept EMSG AAAC AAAB yes",
+    "1 take 1 256 1 more EMSG AAAC AAAB yes%0A",
+    "2 take 2 256 1 more EMSG AAAC AAAB yes%0A",
+    "2 line 2 9 kept BINF AAAC DEhi",
+    "1 take 1 256 1 more BINF AAAC DEhi%0A",
+    "1 line 1 10 kept HMSG !kick\\sbob\\sbe\\skind",
+    "1 take 1 256 2 more IQUI AAAC IDAAAB MSbe\\skind%0AISTA 000 Done%0A",
+    "2 take 2 1 1 more BINF AAAC DEhi%0A",
+    "2 take 2 256 1 over IQUI AAAC IDAAAB MSbe\\skind%0A",
+    "2 line 2 11 ended BMSG AAAC still",
+    "2 quit 2 left",
+    "3 join 127.0.0.1 AAAAAAAAAAAAAAAAAAAAAAAAAAAAAAAAAAAAAAA 12 joined 3",
+    "3 line 3 12 ended HSUP ADBASE",
+    "3 take 3 256 1 over ISTA 247 No\\scommon\\shash%0A",
+    "3 quit 3 left",
+    "1 take 1 256 0 more",
+    "1 quit 1 left",
+];
+
+/// The number of a line, what stands there once, what stands in its place, and what is said of that line then.
+const CHANGES: [(usize, &str, &str, &str); 42] = [
+    (2, "joined 1", "joined 2", "is to be answered joined 1"),
+    (2, "joined 1", "full", "is to be answered joined 1"),
+    (2, "joined 1", "joins-spent", "is to be answered joined 1"),
+    (3, "kept", "ended", "is to be answered kept"),
+    (
+        4,
+        " 3 more",
+        " 2 more",
+        "is to be answered 3 more ISUP ADBASE ADTIGR ADPING ADUCMD%0AISID AAAB%0AIINF CT32 NIHub VEadc-hub\\s1.0%0A",
+    ),
+    (
+        4,
+        "more",
+        "over",
+        "is to be answered 3 more ISUP ADBASE ADTIGR ADPING ADUCMD%0AISID AAAB%0AIINF CT32 NIHub VEadc-hub\\s1.0%0A",
+    ),
+    (
+        4,
+        "ADUCMD",
+        "ADUCMP",
+        "is to be answered 3 more ISUP ADBASE ADTIGR ADPING ADUCMD%0AISID AAAB%0AIINF CT32 NIHub VEadc-hub\\s1.0%0A",
+    ),
+    (
+        4,
+        "AAAB%0A",
+        "AAAC%0A",
+        "is to be answered 3 more ISUP ADBASE ADTIGR ADPING ADUCMD%0AISID AAAB%0AIINF CT32 NIHub VEadc-hub\\s1.0%0A",
+    ),
+    (
+        4,
+        "%0AIINF",
+        " IINF",
+        "is to be answered 3 more ISUP ADBASE ADTIGR ADPING ADUCMD%0AISID AAAB%0AIINF CT32 NIHub VEadc-hub\\s1.0%0A",
+    ),
+    (5, "kept", "ended", "is to be answered kept"),
+    (
+        6,
+        "IGPA A",
+        "IGPA B",
+        "is to be answered 1 more IGPA AAAAAAAAAAAAAAAAAAAAAAAAAAAAAAAAAAAAAAA%0A",
+    ),
+    (
+        6,
+        "more",
+        "over",
+        "is to be answered 1 more IGPA AAAAAAAAAAAAAAAAAAAAAAAAAAAAAAAAAAAAAAA%0A",
+    ),
+    (
+        6,
+        "%0A",
+        "",
+        "is to be answered 1 more IGPA AAAAAAAAAAAAAAAAAAAAAAAAAAAAAAAAAAAAAAA%0A",
+    ),
+    (7, "kept", "ended", "is to be answered kept"),
+    (
+        8,
+        "CT4",
+        "CT2",
+        "is to be answered 1 more BINF AAAB IDAAAAAAAAAAAAAAAAAAAAAAAAAAAAAAAAAAAAAAA NIop CT4%0A",
+    ),
+    (
+        8,
+        " NIop",
+        " NIoq",
+        "is to be answered 1 more BINF AAAB IDAAAAAAAAAAAAAAAAAAAAAAAAAAAAAAAAAAAAAAA NIop CT4%0A",
+    ),
+    (8, "1 take 1", "2 take 1", "may not be called there"),
+    (9, "joined 2", "joined 1", "is to be answered joined 2"),
+    (9, "joined 2", "full", "is to be answered joined 2"),
+    (11, "kept", "ended", "is to be answered kept"),
+    (
+        12,
+        "5 more",
+        "4 more",
+        "is to be answered 5 more ISUP ADBASE ADTIGR ADPING ADUCMD%0AISID AAAC%0AIINF CT32 NIHub VEadc-hub\\s1.0%0ABINF AAAB IDAAAAAAAAAAAAAAAAAAAAAAAAAAAAAAAAAAAAAAA NIop CT4%0ABINF AAAC IDAAAAAAAAAAAAAAAAAAAAAAAAAAAAAAAAAAAAAAI NIbob SS5 SF1 SUTCP4%0A",
+    ),
+    (
+        12,
+        "AAAC%0AIINF",
+        "AAAD%0AIINF",
+        "is to be answered 5 more ISUP ADBASE ADTIGR ADPING ADUCMD%0AISID AAAC%0AIINF CT32 NIHub VEadc-hub\\s1.0%0ABINF AAAB IDAAAAAAAAAAAAAAAAAAAAAAAAAAAAAAAAAAAAAAA NIop CT4%0ABINF AAAC IDAAAAAAAAAAAAAAAAAAAAAAAAAAAAAAAAAAAAAAI NIbob SS5 SF1 SUTCP4%0A",
+    ),
+    (
+        12,
+        "NIop CT4",
+        "NIop",
+        "is to be answered 5 more ISUP ADBASE ADTIGR ADPING ADUCMD%0AISID AAAC%0AIINF CT32 NIHub VEadc-hub\\s1.0%0ABINF AAAB IDAAAAAAAAAAAAAAAAAAAAAAAAAAAAAAAAAAAAAAA NIop CT4%0ABINF AAAC IDAAAAAAAAAAAAAAAAAAAAAAAAAAAAAAAAAAAAAAI NIbob SS5 SF1 SUTCP4%0A",
+    ),
+    (12, "2 take 2", "1 take 2", "may not be called there"),
+    (
+        13,
+        "SF1 ",
+        "SF2 ",
+        "is to be answered 1 more BINF AAAC IDAAAAAAAAAAAAAAAAAAAAAAAAAAAAAAAAAAAAAAI NIbob SS5 SF1 SUTCP4%0A",
+    ),
+    (
+        15,
+        "hi%0A",
+        "ho%0A",
+        "is to be answered 1 more BMSG AAAC hi%0A",
+    ),
+    (
+        16,
+        "1 more",
+        "2 more",
+        "is to be answered 1 more BMSG AAAC hi%0A",
+    ),
+    (18, "2 take 2", "1 take 1", "is to be answered 0 more "),
+    (
+        18,
+        "yo%0A",
+        "yo%0A%0A",
+        "is to be answered 1 more DMSG AAAB AAAC yo%0A",
+    ),
+    (
+        19,
+        "0 more",
+        "1 more DMSG AAAB AAAC yo%0A",
+        "is to be answered 0 more ",
+    ),
+    (22, "2 take 2", "1 take 1", "is to be answered 0 more "),
+    (
+        24,
+        "DEhi",
+        "DEho",
+        "is to be answered 1 more BINF AAAC DEhi%0A",
+    ),
+    (
+        26,
+        "IDAAAB ",
+        "",
+        "is to be answered 2 more IQUI AAAC IDAAAB MSbe\\skind%0AISTA 000 Done%0A",
+    ),
+    (
+        26,
+        "2 more",
+        "1 more",
+        "is to be answered 2 more IQUI AAAC IDAAAB MSbe\\skind%0AISTA 000 Done%0A",
+    ),
+    (
+        27,
+        "more BINF",
+        "over BINF",
+        "is to be answered 1 more BINF AAAC DEhi%0A",
+    ),
+    (
+        28,
+        "over",
+        "more",
+        "is to be answered 1 over IQUI AAAC IDAAAB MSbe\\skind%0A",
+    ),
+    (29, "ended", "kept", "is to be answered ended"),
+    (30, "2 quit 2", "1 quit 2", "may not be called there"),
+    (31, "joined 3", "joined 2", "is to be answered joined 3"),
+    (
+        33,
+        "247",
+        "246",
+        "is to be answered 1 over ISTA 247 No\\scommon\\shash%0A",
+    ),
+    (34, "3 quit 3", "3 quit 2", "may not be called there"),
+    (36, "1 quit 1", "3 quit 3", "may not be called there"),
+];
+
+/// The lines that change places with the line before them: nothing waits yet where it is asked for.
+const SWAPS: [usize; 7] = [3, 14, 17, 20, 23, 25, 32];
+
+fn setup(alloc: Global) -> Result<Arc<Setup>, AllocError> {
+    let accounts = [Account {
+        nick: "op",
+        password: "secret",
+        operator: true,
+    }];
+    let options = Options {
+        name: "Hub",
+        topic: "",
+        accounts: &accounts,
+        commands: &[],
+        registered_only: false,
+        search_interval: 0,
+        max_users: 4,
+        opening: 0,
+    };
+    match Setup::new(alloc, &options) {
+        Ok(setup) => Ok(Arc::new(alloc, setup)?),
+        Err(_) => Err(AllocError),
+    }
+}
+
+/// Reports on these lines.
+fn report(alloc: Global, lines: &[&str]) -> Result<Vec<u8>, AllocError> {
+    let mut text = Vec::new(alloc);
+    for line in lines {
+        text.extend_from_slice(line.as_bytes())?;
+        text.push(b'\n')?;
+    }
+    report_history(alloc, setup(alloc)?, &First24, &text)
+}
+
+/// Puts this line in the place of that of a number.
+fn report_with(alloc: Global, number: usize, line: &str) -> Result<Vec<u8>, AllocError> {
+    let mut lines = HISTORY;
+    if let Some(place) = lines.get_mut(number.wrapping_sub(1)) {
+        *place = line;
+    }
+    report(alloc, &lines)
+}
+
+/// Stops the test unless this is said of a line.
+fn is_said<R: Abort + AllocGlobal>(rt: &R, said: &[u8], number: usize, what: &str) {
+    let wanted = again!(rt; format!(in rt.alloc(); "line {number} {what}"));
+    assert!(rt; said == wanted.as_bytes(), "{wanted}");
+}
+
+#[test]
+fn a_legal_history_is_found_legal(rt: HostRuntime) {
+    let said = again!(&rt; report(rt.alloc(), &HISTORY));
+    assert!(&rt; said.as_slice() == b"legal".as_slice());
+}
+
+#[test]
+fn a_changed_line_is_found(rt: HostRuntime) {
+    for (number, old, new, what) in CHANGES {
+        let line = HISTORY[number - 1];
+        let (before, behind) = line.split_once(old).expect(&rt, "a line to change");
+        let line = again!(&rt; format!(in rt.alloc(); "{before}{new}{behind}"));
+        let said = again!(&rt; report_with(rt.alloc(), number, &line));
+        is_said(&rt, &said, number, what);
+    }
+}
+
+#[test]
+fn lines_that_changed_places_are_found(rt: HostRuntime) {
+    for number in SWAPS {
+        let mut lines = HISTORY;
+        lines.swap(number - 1, number);
+        let said = again!(&rt; report(rt.alloc(), &lines));
+        is_said(&rt, &said, number, "is to be answered 0 more ");
+    }
+}
+
+#[test]
+fn a_line_that_is_no_entry_is_named(rt: HostRuntime) {
+    for line in [
+        "1",
+        "x quit 1 left",
+        "1 quit 1",
+        "1 quit 1 left now",
+        "1 take 1 0 0 more",
+        "1 take 1 257 0 more",
+        "1 take 1 256 0 less",
+        "1 join 127.0.0 AAAAAAAAAAAAAAAAAAAAAAAAAAAAAAAAAAAAAAA 0 joined 1",
+        "1 join 127.0.0.1 AAAA 0 joined 1",
+        "1 line 1 0 kept %4",
+        "1 line 1 18446744073709551616 kept HSUP ADBASE",
+    ] {
+        let said = again!(&rt; report_with(rt.alloc(), 36, line));
+        is_said(&rt, &said, 36, "is no entry");
+    }
+}
