@@ -19,14 +19,14 @@ const LIST: &str =
 
 const OWN: &str = "BINF AAAC IDAAAAAAAAAAAAAAAAAAAAAAAAAAAAAAAAAAAAAAA NIop SS0 SF0 CT4\n";
 
-/// What the client says up to its login.
+/// The client's lines up to its login.
 const LOGIN: &str =
     "HSUP ADBASE ADTIGR\nBINF AAAC IDAAAAAAAAAAAAAAAAAAAAAAAAAAAAAAAAAAAAAAA PDAAAAAAAAAAAAAAAAAAAAAAAAAAAAAAAAAAAAAAA NIop SS0 SF0 VEadc-hubctl\\s1.0\n";
 
 /// The answer to the challenge of zeros, by the password `secret` and the hash of tests.
 const ANSWER: &str = "HPAS ONSWG4TFOQAAAAAAAAAAAAAAAAAAAAAAAAAAAAA\n";
 
-/// What an operator does.
+/// A deed of an operator.
 #[derive(Clone, Copy)]
 enum Deed {
     Kick,
@@ -34,7 +34,7 @@ enum Deed {
     List,
 }
 
-/// What became of it, as text: the answer, the users, or why it failed.
+/// The outcome as text: the answer, the users, or why it failed.
 fn outcome(alloc: Global, memory: &mut Memory<'_>, deed: Deed) -> Result<String, ClientFault> {
     let mut client = Client::new(alloc, memory);
     let sid = client.hello(false)?.sid;
@@ -86,7 +86,7 @@ fn act(
     }
 }
 
-/// What became of it, in words. Refused only where memory runs out.
+/// Tells the outcome in words. Refused only where memory runs out.
 fn told(alloc: Global, memory: &mut Memory<'_>, deed: Deed) -> Result<String, ClientFault> {
     match outcome(alloc, memory, deed) {
         Err(ClientFault::Memory) => Err(ClientFault::Memory),
@@ -99,7 +99,7 @@ fn told(alloc: Global, memory: &mut Memory<'_>, deed: Deed) -> Result<String, Cl
     }
 }
 
-/// What the client says, and what became of it, where the hub says these parts.
+/// Gives the client's lines and the outcome, where the hub says these parts.
 fn converse(
     alloc: Global,
     parts: &[&str],
@@ -258,7 +258,7 @@ fn connections_fail(rt: HostRuntime) {
     }
 }
 
-/// What a pinger is told, after what it says.
+/// Gives a pinger's lines, and then the answers to them.
 fn pinged(alloc: Global) -> Result<String, ClientFault> {
     let hub = "ISUP ADBASE\nISID AAAB\nIINF CT32 NIThe\\sHub UC3 SS36893488147419103230\n";
     let mut memory = Memory::new(alloc, hub, Rest::Waits)?;

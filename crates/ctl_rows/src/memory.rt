@@ -1,7 +1,7 @@
 use std::alloc::{AllocError, Global};
 use std::io::{self, Read, Write};
 
-/// How a hub's side of a conversation ends.
+/// The end of a hub's side of a conversation.
 #[derive(Clone, Copy, Debug, PartialEq, Eq)]
 pub(crate) enum Rest {
     /// It closes the connection.

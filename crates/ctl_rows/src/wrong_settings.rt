@@ -3,7 +3,7 @@ use settings_report::{Report, report_file};
 use std::alloc::{AllocError, AllocGlobal, Global};
 use std::process::Abort;
 
-/// What is said of settings, in which `;` stands for the end of a line.
+/// Reports on settings, in which `;` stands for the end of a line.
 pub(crate) fn said(alloc: Global, text: &str) -> Result<String, AllocError> {
     let mut lines = String::with_capacity(alloc, text.len())?;
     for c in text.chars() {

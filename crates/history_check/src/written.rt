@@ -5,7 +5,7 @@ ghost use Rattle.history_check.specs.Written.{reply_of};
 use hub_core::Verdict;
 use std::marker::Model;
 
-/// How many lines a take asks for at most: 1 to 256.
+/// The number of lines that a take asks for at most: 1 to 256.
 #[derive(Clone, Copy)]
 pub struct LineCount {
     count: usize,
