@@ -8,7 +8,7 @@ use std::process::Abort;
 use std::sync::Arc;
 
 /// An operator and a user enter and talk, the user is kicked; a third cannot agree on a hash.
-const HISTORY: [&str; 36] = [
+const HISTORY: &[&str] = &[
     "# Two users enter, talk, and one is kicked; a third cannot agree on a hash.",
     "1 join 127.0.0.1 AAAAAAAAAAAAAAAAAAAAAAAAAAAAAAAAAAAAAAA 0 joined 1",
     "1 line 1 0 kept HSUP ADBASE ADTIGR",
@@ -48,7 +48,7 @@ const HISTORY: [&str; 36] = [
 ];
 
 /// The number of a line, what stands there once, what stands in its place, and what is said of that line then.
-const CHANGES: [(usize, &str, &str, &str); 42] = [
+const CHANGES: &[(usize, &str, &str, &str)] = &[
     (2, "joined 1", "joined 2", "is to be answered joined 1"),
     (2, "joined 1", "full", "is to be answered joined 1"),
     (2, "joined 1", "joins-spent", "is to be answered joined 1"),
@@ -214,7 +214,7 @@ const CHANGES: [(usize, &str, &str, &str); 42] = [
 ];
 
 /// The lines that change places with the line before them: nothing waits yet where it is asked for.
-const SWAPS: [usize; 7] = [3, 14, 17, 20, 23, 25, 32];
+const SWAPS: &[usize] = &[3, 14, 17, 20, 23, 25, 32];
 
 fn setup(alloc: Global) -> Result<Arc<Setup>, AllocError> {
     let accounts = [Account {
@@ -238,23 +238,27 @@ fn setup(alloc: Global) -> Result<Arc<Setup>, AllocError> {
     }
 }
 
-/// Reports on these lines.
-fn report(alloc: Global, lines: &[&str]) -> Result<Vec<u8>, AllocError> {
+/// Reports on the history, with these lines in the place of those of their numbers.
+fn report_with(alloc: Global, others: &[(usize, &str)]) -> Result<Vec<u8>, AllocError> {
     let mut text = Vec::new(alloc);
-    for line in lines {
+    for (place, line) in HISTORY.iter().enumerate() {
+        let mut line = *line;
+        for (number, other) in others {
+            if *number == place.wrapping_add(1) {
+                line = *other;
+            }
+        }
         text.extend_from_slice(line.as_bytes())?;
         text.push(b'\n')?;
     }
     report_history(alloc, setup(alloc)?, &First24, &text)
 }
 
-/// Puts this line in the place of that of a number.
-fn report_with(alloc: Global, number: usize, line: &str) -> Result<Vec<u8>, AllocError> {
-    let mut lines = HISTORY;
-    if let Some(place) = lines.get_mut(number.wrapping_sub(1)) {
-        *place = line;
+fn line_of(rt: &impl Abort, number: usize) -> &'static str {
+    match HISTORY.get(number.wrapping_sub(1)) {
+        Some(line) => line,
+        None => panic!(rt; "no line {number}"),
     }
-    report(alloc, &lines)
 }
 
 /// Stops the test unless this is said of a line.
@@ -263,49 +267,64 @@ fn is_said<R: Abort + AllocGlobal>(rt: &R, said: &[u8], number: usize, what: &st
     assert!(rt; said == wanted.as_bytes(), "{wanted}");
 }
 
+/// Stops the test unless a change of a line is found there.
+fn is_found<R: Abort + AllocGlobal>(rt: &R, number: usize, old: &str, new: &str, what: &str) {
+    let Some((before, behind)) = line_of(rt, number).split_once(old) else {
+        panic!(rt; "no {old} in line {number}")
+    };
+    let line = again!(rt; format!(in rt.alloc(); "{before}{new}{behind}"));
+    let said = again!(rt; report_with(rt.alloc(), &[(number, line.as_str())]));
+    is_said(rt, &said, number, what);
+}
+
+/// Stops the test unless it is found that a line changed places with the next one.
+fn swap_is_found<R: Abort + AllocGlobal>(rt: &R, number: usize) {
+    let next = number.wrapping_add(1);
+    let lines = [(number, line_of(rt, next)), (next, line_of(rt, number))];
+    let said = again!(rt; report_with(rt.alloc(), &lines));
+    is_said(rt, &said, number, "is to be answered 0 more ");
+}
+
+/// Stops the test unless a line in the place of the last one is no entry.
+fn is_none<R: Abort + AllocGlobal>(rt: &R, line: &str) {
+    let said = again!(rt; report_with(rt.alloc(), &[(HISTORY.len(), line)]));
+    is_said(rt, &said, HISTORY.len(), "is no entry");
+}
+
 #[test]
 fn a_legal_history_is_found_legal(rt: HostRuntime) {
-    let said = again!(&rt; report(rt.alloc(), &HISTORY));
+    let said = again!(&rt; report_with(rt.alloc(), &[]));
     assert!(&rt; said.as_slice() == b"legal".as_slice());
 }
 
 #[test]
 fn a_changed_line_is_found(rt: HostRuntime) {
     for (number, old, new, what) in CHANGES {
-        let line = HISTORY[number - 1];
-        let (before, behind) = line.split_once(old).expect(&rt, "a line to change");
-        let line = again!(&rt; format!(in rt.alloc(); "{before}{new}{behind}"));
-        let said = again!(&rt; report_with(rt.alloc(), number, &line));
-        is_said(&rt, &said, number, what);
+        is_found(&rt, *number, old, new, what);
     }
 }
 
 #[test]
 fn lines_that_changed_places_are_found(rt: HostRuntime) {
     for number in SWAPS {
-        let mut lines = HISTORY;
-        lines.swap(number - 1, number);
-        let said = again!(&rt; report(rt.alloc(), &lines));
-        is_said(&rt, &said, number, "is to be answered 0 more ");
+        swap_is_found(&rt, *number);
     }
 }
 
 #[test]
 fn a_line_that_is_no_entry_is_named(rt: HostRuntime) {
-    for line in [
-        "1",
-        "x quit 1 left",
-        "1 quit 1",
-        "1 quit 1 left now",
-        "1 take 1 0 0 more",
-        "1 take 1 257 0 more",
-        "1 take 1 256 0 less",
+    is_none(&rt, "1");
+    is_none(&rt, "x quit 1 left");
+    is_none(&rt, "1 quit 1");
+    is_none(&rt, "1 quit 1 left now");
+    is_none(&rt, "1 take 1 0 0 more");
+    is_none(&rt, "1 take 1 257 0 more");
+    is_none(&rt, "1 take 1 256 0 less");
+    is_none(
+        &rt,
         "1 join 127.0.0 AAAAAAAAAAAAAAAAAAAAAAAAAAAAAAAAAAAAAAA 0 joined 1",
-        "1 join 127.0.0.1 AAAA 0 joined 1",
-        "1 line 1 0 kept %4",
-        "1 line 1 18446744073709551616 kept HSUP ADBASE",
-    ] {
-        let said = again!(&rt; report_with(rt.alloc(), 36, line));
-        is_said(&rt, &said, 36, "is no entry");
-    }
+    );
+    is_none(&rt, "1 join 127.0.0.1 AAAA 0 joined 1");
+    is_none(&rt, "1 line 1 0 kept %4");
+    is_none(&rt, "1 line 1 18446744073709551616 kept HSUP ADBASE");
 }
