@@ -125,12 +125,7 @@ impl Heard {
 
     /// Plays these parts, once the server listens. Answers whether the clients do all of this, and whether the server waited for
     /// others after them.
-    fn sees<R: Clock + Net>(
-        &self,
-        rt: &R,
-        gate: &GateHash,
-        parts: &[&[Step<'_>]],
-    ) -> (bool, bool) {
+    fn sees<R: Clock + Net>(&self, rt: &R, gate: &GateHash, parts: &[&[Step<'_>]]) -> (bool, bool) {
         self.begin();
         let Some(address) = self.waits_for_address(rt) else {
             return (false, false);
