@@ -4,51 +4,18 @@ use Rattle.history_check.specs.declared.check.Joined.{Joined}
 use Rattle.history_check.specs.Following.{Follows, IsJoined}
 use Rattle.hub_core.specs.CoreState.{CoreState}
 use Rattle.hub_core.specs.Moves.{StandsAt, entry}
-use Rattle.hub_rules.specs.declared.effect.Effect.{Effect}
 use Rattle.hub_rules.specs.declared.history.Call.{Call}
 use Rattle.hub_rules.specs.declared.history.Call.TheVariants.{Join, Line, Quit, Take}
 use Rattle.hub_rules.specs.declared.history.Entry.{Entry}
 use Rattle.hub_rules.specs.declared.history.Reply.{Reply}
 use Rattle.hub_rules.specs.Configured.{Configured}
-use Rattle.hub_rules.specs.Effects.{departure, is_present}
-use Rattle.hub_rules.specs.Facts.{Facts, after, closed, effect_of_line, facts, given, happens, with_one}
-use Rattle.hub_rules.specs.Shares.{About, affected, chosen, given_share, has_room, is_removed, owes, removed_if, turned, with_share}
+use Rattle.hub_rules.specs.Facts.{Facts, after, closed, facts, given, happens, with_one}
+use Rattle.hub_rules.specs.Shares.{About, chosen}
 
 -- who joined a connection, and with which challenge
 pub record Alike (a b : About) : Type 0 where
   pub owner : a.owner ≡ b.owner
   pub challenge : a.challenge ≡ b.challenge
-
-share-alike : (room : Bool) (a : About) (share : List (List ℕ)) → Alike (given_share room a share) a
-share-alike true a share = record { owner = refl; challenge = refl }
-share-alike false a share = record { owner = refl; challenge = refl }
-
-with_share-alike : (a : About) (share : List (List ℕ)) → Alike (with_share a share) a
-unfolding with_share
-with_share-alike a share = share-alike (has_room a share) a share
-
-removed-alike : (removed is_caller : Bool) (effect : Effect) (b : About) → Alike (removed_if removed (chosen is_caller (turned effect b) b)) b
-removed-alike true true effect b = record { owner = refl; challenge = refl }
-removed-alike true false effect b = record { owner = refl; challenge = refl }
-removed-alike false true effect b = record { owner = refl; challenge = refl }
-removed-alike false false effect b = record { owner = refl; challenge = refl }
-
-alike-by : (a b c : About) → Alike a b → Alike b c → Alike a c
-alike-by a b c one other = record { owner = one.owner ∙ other.owner; challenge = one.challenge ∙ other.challenge }
-
-affected-alike : (is_caller : Bool) (effect : Effect) (a : About) → Alike (affected is_caller effect a) a
-affected-alike is_caller effect a =
-    alike-by (affected is_caller effect a) (with_share a (owes is_caller effect a)) a
-    (removed-alike (is_present a.stage && is_removed effect.world a.sid) is_caller effect (with_share a (owes is_caller effect a)))
-    (with_share-alike a (owes is_caller effect a))
-
-happens-alike : (c : ℕ) (effect : Effect) (f : Facts) (d : ℕ) → Alike ((happens c effect f).about d) (f.about d)
-unfolding happens
-happens-alike c effect f d = affected-alike (d == c) effect (f.about d)
-
-happens-joins : (c : ℕ) (effect : Effect) (f : Facts) → (happens c effect f).joins ≡ f.joins
-unfolding happens
-happens-joins c effect f = refl
 
 taken-alike : (count : ℕ) (a : About) (same : Bool) → Alike (chosen same (given count a) a) a
 taken-alike count a true = record { owner = refl; challenge = refl }
@@ -61,18 +28,12 @@ pub record Kept (after f : Facts) : Type 0 where
 
 pub line-kept : (setup : Configured) (hash : List ℕ → List ℕ) (f : Facts) (caller c : ℕ) (bytes : List ℕ) (now : ℕ)
     → Kept (after setup hash f caller (Line c bytes now)) f
-unfolding after
-line-kept setup hash f caller c bytes now = record {
-  joins = happens-joins c (effect_of_line setup hash f c bytes now) f;
-  alike = happens-alike c (effect_of_line setup hash f c bytes now) f;
-}
+unfolding after happens
+line-kept setup hash f caller c bytes now = record { joins = refl; alike = λ d. record { owner = refl; challenge = refl } }
 
 pub quit-kept : (setup : Configured) (hash : List ℕ → List ℕ) (f : Facts) (caller c : ℕ) → Kept (after setup hash f caller (Quit c)) f
-unfolding after closed
-quit-kept setup hash f caller c = record {
-  joins = happens-joins c (departure (f.about c).stage (f.about c).sid) f;
-  alike = happens-alike c (departure (f.about c).stage (f.about c).sid) f;
-}
+unfolding after closed happens
+quit-kept setup hash f caller c = record { joins = refl; alike = λ d. record { owner = refl; challenge = refl } }
 
 pub take-kept : (setup : Configured) (hash : List ℕ → List ℕ) (f : Facts) (caller c count : ℕ) → Kept (after setup hash f caller (Take c count)) f
 unfolding after

@@ -1,5 +1,5 @@
 -- What was decided of a line, carried out, makes of a hub that stands at a history one that stands at the next.
-use Rattle.std.proofs.Common.{◌≡◌, ◌∙◌, sym, ap, ap₂, refl, subst, ℕ, Bool, true, false, ◌||◌, ◌==◌, eqb, List, [], ◌∷◌, map, length, get_or, slice_set, Some}
+use Rattle.std.proofs.Common.{◌≡◌, ◌∙◌, sym, ap, ap₂, refl, subst, ℕ, Bool, true, false, ◌||◌, ◌==◌, eqb, List, [], ◌∷◌, map, length, get_or, slice_set, Option, Some}
 use Rattle.std.specs.Prelude.{if◌then◌else◌}
 use Rattle.std.proofs.lemmas.Bool.{false≢true, eqb-true, eq-eqb}
 use Rattle.inf_fields.specs.Field.{Field}
@@ -11,9 +11,9 @@ use Rattle.user_table.specs.Tables.{first_who, has_sid, user_by_sid}
 use Rattle.hub_core.specs.declared.seat.Phase.TheVariants as phases
 use Rattle.hub_core.specs.declared.seat.Seat.{Seat}
 use Rattle.hub_core.specs.CoreState.{CoreState}
-use Rattle.hub_core.specs.Decided.{Decided, DecidedBy}
+use Rattle.hub_core.specs.Decided.{Decided, DecidedFor, sight_in, user_at}
 use Rattle.hub_core.specs.Phases.{phase_at}
-use Rattle.hub_core.specs.Seats.{at_seat, removed_of, seat_of, seat_share, settled_all, turned_seat}
+use Rattle.hub_core.specs.Seats.{at_seat, changed_seat, removed_of, seat_of, seat_share, settled_all}
 use Rattle.hub_core.specs.State.{carried_out, core_of, users_after}
 use Rattle.hub_rules.specs.declared.effect.Effect.{Effect}
 use Rattle.hub_rules.specs.Configured.{Configured}
@@ -44,11 +44,11 @@ same-core setup joins last {s} {t} {us} {vs} {bans} {topic} seats users =
     ap₂ (λ (x : List Seat) (y : List Listed). record { setup = setup; joins = joins; last = last; seats = x; users = y; bans = bans; topic = topic }) seats users
 
 seats-carried : (setup : Configured) (c : ℕ) (effect : Effect) (f : Facts) → Sound f → ((d : ℕ) → Tidy (f.about d)) → Suits (own_of (f.about c)) effect
-    → settled_all (removed_of effect.world) (at_seat c (turned_seat effect) (map (seat_of f.about) f.opened)) (map (seat_share c effect) (map (seat_of f.about) f.opened))
+    → settled_all (removed_of effect.change) (at_seat c (changed_seat effect.change) (map (seat_of f.about) f.opened)) (map (seat_share c effect) (map (seat_of f.about) f.opened))
     ≡ map (seat_of (about_after c effect f.about)) f.opened
 seats-carried setup c effect f sound tidy suits =
-    ap₂ (settled_all (removed_of effect.world)) (at-one c (turned_seat effect) f.about f.opened sound.open_once) (map-seats (seat_share c effect) (seat_of f.about) f.opened)
-    ∙ settled-map (removed_of effect.world) (seat_one c (turned_seat effect) f.about) (λ d. seat_share c effect (seat_of f.about d)) f.opened
+    ap₂ (settled_all (removed_of effect.change)) (at-one c (changed_seat effect.change) f.about f.opened sound.open_once) (map-seats (seat_share c effect) (seat_of f.about) f.opened)
+    ∙ settled-map (removed_of effect.change) (seat_one c (changed_seat effect.change) f.about) (λ d. seat_share c effect (seat_of f.about d)) f.opened
     ∙ seats-same _ (seat_of (about_after c effect f.about)) f.opened
     (λ d. settles c effect d (f.about d) suits.routed (sound.taken d) (tidy d).lines (tidy d).bytes (λ is. subst (λ x. Suits (own_of (f.about x)) effect) (sym (eqb-true d c is)) suits))
 
@@ -57,7 +57,7 @@ pub carried-out : (setup : Configured) (c : ℕ) (effect : Effect) (f : Facts) �
 unfolding carried_out happens
 carried-out setup c effect f sound n tidy open_c suits =
     same-core setup f.joins f.last (seats-carried setup c effect f sound tidy suits)
-    (ap₂ (λ sid phase. users_after effect.world effect.turn sid phase (map (user_of f.about) f.present))
+    (ap₂ (λ sid phase. users_after effect.change sid phase (map (user_of f.about) f.present))
     (in-open c (λ seat. seat.sid) 0 f.about f.opened open_c) (in-open c (λ seat. seat.phase) phases.Gone f.about f.opened open_c)
     ∙ users-carried setup f c effect sound n open_c suits)
 
@@ -126,40 +126,41 @@ found-user setup f c sound n open_c here =
 
 decided-by : (setup : Configured) (f : Facts) (c : ℕ) (line : PreparedLine) (now : ℕ) (effect : Effect) (stage : Stage) → (f.about c).stage ≡ stage
     → Sound f → Numbered setup f → Tidy (f.about c) → has c f.opened ≡ true
-    → DecidedBy (phase_at stage (f.about c)) (sight_of setup f) (seat_of f.about c) line now effect
+    → DecidedFor (user_at (phase_at stage (f.about c)) (f.about c).sid (map (user_of f.about) f.present)) (sight_of setup f) (record (seat_of f.about c) { phase = phase_at stage (f.about c) }) line now effect
     → effect ≡ line_effect (sight_of setup f) (own_of (f.about c)) line now
 decided-by setup f c line now effect stages.Protocol is sound n tidy open_c decided =
-    decided ∙ ap (λ o. line_effect (sight_of setup f) o line now)
+    decided tt ∙ ap (λ o. line_effect (sight_of setup f) o line now)
     (own-is (f.about c) stages.Protocol [] [] is (tidy.unnamed (ap is_unnamed is)) (tidy.unasked (ap is_unasked is)))
 decided-by setup f c line now effect stages.Identify is sound n tidy open_c decided =
-    decided ∙ ap (λ o. line_effect (sight_of setup f) o line now)
+    decided refl ∙ ap (λ o. line_effect (sight_of setup f) o line now)
     (own-is (f.about c) stages.Identify [] [] is (tidy.unnamed (ap is_unnamed is)) (tidy.unasked (ap is_unasked is)))
 decided-by setup f c line now effect stages.Verify is sound n tidy open_c decided =
-    decided (entrant-user (f.about c).sid (f.about c).fields)
+    decided (ap Some (entrant-user (f.about c).sid (f.about c).fields))
     ∙ ap (λ o. line_effect (sight_of setup f) o line now)
     (own-is (f.about c) stages.Verify _ (f.about c).expected is (sym (entrant-fields (f.about c).sid (f.about c).fields)) refl)
 decided-by setup f c line now effect stages.Normal is sound n tidy open_c decided =
-    decided (user_of f.about c) (found-user setup f c sound n open_c (ap is_present is)) (itself-listed (f.about c).sid (f.about c).fields)
+    subst (λ (u : Option Listed). DecidedFor u (sight_of setup f) (record (seat_of f.about c) { phase = phase_at stages.Normal (f.about c) }) line now effect)
+    (found-user setup f c sound n open_c (ap is_present is)) decided (ap Some (itself-listed (f.about c).sid (f.about c).fields))
     ∙ ap (λ o. line_effect (sight_of setup f) o line now)
     (own-is (f.about c) stages.Normal _ [] is (sym (fields-listed (f.about c).sid (f.about c).fields)) (tidy.unasked (ap is_unasked is)))
 decided-by setup f c line now effect stages.Gone is sound n tidy open_c decided =
-    decided ∙ sym (quiet-by (sight_of setup f) (own_of (f.about c)) line now (ap is_over is))
+    decided tt ∙ quiet-by (sight_of setup f) _ line now refl ∙ sym (quiet-by (sight_of setup f) (own_of (f.about c)) line now (ap is_over is))
 
 -- what was decided at the seat is what the rules say
 pub decided-is : (setup : Configured) (f : Facts) (c : ℕ) (line : PreparedLine) (now : ℕ) (effect : Effect) → Sound f → Numbered setup f → Tidy (f.about c) → has c f.opened ≡ true
-    → Decided (core_of setup f) (seat_of f.about c) line now effect → effect ≡ line_effect (sight_of setup f) (own_of (f.about c)) line now
+    → Decided (sight_in (core_of setup f)) (seat_of f.about c) line now effect → effect ≡ line_effect (sight_of setup f) (own_of (f.about c)) line now
 decided-is setup f c line now effect sound n tidy open_c decided = decided-by setup f c line now effect (f.about c).stage refl sound n tidy open_c decided
 
 -- what the code makes of a hub, part by part
 pub carried-as : (core : CoreState) (c : ℕ) (effect : Effect) (i : ℕ) (seat now : Seat) (seats : List Seat) (users : List Listed) (bans : List (List ℕ × Ban)) (topic : List ℕ)
-    → StandsFirst c core.seats i → seat ≡ get_or core.seats i seat → now ≡ turned_seat effect seat
-    → seats ≡ settled_all (removed_of effect.world) (slice_set core.seats i now) (map (seat_share c effect) core.seats)
-    → users ≡ users_after effect.world effect.turn seat.sid seat.phase core.users
-    → bans ≡ bans_after effect.world core.bans → topic ≡ topic_after effect.world core.topic
+    → StandsFirst c core.seats i → seat ≡ get_or core.seats i seat → now ≡ changed_seat effect.change seat
+    → seats ≡ settled_all (removed_of effect.change) (slice_set core.seats i now) (map (seat_share c effect) core.seats)
+    → users ≡ users_after effect.change seat.sid seat.phase core.users
+    → bans ≡ bans_after effect.change core.bans → topic ≡ topic_after effect.change core.topic
     → record core { seats = seats; users = users; bans = bans; topic = topic } ≡ carried_out c effect core
 unfolding carried_out
 carried-as core c effect i seat now seats users bans topic at is_seat is_now is_seats is_users is_bans is_topic =
     ap₂ (λ (b : List (List ℕ × Ban)) (t : List ℕ). record core { seats = seats; users = users; bans = b; topic = t }) is_bans is_topic
     ∙ same-core core.setup core.joins core.last
-    (is_seats ∙ ap (λ (ss : List Seat). settled_all (removed_of effect.world) ss (map (seat_share c effect) core.seats)) (set-read c (turned_seat effect) core.seats i seat now at is_seat is_now))
-    (is_users ∙ ap₂ (λ sid phase. users_after effect.world effect.turn sid phase core.users) (sym (sid-at c core.seats i seat at is_seat)) (sym (phase-at c core.seats i seat at is_seat)))
+    (is_seats ∙ ap (λ (ss : List Seat). settled_all (removed_of effect.change) ss (map (seat_share c effect) core.seats)) (set-read c (changed_seat effect.change) core.seats i seat now at is_seat is_now))
+    (is_users ∙ ap₂ (λ sid phase. users_after effect.change sid phase core.users) (sym (sid-at c core.seats i seat at is_seat)) (sym (phase-at c core.seats i seat at is_seat)))

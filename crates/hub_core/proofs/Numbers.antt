@@ -7,7 +7,7 @@ use Rattle.std.specs.Ordering.{nat_cmp, ordering_index}
 use Rattle.std.proofs.lemmas.Bool.{cases_lt, eqb-true, eq-eqb, false≢true}
 use Rattle.std.proofs.lemmas.Bool.Decides.{nat_tests}
 use Rattle.std.proofs.lemmas.Cmp.{ranked}
-use Rattle.std.proofs.lemmas.List.{map-append}
+use Rattle.std.proofs.lemmas.List.{length-map, map-append}
 use Rattle.std.proofs.lemmas.List.Quantifiers.{position-Some}
 use Rattle.std.proofs.lemmas.List.Sorted.{IsNonDecreasingBy-from_default}
 use Rattle.std.proofs.lemmas.List.Sums.{position_or_len_is}
@@ -16,7 +16,10 @@ use Rattle.hub_core.specs.declared.seat.Seat.{Seat}
 use Rattle.hub_core.specs.Leaving.{others_of, told, told_all_if, told_if}
 use Rattle.hub_core.specs.Numbers.{Above, Ordered, Rising, UpTo, numbers}
 use Rattle.hub_core.specs.Phases.{stage_in}
-use Rattle.hub_core.specs.Seats.{at_seat, given_seat, new_seat, settled_all}
+use Rattle.hub_core.specs.Seats.{at_seat, changed_seat, given_seat, new_seat, removed_of, seat_share, settled_all}
+use Rattle.hub_core.specs.State.{IsPlace, carried_out}
+use Rattle.hub_core.specs.CoreState.{CoreState}
+use Rattle.hub_rules.specs.declared.effect.Effect.{Effect}
 use Rattle.hub_core.proofs.Places.{none_passes}
 use Rattle.hub_core.proofs.Settling.{number-given, number-gone}
 use Rattle.hub_core.proofs.Tests.{false-lt, lt-true}
@@ -193,3 +196,21 @@ or-found p seats false (Some i) some found =
 
 pub any-found : (p : Seat → Bool) (seats : List Seat) → is_some (position p seats) ≡ list_any p seats
 any-found p seats = or-found p seats (list_any p seats) (position p seats) refl refl
+
+-- ---- seats that keep their numbers keep their places
+
+first-number : (c : ℕ) (seats : List Seat) → position_or_len (λ (seat : Seat). seat.number == c) seats ≡ position_or_len (λ n. n == c) (numbers seats)
+first-number c [] = refl
+first-number c (seat ∷ seats) = ap (λ m. cond (not (seat.number == c)) (1 + m) 0) (first-number c seats)
+
+by-number : (c : ℕ) (seats : List Seat) → position (λ (seat : Seat). seat.number == c) seats ≡ position (λ n. n == c) (numbers seats)
+by-number c seats = ap₂ (λ n len. cond (nat_lt n len) (Some n) None) (first-number c seats) (sym (length-map seats (λ (seat : Seat). seat.number)))
+
+pub place-carried : (c place : ℕ) (effect : Effect) (core : CoreState) → IsPlace c place core.seats → IsPlace c place (carried_out c effect core).seats
+unfolding carried_out
+place-carried c place effect core is =
+    by-number c (carried_out c effect core).seats
+    ∙ ap (position (λ n. n == c))
+    (numbers-settled (removed_of effect.change) (at_seat c (changed_seat effect.change) core.seats) (map (seat_share c effect) core.seats)
+    ∙ numbers-changed c (changed_seat effect.change) (λ seat. refl) core.seats)
+    ∙ sym (by-number c core.seats) ∙ is

@@ -18,11 +18,11 @@ use Rattle.hub_core.specs.Promises.{CountsJoins, LooksAt, SidOf, SumsUp}
 use Rattle.hub_core.specs.declared.seat.Phase.TheVariants as phases
 use Rattle.hub_core.specs.declared.seat.Seat.{Seat}
 use Rattle.hub_core.specs.CoreState.{CoreState}
-use Rattle.hub_core.specs.Decided.{Decided}
+use Rattle.hub_core.specs.Decided.{Decided, sight_in}
 use Rattle.hub_core.specs.Leaving.{has_ended, left_core, lightened, lightened_core, lines_in, others_of, told, told_all_if, told_if}
 use Rattle.hub_core.specs.Moves.{LineMoves, Moves, StandsAt}
 use Rattle.hub_core.specs.Phases.{phase_at, stage_in}
-use Rattle.hub_core.specs.Seats.{at_seat, in_seat, new_seat, outbox_in, phase_in, seat_of, seat_with, sid_in}
+use Rattle.hub_core.specs.Seats.{at_seat, given_seat, gone_if, in_seat, new_seat, outbox_in, phase_in, seat_of, seat_with, sid_in}
 use Rattle.hub_core.specs.State.{HasSeat, IsSeated, Stands, carried_out, core_of}
 use Rattle.hub_rules.specs.declared.effect.Effect.{Effect}
 use Rattle.hub_rules.specs.declared.history.Call.TheVariants.{Join, Quit, Take}
@@ -30,21 +30,21 @@ use Rattle.hub_rules.specs.declared.history.Entry.{Entry}
 use Rattle.hub_rules.specs.declared.history.Reply.TheVariants.{Joined, Full, JoinsSpent, Said, Left, Took}
 use Rattle.hub_rules.specs.declared.history.Verdict.{Verdict}
 use Rattle.hub_rules.specs.Configured.{Configured}
-use Rattle.hub_rules.specs.Effects.{departure, farewell, given_if, is_over, is_present, line_effect}
+use Rattle.hub_rules.specs.Effects.{departure, given_if, is_over, is_present, line_effect}
 use Rattle.hub_rules.specs.Facts.{Facts, about_after, after, closed, effect_of_line, facts, given, happens, has_joins, has_place, joined, max_joins, newcomer, next_sid, own_of, sight_of, user_of, with_one}
 use Rattle.hub_rules.specs.Identities.{listed}
 use Rattle.hub_rules.specs.Legal.{Legal, is_open, join_reply, reply, take_reply, verdict_of}
-use Rattle.hub_rules.specs.Shares.{About, affected, backlog_of, chosen, max_bytes, max_lines, removed_if, waiting, with_share}
+use Rattle.hub_rules.specs.Shares.{About, affected, backlog_of, chosen, max_bytes, max_lines, owes, waiting}
 use Rattle.hub_rules.specs.Sights.{PreparedLine}
 use Rattle.hub_invariants.proofs.Calls.{not-open, sound_of}
-use Rattle.hub_invariants.proofs.Members.{has}
+use Rattle.hub_invariants.proofs.Members.{and-false, has}
 use Rattle.hub_invariants.proofs.Sids.{Numbered, numbered_of}
 use Rattle.hub_invariants.proofs.Sound.{Sound, not-over, or-true}
 use Rattle.hub_invariants.proofs.Suits.{Suits}
 use Rattle.hub_invariants.proofs.Tidy.{Tidy, suits_of, tidy_of, waiting-given}
 use Rattle.hub_core.proofs.Carried.{carried-out, decided-is, same-core}
 use Rattle.hub_core.proofs.Seating.{at-one, in-open, map-seats, others-seats, others_of as numbers_but, seat_one, seated-open, seats-left, seats-same}
-use Rattle.hub_core.proofs.Sharing.{gives, stage-kept, with-nothing}
+use Rattle.hub_core.proofs.Sharing.{settles-by, stage-kept}
 use Rattle.hub_core.proofs.Tests.{false-le, true-le}
 use Rattle.hub_core.proofs.Users.{users-carried}
 
@@ -60,7 +60,7 @@ phase-open setup c effect f open_c =
 pub line-moves : (old new : CoreState) (c : ℕ) (line : PreparedLine) (now : ℕ) (seat : Seat) (effect : Effect) (verdict : Verdict)
     → old.setup.max_users ≤ 900
     → seat ≡ in_seat c (λ s. s) seat old.seats
-    → Decided old seat line now effect
+    → Decided (sight_in old) seat line now effect
     → new ≡ carried_out c effect old
     → verdict ≡ verdict_of (stage_in (phase_in c new.seats))
     → LineMoves old c line now verdict new
@@ -74,7 +74,7 @@ line-moves old new c line now seat effect verdict small is_seat decided is_new i
     is_seat ∙ ap (λ (s : CoreState). in_seat c (λ x. x) seat s.seats) at.stands ∙ in-open c (λ s. s) seat f.about f.opened may.0 in
     let is_effect : effect ≡ effect_of_line setup hash f c line.bytes now =
     decided-is setup f c line now effect sound n (tidy_of setup hash h c) may.0
-    (subst (λ (s : Seat). Decided (core_of setup f) s line now effect) mine (subst (λ (s : CoreState). Decided s seat line now effect) at.stands decided))
+    (subst (λ (s : Seat). Decided (sight_in (core_of setup f)) s line now effect) mine (subst (λ (s : CoreState). Decided (sight_in s) seat line now effect) at.stands decided))
     ∙ ap (λ l. line_effect (sight_of setup f) (own_of (f.about c)) l now) is_line in
     let stands : new ≡ core_of setup (happens c (effect_of_line setup hash f c line.bytes now) f) =
     is_new ∙ ap₂ (carried_out c) is_effect at.stands
@@ -152,22 +152,11 @@ take-moves old new c count lines bytes over is_new is_bytes is_lines is_ended se
 abbrev leaves : About → Effect
 leaves a = departure a.stage a.sid
 
-told-one : (here there : Bool) (sid d : ℕ) (a : About) → a.taken ≤ length a.owed → Tidy a
-    → chosen here (told_if there sid (seat_with d a)) (seat_with d a) ≡ seat_with d (with_share a (given_if (there && true) (given_if here (quit_line sid ∷ [])) ++ []))
-told-one true true sid d a few tidy = gives d a (quit_line sid ∷ []) few tidy.lines tidy.bytes
-told-one true false sid d a few tidy = ap (seat_with d) (sym (with-nothing a tidy.lines tidy.bytes))
-told-one false true sid d a few tidy = ap (seat_with d) (sym (with-nothing a tidy.lines tidy.bytes))
-told-one false false sid d a few tidy = ap (seat_with d) (sym (with-nothing a tidy.lines tidy.bytes))
-
--- nobody is shut out by a departure
-none-removed : (b : Bool) (a : About) → removed_if (b && false) a ≡ a
-none-removed true a = refl
-none-removed false a = refl
-
-other-share : (c d : ℕ) (a b : About) → (d == c) ≡ false → affected (d == c) (leaves a) b ≡ with_share b (given_if (is_present b.stage && true) (farewell a.stage a.sid) ++ [])
-other-share c d a b other =
-    ap (λ same. affected same (leaves a) b) other
-    ∙ none-removed (is_present b.stage) (with_share b (given_if (is_present b.stage && true) (farewell a.stage a.sid) ++ []))
+told-one : (here there : Bool) (sid : ℕ) (seat : Seat) → chosen here (told_if there sid seat) seat ≡ given_seat (given_if (there && true) (given_if here (quit_line sid ∷ [])) ++ []) seat
+told-one true true sid seat = refl
+told-one true false sid seat = refl
+told-one false true sid seat = refl
+told-one false false sid seat = refl
 
 abbrev told_seat : Bool → ℕ → Seat → Seat
 told_seat here sid seat = chosen here (told sid seat) seat
@@ -175,9 +164,12 @@ told_seat here sid seat = chosen here (told sid seat) seat
 left-seat : (c d : ℕ) (a b : About) → (d == c) ≡ false → b.taken ≤ length b.owed → Tidy b
     → told_seat (is_present a.stage) a.sid (seat_with d b) ≡ seat_with d (affected (d == c) (leaves a) b)
 left-seat c d a b other few tidy =
+    let seat : Seat = given_seat (owes false (leaves a) b) (seat_with d b) in
     ap (λ s. chosen (is_present a.stage) (told_if (is_present s) a.sid (seat_with d b)) (seat_with d b)) (stage-kept d b)
-    ∙ told-one (is_present a.stage) (is_present b.stage) a.sid d b few tidy
-    ∙ ap (seat_with d) (sym (other-share c d a b other))
+    ∙ told-one (is_present a.stage) (is_present b.stage) a.sid (seat_with d b)
+    ∙ ap (λ gone. gone_if gone seat) (sym (and-false (is_present (stage_in seat.phase))))
+    ∙ settles-by false (leaves a) d b few tidy.lines tidy.bytes (λ is. absurd (false≢true is))
+    ∙ ap (λ same. seat_with d (affected same (leaves a) b)) (sym other)
 
 map-told : (here : Bool) (sid : ℕ) (seats : List Seat) → told_all_if here sid seats ≡ map (told_seat here sid) seats
 map-told true sid seats = refl
@@ -195,7 +187,7 @@ seats-gone c f sound tidy =
     (λ d other. left-seat c d (f.about c) (f.about d) other (sound.taken d) (tidy d))
 
 suits-leaves : (a : About) → Suits (own_of a) (leaves a)
-suits-leaves a = record { turn = tt; routed = tt; lone = λ other. absurd (false≢true (sym other)) }
+suits-leaves a = record { change = tt; routed = tt }
 
 left-stands : (setup : Configured) (c : ℕ) (f : Facts) → Sound f → Numbered setup f → ((d : ℕ) → Tidy (f.about d)) → has c f.opened ≡ true
     → left_core c (core_of setup f) ≡ core_of setup (closed c (happens c (leaves (f.about c)) f))

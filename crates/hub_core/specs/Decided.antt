@@ -1,64 +1,60 @@
 -- What is decided of a line, by what is kept of the connection that sent it.
-use Rattle.std.specs.Prelude.{◌≡◌, ◌≤◌, ℕ, List, [], Some}
-use Rattle.inf_fields.specs.Field.{Field}
-use Rattle.login_state.specs.declared.stage.Stage.{Stage}
-use Rattle.login_state.specs.declared.stage.Stage.TheVariants as stages
+use Rattle.std.specs.Prelude.{◌≡◌, ◌≤◌, ℕ, List, [], Option, Some, None}
+use Rattle.std.specs.Option.{option_map, unwrap_or}
 use Rattle.user_table.specs.Listed.{Listed}
 use Rattle.user_table.specs.Tables.{user_by_sid}
 use Rattle.hub_core.specs.declared.seat.Phase.{Phase}
 use Rattle.hub_core.specs.declared.seat.Phase.TheVariants as phases
 use Rattle.hub_core.specs.declared.seat.Seat.{Seat}
 use Rattle.hub_core.specs.CoreState.{CoreState}
-use Rattle.operator_acts.specs.declared.ban.Ban.{Ban}
+use Rattle.hub_core.specs.Phases.{stage_in}
 use Rattle.hub_core.specs.Seats.{in_seat}
 use Rattle.hub_core.specs.State.{carried_out}
-use Rattle.hub_rules.specs.Configured.{Configured}
+use Rattle.hub_decisions.specs.Known.{IsKnown}
 use Rattle.hub_rules.specs.declared.effect.Effect.{Effect}
 use Rattle.hub_rules.specs.Effects.{line_effect}
-use Rattle.hub_rules.specs.Identities.{listed}
-use Rattle.hub_rules.specs.Quiet.{nothing}
 use Rattle.hub_rules.specs.Sights.{Own, PreparedLine, Sight}
 
 -- the hub
-abbrev pub sight_at : Configured → List Listed → List (List ℕ × Ban) → List ℕ → Sight
-sight_at setup users bans topic = record { setup = setup; users = users; bans = bans; topic = topic }
+abbrev pub sight_in : CoreState → Sight
+sight_in core = record { setup = core.setup; users = core.users; bans = core.bans; topic = core.topic }
+
+-- the user of a connection at this phase, where it has one
+abbrev pub user_at : Phase → ℕ → List Listed → Option Listed
+user_at (phases.Verify newcomer expected) sid users = Some newcomer.user
+user_at (phases.Normal support) sid users = user_by_sid sid users
+user_at phase sid users = None
+
+-- the digest that its password must give
+abbrev pub expected_at : Phase → List ℕ
+expected_at (phases.Verify newcomer expected) = expected
+expected_at phase = []
 
 -- the connection of a seat
-abbrev pub own_at : Seat → Stage → List Field → List ℕ → Own
-own_at seat stage fields expected = record {
+abbrev pub own_at : Seat → Option Listed → Own
+own_at seat user = record {
   sid = seat.sid;
   peer = seat.peer;
   challenge = seat.challenge;
-  stage = stage;
+  stage = stage_in seat.phase;
   features = seat.features;
-  fields = fields;
-  expected = expected;
+  fields = unwrap_or (option_map (λ (u : Listed). u.fields) user) [];
+  expected = expected_at seat.phase;
   searched = seat.searched;
 }
 
--- a connection that is shut out is not heard; of one that is not, the rules say what its line leads to
-abbrev pub DecidedBy : Phase → Sight → Seat → PreparedLine → ℕ → Effect → Type 0
-DecidedBy phases.Protocol hub seat line now effect = effect ≡ line_effect hub (own_at seat stages.Protocol [] []) line now
-DecidedBy phases.Identify hub seat line now effect = effect ≡ line_effect hub (own_at seat stages.Identify [] []) line now
-DecidedBy (phases.Verify newcomer expected) hub seat line now effect =
-    newcomer.user ≡ listed seat.sid newcomer.user.fields
-    → effect ≡ line_effect hub (own_at seat stages.Verify newcomer.user.fields expected) line now
-DecidedBy (phases.Normal support) hub seat line now effect =
-    (user : Listed) → user_by_sid seat.sid hub.users ≡ Some user → user ≡ listed seat.sid user.fields
-    → effect ≡ line_effect hub (own_at seat stages.Normal user.fields []) line now
-DecidedBy phases.Gone hub seat line now effect = effect ≡ nothing
+abbrev pub DecidedFor : Option Listed → Sight → Seat → PreparedLine → ℕ → Effect → Type 0
+DecidedFor user hub seat line now effect = IsKnown (own_at seat user) user → effect ≡ line_effect hub (own_at seat user) line now
 
-abbrev pub DecidedAt : Configured → List Listed → List (List ℕ × Ban) → List ℕ → Seat → PreparedLine → ℕ → Effect → Type 0
-DecidedAt setup users bans topic seat line now effect = DecidedBy seat.phase (sight_at setup users bans topic) seat line now effect
-
-abbrev pub Decided : CoreState → Seat → PreparedLine → ℕ → Effect → Type 0
-Decided core seat line now effect = DecidedAt core.setup core.users core.bans core.topic seat line now effect
+-- of a user who is known by what its fields say, it is what the rules say that the line leads to
+abbrev pub Decided : Sight → Seat → PreparedLine → ℕ → Effect → Type 0
+Decided hub seat line now effect = DecidedFor (user_at seat.phase seat.sid hub.users) hub seat line now effect
 
 -- so it was decided at the seat of connection c
 pub record IsDecided (c : ℕ) (line : PreparedLine) (now : ℕ) (core : CoreState) (effect : Effect) : Type 0 where
   pub seat : Seat
   pub is_seat : seat ≡ in_seat c (λ s. s) seat core.seats
-  pub decided : Decided core seat line now effect
+  pub decided : Decided (sight_in core) seat line now effect
 
 -- a line was heard: what was decided was carried out
 pub record IsHeard (c : ℕ) (line : PreparedLine) (now : ℕ) (old new : CoreState) : Type 0 where

@@ -1,4 +1,5 @@
 pub mod CoreState
+pub mod CoreView
 pub mod Decided
 pub mod Leaving
 pub mod Moves

@@ -7,10 +7,11 @@ use Rattle.login_state.specs.declared.stage.Stage.TheVariants as stages
 use Rattle.user_table.specs.Listed.{Listed}
 use Rattle.hub_core.specs.declared.seat.Phase.{Phase}
 use Rattle.hub_core.specs.declared.seat.Phase.TheVariants as phases
+use Rattle.hub_rules.specs.declared.effect.Change.{Change}
+use Rattle.hub_rules.specs.declared.effect.Change.TheVariants.{Sender}
 use Rattle.hub_rules.specs.declared.effect.Hearers.{Hearers}
 use Rattle.hub_rules.specs.declared.effect.Hearers.TheVariants.{Others, Those}
-use Rattle.hub_rules.specs.declared.effect.Turn.{Turn}
-use Rattle.hub_rules.specs.declared.effect.Turn.TheVariants as turns
+use Rattle.hub_rules.specs.declared.effect.SenderChange.TheVariants as senders
 use Rattle.hub_rules.specs.Effects.{entrant}
 use Rattle.hub_rules.specs.Identities.{listed, su_in}
 use Rattle.hub_rules.specs.Shares.{About}
@@ -38,20 +39,19 @@ abbrev pub awaited : Phase → List Listed
 awaited (phases.Verify newcomer expected) = newcomer.user ∷ []
 awaited phase = []
 
--- a turn of the connection
 abbrev pub entered_phase : Phase → Phase
 entered_phase (phases.Verify newcomer expected) = phases.Normal newcomer.support
 entered_phase phase = phase
 
-abbrev pub phase_after : Turn → Phase → Phase
-phase_after turns.Stays phase = phase
-phase_after (turns.Greets features) phase = phases.Identify
-phase_after (turns.Waits newcomer expected) phase = phases.Verify newcomer expected
-phase_after turns.Enters phase = entered_phase phase
-phase_after (turns.EntersAs newcomer) phase = phases.Normal newcomer.support
-phase_after (turns.Learns features) phase = phase
-phase_after (turns.Updates change) phase = phases.Normal change.support
-phase_after turns.Falls phase = phases.Gone
+-- what a change makes of the connection that sent the line
+abbrev pub phase_after : Change → Phase → Phase
+phase_after (Sender (senders.Greets features)) phase = phases.Identify
+phase_after (Sender (senders.Waits newcomer expected)) phase = phases.Verify newcomer expected
+phase_after (Sender senders.Enters) phase = entered_phase phase
+phase_after (Sender (senders.EntersAs newcomer)) phase = phases.Normal newcomer.support
+phase_after (Sender (senders.Updates revision)) phase = phases.Normal revision.support
+phase_after (Sender senders.Falls) phase = phases.Gone
+phase_after change phase = phase
 
 abbrev pub is_among : Bool → Hearers → ℕ → List (List ℕ) → Bool
 is_among is_caller Others sid support = not is_caller

@@ -1,5 +1,5 @@
 -- What is kept of the connections, and what an effect makes of it.
-use Rattle.std.specs.Prelude.{ℕ, ◌==◌, ◌&&◌, Bool, true, false, List, [], ◌∷◌, ◌++◌, Option, None, if◌then◌else◌}
+use Rattle.std.specs.Prelude.{ℕ, ◌==◌, ◌&&◌, Bool, true, false, List, [], ◌∷◌, ◌++◌, None, if◌then◌else◌}
 use Rattle.outboxes.specs.Backlogs.{Backlog, empty_backlog, given}
 use Rattle.hub_core.specs.declared.seat.Phase.{Phase}
 use Rattle.hub_core.specs.declared.seat.Phase.TheVariants as phases
@@ -7,11 +7,10 @@ use Rattle.hub_core.specs.declared.seat.Removal.{Removal}
 use Rattle.hub_core.specs.declared.seat.Removal.TheVariants.{Nobody, User}
 use Rattle.hub_core.specs.declared.seat.Seat.{Seat}
 use Rattle.hub_core.specs.Phases.{phase_after, phase_hears, phase_of, stage_in}
+use Rattle.hub_rules.specs.declared.effect.Change.{Change}
+use Rattle.hub_rules.specs.declared.effect.Change.TheVariants.{Hub}
 use Rattle.hub_rules.specs.declared.effect.Effect.{Effect}
-use Rattle.hub_rules.specs.declared.effect.Turn.{Turn}
-use Rattle.hub_rules.specs.declared.effect.Turn.TheVariants.{Stays}
-use Rattle.hub_rules.specs.declared.effect.World.{World}
-use Rattle.hub_rules.specs.declared.effect.World.TheVariants as worlds
+use Rattle.hub_rules.specs.declared.effect.HubChange.TheVariants as shared
 use Rattle.hub_rules.specs.Effects.{given_if, is_present}
 use Rattle.hub_rules.specs.Shares.{About, backlog_of, features_after, max_bytes, max_lines, searched_after}
 
@@ -57,10 +56,10 @@ given_seat [] seat = seat
 given_seat (line ∷ lines) seat = record seat { outbox = given seat.outbox (line ∷ lines) }
 
 -- the user whom an operator shuts out
-abbrev pub removed_of : World → Removal
-removed_of (worlds.Kick sid) = User sid
-removed_of (worlds.Ban banned) = User banned.sid
-removed_of world = Nobody
+abbrev pub removed_of : Change → Removal
+removed_of (Hub (shared.Kick sid)) = User sid
+removed_of (Hub (shared.Ban banned)) = User banned.sid
+removed_of change = Nobody
 
 abbrev pub is_named : Removal → ℕ → Bool
 is_named Nobody own = false
@@ -85,19 +84,12 @@ settled_all removed (seat ∷ seats) (share ∷ shares) = settled removed seat s
 
 -- ---- the connection that sent the line
 
--- its turn, where nothing changes for all
-abbrev pub turn_taken : World → Turn → Turn
-turn_taken worlds.Same turn = turn
-turn_taken world turn = Stays
-
-abbrev pub seat_turned : Turn → Seat → Seat
-seat_turned turn seat = record seat { phase = phase_after turn seat.phase; features = features_after turn seat.features }
-
-abbrev pub searched_seat : Option ℕ → Seat → Seat
-searched_seat searched seat = record seat { searched = searched_after searched seat.searched }
-
-abbrev pub turned_seat : Effect → Seat → Seat
-turned_seat effect seat = searched_seat effect.searched (seat_turned (turn_taken effect.world effect.turn) seat)
+abbrev pub changed_seat : Change → Seat → Seat
+changed_seat change seat = record seat {
+  phase = phase_after change seat.phase;
+  features = features_after change seat.features;
+  searched = searched_after change seat.searched;
+}
 
 -- the seat of connection c changes
 unfoldable pub at_seat : ℕ → (Seat → Seat) → List Seat → List Seat

@@ -1,15 +1,16 @@
-ghost use Rattle.std.specs.Prelude.{◌≡◌, ◌++◌, ◌∷◌, [], ℕ, IfErr, OnErr, OnOk};
+ghost use Rattle.std.specs.Prelude.{◌≡◌, ◌++◌, ◌∷◌, [], IfErr, OnErr, OnOk};
 ghost use Rattle.user_table.specs.Changes.{given_key};
 ghost use Rattle.operator_acts.specs.Bans.{with_ban};
 ghost use Rattle.user_table.specs.Tables.{with_update, without_sid};
 ghost use Rattle.hub_core.specs.Phases.{awaited, entered_phase};
 ghost use Rattle.hub_core.specs.declared.seat.Phase.TheVariants.{Normal};
-ghost use Rattle.hub_core.specs.Seats.{seat_turned, turn_taken};
-ghost use Rattle.hub_core.specs.State.{users_after, users_turned};
+ghost use Rattle.hub_core.specs.Seats.{changed_seat};
+ghost use Rattle.hub_core.specs.State.{users_after};
+ghost use Rattle.hub_rules.specs.declared.effect.Change.TheVariants.{Sender};
 ghost use Rattle.hub_rules.specs.Facts.{bans_after, topic_after};
 
 use crate::seat::{Phase, Seat};
-use hub_rules::{Banned, Change, Entrant, Topic, Turn, World};
+use hub_rules::{Banned, Change, Entrant, HubChange, Revision, SenderChange, Topic};
 use operator_acts::Bans;
 use std::alloc::AllocError;
 use std::mem;
@@ -24,34 +25,32 @@ pub struct Commons {
 }
 
 impl Commons {
-    /// Changes what all connections share, and takes the turn of the connection that sent the line, whole or not at all.
-    pub(crate) fn change(
-        &mut self,
-        seat: &mut Seat,
-        turn: Turn,
-        world: World,
-    ) -> Result<(), AllocError>
-        ensures users { OnOk result (self.new.users ≡ users_after world turn seat.old.sid seat.old.phase self.old.users) }
-        ensures bans { OnOk result (self.new.bans ≡ bans_after world self.old.bans) }
-        ensures topic { OnOk result (self.new.topic ≡ topic_after world self.old.topic) }
-        ensures seat { OnOk result (seat.new ≡ seat_turned (turn_taken world turn) seat.old) }
+    /// Makes the change of a line, of the connection of this seat, whole or not at all.
+    pub(crate) fn change(&mut self, seat: &mut Seat, change: Change) -> Result<(), AllocError>
+        ensures users { OnOk result (self.new.users ≡ users_after change seat.old.sid seat.old.phase self.old.users) }
+        ensures bans { OnOk result (self.new.bans ≡ bans_after change self.old.bans) }
+        ensures topic { OnOk result (self.new.topic ≡ topic_after change self.old.topic) }
+        ensures seat { OnOk result (seat.new ≡ changed_seat change seat.old) }
         ensures err { OnErr result ((self.new ≡ self.old) × (seat.new ≡ seat.old)) }
     {
-        match world {
-            World::Same => take_turn(&mut self.users, seat, turn),
-            World::Kick(sid) => {
-                self.users.remove(sid);
-                Ok(())
-            }
-            World::Ban(banned) => ban(&mut self.users, &mut self.bans, banned),
-            World::Unban(cid) => {
-                self.bans.remove(cid);
-                Ok(())
-            }
-            World::Topic(topic) => {
-                self.topic = topic;
-                Ok(())
-            }
+        match change {
+            Change::Nothing => Ok(()),
+            Change::Sender(change) => change_sender(&mut self.users, seat, change),
+            Change::Hub(change) => match change {
+                HubChange::Kick(sid) => {
+                    self.users.remove(sid);
+                    Ok(())
+                }
+                HubChange::Ban(banned) => ban(&mut self.users, &mut self.bans, banned),
+                HubChange::Unban(cid) => {
+                    self.bans.remove(cid);
+                    Ok(())
+                }
+                HubChange::Topic(topic) => {
+                    self.topic = topic;
+                    Ok(())
+                }
+            },
         }
     }
 }
@@ -70,31 +69,38 @@ fn ban(users: &mut IndexedUsers, bans: &mut Bans, banned: Banned) -> Result<(), 
     Ok(())
 }
 
-/// Takes the turn of the connection that sent the line, whole or not at all.
-fn take_turn(users: &mut IndexedUsers, seat: &mut Seat, turn: Turn) -> Result<(), AllocError>
-    ensures users { OnOk result (users.new ≡ users_turned turn seat.old.sid seat.old.phase users.old) }
-    ensures seat { OnOk result (seat.new ≡ seat_turned turn seat.old) }
+/// Changes the connection that sent the line, whole or not at all.
+fn change_sender(
+    users: &mut IndexedUsers,
+    seat: &mut Seat,
+    change: SenderChange,
+) -> Result<(), AllocError>
+    ensures users { OnOk result (users.new ≡ users_after (Sender change) seat.old.sid seat.old.phase users.old) }
+    ensures seat { OnOk result (seat.new ≡ changed_seat (Sender change) seat.old) }
     ensures err { OnErr result ((users.new ≡ users.old) × (seat.new ≡ seat.old)) }
 {
-    match turn {
-        Turn::Stays => Ok(()),
-        Turn::Greets(features) => {
+    match change {
+        SenderChange::Greets(features) => {
             seat.phase = Phase::Identify;
             seat.features = features;
             Ok(())
         }
-        Turn::Waits(newcomer, expected) => {
+        SenderChange::Waits(newcomer, expected) => {
             seat.phase = Phase::Verify(newcomer, expected);
             Ok(())
         }
-        Turn::Enters => enter(users, seat),
-        Turn::EntersAs(newcomer) => enter_as(users, seat, newcomer),
-        Turn::Learns(features) => {
+        SenderChange::Enters => enter(users, seat),
+        SenderChange::EntersAs(newcomer) => enter_as(users, seat, newcomer),
+        SenderChange::Learns(features) => {
             seat.features = features;
             Ok(())
         }
-        Turn::Updates(change) => update(users, seat, change),
-        Turn::Falls => {
+        SenderChange::Updates(revision) => update(users, seat, revision),
+        SenderChange::Searches(now) => {
+            seat.searched = Some(now);
+            Ok(())
+        }
+        SenderChange::Falls => {
             users.remove(seat.sid);
             seat.phase = Phase::Gone;
             Ok(())
@@ -145,16 +151,16 @@ fn enter_as(users: &mut IndexedUsers, seat: &mut Seat, newcomer: Entrant) -> Res
 
 /// Changes the fields of a user. It was looked at when the update was decided that nobody else has the nick, and that there
 /// is room for the fields, so only memory can be wanting.
-fn update(users: &mut IndexedUsers, seat: &mut Seat, change: Change) -> Result<(), AllocError>
-    ensures users { OnOk result (users.new ≡ with_update seat.old.sid change.update (given_key change.nick) users.old) }
-    ensures seat { OnOk result (seat.new ≡ record seat.old { phase = Normal change.support }) }
+fn update(users: &mut IndexedUsers, seat: &mut Seat, revision: Revision) -> Result<(), AllocError>
+    ensures users { OnOk result (users.new ≡ with_update seat.old.sid revision.update (given_key revision.nick) users.old) }
+    ensures seat { OnOk result (seat.new ≡ record seat.old { phase = Normal revision.support }) }
     ensures err { OnErr result ((users.new ≡ users.old) × (seat.new ≡ seat.old)) }
 {
-    let Change {
+    let Revision {
         update,
         nick,
         support,
-    } = change;
+    } = revision;
     if !takes_update(users, seat.sid, &update) {
         return Err(AllocError);
     }

@@ -3,11 +3,11 @@ ghost use Rattle.std.specs.Arc.{arc_value};
 ghost use Rattle.hub_rules.specs.declared.history.Call.TheVariants.{Join, Quit};
 ghost use Rattle.hub_rules.specs.declared.history.Reply.TheVariants.{Left};
 ghost use Rattle.hub_core.specs.Moves.{Moves, LineMoves, StandsAt};
-ghost use Rattle.hub_core.specs.Leaving.{left_core, lightened_core};
+ghost use Rattle.hub_core.specs.Leaving.{left_core};
 ghost use Rattle.hub_core.specs.Decided.{IsDecided, IsHeard};
 ghost use Rattle.hub_core.specs.Phases.{stage_in};
 ghost use Rattle.hub_core.specs.Seats.{phase_in};
-ghost use Rattle.hub_core.specs.State.{IsSeated, carried_out};
+ghost use Rattle.hub_core.specs.State.{IsPlace, IsSeated, carried_out};
 ghost use Rattle.hub_rules.specs.Legal.{verdict_of};
 
 use crate::change::Commons;
@@ -20,6 +20,7 @@ use crate::share::{removal, settle, shares};
 use crate::touched::{Touched, touched_by, touched_by_quit};
 use crate::{JoinRefused, OpenRefused};
 use adc_base32::Sid;
+use hub_decisions::Sight;
 use hub_rules::{Effect, Topic, Verdict};
 use hub_setup::{LineRefused, Prepared, Setup};
 use operator_acts::Bans;
@@ -49,17 +50,15 @@ pub struct Core {
 }
 
 impl Model for Core {
-    ghost use Rattle.std.specs.Prelude.{◌≤◌, ◌<◌};
-    ghost use Rattle.std.specs.Arc.{arc_value};
     ghost use Rattle.hub_core.specs.CoreState.{CoreState};
 
     ghost Value = { CoreState };
 
-    ghost view = { λ c. record { setup = arc_value c.setup; joins = c.joins; last = c.last; seats = c.seats.items; users = c.commons.users; bans = c.commons.bans; topic = c.commons.topic } };
+    ghost use Rattle.hub_core.specs.CoreView.{core_view, IsCore};
 
-    ghost use Rattle.hub_core.specs.Numbers.{Ordered};
+    ghost view = { core_view };
 
-    ghost invariant = { λ c. ((arc_value c.setup).max_users ≤ 900) × (c.last < 1_048_576) × Ordered c.joins c.seats.items };
+    ghost invariant = { IsCore };
 }
 
 impl Core {
@@ -170,8 +169,9 @@ impl Core {
         requires seated { IsSeated connection self.old }
         ensures { Moves self.old (Quit connection) Left self.new }
     {
-        let touched = self.touched_by_quit(connection.number);
-        self.leave(connection.number);
+        let place = place(&self.seats, connection.number);
+        let touched = touched_by_quit(&self.seats[place].phase);
+        self.leave(connection.number, place);
         self.note(touched);
     }
 
@@ -241,42 +241,35 @@ impl Core {
         ensures verdict { IfOk result (λ verdict. verdict ≡ verdict_of (stage_in (phase_in number self.new.seats))) }
         ensures err { OnErr result (self.new ≡ self.old) }
     {
-        let effect = self.decide(alloc, number, line, now)?;
-        let touched = self.touched_by(number, &effect);
-        self.carry_out(alloc, number, effect)?;
+        let place = place(&self.seats, number);
+        let effect = self.decide(alloc, number, place, line, now)?;
+        let touched = touched_by(self.seats[place].sid, &effect);
+        self.carry_out(alloc, number, place, effect)?;
         self.note(touched);
-        let verdict = self.verdict(number);
+        let verdict = self.verdict(number, place);
         Ok(verdict)
     }
 
-    /// Decides what a line of a connection leads to.
+    /// Decides what a line of a connection leads to, whose seat stands at this place.
     fn decide<'a>(
         &self,
         alloc: Global,
         number: u64,
+        place: usize,
         line: &'a Prepared,
         now: u64,
     ) -> Result<Effect<'a>, AllocError>
-        requires { IsSeated number self.now }
+        requires { IsPlace number place self.now.seats }
         ensures { IfOk result (λ effect. IsDecided number line.now now self.now effect) }
     {
-        let seat = &self.seats[place(&self.seats, number)];
-        let effect = decide_at(alloc, &self.setup, &self.commons, seat, line, now)?;
+        let hub = Sight {
+            setup: &self.setup,
+            users: &self.commons.users,
+            bans: &self.commons.bans,
+            topic: &self.commons.topic,
+        };
+        let effect = decide_at(alloc, &hub, &self.seats[place], line, now)?;
         Ok(effect)
-    }
-
-    /// Names whom the effect of a line of a connection concerns.
-    fn touched_by(&self, number: u64, effect: &Effect<'_>) -> Touched
-        requires { IsSeated number self.now }
-    {
-        touched_by(self.seats[place(&self.seats, number)].sid, effect)
-    }
-
-    /// Names whom it concerns that a connection leaves.
-    fn touched_by_quit(&self, number: u64) -> Touched
-        requires { IsSeated number self.now }
-    {
-        touched_by_quit(&self.seats[place(&self.seats, number)].phase)
     }
 
     /// Keeps whom a call concerned.
@@ -286,19 +279,19 @@ impl Core {
         self.touched = touched;
     }
 
-    fn verdict(&self, number: u64) -> Verdict
-        requires { IsSeated number self.now }
+    fn verdict(&self, number: u64, place: usize) -> Verdict
+        requires { IsPlace number place self.now.seats }
         ensures { result ≡ verdict_of (stage_in (phase_in number self.now.seats)) }
     {
-        self.seats[place(&self.seats, number)].phase.verdict()
+        self.seats[place].phase.verdict()
     }
 
-    fn leave(&mut self, number: u64)
-        requires { IsSeated number self.old }
-        ensures left { self.new ≡ left_core number self.old }
-        ensures few { self.old.setup.max_users ≤ 900 }
+    /// Lets the connection go whose seat stands at this place.
+    fn leave(&mut self, number: u64, place: usize)
+        requires { IsPlace number place self.old.seats }
+        ensures { self.new ≡ left_core number self.old }
     {
-        let seat = &self.seats[place(&self.seats, number)];
+        let seat = &self.seats[place];
         let sid = seat.sid;
         let was_present = seat.phase.is_present();
         forget(&mut self.seats, number);
@@ -306,24 +299,22 @@ impl Core {
         self.commons.users.remove(sid);
     }
 
-    /// Carries out what was decided of a line of a connection, whole or not at all.
+    /// Carries out what was decided of a line of a connection, whose seat stands at this place, whole or not at all.
     fn carry_out(
         &mut self,
         alloc: Global,
         number: u64,
+        place: usize,
         effect: Effect<'_>,
     ) -> Result<(), AllocError>
-        requires { IsSeated number self.old }
+        requires { IsPlace number place self.old.seats }
         ensures ok { OnOk result (self.new ≡ carried_out number effect.entry self.old) }
-        ensures few { self.old.setup.max_users ≤ 900 }
         ensures err { OnErr result (self.new ≡ self.old) }
     {
-        let shares = shares(alloc, &self.seats, number, &effect)?;
-        let removal = removal(&effect.world);
-        let place = place(&self.seats, number);
+        let shares = shares(alloc, &self.seats, number, place, &effect)?;
+        let removal = removal(&effect.change);
         let seat = &mut self.seats[place];
-        self.commons.change(seat, effect.turn, effect.world)?;
-        seat.note_search(effect.searched);
+        self.commons.change(seat, effect.change)?;
         settle(&mut self.seats, shares, &removal);
         Ok(())
     }

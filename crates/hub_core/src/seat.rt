@@ -1,8 +1,10 @@
-ghost use Rattle.std.specs.Prelude.{◌≡◌};
+ghost use Rattle.std.specs.Prelude.{◌≡◌, []};
+ghost use Rattle.std.specs.Option.{unwrap_or};
+ghost use Rattle.hub_core.specs.Decided.{expected_at};
 ghost use Rattle.hub_core.specs.declared.seat.Removal.TheVariants.{User};
 ghost use Rattle.hub_core.specs.Leaving.{told};
 ghost use Rattle.hub_core.specs.Phases.{stage_in};
-ghost use Rattle.hub_core.specs.Seats.{given_seat, new_seat, removed_seat, searched_seat};
+ghost use Rattle.hub_core.specs.Seats.{given_seat, new_seat, removed_seat};
 ghost use Rattle.hub_rules.specs.Effects.{is_over, is_present};
 ghost use Rattle.hub_rules.specs.Legal.{verdict_of};
 
@@ -87,6 +89,16 @@ impl Phase {
         }
     }
 
+    /// Gives the digest that its password must give, while it waits for one.
+    pub(crate) fn expected(&self) -> Option<[u8; 24]>
+        ensures { unwrap_or result [] ≡ expected_at self.now }
+    {
+        match self {
+            Phase::Verify(_, expected) => Some(*expected),
+            Phase::Protocol | Phase::Identify | Phase::Normal(_) | Phase::Gone => None,
+        }
+    }
+
     /// Answers whether its user is present.
     pub(crate) fn is_present(&self) -> bool
         ensures { result ≡ is_present (stage_in self.now) }
@@ -137,15 +149,6 @@ impl Seat {
     {
         if self.phase.is_present() && self.sid == sid {
             self.phase = Phase::Gone;
-        }
-    }
-
-    /// Keeps the moment of a search, if there was one.
-    pub(crate) fn note_search(&mut self, searched: Option<u64>)
-        ensures { self.new ≡ searched_seat searched self.old }
-    {
-        if searched.is_some() {
-            self.searched = searched;
         }
     }
 

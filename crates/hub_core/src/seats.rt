@@ -1,10 +1,10 @@
-ghost use Rattle.std.specs.Prelude.{◌≡◌, ◌≤◌, ◌==◌, ◌++◌, length, map, position, take, Some, IfOk, OnOk, OnErr};
+ghost use Rattle.std.specs.Prelude.{◌≡◌, ◌≤◌, ◌==◌, ◌++◌, length, map, position, take, IfOk, OnOk, OnErr};
 ghost use Rattle.std.specs.List.{concat};
 ghost use Rattle.hub_core.specs.declared.seat.Seat.{Seat};
 ghost use Rattle.hub_core.specs.Leaving.{has_ended, lightened, lines_in, others_of, told, told_all_if};
 ghost use Rattle.hub_core.specs.Numbers.{Rising, numbers};
 ghost use Rattle.hub_core.specs.Seats.{at_seat};
-ghost use Rattle.hub_core.specs.State.{has_seat, HasSeat};
+ghost use Rattle.hub_core.specs.State.{has_seat, HasSeat, IsPlace};
 
 use crate::seat::Seat;
 use adc_base32::Sid;
@@ -15,7 +15,7 @@ use std::alloc::{AllocError, Global};
 pub(crate) fn place(seats: &[Seat], number: u64) -> usize
     requires seated { HasSeat number seats.now }
     requires rising { Rising (numbers seats.now) }
-    ensures { position (λ (seat : Seat). seat.number == number) seats.now ≡ Some result }
+    ensures { IsPlace number result seats.now }
 {
     match find(seats, number) {
         Some(place) => place,

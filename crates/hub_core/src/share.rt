@@ -1,18 +1,17 @@
-ghost use Rattle.std.specs.Prelude.{◌≡◌, ◌==◌, ◌++◌, map, IfOk, IsTrue, OnOk};
+ghost use Rattle.std.specs.Prelude.{◌≡◌, ◌++◌, map, IfOk, IsTrue, OnOk};
 ghost use Rattle.hub_core.specs.Numbers.{Rising, numbers};
 ghost use Rattle.hub_core.specs.Owed.{HeardByNone, given_all, share_at, shares_from};
 ghost use Rattle.hub_core.specs.Phases.{is_among, phase_hears};
 ghost use Rattle.hub_core.specs.Seats.{removed_of, removed_seat, seat_share};
-ghost use Rattle.hub_core.specs.State.{HasSeat};
+ghost use Rattle.hub_core.specs.State.{IsPlace};
 ghost use Rattle.hub_core.specs.declared.seat.Removal.TheVariants.{User};
 ghost use Rattle.hub_rules.specs.declared.effect.Hearers.TheVariants.{Those};
 ghost use Rattle.feature_route.specs.declared.hearers.Audience.TheVariants.{Nobody};
 
 use crate::seat::{Phase, Removal, Seat};
-use crate::seats::place;
 use adc_base32::Sid;
 use feature_route::{Audience, FeatureSet};
-use hub_rules::{Effect, Hearers, World};
+use hub_rules::{Change, Effect, Hearers, HubChange};
 use outboxes::Batch;
 use std::alloc::{AllocError, Global};
 
@@ -26,19 +25,21 @@ pub struct Share {
 }
 
 /// Makes what an effect of a connection owes to those connections that hear something. All of it is made before any is
-/// given. Where nobody but the connection itself can hear anything, the other seats are not looked at.
+/// given. Where nobody but the connection itself can hear anything, the other seats are not looked at. Its own seat stands at
+/// the place that is passed.
 pub(crate) fn shares(
     alloc: Global,
     seats: &[Seat],
     number: u64,
+    place: usize,
     effect: &Effect<'_>,
 ) -> Result<Vec<Share>, AllocError>
-    requires seated { HasSeat number seats.now }
+    requires place { IsPlace number place seats.now }
     requires rising { Rising (numbers seats.now) }
     ensures { IfOk result (λ shares. shares.items ≡ shares_from 0 (seat_share number effect.now) seats.now) }
 {
     if is_heard_by_none(effect) {
-        own_share(alloc, seats, number, effect)
+        own_share(alloc, seats, number, place, effect)
     } else {
         all_shares(alloc, seats, number, effect)
     }
@@ -64,14 +65,14 @@ fn own_share(
     alloc: Global,
     seats: &[Seat],
     number: u64,
+    place: usize,
     effect: &Effect<'_>,
 ) -> Result<Vec<Share>, AllocError>
-    requires seated { HasSeat number seats.now }
+    requires place { IsPlace number place seats.now }
     requires rising { Rising (numbers seats.now) }
     requires none { HeardByNone effect.now }
     ensures { IfOk result (λ shares. shares.items ≡ shares_from 0 (seat_share number effect.now) seats.now) }
 {
-    let place = place(seats, number);
     let lines = owed(alloc, &seats[place], number, effect)?;
     let mut shares = Vec::new(alloc);
     push_share(&mut shares, place, lines)?;
@@ -195,12 +196,13 @@ fn shut_out(seats: &mut [Seat], sid: Sid)
 }
 
 /// Names whom an operator shuts out.
-pub(crate) fn removal(world: &World) -> Removal
-    ensures { result ≡ removed_of world.now }
+pub(crate) fn removal(change: &Change) -> Removal
+    ensures { result ≡ removed_of change.now }
 {
-    match world {
-        World::Kick(sid) => Removal::User(*sid),
-        World::Ban(banned) => Removal::User(banned.sid),
-        World::Same | World::Unban(_) | World::Topic(_) => Removal::Nobody,
+    match change {
+        Change::Hub(HubChange::Kick(sid)) => Removal::User(*sid),
+        Change::Hub(HubChange::Ban(banned)) => Removal::User(banned.sid),
+        Change::Hub(HubChange::Unban(_) | HubChange::Topic(_)) => Removal::Nobody,
+        Change::Nothing | Change::Sender(_) => Removal::Nobody,
     }
 }

@@ -12,8 +12,9 @@ use Rattle.login_state.specs.declared.stage.Stage.TheVariants as stages
 use Rattle.hub_rules.specs.declared.effect.Effect.{Effect}
 use Rattle.hub_rules.specs.declared.request.Request.{Request}
 use Rattle.hub_rules.specs.declared.request.Request.TheVariants as requests
-use Rattle.hub_rules.specs.Denied.{request_denied}
-use Rattle.hub_rules.specs.Effects.{accepted, unless_denied}
+use Rattle.user_table.specs.Listed.{Listed}
+use Rattle.hub_decisions.specs.Known.{IsKnown, KnownAt}
+use Rattle.hub_decisions.specs.Requested.{effect_of_message, effect_of_request}
 use Rattle.hub_rules.specs.Prepared.{is_broadcast, update_if, update_in, update_of}
 use Rattle.hub_rules.specs.Requests.{request_of, to_users}
 use Rattle.hub_rules.specs.Sights.{Own, PreparedLine, Sight}
@@ -94,10 +95,9 @@ said-of line bytes reads broadcast called =
     ap (λ b. update_if b line.params) (sym (ap₂ ◌&&◌ broadcast called)) ∙ ap update_of (sym reads)
 
 pub as-asked : (hub : Sight) (own : Own) (prepared : PreparedLine) (now : ℕ) (line : Reading) (request : Request) (effect : Effect)
-    → request_of own.stage line.kind line.command ≡ request
-    → effect ≡ unless_denied own (request_denied hub own prepared now line request) (accepted hub own prepared now line request)
-    → effect
-    ≡ unless_denied own (request_denied hub own prepared now line (request_of own.stage line.kind line.command))
-    (accepted hub own prepared now line (request_of own.stage line.kind line.command))
-as-asked hub own prepared now line request effect asked is =
-    is ∙ ap (λ r. unless_denied own (request_denied hub own prepared now line r) (accepted hub own prepared now line r)) (sym asked)
+    → request_of own.stage line.kind line.command ≡ request → effect ≡ effect_of_request hub own prepared now line request → effect ≡ effect_of_message hub own prepared now line
+as-asked hub own prepared now line request effect asked is = is ∙ ap (effect_of_request hub own prepared now line) (sym asked)
+
+-- who is known at a stage at which a connection has a user
+pub known-at : (own : Own) (user : Option Listed) (stage : Stage) → own.stage ≡ stage → IsKnown own user → KnownAt stage own user
+known-at own user stage is known = subst (λ s. KnownAt s own user) is known

@@ -1,10 +1,10 @@
 -- Whether a user is found tells whether one is there.
-use Rattle.std.proofs.Common.{◌≡◌, ◌∙◌, refl, ap, ℕ, Bool, true, false, ◌||◌, List, [], ◌∷◌, Option, Some, None, Bor}
+use Rattle.std.proofs.Common.{◌≡◌, ◌∙◌, refl, ap, Bool, true, false, ◌||◌, List, [], ◌∷◌, Option, Some, None, Bor}
 use Rattle.std.specs.Prelude.{is_some, if◌then◌else◌}
 use Rattle.std.specs.List.{list_any}
 use Rattle.std.specs.Option.{option_copied}
 use Rattle.user_table.specs.Listed.{Listed}
-use Rattle.user_table.specs.Tables.{first_who, has_sid, has_cid, has_key, user_by_sid, user_by_cid, user_by_key}
+use Rattle.user_table.specs.Tables.{first_who}
 
 found-first : (here any : Bool) (user : Listed) (rest : Option Listed) → is_some rest ≡ any → is_some (if here then Some user else rest) ≡ (here || any)
 found-first true any user rest same = refl

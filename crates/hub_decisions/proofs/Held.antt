@@ -1,5 +1,5 @@
 -- Of every ban something is left at the moment 0.
-use Rattle.std.proofs.Common.{◌≡◌, ◌∙◌, sym, refl, ap, ℕ, zero, suc, ◌+◌, ◌-◌, ◌<◌, ◌≤◌, ◌==◌, min, nat_lt, rules, Bool, true, false, Option, Some, None, arith, eqb}
+use Rattle.std.proofs.Common.{◌≡◌, ◌∙◌, sym, refl, ap, ℕ, zero, suc, ◌+◌, ◌-◌, ◌<◌, ◌==◌, min, nat_lt, rules, Bool, true, false, Option, Some, None, arith}
 use Rattle.std.specs.Prelude.{is_some, ◌^◌}
 use Rattle.std.proofs.lemmas.Bool.{false≢true}
 use Rattle.std.proofs.lemmas.Bool.Decides.{nat_tests}

@@ -1,3 +1,4 @@
+pub mod Grounds
 pub mod Found
 pub mod Told
 pub mod Held
@@ -6,3 +7,4 @@ pub mod Logging
 pub mod Rivals
 pub mod Updating
 pub mod Asking
+pub mod Commanding

@@ -1,3 +1,6 @@
-pub mod Progresses
+pub mod Asks
+pub mod Known
+pub mod OwnView
+pub mod Requested
 pub mod Commands
 pub mod Findings

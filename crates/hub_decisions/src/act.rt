@@ -1,26 +1,28 @@
 ghost use Rattle.std.specs.Prelude.{◌≡◌, [], ◌∷◌, IfOk, Some, is_some};
 ghost use Rattle.adc_line.specs.WordsLeft.{words_left};
-ghost use Rattle.hub_decisions.specs.Progresses.{IsListed, own_of, sight_of, stage_of};
-ghost use Rattle.hub_decisions.specs.Commands.{commanded};
-ghost use Rattle.hub_rules.specs.Acts.{act_denied, act_effect, asked_denied, asked_effect, ban_denied, ban_effect, carried, is_command, kick_denied, kick_effect, unban_denied, user_called};
+ghost use Rattle.hub_decisions.specs.Commands.{effect_of_asked, effect_of_ban, effect_of_command, effect_of_kick};
+ghost use Rattle.hub_rules.specs.Acts.{carried, is_command, unban_denied};
 ghost use Rattle.hub_rules.specs.Effects.{unless_denied};
 ghost use Rattle.hub_rules.specs.Texts as texts;
-ghost use Rattle.hub_rules.specs.declared.effect.World.TheVariants as worlds;
-ghost use Rattle.login_state.specs.declared.stage.Stage.TheVariants as stages;
-ghost use Rattle.hub_rules.specs.Accounts.{account_with, operates};
+ghost use Rattle.hub_rules.specs.declared.effect.HubChange.TheVariants as shared;
+ghost use Rattle.hub_decisions.specs.Known.{IsUser};
+ghost use Rattle.hub_decisions.specs.Requested.{effect_of_act};
+ghost use Rattle.hub_rules.specs.Accounts.{operates};
+ghost use Rattle.hub_rules.specs.Sights.{account_of};
 ghost use Rattle.operator_acts.specs.Acts.{act_at};
 ghost use Rattle.operator_acts.specs.Bans.{ban_on, is_full};
 
 use crate::denial::denial;
-use crate::lines::{nothing, one};
-use crate::own::{Own, Progress};
+use crate::effect::nothing;
+use crate::lines::one;
+use crate::own::Own;
 use crate::sight::Sight;
 use crate::words::text_in;
 use adc_ids::{Cid, Nick};
 use adc_line::Words;
 use feature_route::Audience;
-use hub_rules::{Banned, Effect, Hearers, Topic, Turn, World};
-use hub_setup::{Setup, done_line, removal_line, topic_line};
+use hub_rules::{Banned, Change, Effect, Hearers, HubChange, Topic};
+use hub_setup::{done_line, removal_line, topic_line};
 use login_state::Deny;
 use operator_acts::{Act, ActFault, Bans, FreeText, Left};
 use outboxes::Batch;
@@ -38,24 +40,22 @@ const MAX_BANS: usize = 1_024;
 /// Changes: a user is shut out, an identifier is let in again, or the topic is set. Told: all users hear of a removal and
 /// of a topic, and the operator that it is done. Refused only where memory runs out.
 #[tactic(auto, unfolding(hub_rules::specs::Acts::act_denied, hub_rules::specs::Acts::act_effect))]
-pub(crate) fn acts<'a, U: Users>(
+pub(crate) fn acts<'a>(
     alloc: Global,
-    hub: &Sight<'_, U>,
+    hub: &Sight<'_>,
     own: &Own<'_>,
+    user: &User,
     words: Words<'_>,
     now: u64,
 ) -> Result<Effect<'a>, AllocError>
-    ensures { IfOk result (λ effect. let sight = sight_of hub.now.setup.now (U.listed hub.now.users.now) hub.now.bans.now hub.now.topic.now in stage_of own.now.progress ≡ stages.Normal → IsListed own.now.sid own.now.progress → effect ≡ unless_denied (own_of own.now) (act_denied sight (own_of own.now) (words_left words.entry)) (act_effect sight (own_of own.now) now (words_left words.entry))) }
+    ensures { IfOk result (λ effect. IsUser own.now user.now → effect ≡ effect_of_act hub.now own.now now (words_left words.entry)) }
 {
     let text = text_in(alloc, words)?;
     let text = text.as_str();
     if !is_command(text) {
         return Ok(nothing(alloc));
     }
-    let Progress::Normal(user) = &own.progress else {
-        return Ok(nothing(alloc));
-    };
-    command(alloc, hub, own, user.key(), text, now)
+    command(alloc, hub, own, user, text, now)
 }
 
 /// Answers whether a text is a command: commands begin with `!`.
@@ -68,18 +68,18 @@ fn is_command(text: &str) -> bool
     }
 }
 
-/// Decides what a command leads to, of the user whose nick has this key.
-fn command<'a, U: Users>(
+/// Decides what a command of a user leads to.
+fn command<'a>(
     alloc: Global,
-    hub: &Sight<'_, U>,
+    hub: &Sight<'_>,
     own: &Own<'_>,
-    key: &str,
+    user: &User,
     text: &str,
     now: u64,
 ) -> Result<Effect<'a>, AllocError>
-    ensures { IfOk result (λ effect. effect ≡ commanded (sight_of hub.now.setup.now (U.listed hub.now.users.now) hub.now.bans.now hub.now.topic.now) (own_of own.now) now key.now (act_at text.now)) }
+    ensures { IfOk result (λ effect. IsUser own.now user.now → effect ≡ effect_of_command hub.now own.now now (act_at text.now)) }
 {
-    if !is_operator(hub.setup, key) {
+    if !is_operator(hub, user) {
         return denial(alloc, own, Deny::Access(*b"HMSG"));
     }
     match Act::parse(alloc, text) {
@@ -89,25 +89,25 @@ fn command<'a, U: Users>(
     }
 }
 
-/// Answers whether the account with this key is an operator's.
-fn is_operator(setup: &Setup, key: &str) -> bool
-    ensures { result ≡ operates (account_with key.now setup.now.accounts) }
+/// Answers whether the account of this user is an operator's.
+fn is_operator(hub: &Sight<'_>, user: &User) -> bool
+    ensures { result ≡ operates (account_of hub.now user.now.key) }
 {
-    match setup.account(key) {
+    match hub.setup.account(user.key()) {
         Some(account) => account.is_operator(),
         None => false,
     }
 }
 
 /// Decides what an act leads to that an operator asks for.
-fn asked<'a, U: Users>(
+fn asked<'a>(
     alloc: Global,
-    hub: &Sight<'_, U>,
+    hub: &Sight<'_>,
     own: &Own<'_>,
     act: &Act<'_>,
     now: u64,
 ) -> Result<Effect<'a>, AllocError>
-    ensures { IfOk result (λ effect. let sight = sight_of hub.now.setup.now (U.listed hub.now.users.now) hub.now.bans.now hub.now.topic.now in effect ≡ unless_denied (own_of own.now) (asked_denied sight (Some act.now)) (asked_effect sight (own_of own.now) now (Some act.now))) }
+    ensures { IfOk result (λ effect. effect ≡ effect_of_asked hub.now own.now now (Some act.now)) }
 {
     match act {
         Act::Kick { nick, reason } => kick(alloc, hub, own, nick, reason),
@@ -121,33 +121,33 @@ fn asked<'a, U: Users>(
     }
 }
 
-fn kick<'a, U: Users>(
+fn kick<'a>(
     alloc: Global,
-    hub: &Sight<'_, U>,
+    hub: &Sight<'_>,
     own: &Own<'_>,
     nick: &Nick,
     reason: &FreeText<'_>,
 ) -> Result<Effect<'a>, AllocError>
-    ensures { IfOk result (λ effect. let target = user_called (sight_of hub.now.setup.now (U.listed hub.now.users.now) hub.now.bans.now hub.now.topic.now) nick.now in effect ≡ unless_denied (own_of own.now) (kick_denied target) (kick_effect (own_of own.now) reason.now target)) }
+    ensures { IfOk result (λ effect. effect ≡ effect_of_kick hub.now own.now nick.now reason.now) }
 {
     let key = nick.key(alloc)?;
     let Some(target) = hub.users.by_nick(&key) else {
         return denial(alloc, own, Deny::NoUser);
     };
     let line = removal_line(alloc, target.sid(), own.sid, None, reason.as_str())?;
-    carried(alloc, one(alloc, line)?, World::Kick(target.sid()))
+    carried(alloc, one(alloc, line)?, HubChange::Kick(target.sid()))
 }
 
-fn ban<'a, U: Users>(
+fn ban<'a>(
     alloc: Global,
-    hub: &Sight<'_, U>,
+    hub: &Sight<'_>,
     own: &Own<'_>,
     nick: &Nick,
     seconds: u32,
     reason: &FreeText<'_>,
     now: u64,
 ) -> Result<Effect<'a>, AllocError>
-    ensures { IfOk result (λ effect. let sight = sight_of hub.now.setup.now (U.listed hub.now.users.now) hub.now.bans.now hub.now.topic.now in let target = user_called sight nick.now in effect ≡ unless_denied (own_of own.now) (ban_denied sight target) (ban_effect (own_of own.now) now seconds reason.now target)) }
+    ensures { IfOk result (λ effect. effect ≡ effect_of_ban hub.now own.now now nick.now seconds reason.now) }
 {
     let key = nick.key(alloc)?;
     let Some(target) = hub.users.by_nick(&key) else {
@@ -163,42 +163,40 @@ fn ban<'a, U: Users>(
         seconds,
         now,
     };
-    carried(alloc, one(alloc, line)?, World::Ban(banned))
+    carried(alloc, one(alloc, line)?, HubChange::Ban(banned))
 }
 
-fn unban<'a, U: Users>(
+fn unban<'a>(
     alloc: Global,
-    hub: &Sight<'_, U>,
+    hub: &Sight<'_>,
     own: &Own<'_>,
     cid: Cid,
 ) -> Result<Effect<'a>, AllocError>
-    ensures { IfOk result (λ effect. effect ≡ unless_denied (own_of own.now) (unban_denied (sight_of hub.now.setup.now (U.listed hub.now.users.now) hub.now.bans.now hub.now.topic.now) cid) (carried [] (worlds.Unban cid))) }
+    ensures { IfOk result (λ effect. effect ≡ unless_denied own.now (unban_denied hub.now cid) (carried [] (shared.Unban cid))) }
 {
     if !is_banned(hub.bans, cid) {
         return denial(alloc, own, Deny::NoBan);
     }
-    carried(alloc, Batch::new(alloc), World::Unban(cid))
+    carried(alloc, Batch::new(alloc), HubChange::Unban(cid))
 }
 
 fn topic<'a>(alloc: Global, text: &FreeText<'_>) -> Result<Effect<'a>, AllocError>
-    ensures { IfOk result (λ effect. effect ≡ carried (texts.topic_line text.now ∷ []) (worlds.Topic text.now)) }
+    ensures { IfOk result (λ effect. effect ≡ carried (texts.topic_line text.now ∷ []) (shared.Topic text.now)) }
 {
     let line = topic_line(alloc, text.as_str())?;
     let topic = Topic::new(alloc, text.as_str())?;
-    carried(alloc, one(alloc, line)?, World::Topic(topic))
+    carried(alloc, one(alloc, line)?, HubChange::Topic(topic))
 }
 
 /// Makes the effect that all users who are present are told, and then the operator that it is done.
-fn carried<'a>(alloc: Global, others: Batch, world: World) -> Result<Effect<'a>, AllocError>
-    ensures { IfOk result (λ effect. effect ≡ carried others world) }
+fn carried<'a>(alloc: Global, others: Batch, change: HubChange) -> Result<Effect<'a>, AllocError>
+    ensures { IfOk result (λ effect. effect ≡ carried others change) }
 {
     Ok(Effect {
         own: one(alloc, done_line(alloc)?)?,
         others,
         hearers: Hearers::Those(Audience::All),
-        turn: Turn::Stays,
-        world,
-        searched: None,
+        change: Change::Hub(change),
     })
 }
 

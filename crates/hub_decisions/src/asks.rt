@@ -1,16 +1,13 @@
 //! The findings of which the checks of a login, of an update and of a password are asked (ADC 1.0, "INF", "PAS").
 
-ghost use Rattle.std.specs.Prelude.{◌≡◌, IfOk, is_some};
-ghost use Rattle.hub_decisions.specs.Progresses.{sight_of};
-ghost use Rattle.hub_rules.specs.Accounts.{account_with};
-ghost use Rattle.hub_rules.specs.Asks.{address_found, admission_found, amount_found, ban_found, entry_ask, good_if, identity_found, required_found, taken_if};
-ghost use Rattle.hub_rules.specs.Sights.{Sight as Seen};
+ghost use Rattle.std.specs.Prelude.{◌≡◌, IfOk};
+ghost use Rattle.hub_decisions.specs.Asks.{address_found, admission_found, amount_found, ban_found, entry_ask, good_if, identity_found, required_found, taken_if};
+ghost use Rattle.hub_rules.specs.Sights.{is_account};
 ghost use Rattle.user_table.specs.Listed.{Listed};
 
 use crate::present::{has_cid, has_key};
 use crate::sight::Sight;
 use adc_ids::Cid;
-use hub_setup::Setup;
 use inf_fields::{dotted, shared_amount};
 use login_state::{Address, Admission, Ban, Claim, EntryAsk, Identity, Required, Validity};
 use operator_acts::Left;
@@ -97,17 +94,17 @@ fn ban_found(left: Left) -> Ban
 }
 
 /// Answers whether this is the key of an account's nick.
-pub(crate) fn is_account(setup: &Setup, key: &str) -> bool
-    ensures { result ≡ is_some (account_with key.now setup.now.accounts) }
+pub(crate) fn is_account(hub: &Sight<'_>, key: &str) -> bool
+    ensures { result ≡ is_account hub.now key.now }
 {
-    setup.account(key).is_some()
+    hub.setup.account(key).is_some()
 }
 
 /// Tells whether the hub lets this nick in.
-pub(crate) fn admission_found(setup: &Setup, key: &str) -> Admission
-    ensures { (sight : Seen) → sight.setup ≡ setup.now → result ≡ admission_found sight key.now }
+pub(crate) fn admission_found(hub: &Sight<'_>, key: &str) -> Admission
+    ensures { result ≡ admission_found hub.now key.now }
 {
-    if setup.registered_only() && !is_account(setup, key) {
+    if hub.setup.registered_only() && !is_account(hub, key) {
         Admission::RegisteredOnly
     } else {
         Admission::Admitted
@@ -115,13 +112,13 @@ pub(crate) fn admission_found(setup: &Setup, key: &str) -> Admission
 }
 
 /// Tells what is found of a user who is to enter, by its client identifier and the key of its nick.
-#[tactic(auto, unfolding(hub_rules::specs::Asks::entry_ask))]
-pub(crate) fn entry_ask<U: Users>(hub: &Sight<'_, U>, now: u64, cid: Cid, key: &str) -> EntryAsk
-    ensures { (user : Listed) → user.cid ≡ cid → user.key ≡ key.now → result ≡ entry_ask (sight_of hub.now.setup.now (U.listed hub.now.users.now) hub.now.bans.now hub.now.topic.now) now user }
+#[tactic(auto, unfolding(crate::specs::Asks::entry_ask))]
+pub(crate) fn entry_ask(hub: &Sight<'_>, now: u64, cid: Cid, key: &str) -> EntryAsk
+    ensures { (user : Listed) → user.cid ≡ cid → user.key ≡ key.now → result ≡ entry_ask hub.now now user }
 {
     EntryAsk {
         ban: ban_found(hub.bans.left(cid, now)),
-        nick_claim: taken_if(has_key(hub.users, key)),
-        cid_claim: taken_if(has_cid(hub.users, cid)),
+        nick_claim: taken_if(has_key(hub, key)),
+        cid_claim: taken_if(has_cid(hub, cid)),
     }
 }

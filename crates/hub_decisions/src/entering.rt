@@ -1,8 +1,8 @@
 ghost use Rattle.std.specs.Prelude.{◌≡◌, ◌++◌, map, IfOk};
-ghost use Rattle.hub_decisions.specs.Progresses.{own_of, sight_of};
 ghost use Rattle.hub_rules.specs.Effects.{enters, given_if, line_of, welcome};
 ghost use Rattle.hub_rules.specs.Texts.{menu_line};
-ghost use Rattle.hub_rules.specs.declared.effect.Turn.TheVariants as turns;
+ghost use Rattle.hub_rules.specs.declared.effect.Change.TheVariants.{Sender};
+ghost use Rattle.hub_rules.specs.declared.effect.SenderChange.TheVariants.{Enters};
 ghost use Rattle.login_state.specs.Mentions.{ucmd};
 ghost use Rattle.login_state.specs.Support.{has_feature};
 
@@ -10,7 +10,7 @@ use crate::lines::{one, push};
 use crate::own::Own;
 use crate::sight::Sight;
 use bytes::Bytes;
-use hub_rules::{Effect, Hearers, Turn, World};
+use hub_rules::{Change, Effect, Hearers, SenderChange};
 use hub_setup::{Setup, user_line};
 use login_state::{Feature, Features};
 use outboxes::Batch;
@@ -20,13 +20,13 @@ use user_table::{User, Users};
 /// Makes the effect of a user's entry (ADC 1.0, "INF"; ADC-EXT, "UCMD"). Its client is told of the users who are present,
 /// in order of entry, then of itself, and then the menu where it has one; the others are told of the newcomer. Refused only
 /// where memory runs out.
-pub(crate) fn enters<'a, U: Users>(
+pub(crate) fn enters<'a>(
     alloc: Global,
-    hub: &Sight<'_, U>,
+    hub: &Sight<'_>,
     own: &Own<'_>,
     user: &User,
 ) -> Result<Effect<'a>, AllocError>
-    ensures { IfOk result (λ effect. effect ≡ enters (sight_of hub.now.setup.now (U.listed hub.now.users.now) hub.now.bans.now hub.now.topic.now) (own_of own.now) user.now turns.Enters) }
+    ensures { IfOk result (λ effect. effect ≡ enters hub.now own.now user.now (Sender Enters)) }
 {
     let line = line_of(alloc, hub, user)?;
     let shared = line.clone()?;
@@ -34,21 +34,19 @@ pub(crate) fn enters<'a, U: Users>(
         own: welcome(alloc, hub, own.features, user, line)?,
         others: one(alloc, shared)?,
         hearers: Hearers::Others,
-        turn: Turn::Enters,
-        world: World::Same,
-        searched: None,
+        change: Change::Sender(SenderChange::Enters),
     })
 }
 
 /// Makes the batch that a newcomer hears, whose own line is at hand.
-fn welcome<U: Users>(
+fn welcome(
     alloc: Global,
-    hub: &Sight<'_, U>,
+    hub: &Sight<'_>,
     features: &Features,
     user: &User,
     line: Bytes,
 ) -> Result<Batch, AllocError>
-    ensures { let sight = sight_of hub.now.setup.now (U.listed hub.now.users.now) hub.now.bans.now hub.now.topic.now in line ≡ line_of sight user.now → IfOk result (λ batch. batch ≡ welcome sight features.now user.now) }
+    ensures { line ≡ line_of hub.now user.now → IfOk result (λ batch. batch ≡ welcome hub.now features.now user.now) }
 {
     let mut batch = present_lines(alloc, hub)?;
     push(&mut batch, line)?;
@@ -66,8 +64,8 @@ fn with_menu(setup: &Setup, features: &Features, batch: Batch) -> Result<Batch, 
 }
 
 /// Writes the lines of the users who are present, in order of entry.
-fn present_lines<U: Users>(alloc: Global, hub: &Sight<'_, U>) -> Result<Batch, AllocError>
-    ensures { IfOk result (λ batch. batch ≡ map (line_of (sight_of hub.now.setup.now (U.listed hub.now.users.now) hub.now.bans.now hub.now.topic.now)) (U.listed hub.now.users.now)) }
+fn present_lines(alloc: Global, hub: &Sight<'_>) -> Result<Batch, AllocError>
+    ensures { IfOk result (λ batch. batch ≡ map (line_of hub.now) hub.now.users) }
 {
     let mut batch = Batch::new(alloc);
     let count = hub.users.totals().users;
@@ -81,8 +79,8 @@ fn present_lines<U: Users>(alloc: Global, hub: &Sight<'_, U>) -> Result<Batch, A
 }
 
 /// Writes the line of a user, with what the hub says of it.
-fn line_of<U: Users>(alloc: Global, hub: &Sight<'_, U>, user: &User) -> Result<Bytes, AllocError>
-    ensures { IfOk result (λ line. line ≡ line_of (sight_of hub.now.setup.now (U.listed hub.now.users.now) hub.now.bans.now hub.now.topic.now) user.now) }
+fn line_of(alloc: Global, hub: &Sight<'_>, user: &User) -> Result<Bytes, AllocError>
+    ensures { IfOk result (λ line. line ≡ line_of hub.now user.now) }
 {
     let account = hub.setup.account(user.key());
     user_line(alloc, user.sid(), user.fields(), account)

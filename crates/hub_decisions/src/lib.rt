@@ -5,6 +5,7 @@ mod act;
 mod asks;
 mod decision;
 mod denial;
+mod effect;
 mod entering;
 mod given;
 mod lines;
@@ -20,5 +21,5 @@ mod update;
 mod words;
 
 pub use decision::decide;
-pub use own::{Own, Progress};
+pub use own::Own;
 pub use sight::Sight;

@@ -1,26 +1,10 @@
-ghost use Rattle.std.specs.Prelude.{◌≡◌};
-ghost use Rattle.hub_decisions.specs.Progresses.{stage_of};
-
 use adc_base32::Sid;
+use inf_fields::Fields;
 use login_state::{Features, Stage};
-use user_table::User;
-
-/// The progress of a connection, with what is known of its user (ADC 1.0, "States"). A connection that is shut out is not
-/// heard, so it is none of these.
-#[derive(Clone, Copy)]
-pub enum Progress<'a> {
-    /// The connection has not yet said what it supports.
-    Protocol,
-    /// The connection said what it supports, and has not yet logged in.
-    Identify,
-    /// The connection logged in: the user who may enter, and the digest that its password must give.
-    Verify(&'a User, [u8; 24]),
-    /// The connection entered: its user, who is present.
-    Normal(&'a User),
-}
+use std::marker::Model;
 
 /// The connection that sent a line.
-#[derive(Clone, Copy)]
+#[derive(Drop)]
 pub struct Own<'a> {
     /// The session identifier of the connection.
     pub sid: Sid,
@@ -28,24 +12,24 @@ pub struct Own<'a> {
     pub peer: [u8; 4],
     /// The challenge with which its password is hashed.
     pub challenge: [u8; 24],
-    /// The progress of the connection.
-    pub progress: Progress<'a>,
+    /// The stage to which it has come.
+    pub stage: Stage,
     /// The features that its client supports.
     pub features: &'a Features,
+    /// The fields of its user, from its login on.
+    pub fields: Option<&'a Fields>,
+    /// The digest that its password must give, while it waits for one.
+    pub expected: Option<[u8; 24]>,
     /// The moment of its last search that went out, in seconds.
     pub searched: Option<u64>,
 }
 
-impl<'a> Progress<'a> {
-    /// Gives the stage of the connection.
-    pub(crate) fn stage(&self) -> Stage
-        ensures { result ≡ stage_of self.now }
-    {
-        match self {
-            Progress::Protocol => Stage::Protocol,
-            Progress::Identify => Stage::Identify,
-            Progress::Verify(_, _) => Stage::Verify,
-            Progress::Normal(_) => Stage::Normal,
-        }
-    }
+impl<'a> Model for Own<'a> {
+    ghost use Rattle.hub_rules.specs.Sights.{Own as Sender};
+
+    ghost Value = { Sender };
+
+    ghost use Rattle.hub_decisions.specs.OwnView.{own_view};
+
+    ghost view = { own_view };
 }

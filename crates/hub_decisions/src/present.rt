@@ -1,28 +1,29 @@
 ghost use Rattle.std.specs.Prelude.{◌≡◌};
-ghost use Rattle.std.specs.List.{list_any};
+ghost use Rattle.hub_rules.specs.Sights.{is_here};
 ghost use Rattle.user_table.specs.Tables.{has_cid, has_key, has_sid};
 
+use crate::sight::Sight;
 use adc_base32::Sid;
 use adc_ids::Cid;
 use user_table::Users;
 
 /// Answers whether a user is present who has this session identifier. Takes no memory.
-pub(crate) fn has_sid<U: Users>(users: &U, sid: Sid) -> bool
-    ensures { result ≡ list_any (has_sid sid) (U.listed users.now) }
+pub(crate) fn has_sid(hub: &Sight<'_>, sid: Sid) -> bool
+    ensures { result ≡ is_here (has_sid sid) hub.now }
 {
-    users.by_sid(sid).is_some()
+    hub.users.by_sid(sid).is_some()
 }
 
 /// Answers whether a user is present whose nick has this key. Takes no memory.
-pub(crate) fn has_key<U: Users>(users: &U, key: &str) -> bool
-    ensures { result ≡ list_any (has_key key.now) (U.listed users.now) }
+pub(crate) fn has_key(hub: &Sight<'_>, key: &str) -> bool
+    ensures { result ≡ is_here (has_key key.now) hub.now }
 {
-    users.by_nick(key).is_some()
+    hub.users.by_nick(key).is_some()
 }
 
 /// Answers whether a user is present who has this client identifier. Takes no memory.
-pub(crate) fn has_cid<U: Users>(users: &U, cid: Cid) -> bool
-    ensures { result ≡ list_any (has_cid cid) (U.listed users.now) }
+pub(crate) fn has_cid(hub: &Sight<'_>, cid: Cid) -> bool
+    ensures { result ≡ is_here (has_cid cid) hub.now }
 {
-    users.by_cid(cid).is_some()
+    hub.users.by_cid(cid).is_some()
 }

@@ -1,17 +1,26 @@
 use hub_rules::Topic;
 use hub_setup::Setup;
 use operator_acts::Bans;
-use user_table::Users;
+use std::marker::Model;
+use user_table::IndexedUsers;
 
 /// The hub, as a decision looks at it.
 #[derive(Drop)]
-pub struct Sight<'a, U: Users> {
+pub struct Sight<'a> {
     /// The setup of the hub.
     pub setup: &'a Setup,
     /// The users who are present.
-    pub users: &'a U,
+    pub users: &'a IndexedUsers,
     /// The bans that are held.
     pub bans: &'a Bans,
     /// The topic.
     pub topic: &'a Topic,
+}
+
+impl<'a> Model for Sight<'a> {
+    ghost use Rattle.hub_rules.specs.Sights.{Sight as Seen};
+
+    ghost Value = { Seen };
+
+    ghost view = { λ hub. record { setup = hub.setup.now; users = hub.users.now; bans = hub.bans.now; topic = hub.topic.now } };
 }

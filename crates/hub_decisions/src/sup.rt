@@ -1,17 +1,17 @@
-ghost use Rattle.std.specs.Prelude.{◌≡◌, [], ◌∷◌, IfOk, Ok, Err, None, Some, MatchResult};
+ghost use Rattle.std.specs.Prelude.{◌≡◌, IfOk};
 ghost use Rattle.std.specs.String.{string_bytes};
 ghost use Rattle.adc_line.specs.WordsLeft.{words_left};
-ghost use Rattle.hub_decisions.specs.Progresses.{own_of, sight_of};
-ghost use Rattle.hub_rules.specs.Denied.{sup_denied};
-ghost use Rattle.hub_rules.specs.Effects.{greeting, greets, learns, ping_of, unless_denied};
+ghost use Rattle.hub_decisions.specs.Requested.{Supports, effect_of_greeting, effect_of_support};
+ghost use Rattle.hub_rules.specs.Effects.{greeting, ping_of};
 ghost use Rattle.login_state.specs.SupportAnswers.{applied};
 
 use crate::denial::denial;
+use crate::effect::answer;
 use crate::lines::{one, push};
 use crate::own::Own;
 use crate::sight::Sight;
 use adc_line::Words;
-use hub_rules::{Effect, Hearers, Turn, World};
+use hub_rules::{Effect, SenderChange};
 use hub_setup::{hub_line, identifier_line, ping_fields, support_line};
 use login_state::{Check, Deny, Feature, Features, SupFault, check_sup};
 use outboxes::Batch;
@@ -23,27 +23,21 @@ use user_table::Users;
 /// Denied: words that are none, or over 64 features (140), no BASE (245), no TIGR (247). Changes: what
 /// the client supports; it may log in. Told: the client alone is greeted. Refused only where memory
 /// runs out.
-pub(crate) fn greets<'a, U: Users>(
+pub(crate) fn greets<'a>(
     alloc: Global,
-    hub: &Sight<'_, U>,
+    hub: &Sight<'_>,
     own: &Own<'_>,
     words: Words<'_>,
     now: u64,
 ) -> Result<Effect<'a>, AllocError>
-    ensures { IfOk result (λ effect. let after = applied own.now.features.now (words_left words.entry) in effect ≡ unless_denied (own_of own.now) (sup_denied after) (greets (sight_of hub.now.setup.now (U.listed hub.now.users.now) hub.now.bans.now hub.now.topic.now) (own_of own.now) now after)) }
+    ensures { IfOk result (λ effect. effect ≡ effect_of_greeting hub.now own.now now (words_left words.entry)) }
 {
     let features = match supported(alloc, own.features, words)? {
         Ok(features) => features,
         Err(deny) => return denial(alloc, own, deny),
     };
-    Ok(Effect {
-        own: greeting(alloc, hub, own, &features, now)?,
-        others: Batch::new(alloc),
-        hearers: Hearers::Others,
-        turn: Turn::Greets(features),
-        world: World::Same,
-        searched: None,
-    })
+    let greeting = greeting(alloc, hub, own, &features, now)?;
+    Ok(answer(alloc, greeting, SenderChange::Greets(features)))
 }
 
 /// Decides what a later SUP leads to, by which a user who is present says that its client supports other features (ADC 1.0,
@@ -56,20 +50,14 @@ pub(crate) fn learns<'a>(
     own: &Own<'_>,
     words: Words<'_>,
 ) -> Result<Effect<'a>, AllocError>
-    ensures { IfOk result (λ effect. let after = applied own.now.features.now (words_left words.entry) in effect ≡ unless_denied (own_of own.now) (sup_denied after) (learns after)) }
+    ensures { IfOk result (λ effect. effect ≡ effect_of_support own.now (words_left words.entry)) }
 {
     let features = match supported(alloc, own.features, words)? {
         Ok(features) => features,
         Err(deny) => return denial(alloc, own, deny),
     };
-    Ok(Effect {
-        own: Batch::new(alloc),
-        others: Batch::new(alloc),
-        hearers: Hearers::Others,
-        turn: Turn::Learns(features),
-        world: World::Same,
-        searched: None,
-    })
+    let change = SenderChange::Learns(features);
+    Ok(answer(alloc, Batch::new(alloc), change))
 }
 
 /// Gives what a client supports after a SUP, or why it is denied.
@@ -78,7 +66,7 @@ fn supported(
     before: &Features,
     words: Words<'_>,
 ) -> Result<Result<Features, Deny>, AllocError>
-    ensures { IfOk result (λ answer. let after = applied before.now (words_left words.entry) in MatchResult answer (λ features. (after ≡ Ok features) × (sup_denied after ≡ None)) (λ deny. sup_denied after ≡ Some deny)) }
+    ensures { IfOk result (λ answer. Supports answer (applied before.now (words_left words.entry))) }
 {
     let features = match before.apply(alloc, words) {
         Ok(features) => features,
@@ -92,14 +80,14 @@ fn supported(
 }
 
 /// Writes what the hub supports, the client's session identifier, and the hub itself.
-fn greeting<U: Users>(
+fn greeting(
     alloc: Global,
-    hub: &Sight<'_, U>,
+    hub: &Sight<'_>,
     own: &Own<'_>,
     features: &Features,
     now: u64,
 ) -> Result<Batch, AllocError>
-    ensures { IfOk result (λ batch. batch ≡ greeting (sight_of hub.now.setup.now (U.listed hub.now.users.now) hub.now.bans.now hub.now.topic.now) now own.now.sid features.now) }
+    ensures { IfOk result (λ batch. batch ≡ greeting hub.now now own.now.sid features.now) }
 {
     let ping = ping_of(alloc, hub, features, now)?;
     let mut batch = one(alloc, support_line(alloc)?)?;
@@ -110,13 +98,13 @@ fn greeting<U: Users>(
 }
 
 /// Writes what a client hears beside that asked about the hub.
-fn ping_of<U: Users>(
+fn ping_of(
     alloc: Global,
-    hub: &Sight<'_, U>,
+    hub: &Sight<'_>,
     features: &Features,
     now: u64,
 ) -> Result<String, AllocError>
-    ensures { IfOk result (λ text. string_bytes text ≡ ping_of (sight_of hub.now.setup.now (U.listed hub.now.users.now) hub.now.bans.now hub.now.topic.now) now features.now) }
+    ensures { IfOk result (λ text. string_bytes text ≡ ping_of hub.now now features.now) }
 {
     if !features.has(Feature::ping()) {
         return Ok(String::new(alloc));

@@ -1,6 +1,6 @@
 -- After every history, legal or not, the facts are sound.
-use Rattle.std.proofs.Common.{◌≡◌, ◌∙◌, sym, ap, ap₂, refl, ℕ, ◌+◌, ◌<◌, ◌≤◌, Bool, true, false, not, ◌&&◌, ◌||◌, ◌==◌, eqb, List, [], ◌∷◌, ◌++◌, length, filter, arith, length-take, length-drop}
-use Rattle.std.proofs.lemmas.Bool.{false≢true, eqb-true, eq-eqb}
+use Rattle.std.proofs.Common.{◌≡◌, ◌∙◌, sym, ap, ap₂, refl, ℕ, ◌+◌, ◌<◌, ◌≤◌, Bool, true, false, not, ◌&&◌, ◌||◌, ◌==◌, eqb, List, [], ◌∷◌, ◌++◌, length, filter, arith, length-take, length-drop, subst}
+use Rattle.std.proofs.lemmas.Bool.{false≢true, eqb-true, eq-eqb, and_parts}
 use Rattle.login_state.specs.declared.stage.Stage.{Stage}
 use Rattle.login_state.specs.declared.stage.Stage.TheVariants as stages
 use Rattle.hub_rules.specs.declared.history.Call.{Call}
@@ -10,10 +10,11 @@ use Rattle.hub_rules.specs.Configured.{Configured}
 use Rattle.hub_rules.specs.Effects.{is_over, is_present, departure}
 use Rattle.hub_rules.specs.Facts.{Facts, facts, after, joined, closed, happens, given, has_place, has_joins, newcomer, next_sid, with_one, effect_of_line}
 use Rattle.hub_rules.specs.Shares.{About, chosen, waiting}
+use Rattle.hub_invariants.proofs.Becoming.{take-facts, taken_by}
 use Rattle.hub_invariants.proofs.Fits.{fits-departure}
 use Rattle.hub_invariants.proofs.Lines.{fits-line}
 use Rattle.hub_invariants.proofs.Members.{apart-filter, apart-push, has, has-append, has-filter}
-use Rattle.hub_invariants.proofs.Sound.{Sound, and-left, departed-over, happens-sound, or-false, or-true}
+use Rattle.hub_invariants.proofs.Sound.{Sound, departed-over, happens-sound, or-false, or-true}
 
 -- ---- a join
 
@@ -30,10 +31,7 @@ over-unless f sound d none false is = absurd (false≢true (sym none ∙ sound.a
 
 pub present-over : (stage : Stage) → is_over stage ≡ true → is_present stage ≡ false
 present-over stages.Gone over = refl
-present-over stages.Protocol over = absurd (false≢true over)
-present-over stages.Identify over = absurd (false≢true over)
-present-over stages.Verify over = absurd (false≢true over)
-present-over stages.Normal over = absurd (false≢true over)
+present-over _ over = absurd (false≢true over)
 
 pub absent-newcomer : (f : Facts) → Sound f → is_present (f.about (f.joins + 1)).stage ≡ false
 absent-newcomer f sound =
@@ -84,7 +82,7 @@ closed-sound : (c : ℕ) (f : Facts) → is_over (f.about c).stage ≡ true → 
 unfolding closed
 closed-sound c f over sound = record {
   open_once = apart-filter (λ x. not (x == c)) f.opened sound.open_once;
-  counted = λ d there. sound.counted d (and-left (has d f.opened) (not (d == c)) (sym (has-filter (λ x. not (x == c)) d f.opened) ∙ there));
+  counted = λ d there. sound.counted d ((and_parts (has d f.opened) (not (d == c)) (sym (has-filter (λ x. not (x == c)) d f.opened) ∙ there)).0);
   are_open = λ d open_after. left-open c d f.opened (d == c) refl (sound.are_open d open_after)
       (λ same. false≢true (sym open_after ∙ ap (λ x. is_over (f.about x).stage) (eqb-true d c same) ∙ over));
   entered = sound.entered;
@@ -94,23 +92,19 @@ closed-sound c f over sound = record {
 
 -- ---- a take
 
-given-stage : (c count : ℕ) (f : Facts) (d : ℕ) (same : Bool) → (chosen same (given count (f.about d)) (f.about d)).stage ≡ (f.about d).stage
-given-stage c count f d true = refl
-given-stage c count f d false = refl
-
-given-taken : (count : ℕ) (a : About) (same : Bool) → a.taken ≤ length a.owed → (chosen same (given count a) a).taken ≤ length (chosen same (given count a) a).owed
-given-taken count a true few = omega (arith, few, length-take count (waiting a), length-drop a.taken a.owed)
-given-taken count a false few = few
+taken-few : (same : Bool) (count : ℕ) (a : About) → a.taken ≤ length a.owed → (taken_by same count a).taken ≤ length a.owed
+taken-few true count a few = omega (arith, few, length-take count (waiting a), length-drop a.taken a.owed)
+taken-few false count a few = few
 
 taken-sound : (c count : ℕ) (f : Facts) → Sound f → Sound (record f { about = with_one c (given count) f.about })
-taken-sound c count f sound = record {
+taken-sound c count f sound = subst Sound (take-facts c count f) (record {
   open_once = sound.open_once;
   counted = sound.counted;
-  are_open = λ d open_after. sound.are_open d (ap is_over (sym (given-stage c count f d (d == c))) ∙ open_after);
-  entered = λ d. sound.entered d ∙ ap is_present (sym (given-stage c count f d (d == c)));
+  are_open = sound.are_open;
+  entered = sound.entered;
   present_once = sound.present_once;
-  taken = λ d. given-taken count (f.about d) (d == c) (sound.taken d);
-}
+  taken = λ d. taken-few (d == c) count (f.about d) (sound.taken d);
+})
 
 -- ---- every call
 

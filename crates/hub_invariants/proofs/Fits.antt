@@ -5,23 +5,20 @@ use Rattle.login_state.specs.declared.stage.Stage.{Stage}
 use Rattle.hub_rules.specs.declared.effect.Effect.{Effect}
 use Rattle.hub_rules.specs.Effects.{is_over, is_present, departure}
 use Rattle.hub_rules.specs.Facts.{enters}
-use Rattle.hub_rules.specs.Shares.{stage_after, is_removed}
+use Rattle.hub_rules.specs.Shares.{stage_after}
 
 -- an effect suits the stage of the connection that it is of
 pub record Fits (stage : Stage) (effect : Effect) : Type 0 where
   -- a connection that is shut out stays so
-  pub stays_over : is_over stage ≡ true → is_over (stage_after effect.turn stage) ≡ true
+  pub stays_over : is_over stage ≡ true → is_over (stage_after effect.change stage) ≡ true
   -- nobody enters twice
-  pub enters_once : enters effect.turn ≡ true → is_present stage ≡ false
-  -- nobody is shut out where somebody enters
-  pub enters_alone : enters effect.turn ≡ true → (sid : ℕ) → is_removed effect.world sid ≡ false
+  pub enters_once : enters effect.change ≡ true → is_present stage ≡ false
 
--- a turn that changes no stage but to shut out, beside any change for all
-pub fits-quiet : (stage : Stage) (effect : Effect) → enters effect.turn ≡ false → (is_over stage ≡ true → is_over (stage_after effect.turn stage) ≡ true) → Fits stage effect
+-- nobody enters, and who is shut out stays so
+pub fits-quiet : (stage : Stage) (effect : Effect) → enters effect.change ≡ false → (is_over stage ≡ true → is_over (stage_after effect.change stage) ≡ true) → Fits stage effect
 fits-quiet stage effect quiet over = record {
   stays_over = over;
   enters_once = λ here. absurd (false≢true (sym quiet ∙ here));
-  enters_alone = λ here. absurd (false≢true (sym quiet ∙ here));
 }
 
 pub fits-departure : (stage of : Stage) (sid : ℕ) → Fits stage (departure of sid)

@@ -1,5 +1,5 @@
 -- What every history keeps, from what is sound of its facts.
-use Rattle.std.proofs.Common.{◌≡◌, ◌∙◌, sym, ap, ap₂, refl, subst, ℕ, ◌+◌, ◌<◌, ◌≤◌, Bool, true, false, not, ◌&&◌, ◌||◌, ◌==◌, eqb, List, [], ◌∷◌, ◌++◌, length, take, map, arith, length-take}
+use Rattle.std.proofs.Common.{◌≡◌, ◌∙◌, sym, ap, ap₂, refl, ℕ, ◌+◌, ◌<◌, ◌≤◌, Bool, true, false, not, ◌&&◌, ◌||◌, ◌==◌, eqb, List, [], ◌∷◌, ◌++◌, length, take, map, arith, length-take}
 use Rattle.std.specs.List.{concat}
 use Rattle.std.proofs.Math.Seq.{take-add}
 use Rattle.std.proofs.lemmas.List.{take_min}
@@ -7,17 +7,17 @@ use Rattle.std.proofs.lemmas.List.Folds.{concat-append}
 use Rattle.std.proofs.lemmas.Bool.{false≢true, eqb-true, eq-eqb}
 use Rattle.login_state.specs.declared.stage.Stage.{Stage}
 use Rattle.login_state.specs.declared.stage.Stage.TheVariants as stages
-use Rattle.hub_rules.specs.declared.effect.Effect.{Effect}
 use Rattle.hub_rules.specs.declared.history.Call.{Call}
-use Rattle.hub_rules.specs.declared.history.Call.TheVariants.{Join, Line, Quit, Take}
+use Rattle.hub_rules.specs.declared.history.Call.TheVariants.{Join, Take}
 use Rattle.hub_rules.specs.declared.history.Entry.{Entry}
 use Rattle.hub_rules.specs.declared.history.Reply.{Reply}
 use Rattle.hub_rules.specs.Configured.{Configured}
-use Rattle.hub_rules.specs.Effects.{departure, is_over, is_present}
-use Rattle.hub_rules.specs.Facts.{Facts, facts, after, joined, closed, happens, about_after, given, has_place, has_joins, newcomer, next_sid, effect_of_line}
+use Rattle.hub_rules.specs.Effects.{is_over, is_present}
+use Rattle.hub_rules.specs.Facts.{Facts, facts, after, joined, closed, happens, given, has_place, has_joins}
 use Rattle.hub_rules.specs.Legal.{Legal, MayCall, reply, take_reply}
 use Rattle.hub_rules.specs.Promises.{FewAreOpen, OthersAreOut, PresentAreUsers, SidsAreGiven, SidsDiffer, TakenIsTheSum, UsersAreOpen, lines_of_take, lines_taken, taken_in}
-use Rattle.hub_rules.specs.Shares.{About, chosen, given_share, has_room, owes, removed_if, turned, waiting, with_share}
+use Rattle.hub_rules.specs.Shares.{About, chosen, waiting}
+use Rattle.hub_invariants.proofs.Becoming.{Becomes, becomes, taken_by}
 use Rattle.hub_invariants.proofs.Calls.{over-unless, sound_of}
 use Rattle.hub_invariants.proofs.Members.{apart, both, has}
 use Rattle.hub_invariants.proofs.Sids.{Numbered, not-true, numbered_of}
@@ -25,19 +25,13 @@ use Rattle.hub_invariants.proofs.Sound.{Sound, eqb-sym, or-true}
 
 -- ---- who is present
 
-is-normal : (stage : Stage) → is_present stage ≡ true → stage ≡ stages.Normal
+pub is-normal : (stage : Stage) → is_present stage ≡ true → stage ≡ stages.Normal
 is-normal stages.Normal here = refl
-is-normal stages.Protocol here = absurd (false≢true here)
-is-normal stages.Identify here = absurd (false≢true here)
-is-normal stages.Verify here = absurd (false≢true here)
-is-normal stages.Gone here = absurd (false≢true here)
+is-normal _ here = absurd (false≢true here)
 
 is-gone : (stage : Stage) → is_over stage ≡ true → stage ≡ stages.Gone
 is-gone stages.Gone over = refl
-is-gone stages.Protocol over = absurd (false≢true over)
-is-gone stages.Identify over = absurd (false≢true over)
-is-gone stages.Verify over = absurd (false≢true over)
-is-gone stages.Normal over = absurd (false≢true over)
+is-gone _ over = absurd (false≢true over)
 
 pub present_are_users : PresentAreUsers
 present_are_users setup hash h c = (
@@ -103,28 +97,6 @@ few_are_open setup hash h small = (numbered_of setup hash h small).few
 
 -- ---- takes
 
-share-taken-same : (room : Bool) (a : About) (share : List (List ℕ)) → (given_share room a share).taken ≡ a.taken
-share-taken-same true a share = refl
-share-taken-same false a share = refl
-
-with_share-taken-same : (a : About) (share : List (List ℕ)) → (with_share a share).taken ≡ a.taken
-unfolding with_share
-with_share-taken-same a share = share-taken-same (has_room a share) a share
-
-removed-taken : (removed is_caller : Bool) (effect : Effect) (b : About) → (removed_if removed (chosen is_caller (turned effect b) b)).taken ≡ b.taken
-removed-taken true true effect b = refl
-removed-taken true false effect b = refl
-removed-taken false true effect b = refl
-removed-taken false false effect b = refl
-
-pub about-taken : (c : ℕ) (effect : Effect) (f : Facts) (d : ℕ) → (about_after c effect f.about d).taken ≡ (f.about d).taken
-about-taken c effect f d =
-    removed-taken _ (d == c) effect (with_share (f.about d) (owes (d == c) effect (f.about d))) ∙ with_share-taken-same (f.about d) (owes (d == c) effect (f.about d))
-
-happens-taken : (c : ℕ) (effect : Effect) (f : Facts) (d : ℕ) → ((happens c effect f).about d).taken ≡ (f.about d).taken
-unfolding happens
-happens-taken c effect f d = about-taken c effect f d
-
 -- so many of the first as are taken of them
 take-of_taken : (count : ℕ) (xs : List (List ℕ)) → take (length (take count xs)) xs ≡ take count xs
 take-of_taken count xs = rw length-take (take_min count xs)
@@ -136,45 +108,25 @@ given-bytes count a =
     ∙ concat-append (take a.taken a.owed) (take count (waiting a))
 
 -- what a connection has taken after one call more
-took : (count : ℕ) (a : About) (same : Bool) → (chosen same (given count a) a).taken ≡ a.taken + lines_of_take same (take_reply count a)
-took count a true = refl
-took count a false = omega arith
+taken-one : (f : Facts) (c count d : ℕ) (same other : Bool) → (d == c) ≡ same → same ≡ other
+    → (taken_by same count (f.about d)).taken ≡ (f.about d).taken + lines_of_take other (take_reply count (f.about c))
+taken-one f c count d true true is alike =
+    ap (λ x. (f.about d).taken + length (take count (waiting (f.about x)))) (eqb-true d c is)
+taken-one f c count d true false is alike = absurd (false≢true (sym alike))
+taken-one f c count d false true is alike = absurd (false≢true alike)
+taken-one f c count d false false is alike = omega arith
 
-joined-taken : (f : Facts) (owner : ℕ) (peer challenge : List ℕ) (d : ℕ) → (f.joins < d → (f.about d).taken ≡ 0) → (same : Bool) → (d == (f.joins + 1)) ≡ same
-    → (chosen same (newcomer owner (next_sid f) peer challenge) (f.about d)).taken ≡ (f.about d).taken
-joined-taken f owner peer challenge d fresh true is = let e : d ≡ f.joins + 1 = eqb-true d (f.joins + 1) is in sym (fresh (omega (arith, e)))
-joined-taken f owner peer challenge d fresh false is = refl
-
-joined-about : (f : Facts) (owner : ℕ) (peer challenge : List ℕ) (d : ℕ)
-    → (joined f owner peer challenge).about d ≡ chosen (d == (f.joins + 1)) (newcomer owner (next_sid f) peer challenge) (f.about d)
-unfolding joined
-joined-about f owner peer challenge d = refl
-
-pub join-taken : (f : Facts) (owner : ℕ) (peer challenge : List ℕ) (d : ℕ) → (f.joins < d → (f.about d).taken ≡ 0) → (accepted : Bool)
-    → ((chosen accepted (joined f owner peer challenge) f).about d).taken ≡ (f.about d).taken
-join-taken f owner peer challenge d fresh true = ap (λ (a : About). a.taken) (joined-about f owner peer challenge d) ∙ joined-taken f owner peer challenge d fresh (d == (f.joins + 1)) refl
-join-taken f owner peer challenge d fresh false = refl
-
-pub closed-about : (c : ℕ) (f : Facts) (d : ℕ) → (closed c f).about d ≡ f.about d
-unfolding closed
-closed-about c f d = refl
-
-take-one : (f : Facts) (c count d : ℕ) (same other : Bool) → (d == c) ≡ same → same ≡ other
-    → (chosen same (given count (f.about d)) (f.about d)).taken ≡ (f.about d).taken + lines_of_take other (take_reply count (f.about c))
-take-one f c count d true true is alike = subst (λ x. (given count (f.about d)).taken ≡ (f.about d).taken + lines_of_take true (take_reply count (f.about x))) (eqb-true d c is) (took count (f.about d) true)
-take-one f c count d true false is alike = absurd (false≢true (sym alike))
-take-one f c count d false true is alike = absurd (false≢true alike)
-take-one f c count d false false is alike = omega arith
+module _ {setup : Configured} {hash : List ℕ → List ℕ} {f : Facts} {caller d : ℕ} where
+  taken-after : {call : Call} {a : About} → Becomes setup hash f caller d call a → (f.joins < d → (f.about d).taken ≡ 0)
+      → a.taken ≡ (f.about d).taken + lines_taken d call (reply setup hash f caller call)
+  unfolding reply
+  taken-after (Becomes.joins peer challenge now place is) fresh = omega (arith, fresh (omega (arith, is)))
+  taken-after (Becomes.takes c count) fresh = taken-one f c count d (d == c) (c == d) refl (eqb-sym d c (d == c) (c == d) refl refl)
+  taken-after _ fresh = omega arith
 
 step-taken : (setup : Configured) (hash : List ℕ → List ℕ) (f : Facts) (caller : ℕ) (call : Call) (d : ℕ) → (f.joins < d → (f.about d).taken ≡ 0)
     → ((after setup hash f caller call).about d).taken ≡ (f.about d).taken + lines_taken d call (reply setup hash f caller call)
-unfolding after reply
-step-taken setup hash f caller (Join peer challenge now) d fresh = join-taken f caller peer challenge d fresh (has_place setup f && has_joins f) ∙ omega arith
-step-taken setup hash f caller (Line c bytes now) d fresh = happens-taken c (effect_of_line setup hash f c bytes now) f d ∙ omega arith
-step-taken setup hash f caller (Quit c) d fresh =
-    ap (λ (a : About). a.taken) (closed-about c (happens c (departure (f.about c).stage (f.about c).sid) f) d)
-    ∙ happens-taken c (departure (f.about c).stage (f.about c).sid) f d ∙ omega arith
-step-taken setup hash f caller (Take c count) d fresh = take-one f c count d (d == c) (c == d) refl (eqb-sym d c (d == c) (c == d) refl refl)
+step-taken setup hash f caller call d = taken-after (becomes setup hash f caller d call)
 
 joins-kept : (f : Facts) (owner : ℕ) (peer challenge : List ℕ) (accepted : Bool) → f.joins ≤ (chosen accepted (joined f owner peer challenge) f).joins
 unfolding joined
@@ -184,19 +136,15 @@ joins-kept f owner peer challenge false = omega arith
 pub joins-grow : (setup : Configured) (hash : List ℕ → List ℕ) (f : Facts) (caller : ℕ) (call : Call) → f.joins ≤ (after setup hash f caller call).joins
 unfolding after happens closed
 joins-grow setup hash f caller (Join peer challenge now) = joins-kept f caller peer challenge (has_place setup f && has_joins f)
-joins-grow setup hash f caller (Line c bytes now) = omega arith
-joins-grow setup hash f caller (Quit c) = omega arith
-joins-grow setup hash f caller (Take c count) = omega arith
+joins-grow setup hash f caller _ = omega arith
 
 none-of : (c d : ℕ) (reply : Reply) (same : Bool) → (c == d) ≡ same → c < d → lines_of_take same reply ≡ 0
 none-of c d reply true is below = let e : c ≡ d = eqb-true c d is in absurd (omega (arith, e, below))
 none-of c d reply false is below = refl
 
 none-taken : (f : Facts) → Sound f → (caller : ℕ) (call : Call) (reply : Reply) (d : ℕ) → MayCall f caller call → f.joins < d → lines_taken d call reply ≡ 0
-none-taken f sound caller (Join peer challenge now) reply d may above = refl
-none-taken f sound caller (Line c bytes now) reply d may above = refl
-none-taken f sound caller (Quit c) reply d may above = refl
 none-taken f sound caller (Take c count) reply d may above = none-of c d reply (c == d) refl (omega (arith, sound.counted c may.0, above))
+none-taken f sound caller _ reply d may above = refl
 
 pub fresh-taken : (setup : Configured) (hash : List ℕ → List ℕ) (h : List Entry) → Legal setup hash h → (d : ℕ) → (facts setup hash h).joins < d → ((facts setup hash h).about d).taken ≡ 0
 unfolding facts Legal

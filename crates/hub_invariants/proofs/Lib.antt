@@ -1,3 +1,4 @@
+pub mod Becoming
 pub mod Calls
 pub mod Claims
 pub mod Fits

@@ -1,5 +1,6 @@
 -- Open are the connections that joined and did not quit.
 use Rattle.std.proofs.Common.{◌≡◌, ◌∙◌, sym, ap, ap₂, refl, ℕ, ◌+◌, ◌<◌, Bool, true, false, not, ◌&&◌, ◌||◌, ◌==◌, eqb, List, [], ◌∷◌, arith}
+use Rattle.std.proofs.Math.Bool.{and-true}
 use Rattle.std.proofs.lemmas.Bool.{eqb-true}
 use Rattle.hub_rules.specs.declared.effect.Effect.{Effect}
 use Rattle.hub_rules.specs.declared.history.Call.{Call}
@@ -23,10 +24,8 @@ same-number d c true is below = let e : d ≡ c = eqb-true d c is in absurd (ome
 same-number d c false is below = refl
 
 no-quit : (f : Facts) → Sound f → (caller : ℕ) (call : Call) (c : ℕ) → MayCall f caller call → f.joins < c → quits c call ≡ false
-no-quit f sound caller (Join peer challenge now) c may beyond = refl
-no-quit f sound caller (Line d bytes now) c may beyond = refl
 no-quit f sound caller (Quit d) c may beyond = same-number d c (eqb d c) refl (omega (arith, sound.counted d may.0, beyond))
-no-quit f sound caller (Take d count) c may beyond = refl
+no-quit f sound caller _ c may beyond = refl
 
 never-quit : (setup : Configured) (hash : List ℕ → List ℕ) (h : List Entry) → Legal setup hash h → (c : ℕ) → (facts setup hash h).joins < c → has_quit c h ≡ false
 unfolding facts Legal
@@ -45,10 +44,6 @@ joined-opened f owner peer challenge c = has-append c f.opened ((f.joins + 1) �
 join-stays : (new before joined quit : Bool) → (new ≡ true → quit ≡ false) → before ≡ (joined && not quit) → (before || new) ≡ ((new || joined) && not quit)
 join-stays true before joined quit fresh is = or-true before ∙ sym (ap not (fresh refl))
 join-stays false before joined quit fresh is = or-false before ∙ is
-
-and-true : (b : Bool) → (b && true) ≡ b
-and-true true = refl
-and-true false = refl
 
 quit-stays : (leaves before joined quit : Bool) → before ≡ (joined && not quit) → (before && not leaves) ≡ ((false || joined) && not (leaves || quit))
 quit-stays true before joined quit is = and-false before ∙ sym (and-false joined)

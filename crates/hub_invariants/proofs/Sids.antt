@@ -1,6 +1,6 @@
 -- After every history, open connections have different session identifiers, and none has the first, which is the hub's.
 use Rattle.std.proofs.Common.{◌≡◌, ◌∙◌, sym, ap, ap₂, refl, subst, ℕ, suc, ◌+◌, ◌<◌, ◌≤◌, Bool, true, false, not, ◌&&◌, ◌||◌, ◌==◌, eqb, nat_le, cond, List, [], ◌∷◌, ◌++◌, length, map, filter, arith, length-append, inl, inr}
-use Rattle.std.proofs.lemmas.Bool.{false≢true, eqb-true, eq-eqb}
+use Rattle.std.proofs.lemmas.Bool.{false≢true, eqb-true, eq-eqb, and_parts}
 use Rattle.std.proofs.lemmas.Bool.Decides.{leb_tells}
 use Rattle.adc_base32.specs.Turns.{is_taken}
 use Rattle.adc_base32.proofs.Turns.{next_free-free, next_free-range}
@@ -10,11 +10,12 @@ use Rattle.hub_rules.specs.declared.history.Call.TheVariants.{Join, Line, Quit, 
 use Rattle.hub_rules.specs.declared.history.Entry.{Entry}
 use Rattle.hub_rules.specs.Configured.{Configured}
 use Rattle.hub_rules.specs.Effects.{departure}
-use Rattle.hub_rules.specs.Facts.{Facts, facts, after, joined, closed, happens, about_after, given, has_place, has_joins, newcomer, next_sid, with_one, effect_of_line}
-use Rattle.hub_rules.specs.Shares.{About, chosen, given_share, has_room, owes, removed_if, turned, with_share}
+use Rattle.hub_rules.specs.Facts.{Facts, facts, after, joined, closed, happens, given, has_place, has_joins, newcomer, next_sid, with_one, effect_of_line}
+use Rattle.hub_rules.specs.Shares.{chosen}
+use Rattle.hub_invariants.proofs.Becoming.{take-facts}
 use Rattle.hub_invariants.proofs.Calls.{not-open, sound_of}
 use Rattle.hub_invariants.proofs.Members.{apart, apart-push, both, has, has-append, has-filter, or-parts}
-use Rattle.hub_invariants.proofs.Sound.{Sound, and-left, eqb-sym, or-false, or-true}
+use Rattle.hub_invariants.proofs.Sound.{Sound, eqb-sym, or-false, or-true}
 
 abbrev pub sids : Facts → List ℕ
 sids f = map (λ d. (f.about d).sid) f.opened
@@ -80,53 +81,22 @@ fewer p (x ∷ xs) = fewer-kept p x xs (p x) (fewer p xs)
 
 -- ---- an effect changes no identifier
 
-share-sid : (room : Bool) (a : About) (share : List (List ℕ)) → (given_share room a share).sid ≡ a.sid
-share-sid true a share = refl
-share-sid false a share = refl
-
-with_share-sid : (a : About) (share : List (List ℕ)) → (with_share a share).sid ≡ a.sid
-unfolding with_share
-with_share-sid a share = share-sid (has_room a share) a share
-
-removed-sid : (removed is_caller : Bool) (effect : Effect) (b : About) → (removed_if removed (chosen is_caller (turned effect b) b)).sid ≡ b.sid
-removed-sid true true effect b = refl
-removed-sid true false effect b = refl
-removed-sid false true effect b = refl
-removed-sid false false effect b = refl
-
-pub about-sid : (c : ℕ) (effect : Effect) (f : Facts) (d : ℕ) → (about_after c effect f.about d).sid ≡ (f.about d).sid
-about-sid c effect f d =
-    removed-sid _ (d == c) effect (with_share (f.about d) (owes (d == c) effect (f.about d))) ∙ with_share-sid (f.about d) (owes (d == c) effect (f.about d))
-
 happens-numbered : (setup : Configured) (c : ℕ) (effect : Effect) (f : Facts) → Numbered setup f → Numbered setup (happens c effect f)
 unfolding happens
-happens-numbered setup c effect f n = record {
-  apart_sids = ap apart (map-same_on (λ d. (about_after c effect f.about d).sid) (λ d. (f.about d).sid) f.opened (λ d there. about-sid c effect f d)) ∙ n.apart_sids;
-  given_sids = λ d there. subst (λ sid. (0 < sid) × (sid < 1_048_576)) (sym (about-sid c effect f d)) (n.given_sids d there);
-  last_in = n.last_in;
-  few = n.few;
-}
+happens-numbered setup c effect f n = record { apart_sids = n.apart_sids; given_sids = n.given_sids; last_in = n.last_in; few = n.few }
 
 closed-numbered : (setup : Configured) (c : ℕ) (f : Facts) → Numbered setup f → Numbered setup (closed c f)
 unfolding closed
 closed-numbered setup c f n = record {
   apart_sids = apart-map-filter (λ d. (f.about d).sid) (λ x. not (x == c)) f.opened n.apart_sids;
-  given_sids = λ d there. n.given_sids d (and-left (has d f.opened) (not (d == c)) (sym (has-filter (λ x. not (x == c)) d f.opened) ∙ there));
+  given_sids = λ d there. n.given_sids d ((and_parts (has d f.opened) (not (d == c)) (sym (has-filter (λ x. not (x == c)) d f.opened) ∙ there)).0);
   last_in = n.last_in;
   few = omega (arith, n.few, fewer (λ x. not (x == c)) f.opened);
 }
 
-given-sid : (count : ℕ) (a : About) (same : Bool) → (chosen same (given count a) a).sid ≡ a.sid
-given-sid count a true = refl
-given-sid count a false = refl
-
 taken-numbered : (setup : Configured) (c count : ℕ) (f : Facts) → Numbered setup f → Numbered setup (record f { about = with_one c (given count) f.about })
-taken-numbered setup c count f n = record {
-  apart_sids = ap apart (map-same_on (λ d. (with_one c (given count) f.about d).sid) (λ d. (f.about d).sid) f.opened (λ d there. given-sid count (f.about d) (d == c))) ∙ n.apart_sids;
-  given_sids = λ d there. subst (λ sid. (0 < sid) × (sid < 1_048_576)) (sym (given-sid count (f.about d) (d == c))) (n.given_sids d there);
-  last_in = n.last_in;
-  few = n.few;
-}
+taken-numbered setup c count f n =
+    subst (Numbered setup) (take-facts c count f) (record { apart_sids = n.apart_sids; given_sids = n.given_sids; last_in = n.last_in; few = n.few })
 
 -- ---- a join
 

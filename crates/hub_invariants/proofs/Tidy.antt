@@ -1,26 +1,27 @@
 -- What is known of a connection by its stage, and that what waits for it is within its limits, after every history.
-use Rattle.std.proofs.Common.{◌≡◌, ◌∙◌, sym, ap, refl, subst, ℕ, ◌+◌, ◌≤◌, Bool, true, false, ◌&&◌, ◌==◌, List, [], ◌∷◌, ◌++◌, length, take, drop, arith, length-append, length-take, length-drop}
-use Rattle.std.proofs.lemmas.Bool.{false≢true, eqb-true, leb-true}
+use Rattle.std.proofs.Common.{◌≡◌, ◌∙◌, sym, ap, refl, subst, ℕ, ◌+◌, ◌≤◌, Bool, true, false, ◌==◌, List, [], ◌∷◌, ◌++◌, length, take, drop, arith, length-append, length-take, length-drop}
+use Rattle.std.proofs.lemmas.Bool.{false≢true, eqb-true, leb-true, and_parts}
 use Rattle.std.proofs.lemmas.List.{drop-append-le, drop-drop, drop_min}
 use Rattle.std.proofs.lemmas.List.Sums.{sum_by-append, sum_by-take-drop}
 use Rattle.login_state.specs.declared.stage.Stage.{Stage}
 use Rattle.login_state.specs.declared.stage.Stage.TheVariants as stages
 use Rattle.outboxes.specs.Backlogs.{Backlog, fits, size_of}
+use Rattle.hub_rules.specs.declared.effect.Change.{Change}
+use Rattle.hub_rules.specs.declared.effect.Change.TheVariants.{Sender}
 use Rattle.hub_rules.specs.declared.effect.Effect.{Effect}
-use Rattle.hub_rules.specs.declared.effect.Turn.{Turn}
-use Rattle.hub_rules.specs.declared.effect.Turn.TheVariants as turns
+use Rattle.hub_rules.specs.declared.effect.SenderChange.TheVariants as senders
 use Rattle.hub_rules.specs.declared.history.Call.{Call}
-use Rattle.hub_rules.specs.declared.history.Call.TheVariants.{Join, Line, Quit, Take}
 use Rattle.hub_rules.specs.declared.history.Entry.{Entry}
 use Rattle.hub_rules.specs.Configured.{Configured}
 use Rattle.hub_rules.specs.Effects.{departure}
-use Rattle.hub_rules.specs.Facts.{Facts, facts, after, closed, effect_of_line, given, happens, has_joins, has_place, joined, newcomer, next_sid, nobody, own_of, sight_of}
+use Rattle.hub_rules.specs.Facts.{Facts, facts, effect_of_line, given, newcomer, next_sid, nobody, own_of, sight_of}
 use Rattle.hub_rules.specs.Prepared.{prepared}
 use Rattle.hub_rules.specs.Said.{infs}
-use Rattle.hub_rules.specs.Shares.{About, affected, backlog_of, chosen, expected_after, fields_after, given_share, has_room, max_bytes, max_lines, owes, removed_if, stage_after, turned, waiting, with_share}
+use Rattle.hub_rules.specs.Shares.{About, affected, backlog_of, chosen, expected_after, fields_after, has_room, max_bytes, max_lines, owed_with, owes, removed_by, stage_after, waiting}
+use Rattle.hub_invariants.proofs.Becoming.{Becomes, becomes, taken_by}
 use Rattle.hub_invariants.proofs.Calls.{sound_of}
 use Rattle.hub_invariants.proofs.Saying.{told_of}
-use Rattle.hub_invariants.proofs.Sound.{Sound, and-left, removed_by}
+use Rattle.hub_invariants.proofs.Sound.{Sound, stage_next}
 use Rattle.hub_invariants.proofs.Suits.{Suited, Suits, suits-line}
 
 -- nothing is known of its user yet
@@ -50,15 +51,11 @@ tidy-newcomer owner sid peer challenge = record { unnamed = λ is. refl; unasked
 
 -- ---- shares
 
-and-right : (a b : Bool) → (a && b) ≡ true → b ≡ true
-and-right true b e = e
-and-right false b e = absurd (false≢true e)
-
 fits-lines : (o : Backlog) (share : List (List ℕ)) → fits o share ≡ true → length o.lines + length share ≤ o.cap
-fits-lines o share e = leb-true (length o.lines + length share) o.cap (and-left _ _ e)
+fits-lines o share e = leb-true (length o.lines + length share) o.cap ((and_parts _ _ e).0)
 
 fits-bytes : (o : Backlog) (share : List (List ℕ)) → fits o share ≡ true → size_of o.lines + size_of share ≤ o.bytes
-fits-bytes o share e = leb-true (size_of o.lines + size_of share) o.bytes (and-right _ _ e)
+fits-bytes o share e = leb-true (size_of o.lines + size_of share) o.bytes ((and_parts _ _ e).1)
 
 size-append : (xs ys : List (List ℕ)) → size_of (xs ++ ys) ≡ size_of xs + size_of ys
 size-append xs ys = sum_by-append length xs ys
@@ -67,93 +64,60 @@ size-append xs ys = sum_by-append length xs ys
 pub waiting-more : (a : About) (share : List (List ℕ)) → a.taken ≤ length a.owed → drop a.taken (a.owed ++ share) ≡ waiting a ++ share
 waiting-more a share few = drop-append-le a.taken a.owed share few
 
-tidy-share : (room : Bool) (a : About) (share : List (List ℕ)) → has_room a share ≡ room → a.taken ≤ length a.owed → Tidy a → Tidy (given_share room a share)
-tidy-share true a share is few tidy = record {
-  unnamed = tidy.unnamed;
-  unasked = tidy.unasked;
-  lines = omega (arith, ap length (waiting-more a share few), length-append (waiting a) share, fits-lines (backlog_of a) share (and-right _ _ is));
-  bytes = omega (arith, ap size_of (waiting-more a share few), size-append (waiting a) share, fits-bytes (backlog_of a) share (and-right _ _ is));
-}
-tidy-share false a share is few tidy = record { unnamed = tidy.unnamed; unasked = tidy.unasked; lines = tidy.lines; bytes = tidy.bytes }
+lines-with : (room : Bool) (a : About) (share : List (List ℕ)) → has_room a share ≡ room → a.taken ≤ length a.owed → Tidy a
+    → length (drop a.taken (chosen room (a.owed ++ share) a.owed)) ≤ max_lines
+lines-with true a share is few tidy =
+    omega (arith, ap length (waiting-more a share few), length-append (waiting a) share, fits-lines (backlog_of a) share ((and_parts _ _ is).1))
+lines-with false a share is few tidy = tidy.lines
 
-tidy-with : (a : About) (share : List (List ℕ)) → a.taken ≤ length a.owed → Tidy a → Tidy (with_share a share)
-unfolding with_share
-tidy-with a share few tidy = tidy-share (has_room a share) a share refl few tidy
+bytes-with : (room : Bool) (a : About) (share : List (List ℕ)) → has_room a share ≡ room → a.taken ≤ length a.owed → Tidy a
+    → size_of (drop a.taken (chosen room (a.owed ++ share) a.owed)) ≤ max_bytes
+bytes-with true a share is few tidy =
+    omega (arith, ap size_of (waiting-more a share few), size-append (waiting a) share, fits-bytes (backlog_of a) share ((and_parts _ _ is).1))
+bytes-with false a share is few tidy = tidy.bytes
 
--- ---- turns
+-- ---- what becomes of a connection
 
-share-own : (room : Bool) (a : About) (share : List (List ℕ)) → own_of (given_share room a share) ≡ own_of a
-share-own true a share = refl
-share-own false a share = refl
+change-unnamed : (change : Change) (a : About) → Suited (own_of a) change → Tidy a → is_unnamed (stage_after change a.stage) ≡ true → fields_after change a.fields ≡ []
+change-unnamed (Sender (senders.Greets features)) a suits tidy is = tidy.unnamed (ap is_unnamed suits)
+change-unnamed (Sender (senders.Waits newcomer expected)) a suits tidy is = absurd (false≢true is)
+change-unnamed (Sender senders.Enters) a suits tidy is = absurd (false≢true is)
+change-unnamed (Sender (senders.EntersAs newcomer)) a suits tidy is = absurd (false≢true is)
+change-unnamed (Sender (senders.Updates revision)) a suits tidy is = absurd (false≢true (sym (ap is_unnamed suits.0) ∙ is))
+change-unnamed (Sender senders.Falls) a suits tidy is = absurd (false≢true is)
+change-unnamed change a suits tidy is = tidy.unnamed is
 
-pub with-own : (a : About) (share : List (List ℕ)) → own_of (with_share a share) ≡ own_of a
-unfolding with_share
-with-own a share = share-own (has_room a share) a share
+change-unasked : (change : Change) (a : About) → Suited (own_of a) change → Tidy a → is_unasked (stage_after change a.stage) ≡ true → expected_after change a.expected ≡ []
+change-unasked (Sender (senders.Greets features)) a suits tidy is = tidy.unasked (ap is_unasked suits)
+change-unasked (Sender (senders.Waits newcomer expected)) a suits tidy is = absurd (false≢true is)
+change-unasked (Sender senders.Enters) a suits tidy is = refl
+change-unasked (Sender (senders.EntersAs newcomer)) a suits tidy is = tidy.unasked (ap is_unasked suits.0)
+change-unasked (Sender senders.Falls) a suits tidy is = absurd (false≢true is)
+change-unasked change a suits tidy is = tidy.unasked is
 
-turn-unnamed : (turn : Turn) (a : About) → Suited (own_of a) turn → Tidy a → is_unnamed (stage_after turn a.stage) ≡ true → fields_after turn a.fields ≡ []
-turn-unnamed turns.Stays a suits tidy is = tidy.unnamed is
-turn-unnamed (turns.Greets features) a suits tidy is = tidy.unnamed (ap is_unnamed suits)
-turn-unnamed (turns.Waits newcomer expected) a suits tidy is = absurd (false≢true is)
-turn-unnamed turns.Enters a suits tidy is = absurd (false≢true is)
-turn-unnamed (turns.EntersAs newcomer) a suits tidy is = absurd (false≢true is)
-turn-unnamed (turns.Learns features) a suits tidy is = tidy.unnamed is
-turn-unnamed (turns.Updates change) a suits tidy is = absurd (false≢true (sym (ap is_unnamed suits.0) ∙ is))
-turn-unnamed turns.Falls a suits tidy is = absurd (false≢true is)
+next-unnamed : (removed is_caller : Bool) (change : Change) (a : About) → (is_caller ≡ true → Suited (own_of a) change) → Tidy a
+    → is_unnamed (stage_next removed is_caller change a.stage) ≡ true → chosen is_caller (fields_after change a.fields) a.fields ≡ []
+next-unnamed true is_caller change a suits tidy is = absurd (false≢true is)
+next-unnamed false true change a suits tidy is = change-unnamed change a (suits refl) tidy is
+next-unnamed false false change a suits tidy is = tidy.unnamed is
 
-turn-unasked : (turn : Turn) (a : About) → Suited (own_of a) turn → Tidy a → is_unasked (stage_after turn a.stage) ≡ true → expected_after turn a.expected ≡ []
-turn-unasked turns.Stays a suits tidy is = tidy.unasked is
-turn-unasked (turns.Greets features) a suits tidy is = tidy.unasked (ap is_unasked suits)
-turn-unasked (turns.Waits newcomer expected) a suits tidy is = absurd (false≢true is)
-turn-unasked turns.Enters a suits tidy is = refl
-turn-unasked (turns.EntersAs newcomer) a suits tidy is = tidy.unasked (ap is_unasked suits.0)
-turn-unasked (turns.Learns features) a suits tidy is = tidy.unasked is
-turn-unasked (turns.Updates change) a suits tidy is = tidy.unasked is
-turn-unasked turns.Falls a suits tidy is = absurd (false≢true is)
+next-unasked : (removed is_caller : Bool) (change : Change) (a : About) → (is_caller ≡ true → Suited (own_of a) change) → Tidy a
+    → is_unasked (stage_next removed is_caller change a.stage) ≡ true → chosen is_caller (expected_after change a.expected) a.expected ≡ []
+next-unasked true is_caller change a suits tidy is = absurd (false≢true is)
+next-unasked false true change a suits tidy is = change-unasked change a (suits refl) tidy is
+next-unasked false false change a suits tidy is = tidy.unasked is
 
-tidy-turned : (effect : Effect) (a : About) → Suited (own_of a) effect.turn → Tidy a → Tidy (turned effect a)
-tidy-turned effect a suits tidy = record {
-  unnamed = turn-unnamed effect.turn a suits tidy;
-  unasked = turn-unasked effect.turn a suits tidy;
-  lines = tidy.lines;
-  bytes = tidy.bytes;
-}
-
-tidy-next : (removed is_caller : Bool) (effect : Effect) (b : About) → (is_caller ≡ true → Suited (own_of b) effect.turn) → Tidy b
-    → Tidy (removed_if removed (chosen is_caller (turned effect b) b))
-tidy-next true true effect b suits tidy = record { unnamed = λ is. absurd (false≢true is); unasked = λ is. absurd (false≢true is); lines = tidy.lines; bytes = tidy.bytes }
-tidy-next true false effect b suits tidy = record { unnamed = λ is. absurd (false≢true is); unasked = λ is. absurd (false≢true is); lines = tidy.lines; bytes = tidy.bytes }
-tidy-next false true effect b suits tidy = tidy-turned effect b (suits refl) tidy
-tidy-next false false effect b suits tidy = tidy
-
-pub tidy-affected : (is_caller : Bool) (effect : Effect) (a : About) → a.taken ≤ length a.owed → (is_caller ≡ true → Suited (own_of a) effect.turn) → Tidy a
+pub tidy-affected : (is_caller : Bool) (effect : Effect) (a : About) → a.taken ≤ length a.owed → (is_caller ≡ true → Suited (own_of a) effect.change) → Tidy a
     → Tidy (affected is_caller effect a)
-tidy-affected is_caller effect a few suits tidy =
-    tidy-next (removed_by effect a) is_caller effect (with_share a (owes is_caller effect a))
-    (λ is. subst (λ own. Suited own effect.turn) (sym (with-own a (owes is_caller effect a))) (suits is))
-    (tidy-with a (owes is_caller effect a) few tidy)
+unfolding owed_with
+tidy-affected is_caller effect a few suits tidy = record {
+  unnamed = next-unnamed (removed_by effect a) is_caller effect.change a suits tidy;
+  unasked = next-unasked (removed_by effect a) is_caller effect.change a suits tidy;
+  lines = lines-with (has_room a (owes is_caller effect a)) a (owes is_caller effect a) refl few tidy;
+  bytes = bytes-with (has_room a (owes is_caller effect a)) a (owes is_caller effect a) refl few tidy;
+}
 
 -- ---- every call
-
-abbrev pub AllTidy : Facts → Type 0
-AllTidy f = (c : ℕ) → Tidy (f.about c)
-
-happens-tidy : (c : ℕ) (effect : Effect) (f : Facts) → Sound f → Suited (own_of (f.about c)) effect.turn → AllTidy f → AllTidy (happens c effect f)
-unfolding happens
-happens-tidy c effect f sound suits tidy d =
-    tidy-affected (d == c) effect (f.about d) (sound.taken d) (λ is. subst (λ x. Suited (own_of (f.about x)) effect.turn) (sym (eqb-true d c is)) suits) (tidy d)
-
-tidy-one : (same : Bool) (a b : About) → Tidy a → Tidy b → Tidy (chosen same a b)
-tidy-one true a b first second = first
-tidy-one false a b first second = second
-
-joined-tidy : (f : Facts) (owner : ℕ) (peer challenge : List ℕ) → AllTidy f → AllTidy (joined f owner peer challenge)
-unfolding joined
-joined-tidy f owner peer challenge tidy d =
-    tidy-one (d == (f.joins + 1)) (newcomer owner (next_sid f) peer challenge) (f.about d) (tidy-newcomer owner (next_sid f) peer challenge) (tidy d)
-
-join-tidy : (f : Facts) (owner : ℕ) (peer challenge : List ℕ) (accepted : Bool) → AllTidy f → AllTidy (chosen accepted (joined f owner peer challenge) f)
-join-tidy f owner peer challenge true tidy = joined-tidy f owner peer challenge tidy
-join-tidy f owner peer challenge false tidy = tidy
 
 -- what is left after a take
 pub waiting-given : (count : ℕ) (a : About) → waiting (given count a) ≡ drop count (waiting a)
@@ -170,18 +134,21 @@ tidy-given count a tidy = record {
   bytes = omega (arith, ap size_of (waiting-given count a), sum_by-take-drop length (waiting a) count, tidy.bytes);
 }
 
-closed-tidy : (c : ℕ) (f : Facts) → AllTidy f → AllTidy (closed c f)
-unfolding closed
-closed-tidy c f tidy d = tidy d
+tidy-taken : (same : Bool) (count : ℕ) (a : About) → Tidy a → Tidy (taken_by same count a)
+tidy-taken true count a tidy = tidy-given count a tidy
+tidy-taken false count a tidy = tidy
 
-after-tidy : (setup : Configured) (hash : List ℕ → List ℕ) (f : Facts) (caller : ℕ) (call : Call) → Sound f
-    → ((c : ℕ) (bytes : List ℕ) (now : ℕ) → Suits (own_of (f.about c)) (effect_of_line setup hash f c bytes now)) → AllTidy f → AllTidy (after setup hash f caller call)
-unfolding after
-after-tidy setup hash f caller (Join peer challenge now) sound suits tidy = join-tidy f caller peer challenge (has_place setup f && has_joins f) tidy
-after-tidy setup hash f caller (Line c bytes now) sound suits tidy = happens-tidy c (effect_of_line setup hash f c bytes now) f sound (suits c bytes now).turn tidy
-after-tidy setup hash f caller (Quit c) sound suits tidy =
-    closed-tidy c (happens c (departure (f.about c).stage (f.about c).sid) f) (happens-tidy c (departure (f.about c).stage (f.about c).sid) f sound tt tidy)
-after-tidy setup hash f caller (Take c count) sound suits tidy = λ d. tidy-one (d == c) (given count (f.about d)) (f.about d) (tidy-given count (f.about d) (tidy d)) (tidy d)
+module _ {setup : Configured} {hash : List ℕ → List ℕ} {f : Facts} {caller d : ℕ} where
+  tidy-after : {call : Call} {a : About} → Becomes setup hash f caller d call a → Sound f
+      → ((c : ℕ) (bytes : List ℕ) (now : ℕ) → Suits (own_of (f.about c)) (effect_of_line setup hash f c bytes now)) → Tidy (f.about d) → Tidy a
+  tidy-after (Becomes.joins peer challenge now place is) sound suits tidy = tidy-newcomer caller (next_sid f) peer challenge
+  tidy-after (Becomes.misses peer challenge now place) sound suits tidy = tidy
+  tidy-after (Becomes.says c bytes now) sound suits tidy =
+      let effect : Effect = effect_of_line setup hash f c bytes now in
+      tidy-affected (d == c) effect (f.about d) (sound.taken d)
+      (λ is. subst (λ x. Suited (own_of (f.about x)) effect.change) (sym (eqb-true d c is)) (suits c bytes now).change) tidy
+  tidy-after (Becomes.quits c) sound suits tidy = tidy-affected (d == c) (departure (f.about c).stage (f.about c).sid) (f.about d) (sound.taken d) (λ is. tt) tidy
+  tidy-after (Becomes.takes c count) sound suits tidy = tidy-taken (d == c) count (f.about d) tidy
 
 pub suits_of : (setup : Configured) (hash : List ℕ → List ℕ) (h : List Entry) (c : ℕ) (bytes : List ℕ) (now : ℕ)
     → Suits (own_of ((facts setup hash h).about c)) (effect_of_line setup hash (facts setup hash h) c bytes now)
@@ -189,7 +156,7 @@ suits_of setup hash h c bytes now =
     suits-line (sight_of setup (facts setup hash h)) (own_of ((facts setup hash h).about c)) (prepared setup hash ((facts setup hash h).about c).challenge bytes) now
     (infs setup hash h c) (told_of setup hash h c).tells
 
-pub tidy_of : (setup : Configured) (hash : List ℕ → List ℕ) (h : List Entry) → AllTidy (facts setup hash h)
+pub tidy_of : (setup : Configured) (hash : List ℕ → List ℕ) (h : List Entry) (c : ℕ) → Tidy ((facts setup hash h).about c)
 unfolding facts
-tidy_of setup hash [] = λ c. tidy-nobody
-tidy_of setup hash (e ∷ h) = after-tidy setup hash (facts setup hash h) e.caller e.call (sound_of setup hash h) (suits_of setup hash h) (tidy_of setup hash h)
+tidy_of setup hash [] c = tidy-nobody
+tidy_of setup hash (e ∷ h) c = tidy-after (becomes setup hash (facts setup hash h) e.caller c e.call) (sound_of setup hash h) (suits_of setup hash h) (tidy_of setup hash h c)

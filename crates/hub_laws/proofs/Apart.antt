@@ -1,5 +1,5 @@
 -- After every history, no two users who are present have the same nick or the same client identifier.
-use Rattle.std.proofs.Common.{◌≡◌, ◌∙◌, sym, ap, ap₂, refl, ℕ, ◌+◌, ◌≤◌, Bool, true, false, not, ◌&&◌, ◌||◌, ◌==◌, inl, inr, eqb, List, [], ◌∷◌, map}
+use Rattle.std.proofs.Common.{◌≡◌, ◌∙◌, sym, ap, ap₂, refl, ℕ, ◌+◌, ◌≤◌, Bool, true, false, not, ◌&&◌, ◌||◌, ◌==◌, inl, inr, eqb, List, [], ◌∷◌, map, subst}
 use Rattle.std.specs.List.{list_any}
 use Rattle.std.specs.Str.{bytes_eq}
 use Rattle.std.proofs.lemmas.Bool.{false≢true, eqb-true, eq-eqb}
@@ -8,19 +8,20 @@ use Rattle.inf_fields.specs.Field.{Field}
 use Rattle.login_state.specs.declared.stage.Stage.{Stage}
 use Rattle.user_table.specs.Listed.{Listed}
 use Rattle.user_table.specs.Tables.{has_cid, has_key, has_sid}
+use Rattle.hub_rules.specs.declared.effect.Change.{Change}
 use Rattle.hub_rules.specs.declared.effect.Effect.{Effect}
-use Rattle.hub_rules.specs.declared.effect.Turn.{Turn}
 use Rattle.hub_rules.specs.declared.history.Call.{Call}
 use Rattle.hub_rules.specs.declared.history.Call.TheVariants.{Join, Line, Quit, Take}
 use Rattle.hub_rules.specs.declared.history.Entry.{Entry}
 use Rattle.hub_rules.specs.Configured.{Configured}
 use Rattle.hub_rules.specs.Differing.{CidsDiffer, NicksDiffer}
 use Rattle.hub_rules.specs.Effects.{departure, is_present}
-use Rattle.hub_rules.specs.Facts.{Facts, facts, about_after, after, closed, effect_of_line, given, happens, has_joins, has_place, joined, newcomer, next_sid, own_of, sight_of, user_of}
+use Rattle.hub_rules.specs.Facts.{Facts, facts, about_after, after, closed, effect_of_line, happens, has_joins, has_place, joined, newcomer, next_sid, own_of, sight_of, user_of}
 use Rattle.hub_rules.specs.Identities.{cid_in, key_in, listed}
 use Rattle.hub_rules.specs.Prepared.{prepared}
 use Rattle.hub_rules.specs.Said.{infs}
-use Rattle.hub_rules.specs.Shares.{About, chosen, fields_after, stage_after}
+use Rattle.hub_rules.specs.Shares.{chosen, fields_after, removed_by, stage_after}
+use Rattle.hub_invariants.proofs.Becoming.{take-facts}
 use Rattle.hub_invariants.proofs.Calls.{absent-newcomer, sound_of}
 use Rattle.hub_laws.proofs.Clearing.{IsClear, clear-line, listed-cid, listed-key}
 use Rattle.hub_laws.proofs.Distinct.{Clears, Differ, happens-differ}
@@ -30,7 +31,7 @@ use Rattle.hub_invariants.proofs.Kept.{differs-sid}
 use Rattle.hub_invariants.proofs.Members.{has, or-parts}
 use Rattle.hub_invariants.proofs.Saying.{told_of}
 use Rattle.hub_invariants.proofs.Sids.{Numbered, numbered_of}
-use Rattle.hub_invariants.proofs.Sound.{Sound, about-stage, happens-open, happens-sound, not-over, removed_by, stage_next}
+use Rattle.hub_invariants.proofs.Sound.{Sound, happens-open, happens-sound, not-over, stage_next}
 use Rattle.hub_invariants.proofs.Suits.{listed-sid}
 
 -- a user has what it is known by
@@ -54,15 +55,15 @@ none-at p g d (x ∷ xs) none there =
     let parts = or-parts (p (g x)) (list_any p (map g xs)) none in
     none-of p g d x xs (eqb x d) refl (λ other. none-at p g d xs parts.1 (sym (ap (λ b. b || has d xs) other) ∙ there)) parts.0
 
-after-present : (removed : Bool) (turn : Turn) (stage : Stage) → is_present (stage_next removed true turn stage) ≡ true → is_present (stage_after turn stage) ≡ true
-after-present true turn stage here = absurd (false≢true here)
-after-present false turn stage here = here
+after-present : (removed : Bool) (change : Change) (stage : Stage) → is_present (stage_next removed true change stage) ≡ true → is_present (stage_after change stage) ≡ true
+after-present true change stage here = absurd (false≢true here)
+after-present false change stage here = here
 
 clears-from : (of : List Field → List ℕ) (test : List ℕ → Listed → Bool) → Knows of test → (setup : Configured) (f : Facts) (c : ℕ) (effect : Effect)
     → Sound f → Numbered setup f → Fits (f.about c).stage effect → Differ of f → IsClear of test (sight_of setup f) (own_of (f.about c)) effect → Clears of f c effect
 clears-from of test knows setup f c effect sound n suits differ (inl away) here d there other same =
-    false≢true (sym away ∙ after-present (removed_by effect (f.about c)) effect.turn (f.about c).stage
-    (ap is_present (ap (λ b. stage_next (removed_by effect (f.about c)) b effect.turn (f.about c).stage) (sym (eq-eqb c c refl)) ∙ sym (about-stage c effect f c)) ∙ here))
+    false≢true (sym away ∙ after-present (removed_by effect (f.about c)) effect.change (f.about c).stage
+    (ap (λ b. is_present (stage_next (removed_by effect (f.about c)) b effect.change (f.about c).stage)) (sym (eq-eqb c c refl)) ∙ here))
 clears-from of test knows setup f c effect sound n suits differ (inr (inl kept)) here d there other same =
     false≢true (sym other ∙ eq-eqb c d (differ c d (sound.entered c ∙ kept.1) there (sym kept.0 ∙ same)))
 clears-from of test knows setup f c effect sound n suits differ (inr (inr none)) here d there other same =
@@ -71,18 +72,11 @@ clears-from of test knows setup f c effect sound n suits differ (inr (inr none))
     let not_same : has_sid (f.about c).sid (user_of f.about d) ≡ false =
     ap (λ s. eqb s (f.about c).sid) (listed-sid (f.about d).sid (f.about d).fields)
     ∙ differs-sid setup f sound n c d open-c open-d other (eqb (f.about d).sid (f.about c).sid) refl in
-    false≢true (sym (none-at (λ (user : Listed). test (of (fields_after effect.turn (f.about c).fields)) user && not (has_sid (f.about c).sid user)) (user_of f.about) d f.present none there)
+    false≢true (sym (none-at (λ (user : Listed). test (of (fields_after effect.change (f.about c).fields)) user && not (has_sid (f.about c).sid user)) (user_of f.about) d f.present none there)
     ∙ ap₂ (λ a b. a && not b)
     (ap (λ k. test k (user_of f.about d)) same ∙ knows (f.about d).sid (f.about d).fields) not_same)
 
 -- ---- every call
-
-line-differ : (of : List Field → List ℕ) (setup : Configured) (hash : List ℕ → List ℕ) (f : Facts) (caller c : ℕ) (bytes : List ℕ) (now : ℕ) → Sound f → Differ of f
-    → Clears of f c (effect_of_line setup hash f c bytes now) → Differ of (after setup hash f caller (Line c bytes now))
-unfolding after
-line-differ of setup hash f caller c bytes now sound differ clears =
-    happens-differ of c (effect_of_line setup hash f c bytes now) f
-    (happens-sound c (effect_of_line setup hash f c bytes now) f sound (fits-line setup hash f c bytes now)) differ clears
 
 closed-differ : (of : List Field → List ℕ) (c : ℕ) (f : Facts) → Differ of f → Differ of (closed c f)
 unfolding closed
@@ -90,17 +84,8 @@ closed-differ of c f differ = differ
 
 falls-away : (c : ℕ) (f : Facts) (stage : Stage) (sid : ℕ) (of : List Field → List ℕ) → Clears of f c (departure stage sid)
 falls-away c f stage sid of here d there other same =
-    false≢true (after-present (removed_by (departure stage sid) (f.about c)) (departure stage sid).turn (f.about c).stage
-    (ap is_present (ap (λ b. stage_next (removed_by (departure stage sid) (f.about c)) b (departure stage sid).turn (f.about c).stage) (sym (eq-eqb c c refl))
-    ∙ sym (about-stage c (departure stage sid) f c)) ∙ here))
-
-quit-differ : (of : List Field → List ℕ) (setup : Configured) (hash : List ℕ → List ℕ) (f : Facts) (caller c : ℕ) → Sound f → Differ of f → Differ of (after setup hash f caller (Quit c))
-unfolding after
-quit-differ of setup hash f caller c sound differ =
-    closed-differ of c (happens c (departure (f.about c).stage (f.about c).sid) f)
-    (happens-differ of c (departure (f.about c).stage (f.about c).sid) f
-    (happens-sound c (departure (f.about c).stage (f.about c).sid) f sound (fits-departure (f.about c).stage (f.about c).stage (f.about c).sid)) differ
-    (falls-away c f (f.about c).stage (f.about c).sid of))
+    false≢true (after-present (removed_by (departure stage sid) (f.about c)) (departure stage sid).change (f.about c).stage
+    (ap (λ b. is_present (stage_next (removed_by (departure stage sid) (f.about c)) b (departure stage sid).change (f.about c).stage)) (sym (eq-eqb c c refl)) ∙ here))
 
 differ-same : (of : List Field → List ℕ) (f g : Facts) → g.present ≡ f.present → ((d : ℕ) → has d f.present ≡ true → (g.about d).fields ≡ (f.about d).fields) → Differ of f → Differ of g
 differ-same of f g present same differ c d there-c there-d equal =
@@ -124,25 +109,19 @@ join-differ : (of : List Field → List ℕ) (f : Facts) (owner : ℕ) (peer cha
 join-differ of f owner peer challenge true sound differ = joined-differ of f owner peer challenge sound differ
 join-differ of f owner peer challenge false sound differ = differ
 
-joining-differ : (of : List Field → List ℕ) (setup : Configured) (hash : List ℕ → List ℕ) (f : Facts) (caller : ℕ) (peer challenge : List ℕ) (now : ℕ) → Sound f → Differ of f
-    → Differ of (after setup hash f caller (Join peer challenge now))
-unfolding after
-joining-differ of setup hash f caller peer challenge now sound differ = join-differ of f caller peer challenge (has_place setup f && has_joins f) sound differ
-
-take-fields : (count : ℕ) (a : About) (same : Bool) → (chosen same (given count a) a).fields ≡ a.fields
-take-fields count a true = refl
-take-fields count a false = refl
-
-taking-differ : (of : List Field → List ℕ) (setup : Configured) (hash : List ℕ → List ℕ) (f : Facts) (caller c count : ℕ) → Differ of f → Differ of (after setup hash f caller (Take c count))
-unfolding after
-taking-differ of setup hash f caller c count differ = differ-same of f (after setup hash f caller (Take c count)) refl (λ d there. take-fields count (f.about d) (d == c)) differ
-
 after-differ : (of : List Field → List ℕ) (setup : Configured) (hash : List ℕ → List ℕ) (f : Facts) (caller : ℕ) (call : Call) → Sound f → Differ of f
     → ((c : ℕ) (bytes : List ℕ) (now : ℕ) → Clears of f c (effect_of_line setup hash f c bytes now)) → Differ of (after setup hash f caller call)
-after-differ of setup hash f caller (Join peer challenge now) sound differ clears = joining-differ of setup hash f caller peer challenge now sound differ
-after-differ of setup hash f caller (Line c bytes now) sound differ clears = line-differ of setup hash f caller c bytes now sound differ (clears c bytes now)
-after-differ of setup hash f caller (Quit c) sound differ clears = quit-differ of setup hash f caller c sound differ
-after-differ of setup hash f caller (Take c count) sound differ clears = taking-differ of setup hash f caller c count differ
+unfolding after
+after-differ of setup hash f caller (Join peer challenge now) sound differ clears = join-differ of f caller peer challenge (has_place setup f && has_joins f) sound differ
+after-differ of setup hash f caller (Line c bytes now) sound differ clears =
+    let effect : Effect = effect_of_line setup hash f c bytes now in
+    happens-differ of c effect f (happens-sound c effect f sound (fits-line setup hash f c bytes now)) differ (clears c bytes now)
+after-differ of setup hash f caller (Quit c) sound differ clears =
+    let effect : Effect = departure (f.about c).stage (f.about c).sid in
+    closed-differ of c (happens c effect f)
+    (happens-differ of c effect f (happens-sound c effect f sound (fits-departure (f.about c).stage (f.about c).stage (f.about c).sid)) differ
+    (falls-away c f (f.about c).stage (f.about c).sid of))
+after-differ of setup hash f caller (Take c count) sound differ clears = subst (Differ of) (take-facts c count f) differ
 
 -- ---- every history
 

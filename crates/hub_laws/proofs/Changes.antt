@@ -1,6 +1,5 @@
 -- Users change what is known of them, computed from the rules.
-use Rattle.std.proofs.Common.{◌≡◌, ◌∙◌, ◌++◌, ap, refl, ℕ, List, [], ◌∷◌, codes, Option, Some, None, Ok}
-use Rattle.std.specs.Prelude.{if◌then◌else◌}
+use Rattle.std.proofs.Common.{Bool, ◌≡◌, ◌∙◌, ◌++◌, ap, refl, ℕ, List, [], ◌∷◌, codes, Option, Some, None, Ok}
 use Rattle.adc_base32.specs.Bits.{bits, value_of}
 use Rattle.adc_base32.specs.Digits.{digit_of, value_at}
 use Rattle.adc_base32.specs.Sids.{four_digits, sid_at}
@@ -15,36 +14,33 @@ use Rattle.feature_route.specs.Matching.{meets}
 use Rattle.feature_route.specs.Wants.{names_after, wants_of}
 use Rattle.inf_fields.specs.Amounts.{number_at}
 use Rattle.inf_fields.specs.Cleaning.{clean}
-use Rattle.inf_fields.specs.Field as fields
 use Rattle.inf_fields.specs.Field.{Field, field, printed}
-use Rattle.inf_fields.specs.FieldNames.{address_name, id_name, nick_name, share_size_name, shared_files_name}
-use Rattle.inf_fields.specs.Merging.{fits, merged_with}
+use Rattle.inf_fields.specs.Merging.{merged_with}
 use Rattle.inf_fields.specs.Updates as updates
-use Rattle.login_state.specs.declared.asks.UpdateAsk.{UpdateAsk}
-use Rattle.login_state.specs.declared.findings.Size.TheVariants.{Fits, TooMany}
-use Rattle.login_state.specs.declared.findings.Validity.TheVariants.{Good}
 use Rattle.login_state.specs.declared.stage.Stage.TheVariants as stages
-use Rattle.login_state.specs.Checks.{first_denial}
-use Rattle.login_state.specs.Orders.{update_rules}
 use Rattle.operator_acts.specs.Bans.{left}
+use Rattle.login_state.specs.declared.deny.Deny.{Deny}
 use Rattle.user_table.specs.Listed.{Listed}
+use Rattle.hub_rules.specs.declared.effect.Change.TheVariants.{Sender}
 use Rattle.hub_rules.specs.declared.effect.Effect.{Effect}
+use Rattle.hub_rules.specs.declared.effect.SenderChange.TheVariants as senders
 use Rattle.hub_rules.specs.declared.history.Entry.{Entry}
 use Rattle.hub_rules.specs.declared.history.Verdict.TheVariants.{Kept}
 use Rattle.hub_rules.specs.Accounts.{account_with}
-use Rattle.hub_rules.specs.Asks.{account_found, address_found, amount_found, entry_ask, nick_found, own_if_given, taken_if, update_ask}
-use Rattle.hub_rules.specs.Denied.{denial_of, request_denied, update_denied}
+use Rattle.hub_rules.specs.Denied.{request_denied, update_denied}
 use Rattle.hub_rules.specs.Effects.{accepted, heard, unless_denied, update_effect, updates_user}
 use Rattle.hub_rules.specs.Facts.{own_of}
-use Rattle.hub_rules.specs.Identities.{given, key_in, key_of_points, listed}
+use Rattle.hub_rules.specs.Grounds.{first_ground, login_grounds, touches_account, update_grounds}
+use Rattle.hub_rules.specs.Identities.{key_in, key_of_points, listed}
 use Rattle.hub_rules.specs.Requests.{refused, request_of}
-use Rattle.hub_rules.specs.Shares.{with_share}
-use Rattle.hub_rules.specs.Sights.{Own, PreparedLine, Sight, another_has_key, user_after}
+use Rattle.hub_rules.specs.Shares.{lags_with, owed_with}
+use Rattle.hub_rules.specs.Sights.{Own, PreparedLine, Sight, user_after}
 use Rattle.hub_rules.specs.Texts.{ended, hub_line, identifier_line, support_line, update_line, user_line}
 use Rattle.hub_laws.specs.Conversations.{bobs_id, greeting_of, one, plain, zeros}
 use Rattle.hub_laws.specs.Messages.{NewcomersHearOfUpdates, UpdatesChangeWhoHears, ana_says, cy_entered, dan_asked, dan_entered, three_told, updates_sent}
 use Rattle.hub_laws.specs.Talking.{says}
 use Rattle.hub_laws.specs.Visitors.{ana_told, dan_text, dan_told, three, two}
+use Rattle.hub_laws.proofs.Checked.{with_test}
 use Rattle.hub_laws.proofs.Greetings.{greeted, greets-more, sup-read}
 use Rattle.hub_laws.proofs.Heard.{effect_of, reading-ascii}
 use Rattle.hub_laws.proofs.Known.{Known, facts_of}
@@ -53,30 +49,20 @@ use Rattle.hub_laws.proofs.Messages.{ana-is-heard, ana_about, bob_about, cy-ente
 use Rattle.hub_laws.proofs.Steps.{Comes, next-at, says-more}
 use Rattle.hub_laws.proofs.Visitors.{ana-listed, ana_user, bob-chars, bob-key, bob-listed, bob_fields, bob_user, cy-chars, cy-key, cy-listed, cy_fields, cy_user, cys_id, dan-logs-in, dan_fields, dan_user, dan_words, login_line}
 
--- what the checks of an update find, where the nick before it has this key
-abbrev update_found : List ℕ → Sight → Own → List Field → Listed → UpdateAsk
-update_found before hub own u user = record {
-  words = Good;
-  identity = own_if_given own.fields (fields.value_of id_name u);
-  share_size = amount_found (given share_size_name u);
-  shared_files = amount_found (given shared_files_name u);
-  nick = nick_found (fields.value_of nick_name u);
-  account = account_found hub before user.key;
-  address = address_found own.peer (given address_name u);
-  size = if fits own.fields (clean u own.peer) then Fits else TooMany;
-  nick_claim = taken_if (another_has_key hub own.sid user.key);
-}
+-- the grounds of an update, where the nick before it has this key
+abbrev update_found : List ℕ → Sight → Own → List Field → Listed → List (Bool × Deny)
+update_found before hub own u user = with_test 4 (touches_account hub before user.key) (update_grounds hub own u user)
 
 update-heard : (hub : Sight) (own : Own) (now : ℕ) (line : Reading) (prepared : PreparedLine) (u : List Field) (user : Listed) (key : List ℕ)
     → heard hub own prepared now (Ok line) ≡ unless_denied own (update_denied hub own (updates.reading line.params)) (updates_user own (updates.reading line.params))
     → updates.reading line.params ≡ Ok u → user_after own u ≡ user → key_in own.fields ≡ key
-    → heard hub own prepared now (Ok line) ≡ unless_denied own (denial_of (first_denial (update_rules (update_found key hub own u user)))) (update_effect own (clean u own.peer))
-unfolding update_ask
+    → heard hub own prepared now (Ok line) ≡ unless_denied own (first_ground (update_found key hub own u user)) (update_effect own (clean u own.peer))
+unfolding update_grounds
 update-heard hub own now line prepared u user key is says makes called =
     is
     ∙ ap (λ r. unless_denied own (update_denied hub own r) (updates_user own r)) says
-    ∙ ap (λ w. unless_denied own (denial_of (first_denial (update_rules (update_ask hub own u w)))) (update_effect own (clean u own.peer))) makes
-    ∙ ap (λ k. unless_denied own (denial_of (first_denial (update_rules (update_found k hub own u user)))) (update_effect own (clean u own.peer))) called
+    ∙ ap (λ w. unless_denied own (first_ground (update_grounds hub own u w)) (update_effect own (clean u own.peer))) makes
+    ∙ ap (λ k. unless_denied own (first_ground (update_found k hub own u user)) (update_effect own (clean u own.peer))) called
 
 -- an update by the user with this session identifier
 abbrev update_line_of : List ℕ → ℕ → List ℕ → Reading
@@ -124,7 +110,7 @@ unfolding unescaped
 bob-called = ap key_of_points bob-chars ∙ bob-key
 
 empty-decided : (hash : List ℕ → List ℕ) → effect_of plain hash (facts_of three_there) 2 empty_line.text 0 (Ok empty_line) ≡ update_effect bob_own empty_update
-unfolding accepted refused request_denied request_of account_with clean merged_with updates.reading updates.is_named updates.update spelled number_at
+unfolding accepted refused request_denied request_of update_grounds account_with clean merged_with updates.reading updates.is_named updates.update spelled number_at
 empty-decided hash =
     let prepared : PreparedLine = record { bytes = empty_line.text; owner = None; password = None } in
     ap (λ s. heard s bob_own prepared 0 (Ok empty_line)) (λ i. plain_with (ana-listed 1 i ∷ bob-listed 2 i ∷ cy-listed 3 i ∷ []))
@@ -149,7 +135,7 @@ abbrev emptied : Known
 emptied = known None bob_left cy_fields (empty_told ∷ []) (empty_told ∷ []) (empty_told ∷ [])
 
 empty-sent : (hash : List ℕ → List ℕ) → hash zeros ≡ zeros → hash one ≡ one → hash two ≡ two → Comes plain hash empty_sent emptied
-unfolding with_share holds_words update_line printed digit_of merged_with
+unfolding owed_with lags_with holds_words update_line printed digit_of merged_with
 empty-sent hash same same_one same_two =
     says-more plain hash cy_entered three_there emptied 2 empty_line 0 (update_effect bob_own empty_update) Kept (cy-enters hash same same_one same_two)
     (refl, refl, refl, empty-read, refl, refl) (empty-decided hash) refl refl
@@ -173,9 +159,9 @@ abbrev searched : Known
 searched = known (Some 0) bob_left cy_fields (empty_told ∷ fifth_told ∷ []) (empty_told ∷ []) (empty_told ∷ [])
 
 fifth-sent : (hash : List ℕ → List ℕ) → hash zeros ≡ zeros → hash one ≡ one → hash two ≡ two → Comes plain hash fifth_sent searched
-unfolding accepted refused request_denied request_of audience listed with_share holds_words meets wants_of names_after
+unfolding accepted refused request_denied request_of audience listed owed_with lags_with holds_words meets wants_of names_after
 fifth-sent hash same same_one same_two =
-    ana-is-heard hash empty_sent emptied searched fifth_line (passed fifth_line.text (having (codes "+TCP4")) (Some 0)) (empty-sent hash same same_one same_two)
+    ana-is-heard hash empty_sent emptied searched fifth_line (passed fifth_line.text (having (codes "+TCP4")) (Sender (senders.Searches 0))) (empty-sent hash same same_one same_two)
     (refl, refl, refl, fifth-read, refl, refl) refl refl refl
 
 -- ---- cy fills its field SU
@@ -216,7 +202,7 @@ unfolding unescaped
 cy-called = ap key_of_points cy-chars ∙ cy-key
 
 fill-decided : (hash : List ℕ → List ℕ) → effect_of plain hash (facts_of searched) 3 fill_line.text 0 (Ok fill_line) ≡ update_effect cy_own fill_update
-unfolding accepted refused request_denied request_of account_with clean merged_with updates.reading updates.is_named updates.update spelled number_at
+unfolding accepted refused request_denied request_of update_grounds account_with clean merged_with updates.reading updates.is_named updates.update spelled number_at
 fill-decided hash =
     let prepared : PreparedLine = record { bytes = fill_line.text; owner = None; password = None } in
     ap (λ s. heard s cy_own prepared 0 (Ok fill_line)) (λ i. plain_with (ana-listed 1 i ∷ bob-changes i ∷ cy-listed 3 i ∷ []))
@@ -232,7 +218,7 @@ abbrev filled : Known
 filled = known (Some 0) bob_left cy_filled (empty_told ∷ fifth_told ∷ fill_told ∷ []) (empty_told ∷ fill_told ∷ []) (empty_told ∷ fill_told ∷ [])
 
 fill-sent : (hash : List ℕ → List ℕ) → hash zeros ≡ zeros → hash one ≡ one → hash two ≡ two → Comes plain hash fill_sent filled
-unfolding with_share holds_words update_line printed digit_of merged_with
+unfolding owed_with lags_with holds_words update_line printed digit_of merged_with
 fill-sent hash same same_one same_two =
     says-more plain hash fifth_sent searched filled 3 fill_line 0 (update_effect cy_own fill_update) Kept (fifth-sent hash same same_one same_two)
     (refl, refl, refl, fill-read, refl, refl) (fill-decided hash) refl refl
@@ -254,9 +240,9 @@ searched_again =
     known (Some 0) bob_left cy_filled (empty_told ∷ fifth_told ∷ fill_told ∷ sixth_told ∷ []) (empty_told ∷ fill_told ∷ []) (empty_told ∷ fill_told ∷ sixth_told ∷ [])
 
 sixth-sent : (hash : List ℕ → List ℕ) → hash zeros ≡ zeros → hash one ≡ one → hash two ≡ two → Comes plain hash updates_sent searched_again
-unfolding accepted refused request_denied request_of audience listed with_share holds_words meets wants_of names_after
+unfolding accepted refused request_denied request_of audience listed owed_with lags_with holds_words meets wants_of names_after
 sixth-sent hash same same_one same_two =
-    ana-is-heard hash fill_sent filled searched_again sixth_line (passed sixth_line.text (having (codes "+TCP4")) (Some 0)) (fill-sent hash same same_one same_two)
+    ana-is-heard hash fill_sent filled searched_again sixth_line (passed sixth_line.text (having (codes "+TCP4")) (Sender (senders.Searches 0))) (fill-sent hash same same_one same_two)
     (refl, refl, refl, sixth-read, refl, refl) refl refl refl
 
 pub updates-change-who-hears : UpdatesChangeWhoHears
@@ -270,7 +256,7 @@ abbrev dan_greeted : Known
 dan_greeted = record searched_again { last = 4; opened = 1 ∷ 2 ∷ 3 ∷ 4 ∷ []; abouts = greeted 4 4 (greeting_of (codes "AAAE")) ∷ searched_again.abouts }
 
 dan-asks : (hash : List ℕ → List ℕ) → hash zeros ≡ zeros → hash one ≡ one → hash two ≡ two → Comes plain hash dan_asked dan_greeted
-unfolding with_share support_line identifier_line hub_line escaped digit_of
+unfolding owed_with lags_with support_line identifier_line hub_line escaped digit_of
 dan-asks hash same same_one same_two =
     greets-more plain hash updates_sent searched_again dan_greeted 4 4 0 (sixth-sent hash same same_one same_two) refl refl (next-at (facts_of searched_again) refl)
     (refl, refl, refl, sup-read, refl, refl) refl refl refl
@@ -291,7 +277,7 @@ dan_effect = entry_effect (dan_user 4) (ana_told ∷ bob_now ∷ cy_now ∷ []) 
 
 dan-decided : (hash : List ℕ → List ℕ) → hash three ≡ three
     → effect_of plain hash (facts_of dan_greeted) 4 dan_text 0 (Ok (login_line dan_text 4 dan_words)) ≡ dan_effect
-unfolding entry_ask left account_with user_line printed digit_of spelled bytes_from number_from value_at bits value_of number_at
+unfolding login_grounds left account_with user_line printed digit_of spelled bytes_from number_from value_at bits value_of number_at
 dan-decided hash same =
     dan-logs-in hash dan_greeted (plain_with (ana_user 1 ∷ bob_changed ∷ cy_changed ∷ [])) 4 4 0 (greeting_of (codes "AAAE")) dan_text same refl refl
     (λ i. plain_with (ana-listed 1 i ∷ bob-changes i ∷ cy-changes i ∷ []))
@@ -307,7 +293,7 @@ dan_present = record dan_greeted {
 }
 
 dan-enters : (hash : List ℕ → List ℕ) → hash zeros ≡ zeros → hash one ≡ one → hash two ≡ two → hash three ≡ three → Comes plain hash dan_entered dan_present
-unfolding with_share listed
+unfolding owed_with lags_with listed
 dan-enters hash same same_one same_two same_three =
     says-more plain hash dan_asked dan_greeted dan_present 4 (login_line dan_text 4 dan_words) 0 dan_effect Kept (dan-asks hash same same_one same_two)
     (refl, refl, refl, dan-read, refl, refl) (dan-decided hash same_three) refl refl

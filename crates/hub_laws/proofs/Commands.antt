@@ -16,10 +16,10 @@ use Rattle.operator_acts.specs.declared.act.Act.{Act}
 use Rattle.operator_acts.specs.declared.act.Act.TheVariants as acts
 use Rattle.unicode_normalization.proofs.Computing.{unicode_normalization}
 use Rattle.user_table.specs.Tables.{first_who, user_by_key}
+use Rattle.hub_rules.specs.declared.effect.Change.TheVariants.{Nothing}
 use Rattle.hub_rules.specs.declared.effect.Effect.{Effect}
 use Rattle.hub_rules.specs.declared.effect.Hearers.TheVariants.{Others}
-use Rattle.hub_rules.specs.declared.effect.Turn.TheVariants as turns
-use Rattle.hub_rules.specs.declared.effect.World.TheVariants as worlds
+use Rattle.hub_rules.specs.declared.effect.HubChange.TheVariants as shared
 use Rattle.hub_rules.specs.declared.history.Verdict.TheVariants.{Kept}
 use Rattle.hub_rules.specs.Accounts.{account_with, operates}
 use Rattle.hub_rules.specs.Acts.{act_denied, act_effect, asked_denied, asked_effect, is_command, kick_denied, kick_effect, text_in, user_called}
@@ -28,7 +28,7 @@ use Rattle.hub_rules.specs.Effects.{accepted, denial, heard, unless_denied}
 use Rattle.hub_rules.specs.Facts.{own_of, sight_of}
 use Rattle.hub_rules.specs.Identities.{key_of_points}
 use Rattle.hub_rules.specs.Requests.{refused, request_of}
-use Rattle.hub_rules.specs.Shares.{with_share}
+use Rattle.hub_rules.specs.Shares.{lags_with, owed_with}
 use Rattle.hub_rules.specs.Sights.{PreparedLine, Sight}
 use Rattle.hub_rules.specs.Texts.{done_line, hub_line, identifier_line, support_line, topic_line}
 use Rattle.hub_laws.specs.Commands.{CommandsAreForOperators, access_told, bad_command_told, bob_tried, dance_asked, no_user_told, other_asked, other_told, topic_set, topic_told, zoe_called}
@@ -55,7 +55,7 @@ both_there to_op to_bob = record bob_present {
 
 -- only its sender hears of it
 abbrev denied_with : List ℕ → Effect
-denied_with told = record { own = told ∷ []; others = []; hearers = Others; turn = turns.Stays; world = worlds.Same; searched = None }
+denied_with told = record { own = told ∷ []; others = []; hearers = Others; change = Nothing }
 
 -- ---- who is no operator
 
@@ -77,7 +77,7 @@ try-decided hash =
 
 bob-tries : (hash : List ℕ → List ℕ) → hash zeros ≡ zeros → hash one ≡ one → hash (codes "secret" ++ zeros) ≡ secret_digest
     → Comes staffed hash bob_tried (both_there [] (access_told ∷ []))
-unfolding with_share
+unfolding owed_with lags_with
 bob-tries hash same same_one secret =
     says-more staffed hash bob_entered (both_there [] []) (both_there [] (access_told ∷ [])) 2 try_line 0 (denied_with access_told) Kept
     (bob-enters hash same same_one secret) (refl, refl, refl, try-read, refl, refl) (try-decided hash) refl refl
@@ -126,7 +126,7 @@ zoe-decided hash =
 
 zoe-is-called : (hash : List ℕ → List ℕ) → hash zeros ≡ zeros → hash one ≡ one → hash (codes "secret" ++ zeros) ≡ secret_digest
     → Comes staffed hash zoe_called (hears_denial [] no_user_told)
-unfolding with_share
+unfolding owed_with lags_with
 zoe-is-called hash same same_one secret =
     says-more staffed hash bob_tried (both_there [] (access_told ∷ [])) (hears_denial [] no_user_told) 1 zoe_line 0 (denied_with no_user_told) Kept
     (bob-tries hash same same_one secret) (refl, refl, refl, zoe-read, refl, refl) (zoe-decided hash) refl refl
@@ -144,7 +144,7 @@ dance-decided hash = asks hash (no_user_told ∷ []) dance_line None refl refl r
 
 dance-is-asked : (hash : List ℕ → List ℕ) → hash zeros ≡ zeros → hash one ≡ one → hash (codes "secret" ++ zeros) ≡ secret_digest
     → Comes staffed hash dance_asked (hears_denial (no_user_told ∷ []) bad_command_told)
-unfolding with_share
+unfolding owed_with lags_with
 dance-is-asked hash same same_one secret =
     says-more staffed hash zoe_called (hears_denial [] no_user_told) (hears_denial (no_user_told ∷ []) bad_command_told) 1 dance_line 0 (denied_with bad_command_told) Kept
     (zoe-is-called hash same same_one secret) (refl, refl, refl, dance-read, refl, refl) (dance-decided hash) refl refl
@@ -160,7 +160,7 @@ topic-read = reading-ascii topic_set_line.text refl refl ∙ refl
 
 topic-decided : (hash : List ℕ → List ℕ)
     → effect_of staffed hash (facts_of (hears_denial (no_user_told ∷ []) bad_command_told)) 1 topic_set_line.text 0 (Ok topic_set_line)
-    ≡ act_effect_of (topic_told ∷ []) (worlds.Topic (codes "new one"))
+    ≡ act_effect_of (topic_told ∷ []) (shared.Topic (codes "new one"))
 unfolding accepted refused request_denied request_of unescaped escape_means act_at act_of topic_line done_line escaped
 topic-decided hash = asks hash (no_user_told ∷ bad_command_told ∷ []) topic_set_line (Some (acts.Topic (codes "new one"))) refl refl refl refl
 
@@ -168,17 +168,17 @@ abbrev topic_there : Known
 topic_there = record (both_there (no_user_told ∷ bad_command_told ∷ topic_told ∷ done_told ∷ []) (access_told ∷ topic_told ∷ [])) { topic = codes "new one" }
 
 topic-is-set : (hash : List ℕ → List ℕ) → hash zeros ≡ zeros → hash one ≡ one → hash (codes "secret" ++ zeros) ≡ secret_digest → Comes staffed hash topic_set topic_there
-unfolding with_share holds_words
+unfolding owed_with lags_with holds_words
 topic-is-set hash same same_one secret =
     says-more staffed hash dance_asked (hears_denial (no_user_told ∷ []) bad_command_told) topic_there 1 topic_set_line 0
-    (act_effect_of (topic_told ∷ []) (worlds.Topic (codes "new one"))) Kept (dance-is-asked hash same same_one secret) (refl, refl, refl, topic-read, refl, refl)
+    (act_effect_of (topic_told ∷ []) (shared.Topic (codes "new one"))) Kept (dance-is-asked hash same same_one secret) (refl, refl, refl, topic-read, refl, refl)
     (topic-decided hash) refl refl
 
 abbrev other_there : Known
 other_there = record topic_there { last = 3; opened = 1 ∷ 2 ∷ 3 ∷ []; abouts = greeted 3 3 other_told ∷ topic_there.abouts }
 
 other-asks : (hash : List ℕ → List ℕ) → hash zeros ≡ zeros → hash one ≡ one → hash (codes "secret" ++ zeros) ≡ secret_digest → Comes staffed hash other_asked other_there
-unfolding with_share support_line identifier_line hub_line escaped digit_of
+unfolding owed_with lags_with support_line identifier_line hub_line escaped digit_of
 other-asks hash same same_one secret =
     greets-more staffed hash topic_set topic_there other_there 3 3 0 (topic-is-set hash same same_one secret) refl refl (next-at (facts_of topic_there) refl)
     (refl, refl, refl, sup-read, refl, refl) refl refl refl

@@ -24,20 +24,20 @@ use Rattle.login_state.specs.Support.{said, supported, supported_after}
 use Rattle.login_state.specs.SupportAnswers.{applied}
 use Rattle.operator_acts.specs.Bans.{left}
 use Rattle.user_table.specs.Listed.{Listed}
+use Rattle.hub_rules.specs.declared.effect.Change.TheVariants.{Nothing, Sender}
 use Rattle.hub_rules.specs.declared.effect.Effect.{Effect}
 use Rattle.hub_rules.specs.declared.effect.Hearers.TheVariants.{Others}
-use Rattle.hub_rules.specs.declared.effect.Turn.TheVariants as turns
-use Rattle.hub_rules.specs.declared.effect.World.TheVariants.{Same}
+use Rattle.hub_rules.specs.declared.effect.SenderChange.TheVariants as senders
 use Rattle.hub_rules.specs.declared.history.Verdict.TheVariants.{Ended, Kept}
 use Rattle.hub_rules.specs.Accounts.{account_with}
-use Rattle.hub_rules.specs.Asks.{entry_ask}
+use Rattle.hub_rules.specs.Grounds.{login_grounds}
 use Rattle.hub_rules.specs.Denied.{request_denied}
 use Rattle.hub_rules.specs.Effects.{accepted, denial}
 use Rattle.hub_rules.specs.Facts.{newcomer, own_of}
 use Rattle.hub_rules.specs.Identities.{key_of_points, listed, nick_in}
 use Rattle.hub_rules.specs.Prepared.{owner_digest, update_of}
 use Rattle.hub_rules.specs.Requests.{refused, request_of}
-use Rattle.hub_rules.specs.Shares.{About, with_share}
+use Rattle.hub_rules.specs.Shares.{About, lags_with, owed_with}
 use Rattle.hub_rules.specs.Sights.{user_after}
 use Rattle.hub_rules.specs.Texts.{ended, hub_line, identifier_line, support_line, user_line}
 use Rattle.hub_laws.specs.Conversations.{BothAreHeard, ChatIsHeard, DeniedAndOut, LoginIsHeard, ThreeAnswers, ana_entered, ana_text, ana_told, bob_entered, bob_text, bob_told, bobs_id, greeting_of, hi_text, lacking_text, nobodys_id, one, one_asked, one_denied, one_joined, peer, plain, said_hi, two_asked, zeros}
@@ -82,9 +82,7 @@ denied_effect = record {
   own = ended (codes "ISTA 245 Feature\\smissing FCBASE") ∷ [];
   others = [];
   hearers = Others;
-  turn = turns.Falls;
-  world = Same;
-  searched = None;
+  change = Sender senders.Falls;
 }
 
 lacking-decided : (hash : List ℕ → List ℕ) → effect_of plain hash (facts_of one_there) 1 lacking_text 0 (Ok lacking_line) ≡ denied_effect
@@ -95,7 +93,7 @@ abbrev one_fallen : Known
 one_fallen = record one_there { abouts = record (newcomer 1 1 peer zeros) { stage = stages.Gone; owed = denied_effect.own } ∷ [] }
 
 one-falls : (hash : List ℕ → List ℕ) → Comes plain hash one_denied one_fallen
-unfolding with_share
+unfolding owed_with lags_with
 one-falls hash =
     says-more plain hash one_joined one_there one_fallen 1 lacking_line 0 denied_effect Ended (one-joins hash) (refl, refl, refl, lacking-read, refl, refl)
     (lacking-decided hash) refl refl
@@ -144,7 +142,7 @@ ana-read = reading-ascii ana_text refl refl ∙ refl
 
 ana-decided : (hash : List ℕ → List ℕ) → hash zeros ≡ zeros
     → effect_of plain hash (facts_of ana_greeted) 1 ana_text 0 (Ok (login_line ana_text 1 ana_words)) ≡ entry_effect (ana_user 1) [] ana_told
-unfolding entry_ask left account_with user_line printed digit_of spelled bytes_from number_from value_at bits value_of
+unfolding login_grounds left account_with user_line printed digit_of spelled bytes_from number_from value_at bits value_of
 ana-decided hash same =
     logs-in plain hash ana_greeted (plain_with []) 1 1 0 (greeting_of (codes "AAAB")) ana_words ana_text zeros ana (ana_user 1) refl refl refl
     (ana-digest hash ana_text 1) same (no-password plain hash (update_of (Ok (login_line ana_text 1 ana_words))) refl) ana-updates
@@ -158,7 +156,7 @@ abbrev ana_present : Known
 ana_present = record ana_greeted { present = 1 ∷ []; abouts = ana_about (greeting_of (codes "AAAB") ++ ana_told ∷ []) ∷ [] }
 
 ana-enters : (hash : List ℕ → List ℕ) → hash zeros ≡ zeros → Comes plain hash ana_entered ana_present
-unfolding with_share listed
+unfolding owed_with lags_with listed
 ana-enters hash same =
     says-more plain hash one_asked ana_greeted ana_present 1 (login_line ana_text 1 ana_words) 0 (entry_effect (ana_user 1) [] ana_told) Kept (ana-asks hash)
     (refl, refl, refl, ana-read, refl, refl) (ana-decided hash same) refl refl
@@ -173,7 +171,7 @@ abbrev bob_greeted : Known
 bob_greeted = record ana_present { last = 2; opened = 1 ∷ 2 ∷ []; abouts = greeted 2 2 (greeting_of (codes "AAAC")) ∷ ana_present.abouts }
 
 bob-asks : (hash : List ℕ → List ℕ) → hash zeros ≡ zeros → Comes plain hash two_asked bob_greeted
-unfolding with_share support_line identifier_line hub_line escaped digit_of
+unfolding owed_with lags_with support_line identifier_line hub_line escaped digit_of
 bob-asks hash same =
     greets-more plain hash ana_entered ana_present bob_greeted 2 2 0 (ana-enters hash same) refl refl (next-at (facts_of ana_present) refl)
     (refl, refl, refl, sup-read, refl, refl) refl refl refl
@@ -216,7 +214,7 @@ bob-read = reading-ascii bob_text refl refl ∙ refl
 
 bob-decided : (hash : List ℕ → List ℕ) → hash one ≡ one
     → effect_of plain hash (facts_of bob_greeted) 2 bob_text 0 (Ok (login_line bob_text 2 bob_words)) ≡ entry_effect (bob_user 2) (ana_told ∷ []) bob_told
-unfolding entry_ask left account_with user_line printed digit_of spelled bytes_from number_from value_at bits value_of
+unfolding login_grounds left account_with user_line printed digit_of spelled bytes_from number_from value_at bits value_of
 bob-decided hash same =
     logs-in plain hash bob_greeted (plain_with (ana_user 1 ∷ [])) 2 2 0 (greeting_of (codes "AAAC")) bob_words bob_text one bob (bob_user 2) refl refl
     (λ i. plain_with (ana-listed 1 i ∷ [])) (bob-digest hash bob_text 2) same (no-password plain hash (update_of (Ok (login_line bob_text 2 bob_words))) refl) bob-updates
@@ -232,7 +230,7 @@ two_there more = record bob_greeted {
 }
 
 bob-enters : (hash : List ℕ → List ℕ) → hash zeros ≡ zeros → hash one ≡ one → Comes plain hash bob_entered (two_there [])
-unfolding with_share listed
+unfolding owed_with lags_with listed
 bob-enters hash same same_one =
     says-more plain hash two_asked bob_greeted (two_there []) 2 (login_line bob_text 2 bob_words) 0 (entry_effect (bob_user 2) (ana_told ∷ []) bob_told) Kept
     (bob-asks hash same) (refl, refl, refl, bob-read, refl, refl) (bob-decided hash same_one) refl refl
@@ -252,9 +250,9 @@ unfolding header_of head_at kind_at addressed params_fault is_escaped sid_at fou
 hi-read = reading-ascii hi_text refl refl ∙ refl
 
 bob-says-hi : (hash : List ℕ → List ℕ) → hash zeros ≡ zeros → hash one ≡ one → Comes plain hash said_hi (two_there (ended hi_text ∷ []))
-unfolding accepted refused request_denied request_of audience listed with_share holds_words
+unfolding accepted refused request_denied request_of audience listed owed_with lags_with holds_words
 bob-says-hi hash same same_one =
-    says-more plain hash bob_entered (two_there []) (two_there (ended hi_text ∷ [])) 2 hi_line 0 (passed hi_text audiences.All None) Kept (bob-enters hash same same_one)
+    says-more plain hash bob_entered (two_there []) (two_there (ended hi_text ∷ [])) 2 hi_line 0 (passed hi_text audiences.All Nothing) Kept (bob-enters hash same same_one)
     (refl, refl, refl, hi-read, refl, refl) refl refl refl
 
 -- both hear what the second says

@@ -1,21 +1,21 @@
 -- What a take gives stands behind what the takes before it gave.
-use Rattle.std.proofs.Common.{◌≡◌, ◌∙◌, sym, ap, ap₂, refl, ℕ, ◌<◌, ◌≤◌, Bool, true, false, ◌&&◌, ◌==◌, List, [], ◌∷◌, ◌++◌, length, take, append-nil}
+use Rattle.std.proofs.Common.{◌≡◌, ◌∙◌, sym, ap, ap₂, refl, ℕ, ◌<◌, ◌≤◌, Bool, true, false, ◌==◌, List, [], ◌∷◌, ◌++◌, length, take, append-nil, arith}
 use Rattle.std.specs.List.{concat}
 use Rattle.std.proofs.lemmas.Bool.{eqb-true, false≢true}
 use Rattle.std.proofs.lemmas.List.{take-append-le}
 use Rattle.hub_rules.specs.declared.effect.Effect.{Effect}
 use Rattle.hub_rules.specs.declared.history.Call.{Call}
-use Rattle.hub_rules.specs.declared.history.Call.TheVariants.{Join, Line, Quit, Take}
 use Rattle.hub_rules.specs.Configured.{Configured}
 use Rattle.hub_rules.specs.Effects.{departure, given_if}
-use Rattle.hub_rules.specs.Facts.{Facts, facts, about_after, after, effect_of_line, given, happens, has_joins, has_place}
+use Rattle.hub_rules.specs.Facts.{Facts, facts, about_after, effect_of_line}
 use Rattle.hub_rules.specs.Legal.{Legal, reply, take_reply}
-use Rattle.hub_rules.specs.Shares.{About, chosen, waiting}
+use Rattle.hub_rules.specs.Shares.{About, waiting}
 use Rattle.hub_laws.specs.Delivery.{DeliveredAreTheFirst, bytes_of_take, bytes_taken, delivered}
+use Rattle.hub_invariants.proofs.Becoming.{Becomes, becomes, taken_by}
 use Rattle.hub_invariants.proofs.Calls.{sound_of}
-use Rattle.hub_invariants.proofs.Kept.{about-taken, closed-about, fresh-taken, given-bytes, join-taken}
+use Rattle.hub_invariants.proofs.Kept.{fresh-taken, given-bytes}
 use Rattle.hub_invariants.proofs.Sound.{eqb-sym}
-use Rattle.hub_laws.proofs.Lagging.{Unowed, about-owed, join-same, room_in, share_by, unowed_of}
+use Rattle.hub_laws.proofs.Lagging.{Unowed, about-owed, room_in, share_by, unowed_of}
 
 -- the bytes of the first lines that a connection was owed, of as many as it took
 abbrev front : About → List ℕ
@@ -26,35 +26,28 @@ front a = concat (take a.taken a.owed)
 -- an effect takes nothing, and adds to what is owed
 front-after : (c : ℕ) (effect : Effect) (f : Facts) (d : ℕ) → (f.about d).taken ≤ length (f.about d).owed → front (about_after c effect f.about d) ≡ front (f.about d)
 front-after c effect f d few =
-    ap₂ (λ n ls. concat (take n ls)) (about-taken c effect f d) (about-owed c effect f d)
+    ap (λ ls. concat (take (f.about d).taken ls)) (about-owed c effect f d)
     ∙ ap concat (take-append-le (f.about d).taken (f.about d).owed (given_if (room_in (f.about d) (share_by c effect f d)) (share_by c effect f d)) few)
 
-happens-front : (c : ℕ) (effect : Effect) (f : Facts) (d : ℕ) → (f.about d).taken ≤ length (f.about d).owed → front ((happens c effect f).about d) ≡ front (f.about d)
-unfolding happens
-happens-front c effect f d few = front-after c effect f d few
-
 take-front : (f : Facts) (c count d : ℕ) (same other : Bool) → (d == c) ≡ same → same ≡ other
-    → front (chosen same (given count (f.about d)) (f.about d)) ≡ front (f.about d) ++ bytes_of_take other (take_reply count (f.about c))
+    → front (taken_by same count (f.about d)) ≡ front (f.about d) ++ bytes_of_take other (take_reply count (f.about c))
 take-front f c count d true true is alike =
     given-bytes count (f.about d) ∙ ap (λ (x : ℕ). front (f.about d) ++ concat (take count (waiting (f.about x)))) (eqb-true d c is)
 take-front f c count d true false is alike = absurd (false≢true (sym alike))
 take-front f c count d false true is alike = absurd (false≢true alike)
 take-front f c count d false false is alike = sym (append-nil (front (f.about d)))
 
-step-front : (setup : Configured) (hash : List ℕ → List ℕ) (f : Facts) (caller : ℕ) (call : Call) (d : ℕ) → (f.joins < d → (f.about d).taken ≡ 0)
-    → (f.joins < d → Unowed (f.about d)) → (f.about d).taken ≤ length (f.about d).owed
-    → front ((after setup hash f caller call).about d) ≡ front (f.about d) ++ bytes_taken d call (reply setup hash f caller call)
-unfolding after reply
-step-front setup hash f caller (Join peer challenge now) d fresh unowed few =
-    ap₂ (λ n ls. concat (take n ls)) (join-taken f caller peer challenge d fresh (has_place setup f && has_joins f))
-    (join-same f caller peer challenge d (has_place setup f && has_joins f) unowed).1
-    ∙ sym (append-nil (front (f.about d)))
-step-front setup hash f caller (Line c bytes now) d fresh unowed few =
-    happens-front c (effect_of_line setup hash f c bytes now) f d few ∙ sym (append-nil (front (f.about d)))
-step-front setup hash f caller (Quit c) d fresh unowed few =
-    ap front (closed-about c (happens c (departure (f.about c).stage (f.about c).sid) f) d)
-    ∙ happens-front c (departure (f.about c).stage (f.about c).sid) f d few ∙ sym (append-nil (front (f.about d)))
-step-front setup hash f caller (Take c count) d fresh unowed few = take-front f c count d (d == c) (c == d) refl (eqb-sym d c (d == c) (c == d) refl refl)
+module _ {setup : Configured} {hash : List ℕ → List ℕ} {f : Facts} {caller d : ℕ} where
+  front-next : {call : Call} {a : About} → Becomes setup hash f caller d call a → (f.joins < d → (f.about d).taken ≡ 0) → (f.joins < d → Unowed (f.about d))
+      → (f.about d).taken ≤ length (f.about d).owed → front a ≡ front (f.about d) ++ bytes_taken d call (reply setup hash f caller call)
+  unfolding reply
+  front-next (Becomes.joins peer challenge now place is) fresh unowed few =
+      let beyond : f.joins < d = omega (arith, is) in
+      ap₂ (λ n ls. concat (take n ls)) (sym (fresh beyond)) (sym (unowed beyond).owed) ∙ sym (append-nil (front (f.about d)))
+  front-next (Becomes.says c bytes now) fresh unowed few = front-after c (effect_of_line setup hash f c bytes now) f d few ∙ sym (append-nil (front (f.about d)))
+  front-next (Becomes.quits c) fresh unowed few = front-after c (departure (f.about c).stage (f.about c).sid) f d few ∙ sym (append-nil (front (f.about d)))
+  front-next (Becomes.takes c count) fresh unowed few = take-front f c count d (d == c) (c == d) refl (eqb-sym d c (d == c) (c == d) refl refl)
+  front-next _ fresh unowed few = sym (append-nil (front (f.about d)))
 
 -- ---- every history
 
@@ -63,4 +56,4 @@ unfolding facts Legal delivered
 delivered_are_the_first setup hash [] legal c = refl
 delivered_are_the_first setup hash (e ∷ h) legal c =
     ap₂ ◌++◌ (delivered_are_the_first setup hash h legal.0 c) (ap (bytes_taken c e.call) legal.2)
-    ∙ sym (step-front setup hash (facts setup hash h) e.caller e.call c (fresh-taken setup hash h legal.0 c) (unowed_of setup hash h c) ((sound_of setup hash h).taken c))
+    ∙ sym (front-next (becomes setup hash (facts setup hash h) e.caller c e.call) (fresh-taken setup hash h legal.0 c) (unowed_of setup hash h c) ((sound_of setup hash h).taken c))

@@ -9,14 +9,14 @@ use Rattle.adc_line.specs.Lines.{Reading, reading}
 use Rattle.adc_line.specs.Parameters.{params_fault}
 use Rattle.login_state.specs.declared.stage.Stage.TheVariants as stages
 use Rattle.login_state.specs.Denials.{denial_text}
+use Rattle.hub_rules.specs.declared.effect.Change.TheVariants.{Sender}
 use Rattle.hub_rules.specs.declared.effect.Effect.{Effect}
 use Rattle.hub_rules.specs.declared.effect.Hearers.TheVariants.{Others}
-use Rattle.hub_rules.specs.declared.effect.Turn.TheVariants as turns
-use Rattle.hub_rules.specs.declared.effect.World.TheVariants.{Same}
+use Rattle.hub_rules.specs.declared.effect.SenderChange.TheVariants as senders
 use Rattle.hub_rules.specs.declared.history.Verdict.TheVariants.{Ended}
 use Rattle.hub_rules.specs.Effects.{denial}
 use Rattle.hub_rules.specs.Requests.{refused}
-use Rattle.hub_rules.specs.Shares.{About, with_share}
+use Rattle.hub_rules.specs.Shares.{About, lags_with, owed_with}
 use Rattle.hub_rules.specs.Texts.{ended}
 use Rattle.hub_laws.specs.Conversations.{one, plain, zeros}
 use Rattle.hub_laws.specs.Departures.{DeparturesAreHeard, ana_gone, ana_left, ana_lied, cy_gone, cy_left}
@@ -45,7 +45,7 @@ two_there = record three_there {
 }
 
 cy-leaves : (hash : List ℕ → List ℕ) → hash zeros ≡ zeros → hash one ≡ one → hash two ≡ two → Comes plain hash cy_left two_there
-unfolding with_share digit_of
+unfolding owed_with lags_with digit_of
 cy-leaves hash same same_one same_two = quits-more plain hash cy_entered three_there two_there 3 (cy-enters hash same same_one same_two) refl refl refl refl
 
 abbrev lie_line : Reading
@@ -68,9 +68,7 @@ lie_effect = record {
   own = ended (codes "ISTA 240 Wrong\\sSID") ∷ [];
   others = ana_gone ∷ [];
   hearers = Others;
-  turn = turns.Falls;
-  world = Same;
-  searched = None;
+  change = Sender senders.Falls;
 }
 
 lie-decided : (hash : List ℕ → List ℕ) → effect_of plain hash (facts_of two_there) 1 lie_line.text 0 (Ok lie_line) ≡ lie_effect
@@ -87,13 +85,13 @@ one_there = record two_there {
 }
 
 ana-lies : (hash : List ℕ → List ℕ) → hash zeros ≡ zeros → hash one ≡ one → hash two ≡ two → Comes plain hash ana_lied one_there
-unfolding with_share
+unfolding owed_with lags_with
 ana-lies hash same same_one same_two =
     says-more plain hash cy_left two_there one_there 1 lie_line 0 lie_effect Ended (cy-leaves hash same same_one same_two)
     (refl, refl, refl, lie-read, refl, refl) (lie-decided hash) refl refl
 
 ana-leaves : (hash : List ℕ → List ℕ) → hash zeros ≡ zeros → hash one ≡ one → hash two ≡ two → Comes plain hash ana_left (record one_there { opened = 2 ∷ [] })
-unfolding with_share
+unfolding owed_with lags_with
 ana-leaves hash same same_one same_two =
     quits-more plain hash ana_lied one_there (record one_there { opened = 2 ∷ [] }) 1 (ana-lies hash same same_one same_two) refl refl refl refl
 

@@ -4,22 +4,23 @@ use Rattle.std.proofs.lemmas.Bool.{false≢true, eqb-true, eq-eqb}
 use Rattle.std.proofs.lemmas.List.Elements.{filter-append}
 use Rattle.login_state.specs.declared.stage.Stage.{Stage}
 use Rattle.login_state.specs.declared.stage.Stage.TheVariants as stages
+use Rattle.hub_rules.specs.declared.effect.Change.{Change}
 use Rattle.hub_rules.specs.declared.effect.Effect.{Effect}
-use Rattle.hub_rules.specs.declared.effect.Turn.{Turn}
 use Rattle.hub_rules.specs.declared.history.Call.{Call}
 use Rattle.hub_rules.specs.declared.history.Call.TheVariants.{Join, Line, Quit, Take}
 use Rattle.hub_rules.specs.declared.history.Entry.{Entry}
 use Rattle.hub_rules.specs.Configured.{Configured}
 use Rattle.hub_rules.specs.Effects.{departure, is_over, is_present}
 use Rattle.hub_rules.specs.Entering.{PresentInOrder, brought_in, entrants}
-use Rattle.hub_rules.specs.Facts.{Facts, facts, after, about_after, closed, effect_of_line, enters, given, happens, has_joins, has_place, joined, newcomer, newcomer_if, next_sid, own_of, sight_of}
+use Rattle.hub_rules.specs.Facts.{Facts, facts, after, about_after, closed, effect_of_line, enters, happens, has_joins, has_place, joined, newcomer, newcomer_if, next_sid, own_of, sight_of}
 use Rattle.hub_rules.specs.Prepared.{prepared}
-use Rattle.hub_rules.specs.Shares.{About, chosen, stage_after}
+use Rattle.hub_rules.specs.Shares.{chosen, removed_by, stage_after}
+use Rattle.hub_invariants.proofs.Becoming.{take-facts}
 use Rattle.hub_invariants.proofs.Calls.{sound_of}
 use Rattle.hub_invariants.proofs.Fits.{Fits, fits-departure}
 use Rattle.hub_invariants.proofs.Lines.{fits-line}
 use Rattle.hub_invariants.proofs.Members.{and-false, has, has-append}
-use Rattle.hub_invariants.proofs.Sound.{Sound, about-stage, alone-at, happens-open, not-over, or-false, or-true, over-next, present-entered, present-next, removed_by, stage_next}
+use Rattle.hub_invariants.proofs.Sound.{Sound, alone-at, happens-open, not-over, or-false, or-true, over-next, present-entered, present-next, stage_next}
 use Rattle.hub_laws.proofs.Turning.{is_settled, keeps-line, keeps-settled}
 
 -- ---- lists
@@ -43,44 +44,38 @@ filter-narrow p q (x ∷ xs) only =
 present-settled : (s : Stage) → is_settled s ≡ true → is_over s ≡ false → is_present s ≡ true
 present-settled stages.Normal settled over = refl
 present-settled stages.Gone settled over = absurd (false≢true (sym over))
-present-settled stages.Protocol settled over = absurd (false≢true settled)
-present-settled stages.Identify settled over = absurd (false≢true settled)
-present-settled stages.Verify settled over = absurd (false≢true settled)
+present-settled _ settled over = absurd (false≢true settled)
 
 settled-present : (s : Stage) → is_present s ≡ true → is_settled s ≡ true
 settled-present stages.Normal here = refl
-settled-present stages.Gone here = absurd (false≢true here)
-settled-present stages.Protocol here = absurd (false≢true here)
-settled-present stages.Identify here = absurd (false≢true here)
-settled-present stages.Verify here = absurd (false≢true here)
+settled-present _ here = absurd (false≢true here)
 
-next-settled : (removed is_caller : Bool) (turn : Turn) (stage : Stage) → (is_caller ≡ true → is_settled (stage_after turn stage) ≡ true) → is_settled stage ≡ true
-    → is_settled (stage_next removed is_caller turn stage) ≡ true
-next-settled true is_caller turn stage turned settled = refl
-next-settled false true turn stage turned settled = turned refl
-next-settled false false turn stage turned settled = settled
+next-settled : (removed is_caller : Bool) (change : Change) (stage : Stage) → (is_caller ≡ true → is_settled (stage_after change stage) ≡ true) → is_settled stage ≡ true
+    → is_settled (stage_next removed is_caller change stage) ≡ true
+next-settled true is_caller change stage own settled = refl
+next-settled false true change stage own settled = own refl
+next-settled false false change stage own settled = settled
 
 -- ---- one effect
 
 -- an effect under which nobody who entered enters again
 pub record Steady (stage : Stage) (effect : Effect) : Type 0 where
-  pub settled : is_settled stage ≡ true → is_settled (stage_after effect.turn stage) ≡ true
+  pub settled : is_settled stage ≡ true → is_settled (stage_after effect.change stage) ≡ true
 
 about-settled : (c : ℕ) (effect : Effect) (f : Facts) → Steady (f.about c).stage effect → (d : ℕ) → is_settled (f.about d).stage ≡ true
     → is_settled (about_after c effect f.about d).stage ≡ true
 about-settled c effect f steady d settled =
-    ap is_settled (about-stage c effect f d)
-    ∙ next-settled (removed_by effect (f.about d)) (d == c) effect.turn (f.about d).stage
-    (λ is. subst (λ x. is_settled (f.about x).stage ≡ true → is_settled (stage_after effect.turn (f.about x).stage) ≡ true) (sym (eqb-true d c is)) steady.settled settled)
+    next-settled (removed_by effect (f.about d)) (d == c) effect.change (f.about d).stage
+    (λ is. subst (λ x. is_settled (f.about x).stage ≡ true → is_settled (stage_after effect.change (f.about x).stage) ≡ true) (sym (eqb-true d c is)) steady.settled settled)
     settled
 
 was-present : (c : ℕ) (effect : Effect) (f : Facts) → Fits (f.about c).stage effect → (d : ℕ) → is_settled (f.about d).stage ≡ true
     → is_present (about_after c effect f.about d).stage ≡ true → is_present (f.about d).stage ≡ true
 was-present c effect f suits d settled here =
     present-settled (f.about d).stage settled
-    (over-next (removed_by effect (f.about d)) (d == c) effect.turn (f.about d).stage
-    (λ is. subst (λ x. is_over (f.about x).stage ≡ true → is_over (stage_after effect.turn (f.about x).stage) ≡ true) (sym (eqb-true d c is)) suits.stays_over)
-    (ap is_over (sym (about-stage c effect f d)) ∙ not-over (about_after c effect f.about d).stage here))
+    (over-next (removed_by effect (f.about d)) (d == c) effect.change (f.about d).stage
+    (λ is. subst (λ x. is_over (f.about x).stage ≡ true → is_over (stage_after effect.change (f.about x).stage) ≡ true) (sym (eqb-true d c is)) suits.stays_over)
+    (not-over (about_after c effect f.about d).stage here))
 
 -- who enters is who comes to the stage of users
 brought-by : (enter before now : Bool) → (enter ≡ true → before ≡ false) → (enter ≡ true → now ≡ true) → (enter ≡ false → now ≡ true → before ≡ true)
@@ -91,16 +86,17 @@ brought-by false true now once comes from = refl
 brought-by false false true once comes from = absurd (false≢true (from refl refl))
 brought-by false false false once comes from = refl
 
+entered-here : (c : ℕ) (effect : Effect) (f : Facts) → Fits (f.about c).stage effect → enters effect.change ≡ true → is_present (about_after c effect f.about c).stage ≡ true
+entered-here c effect f suits enter =
+    ap₂ (λ r b. is_present (stage_next r b effect.change (f.about c).stage)) (alone-at c effect f suits c (ap₂ ◌&&◌ (eq-eqb c c refl) enter)) (eq-eqb c c refl)
+    ∙ present-entered effect.change (f.about c).stage enter
+
 enters-is : (c : ℕ) (effect : Effect) (f : Facts) → Fits (f.about c).stage effect
-    → enters effect.turn ≡ (not (is_present (f.about c).stage) && is_present (about_after c effect f.about c).stage)
+    → enters effect.change ≡ (not (is_present (f.about c).stage) && is_present (about_after c effect f.about c).stage)
 enters-is c effect f suits =
-    brought-by (enters effect.turn) (is_present (f.about c).stage) (is_present (about_after c effect f.about c).stage) suits.enters_once
-    (λ enter. ap is_present (about-stage c effect f c)
-    ∙ ap₂ (λ r b. is_present (stage_next r b effect.turn (f.about c).stage))
-    (alone-at c effect f suits c (ap₂ ◌&&◌ (eq-eqb c c refl) enter)) (eq-eqb c c refl)
-    ∙ present-entered effect.turn (f.about c).stage enter)
-    (λ quiet here. present-next (removed_by effect (f.about c)) (c == c) effect.turn (f.about c).stage
-    (ap (λ b. (c == c) && b) quiet ∙ and-false (c == c)) (ap is_present (sym (about-stage c effect f c)) ∙ here))
+    brought-by (enters effect.change) (is_present (f.about c).stage) (is_present (about_after c effect f.about c).stage) suits.enters_once
+    (entered-here c effect f suits)
+    (λ quiet here. present-next (removed_by effect (f.about c)) (c == c) effect.change (f.about c).stage (ap (λ b. (c == c) && b) quiet ∙ and-false (c == c)) here)
 
 -- ---- every call
 
@@ -125,36 +121,30 @@ newcomer-stays : (p : ℕ → Bool) (enter : Bool) (c : ℕ) → (enter ≡ true
 newcomer-stays p true c here = ap (λ b. cond b (c ∷ []) []) (here refl)
 newcomer-stays p false c here = refl
 
-entered-here : (c : ℕ) (effect : Effect) (f : Facts) → Fits (f.about c).stage effect → enters effect.turn ≡ true → is_present (about_after c effect f.about c).stage ≡ true
-entered-here c effect f suits enter =
-    ap is_present (about-stage c effect f c)
-    ∙ ap₂ (λ r b. is_present (stage_next r b effect.turn (f.about c).stage)) (alone-at c effect f suits c (ap₂ ◌&&◌ (eq-eqb c c refl) enter)) (eq-eqb c c refl)
-    ∙ present-entered effect.turn (f.about c).stage enter
-
 happens-ordered : (c : ℕ) (effect : Effect) (f : Facts) (cs : List ℕ) → Sound f → Fits (f.about c).stage effect → Steady (f.about c).stage effect → Ordered f cs
-    → Ordered (happens c effect f) (cs ++ newcomer_if (enters effect.turn) c)
+    → Ordered (happens c effect f) (cs ++ newcomer_if (enters effect.change) c)
 unfolding happens
 happens-ordered c effect f cs sound suits steady ordered = record {
-  all_settled = λ d there. grown (λ x. is_settled (about_after c effect f.about x).stage ≡ true) cs (newcomer_if (enters effect.turn) c) d (has d cs) refl
+  all_settled = λ d there. grown (λ x. is_settled (about_after c effect f.about x).stage ≡ true) cs (newcomer_if (enters effect.change) c) d (has d cs) refl
       (λ old. about-settled c effect f steady d (ordered.all_settled d old))
-      (λ new. let is = in-newcomer (enters effect.turn) c d new in
+      (λ new. let is = in-newcomer (enters effect.change) c d new in
       subst (λ x. is_settled (about_after c effect f.about x).stage ≡ true) is.1
       (settled-present (about_after c effect f.about c).stage (entered-here c effect f suits is.0)))
       there;
-  all_joined = λ d there. grown (λ x. x ≤ f.joins) cs (newcomer_if (enters effect.turn) c) d (has d cs) refl
+  all_joined = λ d there. grown (λ x. x ≤ f.joins) cs (newcomer_if (enters effect.change) c) d (has d cs) refl
       (ordered.all_joined d)
-      (λ new. let is = in-newcomer (enters effect.turn) c d new in
+      (λ new. let is = in-newcomer (enters effect.change) c d new in
       subst (λ x. x ≤ f.joins) is.1
       (sound.counted c (happens-open c effect f sound suits c (not-over (about_after c effect f.about c).stage (entered-here c effect f suits is.0)))))
       there;
   in_order =
-      ap (λ xs. filter (λ d. is_present (about_after c effect f.about d).stage) xs ++ newcomer_if (enters effect.turn) c) ordered.in_order
-      ∙ ap (λ xs. xs ++ newcomer_if (enters effect.turn) c)
+      ap (λ xs. filter (λ d. is_present (about_after c effect f.about d).stage) xs ++ newcomer_if (enters effect.change) c) ordered.in_order
+      ∙ ap (λ xs. xs ++ newcomer_if (enters effect.change) c)
       (filter-narrow (λ d. is_present (f.about d).stage) (λ d. is_present (about_after c effect f.about d).stage) cs
       (λ d there. was-present c effect f suits d (ordered.all_settled d there)))
       ∙ ap (λ xs. filter (λ d. is_present (about_after c effect f.about d).stage) cs ++ xs)
-      (sym (newcomer-stays (λ d. is_present (about_after c effect f.about d).stage) (enters effect.turn) c (entered-here c effect f suits)))
-      ∙ sym (filter-append (λ d. is_present (about_after c effect f.about d).stage) cs (newcomer_if (enters effect.turn) c));
+      (sym (newcomer-stays (λ d. is_present (about_after c effect f.about d).stage) (enters effect.change) c (entered-here c effect f suits)))
+      ∙ sym (filter-append (λ d. is_present (about_after c effect f.about d).stage) cs (newcomer_if (enters effect.change) c));
 }
 
 -- the same of facts whose stages are the same where somebody entered
@@ -189,55 +179,34 @@ join-ordered f owner peer challenge cs false ordered = ordered
 
 closed-ordered : (c : ℕ) (f : Facts) (cs : List ℕ) → Ordered f cs → Ordered (closed c f) cs
 unfolding closed
-closed-ordered c f cs ordered = ordered-same f _ cs (omega arith) refl (λ d below. refl) ordered
-
-take-stage : (count : ℕ) (a : About) (same : Bool) → (chosen same (given count a) a).stage ≡ a.stage
-take-stage count a true = refl
-take-stage count a false = refl
+closed-ordered c f cs ordered = record { all_settled = ordered.all_settled; all_joined = ordered.all_joined; in_order = ordered.in_order }
 
 steady-line : (setup : Configured) (hash : List ℕ → List ℕ) (f : Facts) (c : ℕ) (bytes : List ℕ) (now : ℕ) → Steady (f.about c).stage (effect_of_line setup hash f c bytes now)
 steady-line setup hash f c bytes now = record {
-  settled = λ is. keeps-settled (effect_of_line setup hash f c bytes now).turn (f.about c).stage
+  settled = λ is. keeps-settled (effect_of_line setup hash f c bytes now).change (f.about c).stage
       (keeps-line (sight_of setup f) (own_of (f.about c)) (prepared setup hash (f.about c).challenge bytes) now is) is;
 }
 
-line-ordered : (setup : Configured) (hash : List ℕ → List ℕ) (f : Facts) (caller c : ℕ) (bytes : List ℕ) (now : ℕ) (cs : List ℕ) → Sound f → Ordered f cs
-    → Ordered (after setup hash f caller (Line c bytes now)) (cs ++ brought_in setup hash f caller (Line c bytes now))
-unfolding after happens
-line-ordered setup hash f caller c bytes now cs sound ordered =
-    subst (λ b. Ordered (happens c (effect_of_line setup hash f c bytes now) f) (cs ++ newcomer_if b c))
-    (enters-is c (effect_of_line setup hash f c bytes now) f (fits-line setup hash f c bytes now))
-    (happens-ordered c (effect_of_line setup hash f c bytes now) f cs sound (fits-line setup hash f c bytes now) (steady-line setup hash f c bytes now) ordered)
-
-quit-ordered : (f : Facts) (c : ℕ) (cs : List ℕ) → Sound f → Ordered f cs → Ordered (closed c (happens c (departure (f.about c).stage (f.about c).sid) f)) (cs ++ [])
-quit-ordered f c cs sound ordered =
-    closed-ordered c (happens c (departure (f.about c).stage (f.about c).sid) f) (cs ++ [])
-    (happens-ordered c (departure (f.about c).stage (f.about c).sid) f cs sound
-    (fits-departure (f.about c).stage (f.about c).stage (f.about c).sid) (record { settled = λ is. refl }) ordered)
-
-other-ordered : (setup : Configured) (hash : List ℕ → List ℕ) (f : Facts) (caller : ℕ) (peer challenge : List ℕ) (now : ℕ) (cs : List ℕ) → Ordered f cs
-    → Ordered (after setup hash f caller (Join peer challenge now)) cs
-unfolding after
-other-ordered setup hash f caller peer challenge now cs ordered = join-ordered f caller peer challenge cs (has_place setup f && has_joins f) ordered
-
-closing : (setup : Configured) (hash : List ℕ → List ℕ) (f : Facts) (caller c : ℕ) (cs : List ℕ) → Sound f → Ordered f cs
-    → Ordered (after setup hash f caller (Quit c)) (cs ++ [])
-unfolding after
-closing setup hash f caller c cs sound ordered = quit-ordered f c cs sound ordered
-
-taking : (setup : Configured) (hash : List ℕ → List ℕ) (f : Facts) (caller c count : ℕ) (cs : List ℕ) → Ordered f cs
-    → Ordered (after setup hash f caller (Take c count)) cs
-unfolding after
-taking setup hash f caller c count cs ordered = ordered-same f _ cs (omega arith) refl (λ d below. take-stage count (f.about d) (d == c)) ordered
+-- a call that brings nobody in
+none-brought : (f : Facts) (cs : List ℕ) → Ordered f cs → Ordered f (cs ++ [])
+none-brought f cs ordered = subst (Ordered f) (sym (append-nil cs)) ordered
 
 after-ordered : (setup : Configured) (hash : List ℕ → List ℕ) (f : Facts) (caller : ℕ) (call : Call) (cs : List ℕ) → Sound f → Ordered f cs
     → Ordered (after setup hash f caller call) (cs ++ brought_in setup hash f caller call)
-after-ordered setup hash f caller (Line c bytes now) cs sound ordered = line-ordered setup hash f caller c bytes now cs sound ordered
+unfolding after happens
+after-ordered setup hash f caller (Line c bytes now) cs sound ordered =
+    let effect : Effect = effect_of_line setup hash f c bytes now in
+    subst (λ b. Ordered (happens c effect f) (cs ++ newcomer_if b c)) (enters-is c effect f (fits-line setup hash f c bytes now))
+    (happens-ordered c effect f cs sound (fits-line setup hash f c bytes now) (steady-line setup hash f c bytes now) ordered)
 after-ordered setup hash f caller (Join peer challenge now) cs sound ordered =
-    subst (Ordered (after setup hash f caller (Join peer challenge now))) (sym (append-nil cs)) (other-ordered setup hash f caller peer challenge now cs ordered)
-after-ordered setup hash f caller (Quit c) cs sound ordered = closing setup hash f caller c cs sound ordered
+    none-brought _ cs (join-ordered f caller peer challenge cs (has_place setup f && has_joins f) ordered)
+after-ordered setup hash f caller (Quit c) cs sound ordered =
+    closed-ordered c (happens c (departure (f.about c).stage (f.about c).sid) f) (cs ++ [])
+    (happens-ordered c (departure (f.about c).stage (f.about c).sid) f cs sound
+    (fits-departure (f.about c).stage (f.about c).stage (f.about c).sid) (record { settled = λ is. refl }) ordered)
 after-ordered setup hash f caller (Take c count) cs sound ordered =
-    subst (Ordered (after setup hash f caller (Take c count))) (sym (append-nil cs)) (taking setup hash f caller c count cs ordered)
+    none-brought _ cs
+    (subst (λ g. Ordered g cs) (take-facts c count f) (record { all_settled = ordered.all_settled; all_joined = ordered.all_joined; in_order = ordered.in_order }))
 
 ordered_of : (setup : Configured) (hash : List ℕ → List ℕ) (h : List Entry) → Ordered (facts setup hash h) (entrants setup hash h)
 unfolding facts entrants

@@ -9,10 +9,10 @@ use Rattle.login_state.specs.declared.stage.Stage.TheVariants as stages
 use Rattle.login_state.specs.Mentions.{feature_named, mention_at, signed}
 use Rattle.login_state.specs.Support as support
 use Rattle.login_state.specs.SupportAnswers.{applied}
+use Rattle.hub_rules.specs.declared.effect.Change.TheVariants.{Sender}
 use Rattle.hub_rules.specs.declared.effect.Effect.{Effect}
 use Rattle.hub_rules.specs.declared.effect.Hearers.TheVariants.{Others}
-use Rattle.hub_rules.specs.declared.effect.Turn.TheVariants as turns
-use Rattle.hub_rules.specs.declared.effect.World.TheVariants.{Same}
+use Rattle.hub_rules.specs.declared.effect.SenderChange.TheVariants as senders
 use Rattle.hub_rules.specs.declared.history.Entry.{Entry}
 use Rattle.hub_rules.specs.declared.history.Verdict.TheVariants.{Kept}
 use Rattle.hub_rules.specs.Configured.{Configured}
@@ -56,9 +56,7 @@ greets setup f now sid = record {
   own = greeting (sight_of setup f) now sid both;
   others = [];
   hearers = Others;
-  turn = turns.Greets both;
-  world = Same;
-  searched = None;
+  change = Sender (senders.Greets both);
 }
 
 pub sup-decided : (setup : Configured) (hash : List ℕ → List ℕ) (f : Facts) (c sid now : ℕ) → f.about c ≡ newcomer c sid peer zeros

@@ -1,6 +1,7 @@
 -- How a line is heard whose words are known: what worked conversations compute with.
-use Rattle.std.proofs.Common.{◌≡◌, ◌∙◌, ap, refl, ℕ, ◌<◌, suc, zero, Bool, true, false, ◌&&◌, not, nat_lt, List, [], ◌∷◌, length, Result, Ok, Err, arith}
+use Rattle.std.proofs.Common.{◌≡◌, ◌∙◌, ap, ℕ, ◌<◌, suc, zero, Bool, true, false, ◌&&◌, not, nat_lt, List, [], ◌∷◌, length, Result, Ok, Err, arith}
 use Rattle.std.specs.Str.{IsAscii, is_utf8}
+use Rattle.std.proofs.lemmas.Bool.{and_parts}
 use Rattle.std.proofs.lemmas.Str.{IsUtf8-from_ascii, is_utf8-from_IsUtf8}
 use Rattle.std.specs.Prelude.{cond, ◌==◌, if◌then◌else◌}
 use Rattle.adc_line.specs.declared.fault.LineFault.{LineFault}
@@ -21,21 +22,13 @@ abbrev pub all_ascii : List ℕ → Bool
 all_ascii [] = true
 all_ascii (b ∷ bs) = nat_lt b 128 && all_ascii bs
 
-and-left : (a b : Bool) → (a && b) ≡ true → a ≡ true
-and-left true b is = refl
-and-left false b is = is
-
-and-right : (a b : Bool) → (a && b) ≡ true → b ≡ true
-and-right true b is = is
-and-right false b is = ap (λ t. cond t true b) is
-
 low : (b : ℕ) → nat_lt b 128 ≡ true → b < 128
 low b is = grind (arith, is)
 
 pub ascii-of : (bs : List ℕ) → all_ascii bs ≡ true → IsAscii bs
 ascii-of [] is i = omega arith
-ascii-of (b ∷ bs) is zero = low b (and-left (nat_lt b 128) (all_ascii bs) is)
-ascii-of (b ∷ bs) is (suc i) = ascii-of bs (and-right (nat_lt b 128) (all_ascii bs) is) i
+ascii-of (b ∷ bs) is zero = low b ((and_parts (nat_lt b 128) (all_ascii bs) is).0)
+ascii-of (b ∷ bs) is (suc i) = ascii-of bs ((and_parts (nat_lt b 128) (all_ascii bs) is).1) i
 
 -- ASCII that is not too long is read by its words
 pub reading-ascii : (bytes : List ℕ) → (nat_lt max_line (length bytes) ≡ false) → all_ascii bytes ≡ true → reading bytes ≡ with_header bytes (header_at (words bytes))

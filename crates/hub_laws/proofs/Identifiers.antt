@@ -13,7 +13,7 @@ use Rattle.hub_rules.specs.Effects.{departure}
 use Rattle.hub_rules.specs.Facts.{Facts, about_after, after, closed, facts, happens, joined, newcomer, next_sid, nobody, with_one}
 use Rattle.hub_rules.specs.History.{owed, sid}
 use Rattle.hub_rules.specs.Legal.{Legal, MayCall, is_open, join_reply, reply, verdict_of}
-use Rattle.hub_rules.specs.Shares.{About, chosen, with_share}
+use Rattle.hub_rules.specs.Shares.{About, chosen, lags_with, owed_with}
 use Rattle.hub_rules.specs.Texts.{hub_line, identifier_line, support_line}
 use Rattle.hub_laws.specs.Conversations.{greeting_of, peer, plain, sup_text, zeros}
 use Rattle.hub_laws.specs.Identifiers.{FirstIsGivenAgain, NextIsGiven, all_given, come_and_go, for_two, let_in, turned_away}
@@ -46,14 +46,14 @@ abbrev one_left : Known
 one_left = record two_there { opened = 2 ∷ []; abouts = newcomer 2 2 peer zeros ∷ record (newcomer 1 1 peer zeros) { stage = stages.Gone } ∷ [] }
 
 one-leaves : (hash : List ℕ → List ℕ) → Comes for_two hash (quits 1 turned_away) one_left
-unfolding with_share
+unfolding owed_with lags_with
 one-leaves hash = quits-more for_two hash turned_away two_there one_left 1 (third-is-turned-away hash) refl refl refl refl
 
 abbrev three_there : Known
 three_there = record one_left { last = 3; opened = 2 ∷ 3 ∷ []; abouts = greeted 3 3 (greeting_of (codes "AAAD")) ∷ one_left.abouts }
 
 third-is-let-in : (hash : List ℕ → List ℕ) → Comes for_two hash let_in three_there
-unfolding with_share support_line identifier_line hub_line escaped digit_of
+unfolding owed_with lags_with support_line identifier_line hub_line escaped digit_of
 third-is-let-in hash =
     greets-more for_two hash (quits 1 turned_away) one_left three_there 3 3 0 (one-leaves hash) refl refl (next-at (facts_of one_left) refl)
     (refl, refl, refl, sup-read, refl, refl) refl refl refl
@@ -168,7 +168,7 @@ each-has-its-own hash n few =
 
 -- the last of them asks
 last-asks : (hash : List ℕ → List ℕ) → Idle hash 1_048_575 → Legal plain hash all_given × (owed plain hash all_given 1_048_576 ≡ greeting_of (codes "AAAB"))
-unfolding Legal facts reply with_share support_line identifier_line hub_line escaped digit_of happens
+unfolding Legal facts reply owed_with lags_with support_line identifier_line hub_line escaped digit_of happens
 last-asks hash there =
     let came = one-joined hash 1_048_575 1 there (omega arith) refl in
     let f = one_of 1_048_575 1 there.about in

@@ -1,17 +1,16 @@
 -- No call changes what a connection joined with.
 use Rattle.std.proofs.Common.{◌≡◌, ◌∙◌, sym, ap, ap₂, refl, ℕ, ◌+◌, ◌≤◌, Bool, true, false, ◌&&◌, ◌==◌, List, [], ◌∷◌, ◌++◌, arith}
-use Rattle.std.proofs.lemmas.Bool.{eqb-true, eq-eqb}
-use Rattle.hub_rules.specs.declared.effect.Effect.{Effect}
+use Rattle.std.proofs.lemmas.Bool.{eq-eqb}
 use Rattle.hub_rules.specs.declared.history.Call.{Call}
-use Rattle.hub_rules.specs.declared.history.Call.TheVariants.{Join, Line, Quit, Take}
+use Rattle.hub_rules.specs.declared.history.Call.TheVariants.{Join}
 use Rattle.hub_rules.specs.declared.history.Entry.{Entry}
 use Rattle.hub_rules.specs.declared.history.Reply.TheVariants.{Joined}
 use Rattle.hub_rules.specs.Configured.{Configured}
-use Rattle.hub_rules.specs.Effects.{departure, is_present}
-use Rattle.hub_rules.specs.Facts.{Facts, facts, about_after, after, closed, effect_of_line, given, happens, has_joins, has_place, joined, newcomer, next_sid}
+use Rattle.hub_rules.specs.Facts.{Facts, facts, after, closed, happens, has_joins, has_place, joined, newcomer, next_sid}
 use Rattle.hub_rules.specs.Legal.{Legal, join_reply, reply}
-use Rattle.hub_rules.specs.Shares.{About, chosen, given_share, has_room, is_removed, owes, removed_if, turned, with_share}
+use Rattle.hub_rules.specs.Shares.{About, chosen}
 use Rattle.hub_laws.specs.Joining.{IsAsJoined, JoinsAreCounted, JoinsStay, accepted, accepted_in}
+use Rattle.hub_invariants.proofs.Becoming.{Becomes, becomes}
 use Rattle.hub_invariants.proofs.Kept.{joins-grow}
 
 -- a connection has what it joined with
@@ -21,58 +20,12 @@ pub record IsSame (a b : About) : Type 0 where
   pub challenge : b.challenge ≡ a.challenge
   pub sid : b.sid ≡ a.sid
 
-unchanged : (a : About) → IsSame a a
-unchanged a = record { owner = refl; peer = refl; challenge = refl; sid = refl }
-
 -- ---- one call
 
-share-same : (room : Bool) (a : About) (share : List (List ℕ)) → IsSame a (given_share room a share)
-share-same true a share = record { owner = refl; peer = refl; challenge = refl; sid = refl }
-share-same false a share = record { owner = refl; peer = refl; challenge = refl; sid = refl }
-
-with_share-same : (a : About) (share : List (List ℕ)) → IsSame a (with_share a share)
-unfolding with_share
-with_share-same a share = share-same (has_room a share) a share
-
-turned-same : (is_caller : Bool) (effect : Effect) (a b : About) → IsSame a b → IsSame a (chosen is_caller (turned effect b) b)
-turned-same true effect a b same = record { owner = same.owner; peer = same.peer; challenge = same.challenge; sid = same.sid }
-turned-same false effect a b same = same
-
-removed-same : (removed : Bool) (a b : About) → IsSame a b → IsSame a (removed_if removed b)
-removed-same true a b same = record { owner = same.owner; peer = same.peer; challenge = same.challenge; sid = same.sid }
-removed-same false a b same = same
-
-pub effect-same : (c : ℕ) (effect : Effect) (f : Facts) (d : ℕ) → IsSame (f.about d) (about_after c effect f.about d)
-effect-same c effect f d =
-    removed-same (is_present (f.about d).stage && is_removed effect.world (f.about d).sid) (f.about d) _
-    (turned-same (d == c) effect (f.about d) (with_share (f.about d) (owes (d == c) effect (f.about d))) (with_share-same (f.about d) (owes (d == c) effect (f.about d))))
-
-happens-same : (c : ℕ) (effect : Effect) (f : Facts) (d : ℕ) → IsSame (f.about d) ((happens c effect f).about d)
-unfolding happens
-happens-same c effect f d = effect-same c effect f d
-
-take-same : (count : ℕ) (a : About) (same : Bool) → IsSame a (chosen same (given count a) a)
-take-same count a true = record { owner = refl; peer = refl; challenge = refl; sid = refl }
-take-same count a false = unchanged a
-
-older : (f : Facts) (owner : ℕ) (peer challenge : List ℕ) (d : ℕ) (same : Bool) → (d == (f.joins + 1)) ≡ same → d ≤ f.joins
-    → IsSame (f.about d) (chosen same (newcomer owner (next_sid f) peer challenge) (f.about d))
-older f owner peer challenge d true is old = let e : d ≡ f.joins + 1 = eqb-true d (f.joins + 1) is in absurd (omega (arith, e, old))
-older f owner peer challenge d false is old = unchanged (f.about d)
-
-join-same : (f : Facts) (owner : ℕ) (peer challenge : List ℕ) (d : ℕ) (is_accepted : Bool) → d ≤ f.joins
-    → IsSame (f.about d) ((chosen is_accepted (joined f owner peer challenge) f).about d)
-unfolding joined
-join-same f owner peer challenge d true old = older f owner peer challenge d (d == (f.joins + 1)) refl old
-join-same f owner peer challenge d false old = unchanged (f.about d)
-
-after-same : (setup : Configured) (hash : List ℕ → List ℕ) (f : Facts) (caller : ℕ) (call : Call) (d : ℕ) → d ≤ f.joins
-    → IsSame (f.about d) ((after setup hash f caller call).about d)
-unfolding after closed
-after-same setup hash f caller (Join peer challenge now) d old = join-same f caller peer challenge d (has_place setup f && has_joins f) old
-after-same setup hash f caller (Line c bytes now) d old = happens-same c (effect_of_line setup hash f c bytes now) f d
-after-same setup hash f caller (Quit c) d old = happens-same c (departure (f.about c).stage (f.about c).sid) f d
-after-same setup hash f caller (Take c count) d old = take-same count (f.about d) (d == c)
+module _ {setup : Configured} {hash : List ℕ → List ℕ} {f : Facts} {caller d : ℕ} where
+  same-after : {call : Call} {a : About} → Becomes setup hash f caller d call a → d ≤ f.joins → IsSame (f.about d) a
+  same-after (Becomes.joins peer challenge now place is) old = absurd (omega (arith, is, old))
+  same-after _ old = record { owner = refl; peer = refl; challenge = refl; sid = refl }
 
 -- ---- the join
 
@@ -107,17 +60,13 @@ call-made : (setup : Configured) (hash : List ℕ → List ℕ) (f : Facts) (cal
     → HasJoined f (after setup hash f caller call) caller call c
 unfolding reply after
 call-made setup hash f caller (Join peer challenge now) c is = join-made f caller peer challenge now c (has_place setup f) (has_joins f) is
-call-made setup hash f caller (Line d bytes now) c is = let none : ⊥ = cc is in absurd none
-call-made setup hash f caller (Quit d) c is = let none : ⊥ = cc is in absurd none
-call-made setup hash f caller (Take d count) c is = let none : ⊥ = cc is in absurd none
+call-made setup hash f caller _ c is = let none : ⊥ = cc is in absurd none
 
 -- ---- every history
 
 as-kept : (before : Facts) (a b : About) (caller : ℕ) (call : Call) → IsSame a b → IsAsJoined before a caller call → IsAsJoined before b caller call
 as-kept before a b caller (Join peer challenge now) same is = (same.owner ∙ is.0, same.peer ∙ is.1, same.challenge ∙ is.2, same.sid ∙ is.3)
-as-kept before a b caller (Line c bytes now) same is = is
-as-kept before a b caller (Quit c) same is = is
-as-kept before a b caller (Take c count) same is = is
+as-kept before a b caller _ same is = is
 
 stays : (setup : Configured) (hash : List ℕ → List ℕ) (later earlier : List Entry) (e : Entry) (c : ℕ) → Legal setup hash (later ++ e ∷ earlier)
     → e.reply ≡ Joined c → HasJoined (facts setup hash earlier) (facts setup hash (later ++ e ∷ earlier)) e.caller e.call c
@@ -128,7 +77,7 @@ stays setup hash (next ∷ later) earlier e c legal is =
     let before = stays setup hash later earlier e c legal.0 is in
     record {
       old = omega (arith, before.old, joins-grow setup hash f next.caller next.call);
-      joined_as = as-kept (facts setup hash earlier) (f.about c) _ e.caller e.call (after-same setup hash f next.caller next.call c before.old) before.joined_as;
+      joined_as = as-kept (facts setup hash earlier) (f.about c) _ e.caller e.call (same-after (becomes setup hash f next.caller c next.call) before.old) before.joined_as;
     }
 
 pub joins_stay : JoinsStay
@@ -145,9 +94,7 @@ after-counts : (setup : Configured) (hash : List ℕ → List ℕ) (f : Facts) (
     → (after setup hash f caller call).joins ≡ f.joins + accepted (reply setup hash f caller call)
 unfolding after closed happens reply
 after-counts setup hash f caller (Join peer challenge now) = join-counts f caller peer challenge (has_place setup f) (has_joins f)
-after-counts setup hash f caller (Line c bytes now) = omega arith
-after-counts setup hash f caller (Quit c) = omega arith
-after-counts setup hash f caller (Take c count) = omega arith
+after-counts setup hash f caller _ = omega arith
 
 pub joins_are_counted : JoinsAreCounted
 unfolding facts Legal accepted_in

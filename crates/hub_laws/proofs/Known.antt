@@ -6,7 +6,7 @@ use Rattle.std.proofs.lemmas.Bool.Decides.{nat_tests}
 use Rattle.operator_acts.specs.declared.ban.Ban.{Ban}
 use Rattle.hub_rules.specs.declared.effect.Effect.{Effect}
 use Rattle.hub_rules.specs.Facts.{Facts, bans_after, given, happens, joined, newcomer, next_sid, nobody, present_after, topic_after, with_one}
-use Rattle.hub_rules.specs.Shares.{About, affected, chosen, with_share}
+use Rattle.hub_rules.specs.Shares.{About, affected, chosen, lags_with, owed_with}
 
 pub record Known : Type 0 where
   pub last : ℕ
@@ -85,8 +85,8 @@ changed-at change c none (a ∷ rest) d among = newest-or-not (changed-at change
 abbrev pub with_effect : ℕ → Effect → Known → Known
 with_effect c effect k = record k {
   present = present_after c effect (about_in k.abouts) k.present;
-  bans = bans_after effect.world k.bans;
-  topic = topic_after effect.world k.topic;
+  bans = bans_after effect.change k.bans;
+  topic = topic_after effect.change k.topic;
   abouts = changed (λ is_caller a. affected is_caller effect a) c k.abouts;
 }
 
@@ -103,7 +103,7 @@ known-among c d k known is =
     let both = and-both (nat_le 1 c) (nat_le c (length k.abouts)) known in (grind (arith, nat_tests, both.0), grind (arith, nat_tests, both.1))
 
 nobody-affected : (effect : Effect) → affected false effect nobody ≡ nobody
-unfolding with_share
+unfolding owed_with lags_with
 nobody-affected effect = refl
 
 pub happens-known : (c : ℕ) (effect : Effect) (k : Known) → is_known c k ≡ true → happens c effect (facts_of k) ≡ facts_of (with_effect c effect k)
@@ -113,8 +113,8 @@ happens-known c effect k known i = record {
   last = k.last;
   opened = k.opened;
   present = present_after c effect (about_in k.abouts) k.present;
-  bans = bans_after effect.world k.bans;
-  topic = topic_after effect.world k.topic;
+  bans = bans_after effect.change k.bans;
+  topic = topic_after effect.change k.topic;
   about = λ d. changed-at (λ is_caller a. affected is_caller effect a) c (nobody-affected effect) k.abouts d (known-among c d k known) i;
 }
 

@@ -1,8 +1,8 @@
 -- A connection lags from the first share on that does not fit, and is owed the shares before it.
-use Rattle.std.proofs.Common.{◌≡◌, ◌∙◌, sym, ap, ap₂, refl, subst, ℕ, ◌+◌, ◌<◌, ◌≤◌, Bool, true, false, not, ◌&&◌, ◌==◌, List, [], ◌∷◌, ◌++◌, length, append-nil, arith}
-use Rattle.std.specs.Prelude.{if◌then◌else◌, nat_le}
-use Rattle.std.proofs.lemmas.Bool.{eqb-true}
-use Rattle.std.proofs.lemmas.Bool.Decides.{nat_tests}
+use Rattle.std.proofs.Common.{◌≡◌, ◌∙◌, sym, ap, ap₂, refl, subst, ℕ, ◌+◌, ◌<◌, Bool, true, false, not, ◌&&◌, ◌||◌, ◌==◌, List, [], ◌∷◌, ◌++◌, length, append-nil, arith}
+use Rattle.std.specs.Prelude.{if◌then◌else◌}
+use Rattle.std.proofs.Math.Bool.{and-true}
+use Rattle.std.proofs.lemmas.Bool.{eqb-true, le-leb}
 use Rattle.adc_line.specs.Lines as lines
 use Rattle.outboxes.specs.Backlogs.{size_of}
 use Rattle.hub_rules.specs.declared.effect.Effect.{Effect}
@@ -11,72 +11,50 @@ use Rattle.hub_rules.specs.declared.history.Call.TheVariants.{Join, Line, Quit, 
 use Rattle.hub_rules.specs.declared.history.Entry.{Entry}
 use Rattle.hub_rules.specs.Configured.{Configured}
 use Rattle.hub_rules.specs.Effects.{departure, given_if, heard, is_over, is_present, line_effect}
-use Rattle.hub_rules.specs.Facts.{Facts, facts, about_after, after, closed, effect_of_line, given, happens, has_joins, has_place, joined, newcomer, next_sid, own_of, sight_of}
+use Rattle.hub_rules.specs.Facts.{Facts, facts, about_after, after, effect_of_line, own_of, sight_of}
 use Rattle.hub_rules.specs.Lagging.{LagIsTheFirst, OwedAreShares, all_fit, has_room_for, share, shares_that_fit}
 use Rattle.hub_rules.specs.Prepared.{prepared}
 use Rattle.hub_rules.specs.Quiet.{nothing}
-use Rattle.hub_rules.specs.Shares.{About, chosen, given_share, hears_those, max_bytes, max_lines, owes, removed_if, turned, waiting, with_share}
+use Rattle.hub_rules.specs.Shares.{About, chosen, hears_those, lags_with, max_bytes, max_lines, owed_with, owes, waiting}
 use Rattle.hub_rules.specs.Sights.{Own, PreparedLine, Sight}
+use Rattle.hub_invariants.proofs.Becoming.{Becomes, becomes}
 use Rattle.hub_invariants.proofs.Calls.{present-over, sound_of}
 use Rattle.hub_invariants.proofs.Kept.{joins-grow}
 use Rattle.hub_invariants.proofs.Saying.{over-beyond}
 use Rattle.hub_invariants.proofs.Sound.{Sound}
 use Rattle.hub_invariants.proofs.Tidy.{Tidy, tidy_of}
 
-true-le : (a b : ℕ) → a ≤ b → nat_le a b ≡ true
-true-le a b le = grind (arith, nat_tests)
-
 -- ---- what an effect does to what is owed: it adds its share, or makes the connection lag
 
-lag-step : (lags fit : Bool) (a : About) (more : List (List ℕ)) → a.lags ≡ lags → (given_share (not lags && fit) a more).lags ≡ not (not lags && fit)
-lag-step false true a more is = is
-lag-step false false a more is = refl
-lag-step true fit a more is = refl
+lag-step : (lags fit : Bool) → (not (not lags && fit) || lags) ≡ not (not lags && fit)
+lag-step false true = refl
+lag-step false false = refl
+lag-step true fit = refl
 
-owed-step : (room : Bool) (a : About) (more : List (List ℕ)) → (given_share room a more).owed ≡ a.owed ++ given_if room more
-owed-step true a more = refl
-owed-step false a more = sym (append-nil a.owed)
+owed-step : (room : Bool) (owed more : List (List ℕ)) → chosen room (owed ++ more) owed ≡ owed ++ given_if room more
+owed-step true owed more = refl
+owed-step false owed more = sym (append-nil owed)
 
 abbrev pub room_in : About → List (List ℕ) → Bool
 room_in a more = not a.lags && has_room_for (waiting a) more
-
-with_share-lags : (a : About) (more : List (List ℕ)) → (with_share a more).lags ≡ not (room_in a more)
-unfolding with_share
-with_share-lags a more = lag-step a.lags (has_room_for (waiting a) more) a more refl
-
-with_share-owed : (a : About) (more : List (List ℕ)) → (with_share a more).owed ≡ a.owed ++ given_if (room_in a more) more
-unfolding with_share
-with_share-owed a more = owed-step (room_in a more) a more
-
-next-lags : (removed is_caller : Bool) (effect : Effect) (b : About) → (removed_if removed (chosen is_caller (turned effect b) b)).lags ≡ b.lags
-next-lags true true effect b = refl
-next-lags true false effect b = refl
-next-lags false true effect b = refl
-next-lags false false effect b = refl
-
-next-owed : (removed is_caller : Bool) (effect : Effect) (b : About) → (removed_if removed (chosen is_caller (turned effect b) b)).owed ≡ b.owed
-next-owed true true effect b = refl
-next-owed true false effect b = refl
-next-owed false true effect b = refl
-next-owed false false effect b = refl
 
 abbrev pub share_by : ℕ → Effect → Facts → ℕ → List (List ℕ)
 share_by c effect f d = owes (d == c) effect (f.about d)
 
 about-lags : (c : ℕ) (effect : Effect) (f : Facts) (d : ℕ) → (about_after c effect f.about d).lags ≡ not (room_in (f.about d) (share_by c effect f d))
-about-lags c effect f d =
-    next-lags _ (d == c) effect (with_share (f.about d) (share_by c effect f d)) ∙ with_share-lags (f.about d) (share_by c effect f d)
+unfolding lags_with
+about-lags c effect f d = lag-step (f.about d).lags (has_room_for (waiting (f.about d)) (share_by c effect f d))
 
 pub about-owed : (c : ℕ) (effect : Effect) (f : Facts) (d : ℕ)
     → (about_after c effect f.about d).owed ≡ (f.about d).owed ++ given_if (room_in (f.about d) (share_by c effect f d)) (share_by c effect f d)
-about-owed c effect f d =
-    next-owed _ (d == c) effect (with_share (f.about d) (share_by c effect f d)) ∙ with_share-owed (f.about d) (share_by c effect f d)
+unfolding owed_with
+about-owed c effect f d = owed-step (room_in (f.about d) (share_by c effect f d)) (f.about d).owed (share_by c effect f d)
 
 -- ---- a share of no lines always fits
 
 room-nothing : (a : About) → Tidy a → has_room_for (waiting a) [] ≡ true
 room-nothing a tidy =
-    ap₂ ◌&&◌ (true-le (length (waiting a) + 0) max_lines (omega (arith, tidy.lines))) (true-le (size_of (waiting a) + 0) max_bytes (omega (arith, tidy.bytes)))
+    ap₂ ◌&&◌ (le-leb (length (waiting a) + 0) max_lines (omega (arith, tidy.lines))) (le-leb (size_of (waiting a) + 0) max_bytes (omega (arith, tidy.bytes)))
 
 -- ---- one call: how a connection stands, by whether all shares fitted, and by the lines of those that did
 
@@ -99,15 +77,11 @@ effect-stood c effect f d fit lines stood =
       owed = about-owed c effect f d ∙ ap₂ (λ ls r. ls ++ given_if r (share_by c effect f d)) stood.owed room;
     }
 
-and-true : (b : Bool) → (b && true) ≡ b
-and-true true = refl
-and-true false = refl
-
 -- no line
 abbrev none : List (List ℕ)
 none = []
 
-given-nothing : (b : Bool) → given_if b none ≡ none
+pub given-nothing : {A : Type 0} (b : Bool) → given_if {A = A} b [] ≡ []
 given-nothing true = refl
 given-nothing false = refl
 
@@ -149,40 +123,15 @@ share-beyond setup hash f d (Take c count) over = refl
 
 -- ---- each kind of call
 
-taken-lags : (count : ℕ) (a : About) (same : Bool) → (chosen same (given count a) a).lags ≡ a.lags
-taken-lags count a true = refl
-taken-lags count a false = refl
-
-taken-owed : (count : ℕ) (a : About) (same : Bool) → (chosen same (given count a) a).owed ≡ a.owed
-taken-owed count a true = refl
-taken-owed count a false = refl
-
-newcomer-same : (f : Facts) (owner : ℕ) (peer challenge : List ℕ) (d : ℕ) (same : Bool) → (d == (f.joins + 1)) ≡ same → (f.joins < d → Unowed (f.about d))
-    → ((chosen same (newcomer owner (next_sid f) peer challenge) (f.about d)).lags ≡ (f.about d).lags)
-    × ((chosen same (newcomer owner (next_sid f) peer challenge) (f.about d)).owed ≡ (f.about d).owed)
-newcomer-same f owner peer challenge d true is fresh =
-    let e : d ≡ f.joins + 1 = eqb-true d (f.joins + 1) is in
-    let none = fresh (omega (arith, e)) in
-    (sym none.lags, sym none.owed)
-newcomer-same f owner peer challenge d false is fresh = (refl, refl)
-
-pub join-same : (f : Facts) (owner : ℕ) (peer challenge : List ℕ) (d : ℕ) (accepted : Bool) → (f.joins < d → Unowed (f.about d))
-    → (((chosen accepted (joined f owner peer challenge) f).about d).lags ≡ (f.about d).lags) × (((chosen accepted (joined f owner peer challenge) f).about d).owed ≡ (f.about d).owed)
-unfolding joined
-join-same f owner peer challenge d true fresh = newcomer-same f owner peer challenge d (d == (f.joins + 1)) refl fresh
-join-same f owner peer challenge d false fresh = (refl, refl)
-
-after-stood : (setup : Configured) (hash : List ℕ → List ℕ) (f : Facts) (caller : ℕ) (call : Call) (d : ℕ) (fit : Bool) (lines : List (List ℕ)) → Tidy (f.about d)
-    → (f.joins < d → Unowed (f.about d)) → Stood (f.about d) fit lines
-    → Stood ((after setup hash f caller call).about d) (fit && has_room_for (waiting (f.about d)) (share setup hash f d call))
-    (lines ++ given_if (fit && has_room_for (waiting (f.about d)) (share setup hash f d call)) (share setup hash f d call))
-unfolding after closed happens
-after-stood setup hash f caller (Join peer challenge now) d fit lines tidy fresh stood =
-    let same = join-same f caller peer challenge d (has_place setup f && has_joins f) fresh in still-stood (f.about d) _ fit lines tidy same.0 same.1 stood
-after-stood setup hash f caller (Line c bytes now) d fit lines tidy fresh stood = effect-stood c (effect_of_line setup hash f c bytes now) f d fit lines stood
-after-stood setup hash f caller (Quit c) d fit lines tidy fresh stood = effect-stood c (departure (f.about c).stage (f.about c).sid) f d fit lines stood
-after-stood setup hash f caller (Take c count) d fit lines tidy fresh stood =
-    still-stood (f.about d) _ fit lines tidy (taken-lags count (f.about d) (d == c)) (taken-owed count (f.about d) (d == c)) stood
+module _ {setup : Configured} {hash : List ℕ → List ℕ} {f : Facts} {caller d : ℕ} where
+  stood-after : {call : Call} {a : About} → Becomes setup hash f caller d call a → (fit : Bool) (lines : List (List ℕ)) → Tidy (f.about d) → (f.joins < d → Unowed (f.about d))
+      → Stood (f.about d) fit lines → Stood a (fit && has_room_for (waiting (f.about d)) (share setup hash f d call))
+      (lines ++ given_if (fit && has_room_for (waiting (f.about d)) (share setup hash f d call)) (share setup hash f d call))
+  stood-after (Becomes.joins peer challenge now place is) fit lines tidy fresh stood =
+      let none = fresh (omega (arith, is)) in still-stood (f.about d) _ fit lines tidy (sym none.lags) (sym none.owed) stood
+  stood-after (Becomes.says c bytes now) fit lines tidy fresh stood = effect-stood c (effect_of_line setup hash f c bytes now) f d fit lines stood
+  stood-after (Becomes.quits c) fit lines tidy fresh stood = effect-stood c (departure (f.about c).stage (f.about c).sid) f d fit lines stood
+  stood-after _ fit lines tidy fresh stood = still-stood (f.about d) _ fit lines tidy refl refl stood
 
 -- ---- every history
 
@@ -190,7 +139,7 @@ unowed-after : (setup : Configured) (hash : List ℕ → List ℕ) (f : Facts) (
     → Unowed ((after setup hash f caller call).about d)
 unowed-after setup hash f caller call d sound tidy beyond none =
     let silent : share setup hash f d call ≡ [] = share-beyond setup hash f d call (over-beyond f sound d beyond) in
-    let stood = after-stood setup hash f caller call d true [] tidy (λ b. none) (record { lags = none.lags; owed = none.owed }) in
+    let stood = stood-after (becomes setup hash f caller d call) true [] tidy (λ b. none) (record { lags = none.lags; owed = none.owed }) in
     record {
       lags = stood.lags ∙ ap (λ more. not (has_room_for (waiting (f.about d)) more)) silent ∙ ap not (room-nothing (f.about d) tidy);
       owed = stood.owed ∙ ap (λ more. given_if (has_room_for (waiting (f.about d)) more) more) silent ∙ given-nothing _;
@@ -208,7 +157,7 @@ stood_of : (setup : Configured) (hash : List ℕ → List ℕ) (h : List Entry) 
 unfolding facts all_fit shares_that_fit
 stood_of setup hash [] d = record { lags = refl; owed = refl }
 stood_of setup hash (e ∷ h) d =
-    after-stood setup hash (facts setup hash h) e.caller e.call d (all_fit setup hash h d) (shares_that_fit setup hash h d) (tidy_of setup hash h d) (unowed_of setup hash h d) (stood_of setup hash h d)
+    stood-after (becomes setup hash (facts setup hash h) e.caller d e.call) (all_fit setup hash h d) (shares_that_fit setup hash h d) (tidy_of setup hash h d) (unowed_of setup hash h d) (stood_of setup hash h d)
 
 pub lag_is_the_first : LagIsTheFirst
 lag_is_the_first setup hash h d = (stood_of setup hash h d).lags

@@ -1,8 +1,9 @@
 -- A user does not take what waits for it, computed from the rules: by induction, since so many lines wait.
-use Rattle.std.proofs.Common.{◌≡◌, ◌∙◌, ap, ap₂, refl, sym, ℕ, zero, suc, ◌+◌, ◌≤◌, true, false, ◌&&◌, List, [], ◌∷◌, ◌++◌, length, filter, drop, take, replicate, codes, Some, None, Ok, arith}
+use Rattle.std.proofs.Common.{◌≡◌, ◌∙◌, ap, ap₂, refl, sym, ℕ, zero, suc, ◌+◌, ◌≤◌, Bool, true, false, not, ◌&&◌, ◌||◌, List, [], ◌∷◌, ◌++◌, length, filter, drop, take, replicate, codes, Some, None, Ok, arith}
 use Rattle.std.specs.Prelude.{nat_le, if◌then◌else◌}
 use Rattle.std.specs.List.{concat}
 use Rattle.std.proofs.lemmas.Bool.Decides.{nat_tests}
+use Rattle.std.proofs.lemmas.Bool.{le-leb, leb-true}
 use Rattle.std.proofs.lemmas.List.{drop-append-le, drop_all, length-replicate, take_all}
 use Rattle.std.proofs.lemmas.List.Folds.{sum_by-replicate}
 use Rattle.std.proofs.lemmas.List.Sums.{sum_by-append}
@@ -16,6 +17,7 @@ use Rattle.adc_line.specs.Parameters.{params_fault}
 use Rattle.feature_route.specs.Audiences.{audience, holds_words}
 use Rattle.feature_route.specs.declared.hearers.Audience.TheVariants as audiences
 use Rattle.outboxes.specs.Backlogs.{fits, size_of}
+use Rattle.hub_rules.specs.declared.effect.Change.TheVariants.{Nothing}
 use Rattle.hub_rules.specs.declared.effect.Effect.{Effect}
 use Rattle.hub_rules.specs.declared.history.Entry.{Entry}
 use Rattle.hub_rules.specs.declared.history.Reply.TheVariants.{Took}
@@ -25,7 +27,7 @@ use Rattle.hub_rules.specs.Effects.{accepted, is_present}
 use Rattle.hub_rules.specs.Identities.{listed}
 use Rattle.hub_rules.specs.Legal.{take_reply}
 use Rattle.hub_rules.specs.Requests.{refused, request_of}
-use Rattle.hub_rules.specs.Shares.{About, affected, given_share, has_room, turned, waiting, with_share}
+use Rattle.hub_rules.specs.Shares.{About, affected, chosen, has_room, lags_with, owed_with, waiting}
 use Rattle.hub_laws.specs.Conversations.{one, plain, zeros}
 use Rattle.hub_laws.specs.Lags.{WhoTakesNothingLags, bob_ready, chatter, ho_text, ho_told, once_more, two_told}
 use Rattle.hub_laws.specs.Messages.{bob_entered}
@@ -49,12 +51,6 @@ once-longer sid n = ap (λ lines. two_told sid ++ lines) (replicate-end n)
 heard-length : (sid : List ℕ) (n : ℕ) → length (heard_so_far sid n) ≡ n + 5
 heard-length sid n = omega (arith, length-replicate n ho_told)
 
-true-le : (a b : ℕ) → a ≤ b → nat_le a b ≡ true
-true-le a b le = grind (arith, nat_tests)
-
-le-true : (a b : ℕ) → nat_le a b ≡ true → a ≤ b
-le-true a b is = grind (arith, nat_tests)
-
 -- ---- there is room for the line
 
 abbrev ana_by : ℕ → About
@@ -66,13 +62,13 @@ bob_by took n = record (bob_about (heard_so_far (codes "AAAC") n)) { taken = too
 
 few-bytes : (n : ℕ) → n ≤ 1_018 → size_of (heard_so_far (codes "AAAB") n) + 13 ≤ 1_048_576
 few-bytes n few =
-    let before : size_of (two_told (codes "AAAB")) ≤ 1_000 = le-true (size_of (two_told (codes "AAAB"))) 1_000 refl in
+    let before : size_of (two_told (codes "AAAB")) ≤ 1_000 = leb-true (size_of (two_told (codes "AAAB"))) 1_000 refl in
     omega (arith, few, before, sum_by-append length (two_told (codes "AAAB")) (replicate n ho_told), sum_by-replicate length n ho_told)
 
 room-for-ana : (n : ℕ) → n ≤ 1_018 → has_room (ana_by n) (ho_told ∷ []) ≡ true
 room-for-ana n few =
-    ap₂ (λ a b. a && b) (true-le (length (heard_so_far (codes "AAAB") n) + 1) 1_024 (omega (arith, few, heard-length (codes "AAAB") n)))
-    (true-le (size_of (heard_so_far (codes "AAAB") n) + 13) 1_048_576 (few-bytes n few))
+    ap₂ (λ a b. a && b) (le-leb (length (heard_so_far (codes "AAAB") n) + 1) 1_024 (omega (arith, few, heard-length (codes "AAAB") n)))
+    (le-leb (size_of (heard_so_far (codes "AAAB") n) + 13) 1_048_576 (few-bytes n few))
 
 nothing-waits : (n : ℕ) → waiting (bob_by n n) ≡ []
 nothing-waits n = drop_all (n + 5) (heard_so_far (codes "AAAC") n) (omega (arith, heard-length (codes "AAAC") n))
@@ -96,19 +92,23 @@ unfolding header_of head_at kind_at addressed params_fault is_escaped sid_at fou
 ho-read = reading-ascii ho_text refl refl ∙ refl
 
 abbrev ho_effect : Effect
-ho_effect = passed ho_text audiences.All None
+ho_effect = passed ho_text audiences.All Nothing
 
 abbrev crowd : About → About → Known
 crowd bob ana = record bob_present { abouts = bob ∷ ana ∷ [] }
 
+-- a connection that heard the line, by whether there was room for it
+abbrev by_room : Bool → About → About
+by_room room a = record a { owed = chosen room (a.owed ++ ho_told ∷ []) a.owed; lags = not room || a.lags }
+
 ana-hears : (n : ℕ) → n ≤ 1_018 → affected false ho_effect (ana_by n) ≡ ana_by (suc n)
-unfolding with_share holds_words
-ana-hears n few = ap (λ b. given_share b (ana_by n) (ho_told ∷ [])) (room-for-ana n few) ∙ ap ana_about (once-longer (codes "AAAB") n)
+unfolding owed_with lags_with holds_words
+ana-hears n few = ap (λ b. by_room b (ana_by n)) (room-for-ana n few) ∙ ap ana_about (once-longer (codes "AAAB") n)
 
 bob-hears : (n : ℕ) → affected true ho_effect (bob_by n n) ≡ bob_by n (suc n)
-unfolding with_share holds_words
+unfolding owed_with lags_with holds_words
 bob-hears n =
-    ap (λ b. turned ho_effect (given_share b (bob_by n n) (ho_told ∷ []))) (room-for-bob n)
+    ap (λ b. by_room b (bob_by n n)) (room-for-bob n)
     ∙ ap (λ lines. record (bob_about lines) { taken = n + 5 }) (once-longer (codes "AAAC") n)
 
 -- where it is known what the line makes of both, and that they stay
@@ -177,8 +177,8 @@ abbrev ana_lagging : ℕ → About
 ana_lagging n = record (ana_by n) { lags = true }
 
 ana-lags : (n : ℕ) → 1_019 ≤ n → affected false ho_effect (ana_by n) ≡ ana_lagging n
-unfolding with_share holds_words
-ana-lags n many = ap (λ b. given_share b (ana_by n) (ho_told ∷ [])) (no-room-for-ana n many)
+unfolding owed_with lags_with holds_words
+ana-lags n many = ap (λ b. by_room b (ana_by n)) (no-room-for-ana n many)
 
 bob-says-more : (hash : List ℕ → List ℕ) (h : List Entry) (n : ℕ) → 1_019 ≤ n → Comes plain hash h (crowd (bob_by n n) (ana_by n))
     → Comes plain hash (says 2 ho_text 0 Kept h) (crowd (bob_by n (suc n)) (ana_lagging n))
@@ -192,7 +192,7 @@ ana-given n few =
     let lines = heard_so_far (codes "AAAB") n in
     let all : length lines ≤ 1_024 = omega (arith, few, heard-length (codes "AAAB") n) in
     ap (λ given. Took (concat given) (length given) true) (sym (take_all 1_024 lines all))
-    ∙ ap (λ b. Took (concat (take 1_024 lines)) (length (take 1_024 lines)) (b && true)) (sym (true-le (length lines) 1_024 all))
+    ∙ ap (λ b. Took (concat (take 1_024 lines)) (length (take 1_024 lines)) (b && true)) (sym (le-leb (length lines) 1_024 all))
 
 ana-takes : (hash : List ℕ → List ℕ) (h : List Entry) (n : ℕ) → n ≤ 1_019 → Comes plain hash h (crowd (bob_by n (suc n)) (ana_lagging n))
     → Comes plain hash (takes 1 1_024 (heard_so_far (codes "AAAB") n) true h) (with_taken 1 1_024 (crowd (bob_by n (suc n)) (ana_lagging n)))

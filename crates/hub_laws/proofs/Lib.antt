@@ -23,6 +23,7 @@ pub mod Lags
 pub mod Leaving
 pub mod Logins
 pub mod Messages
+pub mod Moving
 pub mod Naming
 pub mod Operating
 pub mod Ordering

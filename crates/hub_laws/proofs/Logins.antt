@@ -1,43 +1,28 @@
 -- Logins, of which each part is known.
-use Rattle.std.proofs.Common.{◌≡◌, ◌∙◌, ap, ℕ, Bool, true, List, Option, Some, Ok}
-use Rattle.std.specs.Prelude.{chars, is_some}
-use Rattle.adc_base32.specs.Spelled.{spelled}
+use Rattle.std.proofs.Common.{◌≡◌, ◌∙◌, ap, ℕ, Bool, true, not, List, Option, Some, Ok}
+use Rattle.std.specs.Prelude.{chars}
 use Rattle.adc_ids.specs.Nicks.{is_nick}
 use Rattle.adc_line.specs.Lines.{Reading}
 use Rattle.inf_fields.specs.Field.{Field}
-use Rattle.inf_fields.specs.FieldNames.{address_name, id_name, nick_name, private_id_name, share_size_name, shared_files_name}
 use Rattle.inf_fields.specs.Updates as updates
-use Rattle.login_state.specs.declared.asks.InfAsk.{InfAsk}
-use Rattle.login_state.specs.declared.findings.Validity.TheVariants.{Good}
-use Rattle.login_state.specs.Checks.{first_denial}
-use Rattle.login_state.specs.Orders.{inf_rules}
+use Rattle.login_state.specs.declared.deny.Deny.{Deny}
 use Rattle.user_table.specs.Listed.{Listed}
 use Rattle.hub_rules.specs.declared.effect.Effect.{Effect}
-use Rattle.hub_rules.specs.Asks.{address_found, admission_found, amount_found, entry_ask, identity_found, login_ask, required_found}
 use Rattle.hub_rules.specs.Configured.{Configured}
-use Rattle.hub_rules.specs.Denied.{denial_of, login_denied}
+use Rattle.hub_rules.specs.Denied.{login_denied}
 use Rattle.hub_rules.specs.Effects.{admits, heard, logs_in, unless_denied}
 use Rattle.hub_rules.specs.Facts.{own_of, sight_of}
-use Rattle.hub_rules.specs.Identities.{given, nick_in}
+use Rattle.hub_rules.specs.Grounds.{first_ground, login_grounds}
+use Rattle.hub_rules.specs.Identities.{nick_in}
 use Rattle.hub_rules.specs.Prepared.{owner_digest, password_digest, update_of}
 use Rattle.hub_rules.specs.Sights.{Own, PreparedLine, Sight, is_account, user_after}
+use Rattle.hub_laws.proofs.Checked.{with_test}
 use Rattle.hub_laws.proofs.Heard.{effect_of}
 use Rattle.hub_laws.proofs.Known.{Known, facts_of}
 
--- what the checks of a login find where its nick is one or not
-abbrev pub found : Bool → Sight → ℕ → List ℕ → Option (List ℕ) → List Field → Listed → InfAsk
-found is_nick_good hub now peer digest u user = record {
-  words = Good;
-  id = required_found (is_some (spelled 24 (given id_name u))) (given id_name u);
-  pid = required_found (is_some digest) (given private_id_name u);
-  nick = required_found is_nick_good (given nick_name u);
-  share_size = amount_found (given share_size_name u);
-  shared_files = amount_found (given shared_files_name u);
-  identity = identity_found (spelled 24 (given id_name u)) digest;
-  address = address_found peer (given address_name u);
-  admission = admission_found hub user.key;
-  entry = entry_ask hub now user;
-}
+-- the grounds of a login whose nick is one or not
+abbrev pub found : Bool → Sight → Own → ℕ → Option (List ℕ) → List Field → Listed → List (Bool × Deny)
+found is_nick_good hub own now digest u user = with_test 8 (not is_nick_good) (login_grounds hub own now digest u user)
 
 abbrev pub IsLogin : Sight → Own → ℕ → Reading → Type 0
 IsLogin hub own now line =
@@ -47,17 +32,17 @@ IsLogin hub own now line =
 -- what a login leads to
 abbrev pub login_effect : Sight → Own → ℕ → PreparedLine → List Field → Listed → Effect
 login_effect hub own now prepared u user =
-    unless_denied own (denial_of (first_denial (inf_rules (found true hub now own.peer prepared.owner u user)))) (admits hub own prepared (is_account hub user.key) user)
+    unless_denied own (first_ground (found true hub own now prepared.owner u user)) (admits hub own prepared (is_account hub user.key) user)
 
 pub login-heard : (hub : Sight) (own : Own) (now : ℕ) (line : Reading) (prepared : PreparedLine) (u : List Field) (user : Listed)
     → IsLogin hub own now line → updates.reading line.params ≡ Ok u → user_after own u ≡ user → is_nick (chars (nick_in u)) ≡ true
     → heard hub own prepared now (Ok line) ≡ login_effect hub own now prepared u user
-unfolding login_ask
+unfolding login_grounds
 login-heard hub own now line prepared u user is says makes nick =
     is prepared
     ∙ ap (λ r. unless_denied own (login_denied hub own prepared.owner now r) (logs_in hub own prepared r)) says
-    ∙ ap (λ w. unless_denied own (denial_of (first_denial (inf_rules (login_ask hub now own.peer prepared.owner u w)))) (admits hub own prepared (is_account hub w.key) w)) makes
-    ∙ ap (λ b. unless_denied own (denial_of (first_denial (inf_rules (found b hub now own.peer prepared.owner u user)))) (admits hub own prepared (is_account hub user.key) user)) nick
+    ∙ ap (λ w. unless_denied own (first_ground (login_grounds hub own now prepared.owner u w)) (admits hub own prepared (is_account hub w.key) w)) makes
+    ∙ ap (λ b. unless_denied own (first_ground (found b hub own now prepared.owner u user)) (admits hub own prepared (is_account hub user.key) user)) nick
 
 -- the same of a connection of which it is known who is present, what its private identifier hashes to and what its password must
 pub login-decided : (setup : Configured) (hash : List ℕ → List ℕ) (k : Known) (hub : Sight) (c now : ℕ) (line : Reading) (cid : List ℕ) (password : Option (List ℕ)) (u : List Field) (user : Listed)

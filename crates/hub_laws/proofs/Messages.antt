@@ -21,20 +21,21 @@ use Rattle.inf_fields.specs.Field.{printed}
 use Rattle.login_state.specs.declared.stage.Stage.TheVariants as stages
 use Rattle.operator_acts.specs.Bans.{left}
 use Rattle.user_table.specs.Listed.{Listed}
+use Rattle.hub_rules.specs.declared.effect.Change.{Change}
+use Rattle.hub_rules.specs.declared.effect.Change.TheVariants.{Nothing, Sender}
 use Rattle.hub_rules.specs.declared.effect.Effect.{Effect}
 use Rattle.hub_rules.specs.declared.effect.Hearers.TheVariants.{Others, Those}
-use Rattle.hub_rules.specs.declared.effect.Turn.TheVariants as turns
-use Rattle.hub_rules.specs.declared.effect.World.TheVariants.{Same}
+use Rattle.hub_rules.specs.declared.effect.SenderChange.TheVariants as senders
 use Rattle.hub_rules.specs.declared.history.Entry.{Entry}
 use Rattle.hub_rules.specs.declared.history.Verdict.TheVariants.{Kept}
 use Rattle.hub_rules.specs.Accounts.{account_with}
-use Rattle.hub_rules.specs.Asks.{entry_ask}
+use Rattle.hub_rules.specs.Grounds.{login_grounds}
 use Rattle.hub_rules.specs.Denied.{request_denied}
 use Rattle.hub_rules.specs.Effects.{accepted, entrant}
 use Rattle.hub_rules.specs.Identities.{listed}
 use Rattle.hub_rules.specs.Legal.{verdict_of}
 use Rattle.hub_rules.specs.Requests.{refused, request_of}
-use Rattle.hub_rules.specs.Shares.{About, with_share}
+use Rattle.hub_rules.specs.Shares.{About, lags_with, owed_with}
 use Rattle.hub_rules.specs.Sights.{Sight}
 use Rattle.hub_rules.specs.Texts.{ended, hub_line, identifier_line, support_line, user_line}
 use Rattle.hub_laws.specs.Conversations.{greeting_of, one, plain, zeros}
@@ -56,9 +57,7 @@ entry_effect user before told = record {
   own = before ++ told ∷ [];
   others = told ∷ [];
   hearers = Others;
-  turn = turns.EntersAs (entrant user);
-  world = Same;
-  searched = None;
+  change = Sender (senders.EntersAs (entrant user));
 }
 
 -- ---- ana
@@ -67,7 +66,7 @@ abbrev pub ana_greeted : Known
 ana_greeted = record (nobody_yet plain) { last = 1; opened = 1 ∷ []; abouts = greeted 1 1 (greeting_of (codes "AAAB")) ∷ [] }
 
 pub ana-asks : (hash : List ℕ → List ℕ) → Comes plain hash ana_asked ana_greeted
-unfolding with_share support_line identifier_line hub_line escaped digit_of
+unfolding owed_with lags_with support_line identifier_line hub_line escaped digit_of
 ana-asks hash =
     greets-more plain hash [] (nobody_yet plain) ana_greeted 1 1 0 (opens plain hash) refl refl (next-at (facts_of (nobody_yet plain)) refl)
     (refl, refl, refl, sup-read, refl, refl) refl refl refl
@@ -78,7 +77,7 @@ ana-read = reading-ascii ana_text refl refl ∙ refl
 
 ana-decided : (hash : List ℕ → List ℕ) → hash zeros ≡ zeros
     → effect_of plain hash (facts_of ana_greeted) 1 ana_text 0 (Ok (login_line ana_text 1 ana_words)) ≡ entry_effect (ana_user 1) [] ana_told
-unfolding entry_ask left account_with user_line printed digit_of spelled bytes_from number_from value_at bits value_of number_at dotted digits
+unfolding login_grounds left account_with user_line printed digit_of spelled bytes_from number_from value_at bits value_of number_at dotted digits
 ana-decided hash same = ana-logs-in plain hash ana_greeted (plain_with []) 1 1 0 (greeting_of (codes "AAAB")) ana_text refl same refl refl refl
 
 -- a user who is present, and what it was owed
@@ -89,7 +88,7 @@ abbrev pub ana_present : Known
 ana_present = record ana_greeted { present = 1 ∷ []; abouts = ana_about (greeting_of (codes "AAAB") ++ ana_told ∷ []) ∷ [] }
 
 pub ana-enters : (hash : List ℕ → List ℕ) → hash zeros ≡ zeros → Comes plain hash ana_entered ana_present
-unfolding with_share listed
+unfolding owed_with lags_with listed
 ana-enters hash same =
     says-more plain hash ana_asked ana_greeted ana_present 1 (login_line ana_text 1 ana_words) 0 (entry_effect (ana_user 1) [] ana_told) Kept (ana-asks hash)
     (refl, refl, refl, ana-read, refl, refl) (ana-decided hash same) refl refl
@@ -100,7 +99,7 @@ abbrev bob_greeted : Known
 bob_greeted = record ana_present { last = 2; opened = 1 ∷ 2 ∷ []; abouts = greeted 2 2 (greeting_of (codes "AAAC")) ∷ ana_about (greeting_of (codes "AAAB") ++ ana_told ∷ []) ∷ [] }
 
 bob-asks : (hash : List ℕ → List ℕ) → hash zeros ≡ zeros → Comes plain hash bob_asked bob_greeted
-unfolding with_share support_line identifier_line hub_line escaped digit_of
+unfolding owed_with lags_with support_line identifier_line hub_line escaped digit_of
 bob-asks hash same =
     greets-more plain hash ana_entered ana_present bob_greeted 2 2 0 (ana-enters hash same) refl refl (next-at (facts_of ana_present) refl)
     (refl, refl, refl, sup-read, refl, refl) refl refl refl
@@ -111,7 +110,7 @@ bob-read = reading-ascii bob_text refl refl ∙ refl
 
 bob-decided : (hash : List ℕ → List ℕ) → hash one ≡ one
     → effect_of plain hash (facts_of bob_greeted) 2 bob_text 0 (Ok (login_line bob_text 2 bob_words)) ≡ entry_effect (bob_user 2) (ana_told ∷ []) bob_told
-unfolding entry_ask left account_with user_line printed digit_of spelled bytes_from number_from value_at bits value_of number_at
+unfolding login_grounds left account_with user_line printed digit_of spelled bytes_from number_from value_at bits value_of number_at
 bob-decided hash same =
     bob-comes hash bob_greeted (plain_with (ana_user 1 ∷ [])) 2 2 0 (greeting_of (codes "AAAC")) bob_text same refl refl (λ i. plain_with (ana-listed 1 i ∷ []))
 
@@ -125,7 +124,7 @@ bob_present = record bob_greeted {
 }
 
 pub bob-enters : (hash : List ℕ → List ℕ) → hash zeros ≡ zeros → hash one ≡ one → Comes plain hash bob_entered bob_present
-unfolding with_share listed
+unfolding owed_with lags_with listed
 bob-enters hash same same_one =
     says-more plain hash bob_asked bob_greeted bob_present 2 (login_line bob_text 2 bob_words) 0 (entry_effect (bob_user 2) (ana_told ∷ []) bob_told) Kept (bob-asks hash same)
     (refl, refl, refl, bob-read, refl, refl) (bob-decided hash same_one) refl refl
@@ -142,7 +141,7 @@ cy_greeted = record bob_present {
 }
 
 cy-asks : (hash : List ℕ → List ℕ) → hash zeros ≡ zeros → hash one ≡ one → Comes plain hash cy_asked cy_greeted
-unfolding with_share support_line identifier_line hub_line escaped digit_of
+unfolding owed_with lags_with support_line identifier_line hub_line escaped digit_of
 cy-asks hash same same_one =
     greets-more plain hash bob_entered bob_present cy_greeted 3 3 0 (bob-enters hash same same_one) refl refl (next-at (facts_of bob_present) refl)
     (refl, refl, refl, sup-read, refl, refl) refl refl refl
@@ -153,7 +152,7 @@ cy-read = reading-ascii cy_text refl refl ∙ refl
 
 cy-decided : (hash : List ℕ → List ℕ) → hash two ≡ two
     → effect_of plain hash (facts_of cy_greeted) 3 cy_text 0 (Ok (login_line cy_text 3 cy_words)) ≡ entry_effect (cy_user 3) (ana_told ∷ bob_told ∷ []) cy_told
-unfolding entry_ask left account_with user_line printed digit_of spelled bytes_from number_from value_at bits value_of number_at
+unfolding login_grounds left account_with user_line printed digit_of spelled bytes_from number_from value_at bits value_of number_at
 cy-decided hash same =
     cy-logs-in hash cy_greeted (plain_with (ana_user 1 ∷ bob_user 2 ∷ [])) 3 3 0 (greeting_of (codes "AAAD")) cy_text same refl refl
     (λ i. plain_with (ana-listed 1 i ∷ bob-listed 2 i ∷ []))
@@ -168,7 +167,7 @@ three searched to_ana to_bob to_cy = record cy_greeted {
 }
 
 pub cy-enters : (hash : List ℕ → List ℕ) → hash zeros ≡ zeros → hash one ≡ one → hash two ≡ two → Comes plain hash cy_entered (three None [] [] [])
-unfolding with_share listed
+unfolding owed_with lags_with listed
 cy-enters hash same same_one same_two =
     says-more plain hash cy_asked cy_greeted (three None [] [] []) 3 (login_line cy_text 3 cy_words) 0 (entry_effect (cy_user 3) (ana_told ∷ bob_told ∷ []) cy_told) Kept
     (cy-asks hash same same_one) (refl, refl, refl, cy-read, refl, refl) (cy-decided hash same_two) refl refl
@@ -176,9 +175,9 @@ cy-enters hash same same_one same_two =
 -- ---- messages to one user
 
 -- a message is passed on as it came
-abbrev pub passed : List ℕ → Audience → Option ℕ → Effect
-passed text audience searched =
-    record { own = []; others = ended text ∷ []; hearers = Those audience; turn = turns.Stays; world = Same; searched = searched }
+abbrev pub passed : List ℕ → Audience → Change → Effect
+passed text audience change =
+    record { own = []; others = ended text ∷ []; hearers = Those audience; change = change }
 
 abbrev direct_line : List ℕ → ℕ → List ℕ → Reading
 direct_line text target word =
@@ -206,11 +205,11 @@ hi_sent = ana_says hi_line.text cy_entered
 
 hi-sent : (hash : List ℕ → List ℕ) → hash zeros ≡ zeros → hash one ≡ one → hash two ≡ two
     → Comes plain hash hi_sent (three None [] (ended hi_line.text ∷ []) [])
-unfolding accepted refused request_denied request_of audience listed with_share holds_words
+unfolding accepted refused request_denied request_of audience listed owed_with lags_with holds_words
 hi-sent hash same same_one same_two =
     ana-is-heard hash cy_entered (three None [] [] [])
     (three None [] (ended hi_line.text ∷ []) [])
-    hi_line (passed hi_line.text (audiences.One 2) None)
+    hi_line (passed hi_line.text (audiences.One 2) Nothing)
     (cy-enters hash same same_one same_two) (refl, refl, refl, hi-read, refl, refl) refl refl refl
 
 abbrev note_line : Reading
@@ -225,11 +224,11 @@ note_sent = ana_says note_line.text hi_sent
 
 note-sent : (hash : List ℕ → List ℕ) → hash zeros ≡ zeros → hash one ≡ one → hash two ≡ two
     → Comes plain hash note_sent (three None (ended note_line.text ∷ []) (ended hi_line.text ∷ []) [])
-unfolding accepted refused request_denied request_of audience listed with_share holds_words
+unfolding accepted refused request_denied request_of audience listed owed_with lags_with holds_words
 note-sent hash same same_one same_two =
     ana-is-heard hash hi_sent (three None [] (ended hi_line.text ∷ []) [])
     (three None (ended note_line.text ∷ []) (ended hi_line.text ∷ []) [])
-    note_line (passed note_line.text (audiences.One 1) None)
+    note_line (passed note_line.text (audiences.One 1) Nothing)
     (hi-sent hash same same_one same_two) (refl, refl, refl, note-read, refl, refl) refl refl refl
 
 abbrev gone_line : Reading
@@ -244,11 +243,11 @@ gone_sent = ana_says gone_line.text note_sent
 
 gone-sent : (hash : List ℕ → List ℕ) → hash zeros ≡ zeros → hash one ≡ one → hash two ≡ two
     → Comes plain hash gone_sent (three None (ended note_line.text ∷ []) (ended hi_line.text ∷ []) [])
-unfolding accepted refused request_denied request_of audience listed with_share holds_words
+unfolding accepted refused request_denied request_of audience listed owed_with lags_with holds_words
 gone-sent hash same same_one same_two =
     ana-is-heard hash note_sent (three None (ended note_line.text ∷ []) (ended hi_line.text ∷ []) [])
     (three None (ended note_line.text ∷ []) (ended hi_line.text ∷ []) [])
-    gone_line (passed gone_line.text audiences.Nobody None)
+    gone_line (passed gone_line.text audiences.Nobody Nothing)
     (note-sent hash same same_one same_two) (refl, refl, refl, gone-read, refl, refl) refl refl refl
 
 abbrev yo_line : Reading
@@ -263,11 +262,11 @@ yo_sent = ana_says yo_line.text gone_sent
 
 yo-sent : (hash : List ℕ → List ℕ) → hash zeros ≡ zeros → hash one ≡ one → hash two ≡ two
     → Comes plain hash yo_sent (three None (ended note_line.text ∷ ended yo_line.text ∷ []) (ended hi_line.text ∷ ended yo_line.text ∷ []) [])
-unfolding accepted refused request_denied request_of audience listed with_share holds_words
+unfolding accepted refused request_denied request_of audience listed owed_with lags_with holds_words
 yo-sent hash same same_one same_two =
     ana-is-heard hash gone_sent (three None (ended note_line.text ∷ []) (ended hi_line.text ∷ []) [])
     (three None (ended note_line.text ∷ ended yo_line.text ∷ []) (ended hi_line.text ∷ ended yo_line.text ∷ []) [])
-    yo_line (passed yo_line.text (audiences.Two 2 1) None)
+    yo_line (passed yo_line.text (audiences.Two 2 1) Nothing)
     (gone-sent hash same same_one same_two) (refl, refl, refl, yo-read, refl, refl) refl refl refl
 
 abbrev me_line : Reading
@@ -282,11 +281,11 @@ me_sent = ana_says me_line.text yo_sent
 
 me-sent : (hash : List ℕ → List ℕ) → hash zeros ≡ zeros → hash one ≡ one → hash two ≡ two
     → Comes plain hash me_sent (three None (ended note_line.text ∷ ended yo_line.text ∷ ended me_line.text ∷ []) (ended hi_line.text ∷ ended yo_line.text ∷ []) [])
-unfolding accepted refused request_denied request_of audience listed with_share holds_words
+unfolding accepted refused request_denied request_of audience listed owed_with lags_with holds_words
 me-sent hash same same_one same_two =
     ana-is-heard hash yo_sent (three None (ended note_line.text ∷ ended yo_line.text ∷ []) (ended hi_line.text ∷ ended yo_line.text ∷ []) [])
     (three None (ended note_line.text ∷ ended yo_line.text ∷ ended me_line.text ∷ []) (ended hi_line.text ∷ ended yo_line.text ∷ []) [])
-    me_line (passed me_line.text (audiences.One 1) None)
+    me_line (passed me_line.text (audiences.One 1) Nothing)
     (yo-sent hash same same_one same_two) (refl, refl, refl, me-read, refl, refl) refl refl refl
 
 abbrev away_line : Reading
@@ -301,11 +300,11 @@ away_sent = ana_says away_line.text me_sent
 
 away-sent : (hash : List ℕ → List ℕ) → hash zeros ≡ zeros → hash one ≡ one → hash two ≡ two
     → Comes plain hash away_sent (three None (ended note_line.text ∷ ended yo_line.text ∷ ended me_line.text ∷ []) (ended hi_line.text ∷ ended yo_line.text ∷ []) [])
-unfolding accepted refused request_denied request_of audience listed with_share holds_words
+unfolding accepted refused request_denied request_of audience listed owed_with lags_with holds_words
 away-sent hash same same_one same_two =
     ana-is-heard hash me_sent (three None (ended note_line.text ∷ ended yo_line.text ∷ ended me_line.text ∷ []) (ended hi_line.text ∷ ended yo_line.text ∷ []) [])
     (three None (ended note_line.text ∷ ended yo_line.text ∷ ended me_line.text ∷ []) (ended hi_line.text ∷ ended yo_line.text ∷ []) [])
-    away_line (passed away_line.text audiences.Nobody None)
+    away_line (passed away_line.text audiences.Nobody Nothing)
     (me-sent hash same same_one same_two) (refl, refl, refl, away-read, refl, refl) refl refl refl
 
 pub messages-are-for-their-targets : MessagesAreForTheirTargets
@@ -342,11 +341,11 @@ first_sent = ana_says first_line.text cy_entered
 
 first-sent : (hash : List ℕ → List ℕ) → hash zeros ≡ zeros → hash one ≡ one → hash two ≡ two
     → Comes plain hash first_sent (three (Some 0) [] (ended first_line.text ∷ []) [])
-unfolding accepted refused request_denied request_of audience listed with_share holds_words meets wants_of names_after
+unfolding accepted refused request_denied request_of audience listed owed_with lags_with holds_words meets wants_of names_after
 first-sent hash same same_one same_two =
     ana-is-heard hash cy_entered (three None [] [] [])
     (three (Some 0) [] (ended first_line.text ∷ []) [])
-    first_line (passed first_line.text (having (codes "+TCP4-SEGA")) (Some 0))
+    first_line (passed first_line.text (having (codes "+TCP4-SEGA")) (Sender (senders.Searches 0)))
     (cy-enters hash same same_one same_two) (refl, refl, refl, first-read, refl, refl) refl refl refl
 
 abbrev second_line : Reading
@@ -361,11 +360,11 @@ second_sent = ana_says second_line.text first_sent
 
 second-sent : (hash : List ℕ → List ℕ) → hash zeros ≡ zeros → hash one ≡ one → hash two ≡ two
     → Comes plain hash second_sent (three (Some 0) (ended second_line.text ∷ []) (ended first_line.text ∷ ended second_line.text ∷ []) [])
-unfolding accepted refused request_denied request_of audience listed with_share holds_words meets wants_of names_after
+unfolding accepted refused request_denied request_of audience listed owed_with lags_with holds_words meets wants_of names_after
 second-sent hash same same_one same_two =
     ana-is-heard hash first_sent (three (Some 0) [] (ended first_line.text ∷ []) [])
     (three (Some 0) (ended second_line.text ∷ []) (ended first_line.text ∷ ended second_line.text ∷ []) [])
-    second_line (passed second_line.text (having (codes "+TCP4")) (Some 0))
+    second_line (passed second_line.text (having (codes "+TCP4")) (Sender (senders.Searches 0)))
     (first-sent hash same same_one same_two) (refl, refl, refl, second-read, refl, refl) refl refl refl
 
 abbrev third_line : Reading
@@ -380,11 +379,11 @@ third_sent = ana_says third_line.text second_sent
 
 third-sent : (hash : List ℕ → List ℕ) → hash zeros ≡ zeros → hash one ≡ one → hash two ≡ two
     → Comes plain hash third_sent (three (Some 0) (ended second_line.text ∷ ended third_line.text ∷ []) (ended first_line.text ∷ ended second_line.text ∷ []) [])
-unfolding accepted refused request_denied request_of audience listed with_share holds_words meets wants_of names_after
+unfolding accepted refused request_denied request_of audience listed owed_with lags_with holds_words meets wants_of names_after
 third-sent hash same same_one same_two =
     ana-is-heard hash second_sent (three (Some 0) (ended second_line.text ∷ []) (ended first_line.text ∷ ended second_line.text ∷ []) [])
     (three (Some 0) (ended second_line.text ∷ ended third_line.text ∷ []) (ended first_line.text ∷ ended second_line.text ∷ []) [])
-    third_line (passed third_line.text (having (codes "+TCP4+SEGA")) (Some 0))
+    third_line (passed third_line.text (having (codes "+TCP4+SEGA")) (Sender (senders.Searches 0)))
     (second-sent hash same same_one same_two) (refl, refl, refl, third-read, refl, refl) refl refl refl
 
 abbrev fourth_line : Reading
@@ -399,11 +398,11 @@ fourth_sent = ana_says fourth_line.text third_sent
 
 fourth-sent : (hash : List ℕ → List ℕ) → hash zeros ≡ zeros → hash one ≡ one → hash two ≡ two
     → Comes plain hash fourth_sent (three (Some 0) (ended second_line.text ∷ ended third_line.text ∷ []) (ended first_line.text ∷ ended second_line.text ∷ []) (ended fourth_line.text ∷ []))
-unfolding accepted refused request_denied request_of audience listed with_share holds_words meets wants_of names_after
+unfolding accepted refused request_denied request_of audience listed owed_with lags_with holds_words meets wants_of names_after
 fourth-sent hash same same_one same_two =
     ana-is-heard hash third_sent (three (Some 0) (ended second_line.text ∷ ended third_line.text ∷ []) (ended first_line.text ∷ ended second_line.text ∷ []) [])
     (three (Some 0) (ended second_line.text ∷ ended third_line.text ∷ []) (ended first_line.text ∷ ended second_line.text ∷ []) (ended fourth_line.text ∷ []))
-    fourth_line (passed fourth_line.text (having (codes "-TCP4")) (Some 0))
+    fourth_line (passed fourth_line.text (having (codes "-TCP4")) (Sender (senders.Searches 0)))
     (third-sent hash same same_one same_two) (refl, refl, refl, fourth-read, refl, refl) refl refl refl
 
 pub searches-are-by-features : SearchesAreByFeatures

@@ -11,8 +11,7 @@ use Rattle.inf_fields.specs.FieldNames.{address_name}
 use Rattle.inf_fields.specs.Updates as updates
 use Rattle.inf_fields.specs.Updates.{reading, are_few, before, field_in, is_named, unless_too_many, update}
 use Rattle.inf_fields.specs.declared.fault.InfFault.TheVariants.{BadName, TooMany}
-use Rattle.login_state.specs.declared.findings.Address.TheVariants.{Right}
-use Rattle.hub_rules.specs.Asks.{address_found}
+use Rattle.hub_rules.specs.Grounds.{is_wrong_address}
 use Rattle.hub_rules.specs.Identities.{given}
 use Rattle.hub_laws.specs.Secrets.{IsPassed}
 use Rattle.hub_laws.proofs.Secrets.{filled, passed-address}
@@ -94,7 +93,7 @@ with-held : (peer : List ℕ) (f : Field) (asks : Bool) → is_held_back f ≡ f
 with-held peer f true held = held
 with-held peer f false held = held
 
-passed-one : (peer : List ℕ) (u : List Field) (f : Field) → address_found peer (given address_name u) ≡ Right → IsExact u f → is_held_back f ≡ false → IsPassed peer (with_address peer f)
+passed-one : (peer : List ℕ) (u : List Field) (f : Field) → is_wrong_address peer (given address_name u) ≡ false → IsExact u f → is_held_back f ≡ false → IsPassed peer (with_address peer f)
 passed-one peer u f right exactly held = (
   with-held peer f (asks_for_address f) held,
   λ called.
@@ -102,10 +101,10 @@ passed-one peer u f right exactly held = (
       let value : (with_address peer f).value ≡ filled peer f.value = with-filled peer f (is_called address_name f) (bytes_eq any_address f.value) refl refl here in
       let found : value_of address_name u ≡ Some f.value = ap (λ n. value_of n u) ((bytes_eq-Decides address_name f.name).0 here) ∙ exactly in
       subst (λ (v : List ℕ). (v ≡ []) ⊎ (v ≡ dotted peer)) (sym value)
-      (passed-address peer (Some f.value) (filled peer f.value) (ap (λ o. address_found peer (unwrap_or o [])) (sym found) ∙ right) refl),
+      (passed-address peer (Some f.value) (filled peer f.value) (ap (λ o. is_wrong_address peer (unwrap_or o [])) (sym found) ∙ right) refl),
 )
 
-passed-all : (peer : List ℕ) (u fields : List Field) → address_found peer (given address_name u) ≡ Right → AllByRecursion (IsExact u) fields
+passed-all : (peer : List ℕ) (u fields : List Field) → is_wrong_address peer (given address_name u) ≡ false → AllByRecursion (IsExact u) fields
     → AllByRecursion (IsPassed peer) (clean fields peer)
 unfolding clean
 passed-all peer u [] right exactly = tt
@@ -132,6 +131,6 @@ read-update : (words : List (List ℕ)) (u : List Field) → updates.reading wor
 unfolding reading
 read-update words u is = named-same (list_all is_named words) (update words) u is
 
-pub read-passed : (peer : List ℕ) (words : List (List ℕ)) (u : List Field) → updates.reading words ≡ Ok u → address_found peer (given address_name u) ≡ Right
+pub read-passed : (peer : List ℕ) (words : List (List ℕ)) (u : List Field) → updates.reading words ≡ Ok u → is_wrong_address peer (given address_name u) ≡ false
     → AllByRecursion (IsPassed peer) (clean u peer)
 read-passed peer words u is right = passed-all peer u u right (exact u (subst Apart (sym (read-update words u is)) (apart-update words)))

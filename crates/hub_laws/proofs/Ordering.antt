@@ -1,8 +1,8 @@
 -- What an entry adds is its share or nothing, and nothing from the first share on that does not fit.
-use Rattle.std.proofs.Common.{◌≡◌, ◌∙◌, sym, ap, ap₂, refl, subst, ℕ, Bool, true, false, not, ◌&&◌, ◌==◌, ◌⊎◌, inl, inr, List, [], ◌∷◌, ◌++◌, length, drop, append-nil, append_assoc, Option, Some, None, Result, Ok, Err}
+use Rattle.std.proofs.Common.{◌≡◌, ◌∙◌, sym, ap, ap₂, refl, subst, ℕ, Bool, true, false, not, ◌==◌, ◌⊎◌, inl, inr, List, [], ◌∷◌, ◌++◌, length, drop, append-nil, append_assoc, Option, Some, None, Result, Ok, Err}
 use Rattle.std.specs.Prelude.{codes, if◌then◌else◌}
 use Rattle.std.specs.Str.{bytes_eq}
-use Rattle.std.proofs.lemmas.Bool.{false≢true, eqb-true}
+use Rattle.std.proofs.lemmas.Bool.{false≢true, eqb-true, and_parts}
 use Rattle.std.proofs.Math.Seq.{drop-append_seam}
 use Rattle.adc_line.specs.declared.fault.LineFault.{LineFault}
 use Rattle.adc_line.specs.declared.kind.Kind.{Kind}
@@ -16,7 +16,7 @@ use Rattle.login_state.specs.declared.deny.Deny.TheVariants as denials
 use Rattle.login_state.specs.declared.stage.Stage.{Stage}
 use Rattle.login_state.specs.declared.stage.Stage.TheVariants as stages
 use Rattle.hub_rules.specs.declared.history.Call.{Call}
-use Rattle.hub_rules.specs.declared.history.Call.TheVariants.{Join, Line, Quit, Take}
+use Rattle.hub_rules.specs.declared.history.Call.TheVariants.{Line}
 use Rattle.hub_rules.specs.declared.history.Entry.{Entry}
 use Rattle.hub_rules.specs.declared.request.Request.{Request}
 use Rattle.hub_rules.specs.declared.request.Request.TheVariants as requests
@@ -32,9 +32,10 @@ use Rattle.hub_rules.specs.Said.{accepted_line, kept_unless, listed_if, read_by,
 use Rattle.hub_rules.specs.Sights.{Own, PreparedLine, Sight}
 use Rattle.hub_laws.specs.Ordering.{AreTheFirstOf, CallsKeepTheirOrder, MessagesKeepTheirOrder, OwedGrows, SendersAreNamed, added, heard_of, is_of, is_some_message, messages_for, messages_heard, owed_by, routed, sent_in, to_users}
 use Rattle.hub_laws.specs.Routing.{IsMessage}
-use Rattle.hub_invariants.proofs.Outcomes.{asked, asked_at}
-use Rattle.hub_laws.proofs.Checked.{first-none, some-none}
-use Rattle.hub_laws.proofs.Lagging.{lag_is_the_first, owed_are_shares}
+use Rattle.hub_invariants.proofs.Claims.{some-none}
+use Rattle.hub_invariants.proofs.Outcomes.{Asked, asked}
+use Rattle.hub_laws.proofs.Checked.{first-none}
+use Rattle.hub_laws.proofs.Lagging.{lag_is_the_first, owed_are_shares, given-nothing}
 use Rattle.hub_laws.proofs.Routing.{messages_are_routed}
 
 -- ---- what an entry adds
@@ -42,10 +43,6 @@ use Rattle.hub_laws.proofs.Routing.{messages_are_routed}
 -- no line
 abbrev none : List (List ℕ)
 none = []
-
-given-none : (b : Bool) → given_if b none ≡ none
-given-none true = refl
-given-none false = refl
 
 fit-shares : (setup : Configured) (hash : List ℕ → List ℕ) (h : List Entry) (e : Entry) (d : ℕ)
     → shares_that_fit setup hash (e ∷ h) d ≡ shares_that_fit setup hash h d ++ given_if (all_fit setup hash (e ∷ h) d) (share setup hash (facts setup hash h) d e.call)
@@ -89,17 +86,13 @@ follows-step before false heard all plus lines earlier is follows = record {
   whole = λ fitted. absurd (false≢true fitted);
 }
 
-and-left : (a b : Bool) → (a && b) ≡ true → a ≡ true
-and-left true b is = refl
-and-left false b is = is
-
 fitted-before : (setup : Configured) (hash : List ℕ → List ℕ) (h : List Entry) (e : Entry) (d : ℕ) → all_fit setup hash (e ∷ h) d ≡ true → all_fit setup hash h d ≡ true
 unfolding all_fit
-fitted-before setup hash h e d is = and-left (all_fit setup hash h d) _ is
+fitted-before setup hash h e d is = (and_parts (all_fit setup hash h d) _ is).0
 
 picked : (pick fit : Bool) (plus share : List (List ℕ)) → plus ≡ given_if fit share → given_if pick plus ≡ given_if fit (given_if pick share)
 picked true fit plus share is = is
-picked false fit plus share is = sym (given-none fit)
+picked false fit plus share is = sym (given-nothing fit)
 
 pub not-false : (b : Bool) → not b ≡ false → b ≡ true
 not-false true is = refl
@@ -163,23 +156,10 @@ is_for_users requests.Message = true
 is_for_users requests.Search = true
 is_for_users request = false
 
-here-asks : (stage : Stage) (request : Request) → is_for_users request ≡ true → asked_at stage request ≡ true → stage ≡ stages.Normal
-here-asks stages.Protocol requests.Message is at = absurd (false≢true at)
-here-asks stages.Protocol requests.Search is at = absurd (false≢true at)
-here-asks stages.Identify requests.Message is at = absurd (false≢true at)
-here-asks stages.Identify requests.Search is at = absurd (false≢true at)
-here-asks stages.Verify requests.Message is at = absurd (false≢true at)
-here-asks stages.Verify requests.Search is at = absurd (false≢true at)
-here-asks stages.Normal request is at = refl
-here-asks stages.Gone requests.Message is at = absurd (false≢true at)
-here-asks stages.Gone requests.Search is at = absurd (false≢true at)
-here-asks stage requests.Greeting is at = absurd (false≢true is)
-here-asks stage requests.Login is at = absurd (false≢true is)
-here-asks stage requests.Password is at = absurd (false≢true is)
-here-asks stage requests.Update is at = absurd (false≢true is)
-here-asks stage requests.Support is at = absurd (false≢true is)
-here-asks stage requests.Act is at = absurd (false≢true is)
-here-asks stage requests.Nothing is at = absurd (false≢true is)
+here-asks : (stage : Stage) (request : Request) → is_for_users request ≡ true → Asked stage request → stage ≡ stages.Normal
+here-asks stage requests.Search users at = at
+here-asks stage requests.Message users at = at
+here-asks stage request users at = absurd (false≢true users)
 
 not-for-users : (b : Bool) (x y : Request) → is_for_users x ≡ false → is_for_users y ≡ false → is_for_users (if b then x else y) ≡ false
 not-for-users true x y first second = first
@@ -190,17 +170,15 @@ says-from : (kind : Kind) (command : List ℕ) (ws : List (List ℕ)) (from targ
     → is_for_users (request_of stages.Normal kind command) ≡ true → (own : ℕ) × (from ≡ Some own)
 unfolding request_of
 says-from kinds.Broadcast command ws from target features is asks = (is.0, is.3)
-says-from kinds.Client command ws from target features is asks = absurd (false≢true asks)
 says-from kinds.Direct command ws from target features is asks = (is.0, is.5)
 says-from kinds.Echo command ws from target features is asks = (is.0, is.5)
 says-from kinds.Feature command ws from target features is asks = (is.0, is.5)
 says-from kinds.Hub command ws from target features is asks =
     absurd (false≢true (sym (not-for-users (bytes_eq command (codes "SUP")) requests.Support _ refl (not-for-users (bytes_eq command (codes "MSG")) requests.Act requests.Nothing refl refl)) ∙ asks))
-says-from kinds.Info command ws from target features is asks = absurd (false≢true asks)
-says-from kinds.Udp command ws from target features is asks = absurd (false≢true asks)
+says-from _ command ws from target features is asks = absurd (false≢true asks)
 
 not-other : (another : Bool) (more : Option Deny) → (if another then Some denials.WrongSid else more) ≡ None → another ≡ false
-not-other true more none_of = absurd (some-none denials.WrongSid none_of)
+not-other true more none_of = absurd (some-none none_of)
 not-other false more none_of = refl
 
 not-another : (stage : Stage) (own : ℕ) (line : Reading) → refused stage own line ≡ None → names_another own line.from ≡ false
@@ -219,15 +197,9 @@ from-own hub own line now reading is asks =
     says.1 ∙ ap Some (own-name own.sid says.0 (ap (names_another own.sid) (sym says.1) ∙ own-line))
 
 either : (request : Request) → is_for_users request ≡ true → (request ≡ requests.Message) ⊎ (request ≡ requests.Search)
-either requests.Greeting is = absurd (false≢true is)
-either requests.Login is = absurd (false≢true is)
-either requests.Password is = absurd (false≢true is)
-either requests.Update is = absurd (false≢true is)
-either requests.Support is = absurd (false≢true is)
-either requests.Act is = absurd (false≢true is)
 either requests.Search is = inr refl
 either requests.Message is = inl refl
-either requests.Nothing is = absurd (false≢true is)
+either _ is = absurd (false≢true is)
 
 not-empty : (bytes : List ℕ) → (length bytes == 0) ≡ false → bytes ≡ [] → ⊥
 not-empty bytes some is = false≢true (sym some ∙ ap (λ (bs : List ℕ). length bs == 0) is)
@@ -267,13 +239,7 @@ one-said false o line is = let nothing : ⊥ = cc is in absurd nothing
 one-asked : (of : Own) (request : Request) (reading line : Reading) → to_users of request reading ≡ Some line → (is_for_users request ≡ true) × (reading ≡ line)
 one-asked of requests.Search reading line is = (refl, cc is)
 one-asked of requests.Message reading line is = (refl, cc is)
-one-asked of requests.Greeting reading line is = let nothing : ⊥ = cc is in absurd nothing
-one-asked of requests.Login reading line is = let nothing : ⊥ = cc is in absurd nothing
-one-asked of requests.Password reading line is = let nothing : ⊥ = cc is in absurd nothing
-one-asked of requests.Update reading line is = let nothing : ⊥ = cc is in absurd nothing
-one-asked of requests.Support reading line is = let nothing : ⊥ = cc is in absurd nothing
-one-asked of requests.Act reading line is = let nothing : ⊥ = cc is in absurd nothing
-one-asked of requests.Nothing reading line is = let nothing : ⊥ = cc is in absurd nothing
+one-asked of _ reading line is = let nothing : ⊥ = cc is in absurd nothing
 
 named-by : (setup : Configured) (hash : List ℕ → List ℕ) (h : List Entry) (c : ℕ) (bytes : List ℕ) (now : ℕ) (said : Option Reading) (message : Reading)
     → accepted_line (sight_of setup (facts setup hash h)) (own setup hash h c bytes now) (line setup hash h c bytes now) now ≡ said
@@ -286,26 +252,18 @@ named-by setup hash h c bytes now (Some reading) message is says =
     ap (λ (r : Reading). r.from) (sym asks.1) ∙ sent.from
 
 pub senders_are_named : SendersAreNamed
-senders_are_named setup hash h c (Join peer challenge now) message is = let nothing : ⊥ = cc is in absurd nothing
 senders_are_named setup hash h c (Line b bytes now) message is =
     let says = one-said (c == b) _ message is in
     named-by setup hash h b bytes now _ message refl says.1 ∙ ap (λ x. Some (sid setup hash h x)) (sym (eqb-true c b says.0))
-senders_are_named setup hash h c (Quit b) message is = let nothing : ⊥ = cc is in absurd nothing
-senders_are_named setup hash h c (Take b count) message is = let nothing : ⊥ = cc is in absurd nothing
+senders_are_named setup hash h c _ message is = let nothing : ⊥ = cc is in absurd nothing
 
 -- what it owes is what the law says
 by-request : (setup : Configured) (hash : List ℕ → List ℕ) (h : List Entry) (c d : ℕ) (of : Own) (reading : Reading) (share : List (List ℕ)) (request : Request)
     → (is_for_users request ≡ true → share ≡ routed setup hash h c d (reading ∷ []))
     → routed setup hash h c d (listed_if true (to_users of request reading)) ≡ given_if (is_some_message (listed_if true (to_users of request reading))) share
-by-request setup hash h c d of reading share requests.Greeting is = refl
-by-request setup hash h c d of reading share requests.Login is = refl
-by-request setup hash h c d of reading share requests.Password is = refl
-by-request setup hash h c d of reading share requests.Update is = refl
-by-request setup hash h c d of reading share requests.Support is = refl
-by-request setup hash h c d of reading share requests.Act is = refl
 by-request setup hash h c d of reading share requests.Search is = sym (is refl)
 by-request setup hash h c d of reading share requests.Message is = sym (is refl)
-by-request setup hash h c d of reading share requests.Nothing is = refl
+by-request setup hash h c d of reading share _ is = refl
 
 by-accepted : (setup : Configured) (hash : List ℕ → List ℕ) (h : List Entry) (c d : ℕ) (bytes : List ℕ) (now : ℕ) (said : Option Reading)
     → accepted_line (sight_of setup (facts setup hash h)) (own setup hash h c bytes now) (line setup hash h c bytes now) now ≡ said
@@ -345,10 +303,8 @@ by-caller setup hash h c d b bytes now false is = refl
 by-call : (setup : Configured) (hash : List ℕ → List ℕ) (h : List Entry) (c d : ℕ) (call : Call)
     → routed setup hash h c d (sent_in setup hash (facts setup hash h) c call)
     ≡ given_if (is_some_message (sent_in setup hash (facts setup hash h) c call)) (share setup hash (facts setup hash h) d call)
-by-call setup hash h c d (Join peer challenge now) = refl
 by-call setup hash h c d (Line b bytes now) = by-caller setup hash h c d b bytes now (c == b) refl
-by-call setup hash h c d (Quit b) = refl
-by-call setup hash h c d (Take b count) = refl
+by-call setup hash h c d _ = refl
 
 -- ---- all messages of one connection
 

@@ -18,8 +18,6 @@ use Rattle.inf_fields.specs.Field.{Field, field, printed}
 use Rattle.inf_fields.specs.Merging.{merged_with}
 use Rattle.inf_fields.specs.Updates as updates
 use Rattle.login_state.specs.declared.stage.Stage.TheVariants as stages
-use Rattle.login_state.specs.Checks.{first_denial}
-use Rattle.login_state.specs.Orders.{entry_rules}
 use Rattle.login_state.specs.Denials.{denial_text}
 use Rattle.login_state.specs.Mentions.{feature_named, mention_at, signed}
 use Rattle.login_state.specs.Support.{said, supported, supported_after}
@@ -27,20 +25,20 @@ use Rattle.login_state.specs.SupportAnswers.{applied}
 use Rattle.operator_acts.specs.Bans.{left}
 use Rattle.unicode_normalization.proofs.Computing.{unicode_normalization}
 use Rattle.user_table.specs.Listed.{Listed}
+use Rattle.hub_rules.specs.declared.effect.Change.TheVariants.{Sender}
 use Rattle.hub_rules.specs.declared.effect.Effect.{Effect}
 use Rattle.hub_rules.specs.declared.effect.Hearers.TheVariants.{Others}
-use Rattle.hub_rules.specs.declared.effect.Turn.TheVariants as turns
-use Rattle.hub_rules.specs.declared.effect.World.TheVariants.{Same}
+use Rattle.hub_rules.specs.declared.effect.SenderChange.TheVariants as senders
 use Rattle.hub_rules.specs.declared.history.Verdict.TheVariants.{Ended, Kept}
 use Rattle.hub_rules.specs.Accounts.{account_with}
-use Rattle.hub_rules.specs.Asks.{entry_ask}
-use Rattle.hub_rules.specs.Denied.{denial_of, request_denied}
+use Rattle.hub_rules.specs.Grounds.{entry_grounds, first_ground, login_grounds, password_grounds}
+use Rattle.hub_rules.specs.Denied.{digest_given, request_denied}
 use Rattle.hub_rules.specs.Effects.{accepted, denial, enters, entrant, unless_denied}
 use Rattle.hub_rules.specs.Facts.{newcomer, own_of, sight_of}
 use Rattle.hub_rules.specs.Identities.{key_in, key_of_points, listed, nick_in}
 use Rattle.hub_rules.specs.Prepared.{owner_digest, password_digest, password_of, update_of}
 use Rattle.hub_rules.specs.Requests.{refused, request_of}
-use Rattle.hub_rules.specs.Shares.{with_share}
+use Rattle.hub_rules.specs.Shares.{lags_with, owed_with}
 use Rattle.hub_rules.specs.Sights.{user_after}
 use Rattle.hub_rules.specs.Texts.{challenge_line, ended, hub_line, identifier_line, menu_line, support_line, user_line}
 use Rattle.hub_laws.specs.Conversations.{greeting_of, nobodys_id, peer, zeros}
@@ -77,7 +75,7 @@ abbrev pub op_features : List (List ℕ)
 op_features = codes "ZLIF" ∷ codes "UCMD" ∷ codes "TIGR" ∷ codes "BASE" ∷ []
 
 abbrev greeting_effect : Effect
-greeting_effect = record { own = greeting_of (codes "AAAB"); others = []; hearers = Others; turn = turns.Greets op_features; world = Same; searched = None }
+greeting_effect = record { own = greeting_of (codes "AAAB"); others = []; hearers = Others; change = Sender (senders.Greets op_features) }
 
 op-greeted : (hash : List ℕ → List ℕ) → effect_of staffed hash (facts_of op_there) 1 op_sup 0 (Ok sup_line) ≡ greeting_effect
 unfolding accepted refused request_denied request_of feature_named mention_at signed said supported supported_after applied is_feature_name support_line identifier_line hub_line escaped digit_of
@@ -87,7 +85,7 @@ abbrev pub op_greeted : Known
 op_greeted = record op_there { abouts = record (newcomer 1 1 peer zeros) { stage = stages.Identify; features = op_features; owed = greeting_of (codes "AAAB") } ∷ [] }
 
 pub op-asks : (hash : List ℕ → List ℕ) → Comes staffed hash op_asked op_greeted
-unfolding with_share
+unfolding owed_with lags_with
 op-asks hash = says-more staffed hash op_joined op_there op_greeted 1 sup_line 0 greeting_effect Kept (op-joins hash) sup-said (op-greeted hash) refl refl
 
 -- ---- it is asked for the password
@@ -154,14 +152,12 @@ asked_effect = record {
   own = challenge_told ∷ [];
   others = [];
   hearers = Others;
-  turn = turns.Waits (entrant op_user) secret_digest;
-  world = Same;
-  searched = None;
+  change = Sender (senders.Waits (entrant op_user) secret_digest);
 }
 
 op-is-asked : login_effect (sight_of staffed (facts_of op_greeted)) (own_of ((facts_of op_greeted).about 1)) 0 (record { bytes = op_text; owner = Some zeros; password = Some secret_digest }) op op_user
     ≡ asked_effect
-unfolding entry_ask left account_with challenge_line spelling digits_from number_from bits digit_of spelled bytes_from value_at value_of
+unfolding login_grounds left account_with challenge_line spelling digits_from number_from bits digit_of spelled bytes_from value_at value_of
 op-is-asked = refl
 
 op-decided : (hash : List ℕ → List ℕ) → hash zeros ≡ zeros → hash (codes "secret" ++ zeros) ≡ secret_digest
@@ -184,7 +180,7 @@ op_waiting = record op_greeted {
 }
 
 pub op-waits : (hash : List ℕ → List ℕ) → hash zeros ≡ zeros → hash (codes "secret" ++ zeros) ≡ secret_digest → Comes staffed hash op_named op_waiting
-unfolding with_share
+unfolding owed_with lags_with
 op-waits hash same secret =
     says-more staffed hash op_asked op_greeted op_waiting 1 op_line 0 asked_effect Kept (op-asks hash) op-said (op-decided hash same secret) refl refl
 
@@ -205,14 +201,14 @@ unfolding header_of head_at kind_at addressed params_fault is_escaped
 right-said = (refl, refl, refl, reading-ascii pass_text refl refl ∙ refl, refl, refl)
 
 abbrev pub entry_effect : Effect
-entry_effect = record { own = op_told ∷ menu_told ∷ []; others = op_told ∷ []; hearers = Others; turn = turns.Enters; world = Same; searched = None }
+entry_effect = record { own = op_told ∷ menu_told ∷ []; others = op_told ∷ []; hearers = Others; change = Sender senders.Enters }
 
 op-lets-in : (hash : List ℕ → List ℕ) → effect_of staffed hash (facts_of op_waiting) 1 pass_text 0 (Ok right_line) ≡ entry_effect
-unfolding accepted refused request_denied request_of entry_ask left spelled bytes_from number_from value_at bits value_of user_line menu_line printed escaped digit_of account_with digits
+unfolding accepted refused request_denied request_of entry_grounds left spelled bytes_from number_from value_at bits value_of user_line menu_line printed escaped digit_of account_with digits
 op-lets-in hash =
     let hub = sight_of staffed (facts_of op_waiting) in
     let own = own_of ((facts_of op_waiting).about 1) in
-    ap (λ (user : Listed). unless_denied own (denial_of (first_denial (entry_rules (entry_ask hub 0 user)))) (enters hub own user turns.Enters)) op-listed
+    ap (λ (user : Listed). unless_denied own (first_ground (password_grounds hub own 0 (digest_given right_line.params) user)) (enters hub own user (Sender senders.Enters))) op-listed
 
 abbrev pub op_present : Known
 op_present = record op_greeted {
@@ -226,7 +222,7 @@ op_present = record op_greeted {
 }
 
 pub op-enters : (hash : List ℕ → List ℕ) → hash zeros ≡ zeros → hash (codes "secret" ++ zeros) ≡ secret_digest → Comes staffed hash op_entered op_present
-unfolding with_share
+unfolding owed_with lags_with
 op-enters hash same secret =
     says-more staffed hash op_named op_waiting op_present 1 right_line 0 entry_effect Kept (op-waits hash same secret) right-said (op-lets-in hash) refl refl
 
@@ -248,9 +244,7 @@ refusal_effect = record {
   own = ended (codes "ISTA 223 Invalid\\spassword") ∷ [];
   others = [];
   hearers = Others;
-  turn = turns.Falls;
-  world = Same;
-  searched = None;
+  change = Sender senders.Falls;
 }
 
 op-is-refused : (hash : List ℕ → List ℕ) → effect_of staffed hash (facts_of op_waiting) 1 wrong_text 0 (Ok wrong_line) ≡ refusal_effect
@@ -269,7 +263,7 @@ op_shut_out = record op_waiting {
 }
 
 op-falls : (hash : List ℕ → List ℕ) → hash zeros ≡ zeros → hash (codes "secret" ++ zeros) ≡ secret_digest → Comes staffed hash op_refused op_shut_out
-unfolding with_share
+unfolding owed_with lags_with
 op-falls hash same secret =
     says-more staffed hash op_named op_waiting op_shut_out 1 wrong_line 0 refusal_effect Ended (op-waits hash same secret) wrong-said (op-is-refused hash) refl refl
 

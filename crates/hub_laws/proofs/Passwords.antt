@@ -1,29 +1,29 @@
 -- Two hubs that differ in passwords alone come to the same, whatever is called, but for the digests that they wait for.
 use Rattle.std.proofs.Common.{◌≡◌, ◌∙◌, sym, ap, ap₂, refl, subst, ℕ, ◌+◌, Bool, true, false, not, ◌&&◌, ◌==◌, ◌⊎◌, inl, inr, List, [], ◌∷◌, ◌++◌, map, filter, cond}
 use Rattle.adc_line.specs.Lines as lines
-use Rattle.login_state.specs.declared.stage.Stage.{Stage}
 use Rattle.login_state.specs.declared.stage.Stage.TheVariants as stages
-use Rattle.inf_fields.specs.Field.{Field}
+use Rattle.operator_acts.specs.declared.ban.Ban.{Ban}
 use Rattle.user_table.specs.Listed.{Listed}
+use Rattle.hub_rules.specs.declared.effect.Change.{Change}
+use Rattle.hub_rules.specs.declared.effect.Change.TheVariants.{Sender}
 use Rattle.hub_rules.specs.declared.effect.Effect.{Effect}
 use Rattle.hub_rules.specs.declared.effect.Hearers.{Hearers}
 use Rattle.hub_rules.specs.declared.effect.Hearers.TheVariants.{Others, Those}
-use Rattle.hub_rules.specs.declared.effect.Turn.{Turn}
-use Rattle.hub_rules.specs.declared.effect.Turn.TheVariants as turns
+use Rattle.hub_rules.specs.declared.effect.SenderChange.TheVariants as senders
 use Rattle.hub_rules.specs.declared.history.Call.{Call}
 use Rattle.hub_rules.specs.declared.history.Call.TheVariants.{Join, Line, Quit, Take}
 use Rattle.hub_rules.specs.declared.history.Entry.{Entry}
 use Rattle.hub_rules.specs.Configured.{Account, Configured}
-use Rattle.hub_rules.specs.Effects.{departure, given_if, is_present, line_effect}
+use Rattle.hub_rules.specs.Effects.{departure, is_present, line_effect}
 use Rattle.hub_rules.specs.Facts.{Facts, facts, about_after, after, bans_after, closed, effect_of_line, enters, given, happens, has_joins, has_place, joined, newcomer, newcomer_if, next_sid, own_of, present_after, sight_of, topic_after, user_of}
 use Rattle.adc_base32.specs.Turns.{next_free}
 use Rattle.hub_rules.specs.History.{owed}
 use Rattle.hub_rules.specs.Identities.{listed}
 use Rattle.hub_rules.specs.Prepared.{prepared}
-use Rattle.hub_rules.specs.Shares.{About, affected, chosen, features_after, fields_after, given_share, has_room, hears_those, is_removed, owes, removed_if, stage_after, turned, with_share}
+use Rattle.hub_rules.specs.Shares.{About, affected, chosen, lags_with, owed_with}
 use Rattle.hub_rules.specs.Sights.{Own, Sight}
 use Rattle.hub_laws.specs.Passwords.{AreLikeCalls, AreLikeHistories, PasswordsAreNotTold, is_password, is_right, without_passwords}
-use Rattle.hub_laws.proofs.Veiling.{AreAlike, other_hub, other_line, other_own, passwords-alike, same-line-alike, veiled, veiled_turn}
+use Rattle.hub_laws.proofs.Veiling.{AreAlike, other_hub, other_own, passwords-alike, same-line-alike, veiled, veiled_change}
 
 -- what is known of a connection, but for the digest that is waited for
 abbrev unasked : About → About
@@ -53,97 +53,17 @@ sight-same setup accounts f g same =
 
 -- ---- what an effect makes of a connection
 
-stage-veiled : (turn : Turn) (stage : Stage) → stage_after turn stage ≡ stage_after (veiled_turn turn) stage
-stage-veiled turns.Stays stage = refl
-stage-veiled (turns.Greets features) stage = refl
-stage-veiled (turns.Waits entrant expected) stage = refl
-stage-veiled turns.Enters stage = refl
-stage-veiled (turns.EntersAs entrant) stage = refl
-stage-veiled (turns.Learns features) stage = refl
-stage-veiled (turns.Updates change) stage = refl
-stage-veiled turns.Falls stage = refl
-
-features-veiled : (turn : Turn) (features : List (List ℕ)) → features_after turn features ≡ features_after (veiled_turn turn) features
-features-veiled turns.Stays features = refl
-features-veiled (turns.Greets now) features = refl
-features-veiled (turns.Waits entrant expected) features = refl
-features-veiled turns.Enters features = refl
-features-veiled (turns.EntersAs entrant) features = refl
-features-veiled (turns.Learns now) features = refl
-features-veiled (turns.Updates change) features = refl
-features-veiled turns.Falls features = refl
-
-fields-veiled : (turn : Turn) (fields : List Field) → fields_after turn fields ≡ fields_after (veiled_turn turn) fields
-fields-veiled turns.Stays fields = refl
-fields-veiled (turns.Greets features) fields = refl
-fields-veiled (turns.Waits entrant expected) fields = refl
-fields-veiled turns.Enters fields = refl
-fields-veiled (turns.EntersAs entrant) fields = refl
-fields-veiled (turns.Learns features) fields = refl
-fields-veiled (turns.Updates change) fields = refl
-fields-veiled turns.Falls fields = refl
-
-enters-veiled : (turn : Turn) → enters turn ≡ enters (veiled_turn turn)
-enters-veiled turns.Stays = refl
-enters-veiled (turns.Greets features) = refl
-enters-veiled (turns.Waits entrant expected) = refl
-enters-veiled turns.Enters = refl
-enters-veiled (turns.EntersAs entrant) = refl
-enters-veiled (turns.Learns features) = refl
-enters-veiled (turns.Updates change) = refl
-enters-veiled turns.Falls = refl
-
-turned-veiled : (effect : Effect) (a : About) → unasked (turned effect a) ≡ unasked (turned (veiled effect) (unasked a))
-turned-veiled effect a =
-    ap₂ (λ stage features. record (unasked (turned effect a)) { stage = stage; features = features }) (stage-veiled effect.turn a.stage) (features-veiled effect.turn a.features)
-    ∙ ap (λ fields. record (unasked (turned effect a)) {
-      stage = stage_after (veiled_turn effect.turn) a.stage;
-      features = features_after (veiled_turn effect.turn) a.features;
-      fields = fields;
-    }) (fields-veiled effect.turn a.fields)
-
-share-veiled : (room : Bool) (a : About) (share : List (List ℕ)) → unasked (given_share room a share) ≡ given_share room (unasked a) share
-share-veiled true a share = refl
-share-veiled false a share = refl
-
-with-veiled : (a : About) (share : List (List ℕ)) → unasked (with_share a share) ≡ with_share (unasked a) share
-unfolding with_share
-with-veiled a share = share-veiled (has_room a share) a share
-
-chosen-veiled : (is_caller : Bool) (effect : Effect) (a : About)
-    → unasked (chosen is_caller (turned effect a) a) ≡ unasked (chosen is_caller (turned (veiled effect) (unasked a)) (unasked a))
-chosen-veiled true effect a = turned-veiled effect a
-chosen-veiled false effect a = refl
-
-removed-veiled : (removed : Bool) (a b : About) → unasked a ≡ unasked b → unasked (removed_if removed a) ≡ unasked (removed_if removed b)
-removed-veiled true a b same = ap (λ (x : About). record x { stage = stages.Gone }) same
-removed-veiled false a b same = same
-
-hears-veiled : (is_caller : Bool) (hearers : Hearers) (a : About) → hears_those is_caller hearers a ≡ hears_those is_caller hearers (unasked a)
-hears-veiled is_caller Others a = refl
-hears-veiled is_caller (Those audience) a = refl
-
-owes-veiled : (is_caller : Bool) (effect : Effect) (a : About) → owes is_caller effect a ≡ owes is_caller (veiled effect) (unasked a)
-owes-veiled is_caller effect a =
-    ap (λ b. given_if (is_present a.stage && b) effect.others ++ given_if is_caller effect.own) (hears-veiled is_caller effect.hearers a)
-
--- what becomes of a connection that is owed this
-abbrev affected_by : Bool → Effect → About → List (List ℕ) → About
-affected_by is_caller effect a share =
-    removed_if (is_present a.stage && is_removed effect.world a.sid) (chosen is_caller (turned effect (with_share a share)) (with_share a share))
-
-by-veiled : (is_caller : Bool) (effect : Effect) (a : About) (share : List (List ℕ))
-    → unasked (affected_by is_caller effect a share) ≡ unasked (affected_by is_caller (veiled effect) (unasked a) share)
-by-veiled is_caller effect a share =
-    removed-veiled (is_present a.stage && is_removed effect.world a.sid) (chosen is_caller (turned effect (with_share a share)) (with_share a share))
-    (chosen is_caller (turned (veiled effect) (with_share (unasked a) share)) (with_share (unasked a) share))
-    (chosen-veiled is_caller effect (with_share a share)
-    ∙ ap (λ (b : About). unasked (chosen is_caller (turned (veiled effect) b) b)) (with-veiled a share))
+by-hearers : (is_caller : Bool) (own others : List (List ℕ)) (hearers : Hearers) (change : Change) (a : About)
+    → unasked (affected is_caller (record { own = own; others = others; hearers = hearers; change = change }) a)
+    ≡ unasked (affected is_caller (record { own = own; others = others; hearers = hearers; change = veiled_change change }) (unasked a))
+unfolding owed_with lags_with
+by-hearers is_caller own others Others (Sender (senders.Waits entrant expected)) a = refl
+by-hearers is_caller own others (Those audience) (Sender (senders.Waits entrant expected)) a = refl
+by-hearers is_caller own others Others change a = refl
+by-hearers is_caller own others (Those audience) change a = refl
 
 affected-veiled : (is_caller : Bool) (effect : Effect) (a : About) → unasked (affected is_caller effect a) ≡ unasked (affected is_caller (veiled effect) (unasked a))
-affected-veiled is_caller effect a =
-    by-veiled is_caller effect a (owes is_caller effect a)
-    ∙ ap (λ share. unasked (affected_by is_caller (veiled effect) (unasked a) share)) (owes-veiled is_caller effect a)
+affected-veiled is_caller effect a = by-hearers is_caller effect.own effect.others effect.hearers effect.change a
 
 affected-same : (is_caller : Bool) (effect another : Effect) (a b : About) → veiled effect ≡ veiled another → unasked a ≡ unasked b
     → unasked (affected is_caller effect a) ≡ unasked (affected is_caller another b)
@@ -151,6 +71,23 @@ affected-same is_caller effect another a b alike same =
     affected-veiled is_caller effect a ∙ ap₂ (λ (e : Effect) (x : About). unasked (affected is_caller e x)) alike same ∙ sym (affected-veiled is_caller another b)
 
 -- ---- what an effect makes of the hub
+
+enters-veiled : (change : Change) → enters change ≡ enters (veiled_change change)
+enters-veiled (Sender (senders.Waits entrant expected)) = refl
+enters-veiled change = refl
+
+bans-veiled : (bans : List (List ℕ × Ban)) (change : Change) → bans_after change bans ≡ bans_after (veiled_change change) bans
+bans-veiled bans (Sender (senders.Waits entrant expected)) = refl
+bans-veiled bans change = refl
+
+topic-veiled : (topic : List ℕ) (change : Change) → topic_after change topic ≡ topic_after (veiled_change change) topic
+topic-veiled topic (Sender (senders.Waits entrant expected)) = refl
+topic-veiled topic change = refl
+
+-- what the veil hides makes no difference to it
+read-same : {A : Type 0} (read : Change → A) → ((change : Change) → read change ≡ read (veiled_change change)) → (effect another : Effect) → veiled effect ≡ veiled another
+    → read another.change ≡ read effect.change
+read-same read same effect another alike = same another.change ∙ ap (λ (e : Effect). read e.change) (sym alike) ∙ sym (same effect.change)
 
 filter-same : (p q : ℕ → Bool) (xs : List ℕ) → ((x : ℕ) → p x ≡ q x) → filter p xs ≡ filter q xs
 filter-same p q [] same = refl
@@ -162,33 +99,27 @@ present-same c effect another about others present alike same =
     ap₂ (λ (ds : List ℕ) b. ds ++ newcomer_if b c)
     (filter-same (λ d. is_present (about_after c another others d).stage) (λ d. is_present (about_after c effect about d).stage) present
     (λ d. ap (λ (a : About). is_present a.stage) (sym (affected-same (d == c) effect another (about d) (others d) alike (same d)))))
-    (enters-veiled another.turn ∙ ap (λ (e : Effect). enters e.turn) (sym alike) ∙ sym (enters-veiled effect.turn))
+    (read-same enters enters-veiled effect another alike)
 
 happens-same : (c : ℕ) (effect another : Effect) (f g : Facts) → veiled effect ≡ veiled another → AreSame f g → AreSame (happens c effect f) (happens c another g)
 unfolding happens
 happens-same c effect another f g alike same = record {
   rest = ap (λ (x : Facts). record x {
     present = present_after c another g.about x.present;
-    bans = bans_after another.world x.bans;
-    topic = topic_after another.world x.topic;
+    bans = bans_after another.change x.bans;
+    topic = topic_after another.change x.topic;
     about = about_after c another g.about;
   }) same.rest
-      ∙ ap₂ (λ (present : List ℕ) (e : Effect). record f {
-        present = present;
-        bans = bans_after e.world f.bans;
-        topic = topic_after e.world f.topic;
+      ∙ (λ i. record f {
+        present = present-same c effect another f.about g.about f.present alike same.about i;
+        bans = read-same (λ change. bans_after change f.bans) (bans-veiled f.bans) effect another alike i;
+        topic = read-same (λ change. topic_after change f.topic) (topic-veiled f.topic) effect another alike i;
         about = about_after c another g.about;
-      }) (present-same c effect another f.about g.about f.present alike same.about) (sym alike);
+      });
   about = λ d. affected-same (d == c) effect another (f.about d) (g.about d) alike (same.about d);
 }
 
 -- ---- the same line, or two passwords
-
-bytes-same : (setup : Configured) (accounts : List Account) (hash : List ℕ → List ℕ) (challenge bytes : List ℕ)
-    → prepared (with_accounts setup accounts) hash challenge bytes
-    ≡ other_line (prepared setup hash challenge bytes) (prepared (with_accounts setup accounts) hash challenge bytes).password
-unfolding prepared
-bytes-same setup accounts hash challenge bytes = refl
 
 abbrev AreAlikeLines : List ℕ → List ℕ → Type 0
 AreAlikeLines bytes others = (bytes ≡ others) ⊎ ((is_password (lines.reading bytes) ≡ true) × (is_password (lines.reading others) ≡ true))
@@ -326,13 +257,11 @@ after-same setup accounts hash f g caller (Take c count) another alike same like
 
 like-calls : (setup other : Configured) (hash : List ℕ → List ℕ) (h g : List Entry) (call another : Call) → AreLikeCalls setup other hash h g call another
     → LikeCalls (facts setup hash h) (facts other hash g) call another
-like-calls setup other hash h g (Join peer challenge now) another like = like
 like-calls setup other hash h g (Line c bytes now) (Line d others later) like = (like.0, like.1, like.2.alike, like.2.right)
 like-calls setup other hash h g (Line c bytes now) (Join peer challenge later) like = like
 like-calls setup other hash h g (Line c bytes now) (Quit d) like = like
 like-calls setup other hash h g (Line c bytes now) (Take d count) like = like
-like-calls setup other hash h g (Quit c) another like = like
-like-calls setup other hash h g (Take c count) another like = like
+like-calls setup other hash h g _ another like = like
 
 same-of : (setup : Configured) (accounts : List Account) (hash : List ℕ → List ℕ) (h g : List Entry) → AreAlike setup.accounts accounts
     → AreLikeHistories setup (with_accounts setup accounts) hash h g → AreSame (facts setup hash h) (facts (with_accounts setup accounts) hash g)

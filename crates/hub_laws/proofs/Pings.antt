@@ -12,17 +12,17 @@ use Rattle.login_state.specs.declared.stage.Stage.TheVariants as stages
 use Rattle.login_state.specs.Mentions.{feature_named, mention_at, signed}
 use Rattle.login_state.specs.Support.{said, supported, supported_after}
 use Rattle.login_state.specs.SupportAnswers.{applied}
+use Rattle.hub_rules.specs.declared.effect.Change.TheVariants.{Sender}
 use Rattle.hub_rules.specs.declared.effect.Effect.{Effect}
 use Rattle.hub_rules.specs.declared.effect.Hearers.TheVariants.{Others}
-use Rattle.hub_rules.specs.declared.effect.Turn.TheVariants as turns
-use Rattle.hub_rules.specs.declared.effect.World.TheVariants.{Same}
+use Rattle.hub_rules.specs.declared.effect.SenderChange.TheVariants as senders
 use Rattle.hub_rules.specs.declared.history.Verdict.TheVariants.{Kept}
 use Rattle.hub_rules.specs.Denied.{request_denied}
 use Rattle.hub_rules.specs.Effects.{accepted}
 use Rattle.hub_rules.specs.Facts.{newcomer}
 use Rattle.hub_rules.specs.Identities.{listed}
 use Rattle.hub_rules.specs.Requests.{refused, request_of}
-use Rattle.hub_rules.specs.Shares.{with_share}
+use Rattle.hub_rules.specs.Shares.{lags_with, owed_with}
 use Rattle.hub_rules.specs.Texts.{ended, hub_line, identifier_line, support_line}
 use Rattle.hub_laws.specs.Conversations.{peer, plain, zeros}
 use Rattle.hub_laws.specs.Messages.{ana_entered}
@@ -60,7 +60,7 @@ hub_told =
     ended (codes "ISUP ADBASE ADTIGR ADPING ADUCMD") ∷ ended (codes "ISID AAAC") ∷ ended (codes "IINF CT32 NIHub VEadc-hub\\s1.0 UC1 SS10 SF2 MC512 UP90") ∷ []
 
 abbrev ping_effect : Effect
-ping_effect = record { own = hub_told; others = []; hearers = Others; turn = turns.Greets (codes "PING" ∷ both); world = Same; searched = None }
+ping_effect = record { own = hub_told; others = []; hearers = Others; change = Sender (senders.Greets (codes "PING" ∷ both)) }
 
 ping-decided : (hash : List ℕ → List ℕ) → effect_of plain hash (facts_of asker_there) 2 ping_line.text 90 (Ok ping_line) ≡ ping_effect
 unfolding accepted refused request_denied request_of feature_named mention_at signed said supported supported_after applied is_feature_name support_line identifier_line hub_line escaped digit_of listed number_at digits
@@ -72,7 +72,7 @@ asker_told = record asker_there {
 }
 
 asker-is-told : (hash : List ℕ → List ℕ) → hash zeros ≡ zeros → Comes plain hash hub_asked asker_told
-unfolding with_share
+unfolding owed_with lags_with
 asker-is-told hash same =
     says-more plain hash (joins 2 90 ana_entered) asker_there asker_told 2 ping_line 90 ping_effect Kept (asker-joins hash same) (refl, refl, refl, ping-read, refl, refl)
     (ping-decided hash) refl refl

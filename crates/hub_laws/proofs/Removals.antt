@@ -27,22 +27,23 @@ use Rattle.operator_acts.specs.declared.act.Act.TheVariants as acts
 use Rattle.user_table.specs.Listed.{Listed}
 use Rattle.user_table.specs.Tables.{first_who, user_by_key}
 use Rattle.hub_rules.specs.declared.effect.Banned.{Banned}
+use Rattle.hub_rules.specs.declared.effect.Change.TheVariants.{Hub, Sender}
 use Rattle.hub_rules.specs.declared.effect.Effect.{Effect}
 use Rattle.hub_rules.specs.declared.effect.Hearers.TheVariants.{Others, Those}
-use Rattle.hub_rules.specs.declared.effect.Turn.TheVariants as turns
-use Rattle.hub_rules.specs.declared.effect.World.{World}
-use Rattle.hub_rules.specs.declared.effect.World.TheVariants as worlds
+use Rattle.hub_rules.specs.declared.effect.HubChange.{HubChange}
+use Rattle.hub_rules.specs.declared.effect.HubChange.TheVariants as shared
+use Rattle.hub_rules.specs.declared.effect.SenderChange.TheVariants as senders
 use Rattle.hub_rules.specs.declared.history.Verdict.TheVariants.{Ended, Kept}
 use Rattle.hub_rules.specs.Accounts.{account_with, operates}
 use Rattle.hub_rules.specs.Acts.{act_denied, act_effect, asked_denied, asked_effect, ban_denied, ban_effect, is_command, is_operator, kick_denied, kick_effect, text_in, user_called}
-use Rattle.hub_rules.specs.Asks.{entry_ask}
+use Rattle.hub_rules.specs.Grounds.{login_grounds}
 use Rattle.hub_rules.specs.Denied.{request_denied}
 use Rattle.hub_rules.specs.Effects.{accepted, denial, entrant, heard, unless_denied}
 use Rattle.hub_rules.specs.Facts.{own_of}
 use Rattle.hub_rules.specs.Identities.{key_in, listed}
 use Rattle.hub_rules.specs.Quiet.{nothing}
 use Rattle.hub_rules.specs.Requests.{refused, request_of}
-use Rattle.hub_rules.specs.Shares.{About, with_share}
+use Rattle.hub_rules.specs.Shares.{About, lags_with, owed_with}
 use Rattle.hub_rules.specs.Sights.{Own, PreparedLine, Sight, account_of}
 use Rattle.hub_rules.specs.Texts.{done_line, hub_line, identifier_line, removal_line, support_line, user_line}
 use Rattle.hub_laws.specs.Conversations.{greeting_of, one, zeros}
@@ -70,7 +71,7 @@ abbrev bob_greeted : Known
 bob_greeted = record op_present { last = 2; opened = 1 ∷ 2 ∷ []; abouts = greeted 2 2 (greeting_of (codes "AAAC")) ∷ op_about ∷ [] }
 
 bob-asks : (hash : List ℕ → List ℕ) → hash zeros ≡ zeros → hash (codes "secret" ++ zeros) ≡ secret_digest → Comes staffed hash bob_asked bob_greeted
-unfolding with_share support_line identifier_line hub_line escaped digit_of
+unfolding owed_with lags_with support_line identifier_line hub_line escaped digit_of
 bob-asks hash same secret =
     greets-more staffed hash op_entered op_present bob_greeted 2 2 0 (op-enters hash same secret) refl refl (next-at (facts_of op_present) refl)
     (refl, refl, refl, sup-read, refl, refl) refl refl refl
@@ -87,14 +88,12 @@ entry_effect = record {
   own = op_told ∷ bob_told ∷ [];
   others = bob_told ∷ [];
   hearers = Others;
-  turn = turns.EntersAs (entrant (bob_user 2));
-  world = worlds.Same;
-  searched = None;
+  change = Sender (senders.EntersAs (entrant (bob_user 2)));
 }
 
 bob-is-let-in : login_effect (staffed_with (op_user ∷ [])) (own_of (greeted 2 2 (greeting_of (codes "AAAC")))) 0 (record { bytes = bob_text; owner = Some one; password = None }) bob (bob_user 2)
     ≡ entry_effect
-unfolding entry_ask left account_with user_line printed digit_of spelled bytes_from number_from value_at bits value_of number_at
+unfolding login_grounds left account_with user_line printed digit_of spelled bytes_from number_from value_at bits value_of number_at
 bob-is-let-in = refl
 
 bob-decided : (hash : List ℕ → List ℕ) → hash one ≡ one → effect_of staffed hash (facts_of bob_greeted) 2 bob_text 0 (Ok bob_line) ≡ entry_effect
@@ -109,7 +108,7 @@ abbrev pub bob_present : Known
 bob_present = record bob_greeted { present = 1 ∷ 2 ∷ []; abouts = bob_about ∷ record op_about { owed = op_before ++ bob_told ∷ [] } ∷ [] }
 
 pub bob-enters : (hash : List ℕ → List ℕ) → hash zeros ≡ zeros → hash one ≡ one → hash (codes "secret" ++ zeros) ≡ secret_digest → Comes staffed hash bob_entered bob_present
-unfolding with_share listed
+unfolding owed_with lags_with listed
 bob-enters hash same same_one secret =
     says-more staffed hash bob_asked bob_greeted bob_present 2 bob_line 0 entry_effect Kept (bob-asks hash same secret) bob-said (bob-decided hash same_one) refl refl
 
@@ -157,10 +156,10 @@ bob-called : (users : List Listed) → user_called (staffed_with (op_user ∷ bo
 unfolding first_who
 bob-called users = ap (λ key. user_by_key key (op_user ∷ bob_user 2 ∷ users)) bob-key
 
-abbrev pub act_effect_of : List (List ℕ) → World → Effect
-act_effect_of others world = record { own = done_told ∷ []; others = others; hearers = Those audiences.All; turn = turns.Stays; world = world; searched = None }
+abbrev pub act_effect_of : List (List ℕ) → HubChange → Effect
+act_effect_of others change = record { own = done_told ∷ []; others = others; hearers = Those audiences.All; change = Hub change }
 
-kick-decided : (hash : List ℕ → List ℕ) → effect_of staffed hash (facts_of bob_present) 1 kick_line.text 0 (Ok kick_line) ≡ act_effect_of (kick_told ∷ []) (worlds.Kick 2)
+kick-decided : (hash : List ℕ → List ℕ) → effect_of staffed hash (facts_of bob_present) 1 kick_line.text 0 (Ok kick_line) ≡ act_effect_of (kick_told ∷ []) (shared.Kick 2)
 unfolding accepted refused request_denied request_of removal_line done_line escaped digit_of unescaped escape_means
 kick-decided hash =
     let own = own_of ((facts_of bob_present).about 1) in
@@ -177,13 +176,13 @@ bob_kicked = record bob_present {
 }
 
 bob-is-kicked : (hash : List ℕ → List ℕ) → hash zeros ≡ zeros → hash one ≡ one → hash (codes "secret" ++ zeros) ≡ secret_digest → Comes staffed hash kicked bob_kicked
-unfolding with_share holds_words
+unfolding owed_with lags_with holds_words
 bob-is-kicked hash same same_one secret =
-    says-more staffed hash bob_entered bob_present bob_kicked 1 kick_line 0 (act_effect_of (kick_told ∷ []) (worlds.Kick 2)) Kept
+    says-more staffed hash bob_entered bob_present bob_kicked 1 kick_line 0 (act_effect_of (kick_told ∷ []) (shared.Kick 2)) Kept
     (bob-enters hash same same_one secret) kick-said (kick-decided hash) refl refl
 
 bob-is-unheard : (hash : List ℕ → List ℕ) → hash zeros ≡ zeros → hash one ≡ one → hash (codes "secret" ++ zeros) ≡ secret_digest → Comes staffed hash kick_unheard bob_kicked
-unfolding with_share
+unfolding owed_with lags_with
 bob-is-unheard hash same same_one secret =
     says-unheard staffed hash kicked bob_kicked 2 (codes "BMSG AAAC hi") 0 (bob-is-kicked hash same same_one secret) refl refl refl refl refl
 
@@ -221,7 +220,7 @@ abbrev again_greeted : Known
 again_greeted = record bob_kicked { last = 3; opened = 1 ∷ 2 ∷ 3 ∷ []; abouts = greeted 3 3 again_greeting ∷ bob_after_kick ∷ op_after_kick ∷ [] }
 
 again-asks : (hash : List ℕ → List ℕ) → hash zeros ≡ zeros → hash one ≡ one → hash (codes "secret" ++ zeros) ≡ secret_digest → Comes staffed hash again_asked again_greeted
-unfolding with_share support_line identifier_line hub_line escaped digit_of
+unfolding owed_with lags_with support_line identifier_line hub_line escaped digit_of
 again-asks hash same same_one secret =
     greets-more staffed hash kicked bob_kicked again_greeted 3 3 0 (bob-is-kicked hash same same_one secret) refl refl (next-at (facts_of bob_kicked) refl)
     (refl, refl, refl, sup-read, refl, refl) refl refl refl
@@ -232,13 +231,11 @@ comes_back sid told = record {
   own = op_told ∷ told ∷ [];
   others = told ∷ [];
   hearers = Others;
-  turn = turns.EntersAs (entrant (bob_user sid));
-  world = worlds.Same;
-  searched = None;
+  change = Sender (senders.EntersAs (entrant (bob_user sid)));
 }
 
 again-decided : (hash : List ℕ → List ℕ) → hash one ≡ one → effect_of staffed hash (facts_of again_greeted) 3 again_text 0 (Ok again_line) ≡ comes_back 3 again_told
-unfolding entry_ask left account_with user_line printed digit_of spelled bytes_from number_from value_at bits value_of number_at
+unfolding login_grounds left account_with user_line printed digit_of spelled bytes_from number_from value_at bits value_of number_at
 again-decided hash same =
     bob-logs-in hash again_greeted (staffed_with (op_user ∷ [])) 3 3 0 again_greeting again_text same refl refl (λ i. staffed_with (op-listed i ∷ []))
 
@@ -251,7 +248,7 @@ again_present = record again_greeted {
 }
 
 again-enters : (hash : List ℕ → List ℕ) → hash zeros ≡ zeros → hash one ≡ one → hash (codes "secret" ++ zeros) ≡ secret_digest → Comes staffed hash again_entered again_present
-unfolding with_share listed
+unfolding owed_with lags_with listed
 again-enters hash same same_one secret =
     says-more staffed hash again_asked again_greeted again_present 3 again_line 0 (comes_back 3 again_told) Kept (again-asks hash same same_one secret)
     (refl, refl, refl, again-read, refl, refl) (again-decided hash same_one) refl refl
@@ -277,7 +274,7 @@ ban-asked = ap (λ nick. ban_by (where_it_is (is_nick nick) nick) (Some 60) []) 
 abbrev bob_ban : Banned
 bob_ban = record { sid = 2; cid = one; seconds = 60; now = 100 }
 
-ban-decided : (hash : List ℕ → List ℕ) → effect_of staffed hash (facts_of bob_present) 1 ban_line.text 100 (Ok ban_line) ≡ act_effect_of (ban_told ∷ []) (worlds.Ban bob_ban)
+ban-decided : (hash : List ℕ → List ℕ) → effect_of staffed hash (facts_of bob_present) 1 ban_line.text 100 (Ok ban_line) ≡ act_effect_of (ban_told ∷ []) (shared.Ban bob_ban)
 unfolding accepted refused request_denied request_of removal_line done_line escaped digit_of unescaped escape_means digits
 ban-decided hash =
     let own = own_of ((facts_of bob_present).about 1) in
@@ -300,9 +297,9 @@ abbrev bob_banned : Known
 bob_banned = record bob_present { present = 1 ∷ []; bans = bans; abouts = bob_after_ban ∷ op_after_ban ∷ [] }
 
 bob-is-banned : (hash : List ℕ → List ℕ) → hash zeros ≡ zeros → hash one ≡ one → hash (codes "secret" ++ zeros) ≡ secret_digest → Comes staffed hash banned bob_banned
-unfolding with_share holds_words
+unfolding owed_with lags_with holds_words
 bob-is-banned hash same same_one secret =
-    says-more staffed hash bob_entered bob_present bob_banned 1 ban_line 100 (act_effect_of (ban_told ∷ []) (worlds.Ban bob_ban)) Kept
+    says-more staffed hash bob_entered bob_present bob_banned 1 ban_line 100 (act_effect_of (ban_told ∷ []) (shared.Ban bob_ban)) Kept
     (bob-enters hash same same_one secret) ban-said (ban-decided hash) refl refl
 
 -- a second before the end
@@ -314,16 +311,16 @@ abbrev early_greeted : Known
 early_greeted = record bob_banned { last = 3; opened = 1 ∷ 2 ∷ 3 ∷ []; abouts = greeted 3 3 again_greeting ∷ bob_after_ban ∷ op_after_ban ∷ [] }
 
 early-asks : (hash : List ℕ → List ℕ) → hash zeros ≡ zeros → hash one ≡ one → hash (codes "secret" ++ zeros) ≡ secret_digest → Comes staffed hash early_asked early_greeted
-unfolding with_share support_line identifier_line hub_line escaped digit_of
+unfolding owed_with lags_with support_line identifier_line hub_line escaped digit_of
 early-asks hash same same_one secret =
     greets-more staffed hash banned bob_banned early_greeted 3 3 159 (bob-is-banned hash same same_one secret) refl refl (next-at (facts_of bob_banned) refl)
     (refl, refl, refl, sup-read, refl, refl) refl refl refl
 
 abbrev early_effect : Effect
-early_effect = record { own = early_told ∷ []; others = []; hearers = Others; turn = turns.Falls; world = worlds.Same; searched = None }
+early_effect = record { own = early_told ∷ []; others = []; hearers = Others; change = Sender senders.Falls }
 
 early-decided : (hash : List ℕ → List ℕ) → hash one ≡ one → effect_of staffed hash (facts_of early_greeted) 3 again_text 159 (Ok again_line) ≡ early_effect
-unfolding entry_ask left account_with denial denial_text digits spelled bytes_from number_from value_at bits value_of number_at
+unfolding login_grounds left account_with denial denial_text digits spelled bytes_from number_from value_at bits value_of number_at
 early-decided hash same =
     bob-logs-in hash early_greeted hub_with_ban 3 3 159 again_greeting again_text same refl refl (λ i. record { setup = staffed; users = op-listed i ∷ []; bans = bans; topic = [] })
 
@@ -334,7 +331,7 @@ abbrev early_gone : Known
 early_gone = record early_greeted { abouts = early_about ∷ bob_after_ban ∷ op_after_ban ∷ [] }
 
 early-falls : (hash : List ℕ → List ℕ) → hash zeros ≡ zeros → hash one ≡ one → hash (codes "secret" ++ zeros) ≡ secret_digest → Comes staffed hash early_refused early_gone
-unfolding with_share
+unfolding owed_with lags_with
 early-falls hash same same_one secret =
     says-more staffed hash early_asked early_greeted early_gone 3 again_line 159 early_effect Ended (early-asks hash same same_one secret)
     (refl, refl, refl, again-read, refl, refl) (early-decided hash same_one) refl refl
@@ -348,7 +345,7 @@ abbrev late_greeted : Known
 late_greeted = record early_gone { last = 4; opened = 1 ∷ 2 ∷ 3 ∷ 4 ∷ []; abouts = greeted 4 4 late_greeting ∷ early_about ∷ bob_after_ban ∷ op_after_ban ∷ [] }
 
 late-asks : (hash : List ℕ → List ℕ) → hash zeros ≡ zeros → hash one ≡ one → hash (codes "secret" ++ zeros) ≡ secret_digest → Comes staffed hash late_asked late_greeted
-unfolding with_share support_line identifier_line hub_line escaped digit_of
+unfolding owed_with lags_with support_line identifier_line hub_line escaped digit_of
 late-asks hash same same_one secret =
     greets-more staffed hash early_refused early_gone late_greeted 4 4 160 (early-falls hash same same_one secret) refl refl (next-at (facts_of early_gone) refl)
     (refl, refl, refl, sup-read, refl, refl) refl refl refl
@@ -361,7 +358,7 @@ unfolding header_of head_at kind_at addressed params_fault is_escaped sid_at fou
 late-read = reading-ascii late_text refl refl ∙ refl
 
 late-decided : (hash : List ℕ → List ℕ) → hash one ≡ one → effect_of staffed hash (facts_of late_greeted) 4 late_text 160 (Ok late_line) ≡ comes_back 4 late_told
-unfolding entry_ask left account_with user_line printed digit_of spelled bytes_from number_from value_at bits value_of number_at
+unfolding login_grounds left account_with user_line printed digit_of spelled bytes_from number_from value_at bits value_of number_at
 late-decided hash same =
     bob-logs-in hash late_greeted hub_with_ban 4 4 160 late_greeting late_text same refl refl (λ i. record { setup = staffed; users = op-listed i ∷ []; bans = bans; topic = [] })
 
@@ -374,7 +371,7 @@ late_present = record late_greeted {
 }
 
 late-enters : (hash : List ℕ → List ℕ) → hash zeros ≡ zeros → hash one ≡ one → hash (codes "secret" ++ zeros) ≡ secret_digest → Comes staffed hash late_entered late_present
-unfolding with_share listed
+unfolding owed_with lags_with listed
 late-enters hash same same_one secret =
     says-more staffed hash late_asked late_greeted late_present 4 late_line 160 (comes_back 4 late_told) Kept (late-asks hash same same_one secret)
     (refl, refl, refl, late-read, refl, refl) (late-decided hash same_one) refl refl

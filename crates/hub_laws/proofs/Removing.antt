@@ -1,83 +1,81 @@
 -- What a kick or a ban owes, where its line stands, and when the nick is another's.
-use Rattle.std.proofs.Common.{◌≡◌, ◌∙◌, sym, ap, ap₂, refl, subst, ℕ, ◌≤◌, Bool, true, false, not, ◌&&◌, ◌||◌, ◌⊎◌, inl, inr, ◌==◌, List, [], ◌∷◌, ◌++◌, map, append-nil, append_assoc, Option, Some, None}
+use Rattle.std.proofs.Common.{◌≡◌, ◌∙◌, sym, ap, ap₂, refl, subst, ℕ, ◌≤◌, Bool, true, false, ◌&&◌, ◌||◌, ◌⊎◌, inl, inr, ◌==◌, List, [], ◌∷◌, ◌++◌, map, append-nil, append_assoc, Option, Some, None}
 use Rattle.std.specs.Str.{bytes_eq}
 use Rattle.std.proofs.lemmas.Bool.{false≢true, eqb-true, eq-eqb}
 use Rattle.std.proofs.lemmas.Slice.Eq.{bytes_eq-Decides}
 use Rattle.std.specs.Prelude.{if◌then◌else◌}
 use Rattle.adc_line.specs.Lines.{Reading}
-use Rattle.inf_fields.specs.Updates as updates
+use Rattle.inf_fields.specs.Field.{Field}
 use Rattle.login_state.specs.declared.stage.Stage.{Stage}
 use Rattle.login_state.specs.declared.stage.Stage.TheVariants as stages
-use Rattle.login_state.specs.SupportAnswers.{applied}
-use Rattle.operator_acts.specs.Acts.{act_at}
-use Rattle.operator_acts.specs.declared.act.Act.{Act}
-use Rattle.operator_acts.specs.declared.act.Act.TheVariants as acts
 use Rattle.user_table.specs.Listed.{Listed}
 use Rattle.user_table.specs.Tables.{first_who, has_key, user_by_key}
+use Rattle.hub_rules.specs.declared.effect.Change.{Change}
+use Rattle.hub_rules.specs.declared.effect.Change.TheVariants.{Hub}
 use Rattle.hub_rules.specs.declared.effect.Effect.{Effect}
-use Rattle.hub_rules.specs.declared.effect.Turn.{Turn}
-use Rattle.hub_rules.specs.declared.effect.Turn.TheVariants as turns
-use Rattle.hub_rules.specs.declared.effect.World.{World}
-use Rattle.hub_rules.specs.declared.effect.World.TheVariants as worlds
+use Rattle.hub_rules.specs.declared.effect.HubChange.{HubChange}
+use Rattle.hub_rules.specs.declared.effect.HubChange.TheVariants as shared
 use Rattle.hub_rules.specs.declared.history.Call.{Call}
-use Rattle.hub_rules.specs.declared.history.Call.TheVariants.{Join, Line, Quit, Take}
+use Rattle.hub_rules.specs.declared.history.Call.TheVariants.{Line}
 use Rattle.hub_rules.specs.declared.history.Entry.{Entry}
 use Rattle.hub_rules.specs.declared.request.Request.{Request}
-use Rattle.hub_rules.specs.declared.request.Request.TheVariants as requests
 use Rattle.hub_rules.specs.Configured.{Configured}
-use Rattle.hub_rules.specs.Effects.{accepted, denial, given_if, greets, is_present, learns, line_effect, logs_in, updates_user}
-use Rattle.hub_rules.specs.Facts.{Facts, facts, after, effect_of_line, happens, own_of, sight_of, user_of}
+use Rattle.hub_rules.specs.Effects.{given_if, is_present}
+use Rattle.hub_rules.specs.Facts.{Facts, facts, after, effect_of_line, happens, user_of}
 use Rattle.hub_rules.specs.History.{info, lags, owed, sid, stage}
 use Rattle.hub_rules.specs.Identities.{key_in, key_of_points}
 use Rattle.hub_rules.specs.Lagging.{all_fit, share}
-use Rattle.hub_rules.specs.Prepared.{prepared}
-use Rattle.hub_rules.specs.Requests.{request_of}
-use Rattle.hub_rules.specs.Shares.{About, chosen, fields_after, is_removed, stage_after}
+use Rattle.hub_rules.specs.Shares.{About, chosen, fields_after, is_removed, removed_by}
 use Rattle.hub_rules.specs.Sights.{Own, PreparedLine, Sight}
 use Rattle.hub_rules.specs.Texts.{done_line, removal_line}
-use Rattle.hub_rules.specs.World.{world_of}
-use Rattle.hub_rules.specs.Acts.{act_effect, asked_effect, ban_effect, is_command, kick_effect, text_in, user_called}
+use Rattle.hub_rules.specs.World.{change_of}
+use Rattle.hub_rules.specs.Acts.{carried, user_called}
 use Rattle.hub_rules.specs.Promises.{is_in}
-use Rattle.hub_rules.specs.Quiet.{nothing}
 use Rattle.hub_laws.specs.Ordering.{added}
 use Rattle.hub_laws.specs.Removing.{HasNick, NamesakesComeLater, OnlyUsersAreRemoved, RemovalsAreHeard, RemovalsComeFirst, Removes, TakesNick, seconds_of}
 use Rattle.hub_laws.specs.Telling.{news_of}
 use Rattle.hub_invariants.proofs.Suits.{listed-sid}
-use Rattle.hub_invariants.proofs.Kept.{present_are_users}
-use Rattle.hub_invariants.proofs.Outcomes.{by_act, by_line}
-use Rattle.hub_invariants.proofs.Saying.{about-fields}
-use Rattle.hub_invariants.proofs.Sound.{about-stage, or-true, removed_by, stage_next}
+use Rattle.hub_invariants.proofs.Kept.{present_are_users, is-normal}
+use Rattle.hub_invariants.proofs.Outcomes.{Acts, Outcome, acts, bans, kicks, line-outcome}
+use Rattle.hub_invariants.proofs.Sound.{or-true, stage_next}
 use Rattle.hub_laws.proofs.Apart.{nicks_differ}
 use Rattle.hub_laws.proofs.Lagging.{lag_is_the_first}
-use Rattle.hub_laws.proofs.Operating.{same-denial, same-greets, same-learns, same-login, same-update}
+use Rattle.hub_laws.proofs.Moving.{gone-normal}
 use Rattle.hub_laws.proofs.Ordering.{added-is, not-false, owed_grows}
 use Rattle.hub_laws.proofs.Telling.{acts_are_heard}
 
 -- ---- who is told
 
-names-none : (world : World) (own : ℕ) → is_removed world own ≡ true → world ≡ worlds.Same → ⊥
-names-none world own named same = false≢true (sym (ap (λ w. is_removed w own) same) ∙ named)
+-- what removes somebody is an operator's act
+act-of : (change : Change) (own : ℕ) → is_removed change own ≡ true → (act : HubChange) × (change ≡ Hub act)
+act-of (Hub act) own named = (act, refl)
+act-of change own named = absurd (false≢true named)
 
-news-removal : (world : World) (own operator : ℕ) (reason : List ℕ) → is_removed world own ≡ true
-    → news_of world operator reason ≡ removal_line own operator (seconds_of world) reason ∷ []
-news-removal worlds.Same own operator reason named = absurd (false≢true named)
-news-removal (worlds.Kick target) own operator reason named = ap (λ n. removal_line n operator None reason ∷ []) (sym (eqb-true own target named))
-news-removal (worlds.Ban banned) own operator reason named = ap (λ n. removal_line n operator (Some banned.seconds) reason ∷ []) (sym (eqb-true own banned.sid named))
-news-removal (worlds.Unban cid) own operator reason named = absurd (false≢true named)
-news-removal (worlds.Topic text) own operator reason named = absurd (false≢true named)
+news-removal : (act : HubChange) (own operator : ℕ) (reason : List ℕ) → is_removed (Hub act) own ≡ true
+    → news_of act operator reason ≡ removal_line own operator (seconds_of (Hub act)) reason ∷ []
+news-removal (shared.Kick target) own operator reason named = ap (λ n. removal_line n operator None reason ∷ []) (sym (eqb-true own target named))
+news-removal (shared.Ban banned) own operator reason named = ap (λ n. removal_line n operator (Some banned.seconds) reason ∷ []) (sym (eqb-true own banned.sid named))
+news-removal act own operator reason named = absurd (false≢true named)
+
+news-by : (change : Change) (act : HubChange) (own operator : ℕ) (reason : List ℕ) → change ≡ Hub act → is_removed change own ≡ true
+    → news_of act operator reason ≡ removal_line own operator (seconds_of change) reason ∷ []
+news-by change act own operator reason is named =
+    news-removal act own operator reason (sym (ap (λ w. is_removed w own) is) ∙ named)
+    ∙ ap (λ w. removal_line own operator (seconds_of w) reason ∷ []) (sym is)
 
 pub removals_are_heard : RemovalsAreHeard
 removals_are_heard setup hash h e c removes =
-    let world : World = world_of setup hash (facts setup hash h) e.call in
-    let told = acts_are_heard setup hash h e (names-none world (sid setup hash h c) removes.named) in (
+    let change : Change = change_of setup hash (facts setup hash h) e.call in
+    let act = act-of change (sid setup hash h c) removes.named in
+    let told = acts_are_heard setup hash h e act.0 act.1 in (
       told.0,
       told.1,
       told.2,
       told.3,
       told.4,
       λ d here. told.5 d
-          ∙ ap (λ (s : Stage). given_if (is_present s) (news_of world (sid setup hash h told.0) told.3) ++ given_if (d == told.0) (done_line ∷ [])) here
-          ∙ ap (λ ls. ls ++ given_if (d == told.0) (done_line ∷ [])) (news-removal world (sid setup hash h c) (sid setup hash h told.0) told.3 removes.named),
+          ∙ ap (λ (s : Stage). given_if (is_present s) (news_of act.0 (sid setup hash h told.0) told.3) ++ given_if (d == told.0) (done_line ∷ [])) here
+          ∙ ap (λ ls. ls ++ given_if (d == told.0) (done_line ∷ [])) (news-by change act.0 (sid setup hash h c) (sid setup hash h told.0) told.3 act.1 removes.named),
     )
 
 -- ---- where it stands
@@ -136,61 +134,24 @@ found-here about key (c ∷ cs) target is =
 -- a user of the hub whom an effect removes
 abbrev NamesUser : Sight → Effect → Type 0
 NamesUser hub effect =
-    (named : ℕ) → is_removed effect.world named ≡ true → (target : Listed) × (nick : List ℕ) × (user_called hub nick ≡ Some target) × (target.sid ≡ named)
+    (named : ℕ) → is_removed effect.change named ≡ true → (target : Listed) × (nick : List ℕ) × (user_called hub nick ≡ Some target) × (target.sid ≡ named)
 
-names-nobody : (hub : Sight) (effect : Effect) → effect.world ≡ worlds.Same → NamesUser hub effect
-names-nobody hub effect same named is = absurd (names-none effect.world named is same)
+names-act : {hub : Sight} {own : Own} {now : ℕ} {others : List (List ℕ)} {change : HubChange} → Acts hub own now others change → NamesUser hub (carried others change)
+names-act (kicks nick reason target called) named is = (target, nick, called, sym (eqb-true named target.sid is))
+names-act (bans nick seconds reason target called room) named is = (target, nick, called, sym (eqb-true named target.sid is))
+names-act _ named is = absurd (false≢true is)
 
-names-kick : (hub : Sight) (own : Own) (nick reason : List ℕ) (target : Option Listed) → user_called hub nick ≡ target → NamesUser hub (kick_effect own reason target)
-names-kick hub own nick reason None called named is = absurd (false≢true is)
-names-kick hub own nick reason (Some target) called named is = (target, nick, called, sym (eqb-true named target.sid is))
+module _ {hub : Sight} {own : Own} {line : PreparedLine} {now : ℕ} where
+  names : {said : Option Reading} {request : Request} {effect : Effect} → Outcome hub own line now said request effect → NamesUser hub effect
+  names (acts reading others change at operator act) named is = names-act act named is
+  names _ named is = absurd (false≢true is)
 
-names-ban : (hub : Sight) (own : Own) (now seconds : ℕ) (nick reason : List ℕ) (target : Option Listed) → user_called hub nick ≡ target
-    → NamesUser hub (ban_effect own now seconds reason target)
-names-ban hub own now seconds nick reason None called named is = absurd (false≢true is)
-names-ban hub own now seconds nick reason (Some target) called named is = (target, nick, called, sym (eqb-true named target.sid is))
-
-names-asked : (hub : Sight) (own : Own) (now : ℕ) (act : Option Act) → NamesUser hub (asked_effect hub own now act)
-names-asked hub own now None = λ named is. absurd (false≢true is)
-names-asked hub own now (Some (acts.Kick nick reason)) = names-kick hub own nick reason (user_called hub nick) refl
-names-asked hub own now (Some (acts.Ban nick seconds reason)) = names-ban hub own now seconds nick reason (user_called hub nick) refl
-names-asked hub own now (Some (acts.Unban cid)) = λ named is. absurd (false≢true is)
-names-asked hub own now (Some (acts.Topic text)) = λ named is. absurd (false≢true is)
-
-names-if : (hub : Sight) (own : Own) (now : ℕ) (params : List (List ℕ)) (command : Bool)
-    → NamesUser hub (if not command then nothing else asked_effect hub own now (act_at (text_in params)))
-names-if hub own now params false = λ named is. absurd (false≢true is)
-names-if hub own now params true = names-asked hub own now (act_at (text_in params))
-
-names-act : (hub : Sight) (own : Own) (now : ℕ) (params : List (List ℕ)) → NamesUser hub (act_effect hub own now params)
-unfolding act_effect
-names-act hub own now params = names-if hub own now params (is_command (text_in params))
-
-names-accepted : (hub : Sight) (own : Own) (line : PreparedLine) (now : ℕ) (reading : Reading) (request : Request) → NamesUser hub (accepted hub own line now reading request)
-unfolding accepted
-names-accepted hub own line now reading requests.Greeting = names-nobody hub (greets hub own now (applied own.features reading.params)) (same-greets hub own now (applied own.features reading.params))
-names-accepted hub own line now reading requests.Login = names-nobody hub (logs_in hub own line (updates.reading reading.params)) (same-login hub own line (updates.reading reading.params))
-names-accepted hub own line now reading requests.Password = λ named is. absurd (false≢true is)
-names-accepted hub own line now reading requests.Update = names-nobody hub (updates_user own (updates.reading reading.params)) (same-update own (updates.reading reading.params))
-names-accepted hub own line now reading requests.Support = names-nobody hub (learns (applied own.features reading.params)) (same-learns (applied own.features reading.params))
-names-accepted hub own line now reading requests.Act = names-act hub own now reading.params
-names-accepted hub own line now reading requests.Search = λ named is. absurd (false≢true is)
-names-accepted hub own line now reading requests.Message = λ named is. absurd (false≢true is)
-names-accepted hub own line now reading requests.Nothing = λ named is. absurd (false≢true is)
-
-names-line : (hub : Sight) (own : Own) (line : PreparedLine) (now : ℕ) → NamesUser hub (line_effect hub own line now)
-names-line hub own line now =
-    by_line hub own line now (NamesUser hub) (λ named is. absurd (false≢true is)) (λ deny still. names-nobody hub (denial own deny) (same-denial own deny))
-    (λ reading still none. names-accepted hub own line now reading (request_of own.stage reading.kind reading.command))
-
-call-names : (setup : Configured) (hash : List ℕ → List ℕ) (f : Facts) (call : Call) (named : ℕ) → is_removed (world_of setup hash f call) named ≡ true
+call-names : (setup : Configured) (hash : List ℕ → List ℕ) (f : Facts) (call : Call) (named : ℕ) → is_removed (change_of setup hash f call) named ≡ true
     → HasUser f.about f.present named
-call-names setup hash f (Join peer challenge now) named is = absurd (false≢true is)
 call-names setup hash f (Line o bytes now) named is =
-    let names = names-line (sight_of setup f) (own_of (f.about o)) (prepared setup hash (f.about o).challenge bytes) now named is in
-    subst (HasUser f.about f.present) names.3 (found-here f.about (key_of_points names.1) f.present names.0 names.2)
-call-names setup hash f (Quit o) named is = absurd (false≢true is)
-call-names setup hash f (Take o count) named is = absurd (false≢true is)
+    let user = names (line-outcome setup hash f o bytes now) named is in
+    subst (HasUser f.about f.present) user.3 (found-here f.about (key_of_points user.1) f.present user.0 user.2)
+call-names setup hash f _ named is = absurd (false≢true is)
 
 pub only_users_are_removed : OnlyUsersAreRemoved
 only_users_are_removed setup hash h e named is =
@@ -198,50 +159,22 @@ only_users_are_removed setup hash h e named is =
       user.0,
       record {
         present = (present_are_users setup hash h user.0).0 user.1;
-        named = ap (is_removed (world_of setup hash (facts setup hash h) e.call)) user.2 ∙ is;
+        named = ap (is_removed (change_of setup hash (facts setup hash h) e.call)) user.2 ∙ is;
       },
       user.2,
     )
 
 -- ---- an operator's line leaves its own connection as it is
 
-abbrev Stays : Effect → Type 0
-Stays effect = (effect.world ≡ worlds.Same) ⊎ (effect.turn ≡ turns.Stays)
-
-stays-accepted : (hub : Sight) (own : Own) (line : PreparedLine) (now : ℕ) (reading : Reading) (request : Request) → Stays (accepted hub own line now reading request)
-unfolding accepted
-stays-accepted hub own line now reading requests.Greeting = inl (same-greets hub own now (applied own.features reading.params))
-stays-accepted hub own line now reading requests.Login = inl (same-login hub own line (updates.reading reading.params))
-stays-accepted hub own line now reading requests.Password = inl refl
-stays-accepted hub own line now reading requests.Update = inl (same-update own (updates.reading reading.params))
-stays-accepted hub own line now reading requests.Support = inl (same-learns (applied own.features reading.params))
-stays-accepted hub own line now reading requests.Act = by_act hub own now reading.params Stays (inl refl) (λ others world. inr refl)
-stays-accepted hub own line now reading requests.Search = inl refl
-stays-accepted hub own line now reading requests.Message = inl refl
-stays-accepted hub own line now reading requests.Nothing = inl refl
-
-stays-line : (hub : Sight) (own : Own) (line : PreparedLine) (now : ℕ) → Stays (line_effect hub own line now)
-stays-line hub own line now =
-    by_line hub own line now Stays (inl refl) (λ deny still. inl (same-denial own deny))
-    (λ reading still none. stays-accepted hub own line now reading (request_of own.stage reading.kind reading.command))
-
-stays-put : (effect : Effect) (own : ℕ) → is_removed effect.world own ≡ true → Stays effect → effect.turn ≡ turns.Stays
-stays-put effect own named (inl same) = absurd (names-none effect.world own named same)
-stays-put effect own named (inr stays) = stays
-
-gone-normal : stages.Gone ≡ stages.Normal → ⊥
-gone-normal is = cc is
-
 -- who is present after such a line was so before, and is not the one that is shut out
-still-here : (removed is_caller : Bool) (turn : Turn) (stage : Stage) → turn ≡ turns.Stays → stage_next removed is_caller turn stage ≡ stages.Normal
-    → (removed ≡ false) × (stage ≡ stages.Normal)
-still-here true is_caller turn stage stays is = absurd (gone-normal is)
-still-here false true turn stage stays is = (refl, sym (ap (λ t. stage_after t stage) stays) ∙ is)
-still-here false false turn stage stays is = (refl, is)
+still-here : (removed is_caller : Bool) (act : HubChange) (stage : Stage) → stage_next removed is_caller (Hub act) stage ≡ stages.Normal → (removed ≡ false) × (stage ≡ stages.Normal)
+still-here true is_caller act stage is = absurd (gone-normal is)
+still-here false true act stage is = (refl, is)
+still-here false false act stage is = (refl, is)
 
-same-fields : (is_caller : Bool) (effect : Effect) (a : About) → effect.turn ≡ turns.Stays → chosen is_caller (fields_after effect.turn a.fields) a.fields ≡ a.fields
-same-fields true effect a stays = ap (λ t. fields_after t a.fields) stays
-same-fields false effect a stays = refl
+same-fields : (is_caller : Bool) (act : HubChange) (fields : List Field) → chosen is_caller (fields_after (Hub act) fields) fields ≡ fields
+same-fields true act fields = refl
+same-fields false act fields = refl
 
 -- what was so of a user before the removal who is present after it
 record Remains (f g : Facts) (c n : ℕ) : Type 0 where
@@ -250,30 +183,27 @@ record Remains (f g : Facts) (c n : ℕ) : Type 0 where
   other : n ≡ c → ⊥
 
 -- the one that is shut out
-is-out : (world : World) (a : About) → a.stage ≡ stages.Normal → is_removed world a.sid ≡ true → (is_present a.stage && is_removed world a.sid) ≡ true
-is-out world a present named = ap₂ (λ (s : Stage) b. is_present s && b) present named
+is-out : (change : Change) (a : About) → a.stage ≡ stages.Normal → is_removed change a.sid ≡ true → (is_present a.stage && is_removed change a.sid) ≡ true
+is-out change a present named = ap₂ (λ (s : Stage) b. is_present s && b) present named
 
-effect-remains : (o : ℕ) (effect : Effect) (f : Facts) (c n : ℕ) → effect.turn ≡ turns.Stays → (f.about c).stage ≡ stages.Normal → is_removed effect.world (f.about c).sid ≡ true
+effect-remains : (o : ℕ) (effect : Effect) (f : Facts) (c n : ℕ) → (f.about c).stage ≡ stages.Normal → is_removed effect.change (f.about c).sid ≡ true
     → ((happens o effect f).about n).stage ≡ stages.Normal → Remains f (happens o effect f) c n
 unfolding happens
-effect-remains o effect f c n stays present named is =
-    let still = still-here (removed_by effect (f.about n)) (n == o) effect.turn (f.about n).stage stays (sym (about-stage o effect f n) ∙ is) in
+effect-remains o effect f c n present named is =
+    let act = act-of effect.change (f.about c).sid named in
+    let still = still-here (removed_by effect (f.about n)) (n == o) act.0 (f.about n).stage
+    (sym (ap (λ change. stage_next (removed_by effect (f.about n)) (n == o) change (f.about n).stage) act.1) ∙ is) in
     record {
       here = still.1;
-      fields = about-fields o effect f n ∙ same-fields (n == o) effect (f.about n) stays;
-      other = λ same. false≢true (sym still.0 ∙ ap (λ x. removed_by effect (f.about x)) same ∙ is-out effect.world (f.about c) present named);
+      fields = ap (λ change. chosen (n == o) (fields_after change (f.about n).fields) (f.about n).fields) act.1 ∙ same-fields (n == o) act.0 (f.about n).fields;
+      other = λ same. false≢true (sym still.0 ∙ ap (λ x. removed_by effect (f.about x)) same ∙ is-out effect.change (f.about c) present named);
     }
 
 call-remains : (setup : Configured) (hash : List ℕ → List ℕ) (f : Facts) (caller : ℕ) (call : Call) (c n : ℕ) → (f.about c).stage ≡ stages.Normal
-    → is_removed (world_of setup hash f call) (f.about c).sid ≡ true → ((after setup hash f caller call).about n).stage ≡ stages.Normal → Remains f (after setup hash f caller call) c n
+    → is_removed (change_of setup hash f call) (f.about c).sid ≡ true → ((after setup hash f caller call).about n).stage ≡ stages.Normal → Remains f (after setup hash f caller call) c n
 unfolding after
-call-remains setup hash f caller (Join peer challenge now) c n present named is = absurd (false≢true named)
-call-remains setup hash f caller (Line o bytes now) c n present named is =
-    effect-remains o (effect_of_line setup hash f o bytes now) f c n
-    (stays-put (effect_of_line setup hash f o bytes now) (f.about c).sid named
-    (stays-line (sight_of setup f) (own_of (f.about o)) (prepared setup hash (f.about o).challenge bytes) now)) present named is
-call-remains setup hash f caller (Quit o) c n present named is = absurd (false≢true named)
-call-remains setup hash f caller (Take o count) c n present named is = absurd (false≢true named)
+call-remains setup hash f caller (Line o bytes now) c n present named is = effect-remains o (effect_of_line setup hash f o bytes now) f c n present named is
+call-remains setup hash f caller _ c n present named is = absurd (false≢true named)
 
 remains : (setup : Configured) (hash : List ℕ → List ℕ) (h : List Entry) (e : Entry) (c n : ℕ) → Removes setup hash h e c → stage setup hash (e ∷ h) n ≡ stages.Normal
     → Remains (facts setup hash h) (facts setup hash (e ∷ h)) c n
@@ -290,16 +220,9 @@ nobody-has setup hash h e c n small removes has =
 
 -- ---- who has the nick later
 
-normal-is : (stage : Stage) → is_present stage ≡ true → stage ≡ stages.Normal
-normal-is stages.Protocol is = absurd (false≢true is)
-normal-is stages.Identify is = absurd (false≢true is)
-normal-is stages.Verify is = absurd (false≢true is)
-normal-is stages.Normal is = refl
-normal-is stages.Gone is = absurd (false≢true is)
-
 has-by : (stage : Stage) (own key : List ℕ) (here same : Bool) → is_present stage ≡ here → bytes_eq own key ≡ same
     → ((stage ≡ stages.Normal) × (own ≡ key)) ⊎ ((stage ≡ stages.Normal) × (own ≡ key) → ⊥)
-has-by stage own key true true is-here is-same = inl (normal-is stage is-here, (bytes_eq-Decides own key).0 is-same)
+has-by stage own key true true is-here is-same = inl (is-normal stage is-here, (bytes_eq-Decides own key).0 is-same)
 has-by stage own key true false is-here is-same = inr (λ has. false≢true (sym is-same ∙ (bytes_eq-Decides own key).1 has.1))
 has-by stage own key false same is-here is-same = inr (λ has. false≢true (sym is-here ∙ ap is_present has.0))
 

@@ -17,26 +17,24 @@ use Rattle.inf_fields.specs.Field.{Field, field, printed}
 use Rattle.inf_fields.specs.Merging.{merged_with}
 use Rattle.inf_fields.specs.Updates as updates
 use Rattle.login_state.specs.declared.stage.Stage.TheVariants as stages
-use Rattle.login_state.specs.Checks.{first_denial}
 use Rattle.login_state.specs.Denials.{denial_text}
-use Rattle.login_state.specs.Orders.{entry_rules}
 use Rattle.operator_acts.specs.Bans.{left}
 use Rattle.unicode_normalization.proofs.Computing.{unicode_normalization}
 use Rattle.user_table.specs.Listed.{Listed}
+use Rattle.hub_rules.specs.declared.effect.Change.TheVariants.{Sender}
 use Rattle.hub_rules.specs.declared.effect.Effect.{Effect}
 use Rattle.hub_rules.specs.declared.effect.Hearers.TheVariants.{Others}
-use Rattle.hub_rules.specs.declared.effect.Turn.TheVariants as turns
-use Rattle.hub_rules.specs.declared.effect.World.TheVariants.{Same}
+use Rattle.hub_rules.specs.declared.effect.SenderChange.TheVariants as senders
 use Rattle.hub_rules.specs.declared.history.Verdict.TheVariants.{Ended, Kept}
 use Rattle.hub_rules.specs.Accounts.{account_with}
-use Rattle.hub_rules.specs.Asks.{entry_ask}
-use Rattle.hub_rules.specs.Denied.{denial_of, request_denied}
+use Rattle.hub_rules.specs.Grounds.{entry_grounds, first_ground, login_grounds, password_grounds}
+use Rattle.hub_rules.specs.Denied.{digest_given, request_denied}
 use Rattle.hub_rules.specs.Effects.{accepted, denial, enters, entrant, heard, unless_denied}
 use Rattle.hub_rules.specs.Facts.{own_of}
 use Rattle.hub_rules.specs.Identities.{key_of_points, listed, nick_in}
 use Rattle.hub_rules.specs.Prepared.{owner_digest, password_digest, password_of, update_of}
 use Rattle.hub_rules.specs.Requests.{refused, request_of}
-use Rattle.hub_rules.specs.Shares.{About, with_share}
+use Rattle.hub_rules.specs.Shares.{About, lags_with, owed_with}
 use Rattle.hub_rules.specs.Sights.{PreparedLine, Sight, user_after}
 use Rattle.hub_rules.specs.Texts.{challenge_line, ended, hub_line, identifier_line, menu_line, support_line, user_line}
 use Rattle.hub_laws.specs.Conversations.{bobs_id, greeting_of, one, zeros}
@@ -59,7 +57,7 @@ abbrev rival_greeted : Known
 rival_greeted = record op_waiting { last = 2; opened = 1 ∷ 2 ∷ []; abouts = greeted 2 2 rival_greeting ∷ op_about ∷ [] }
 
 rival-asks : (hash : List ℕ → List ℕ) → hash zeros ≡ zeros → hash (codes "secret" ++ zeros) ≡ secret_digest → Comes staffed hash rival_asked rival_greeted
-unfolding with_share support_line identifier_line hub_line escaped digit_of
+unfolding owed_with lags_with support_line identifier_line hub_line escaped digit_of
 rival-asks hash same secret =
     greets-more staffed hash op_named op_waiting rival_greeted 2 2 0 (op-waits hash same secret) refl refl (next-at (facts_of op_waiting) refl)
     (refl, refl, refl, sup-read, refl, refl) refl refl refl
@@ -121,9 +119,7 @@ asked_effect = record {
   own = challenge_told ∷ [];
   others = [];
   hearers = Others;
-  turn = turns.Waits (entrant rival_user) secret_digest;
-  world = Same;
-  searched = None;
+  change = Sender (senders.Waits (entrant rival_user) secret_digest);
 }
 
 abbrev nobody_there : Sight
@@ -131,7 +127,7 @@ nobody_there = record { setup = staffed; users = []; bans = []; topic = [] }
 
 rival-decided : (hash : List ℕ → List ℕ) → hash one ≡ one → hash (codes "secret" ++ zeros) ≡ secret_digest
     → effect_of staffed hash (facts_of rival_greeted) 2 rival_text 0 (Ok rival_line) ≡ asked_effect
-unfolding entry_ask left account_with challenge_line spelling digits_from number_from bits digit_of spelled bytes_from value_at value_of
+unfolding login_grounds left account_with challenge_line spelling digits_from number_from bits digit_of spelled bytes_from value_at value_of
 rival-decided hash same secret =
     login-decided staffed hash rival_greeted nobody_there 2 0 rival_line one (Some secret_digest) rival rival_user refl (rival-digest hash) same (rival-password hash secret)
     (is-login nobody_there 2 2 0 rival_greeting rival_words rival_text refl) rival-updates rival-made rival-nick
@@ -143,7 +139,7 @@ abbrev rival_waiting : Known
 rival_waiting = record rival_greeted { abouts = rival_about ∷ op_about ∷ [] }
 
 rival-waits : (hash : List ℕ → List ℕ) → hash zeros ≡ zeros → hash one ≡ one → hash (codes "secret" ++ zeros) ≡ secret_digest → Comes staffed hash rival_named rival_waiting
-unfolding with_share
+unfolding owed_with lags_with
 rival-waits hash same same_one secret =
     says-more staffed hash rival_asked rival_greeted rival_waiting 2 rival_line 0 asked_effect Kept (rival-asks hash same secret)
     (refl, refl, refl, rival-read, refl, refl) (rival-decided hash same_one secret) refl refl
@@ -155,16 +151,16 @@ unfolding header_of head_at kind_at addressed params_fault is_escaped
 pass-read = reading-ascii pass_text refl refl ∙ refl
 
 op-is-let-in : (hash : List ℕ → List ℕ) → effect_of staffed hash (facts_of rival_waiting) 1 pass_text 0 (Ok right_line) ≡ entry_effect
-unfolding accepted refused request_denied request_of entry_ask left spelled bytes_from number_from value_at bits value_of user_line menu_line printed escaped digit_of account_with digits
+unfolding accepted refused request_denied request_of entry_grounds left spelled bytes_from number_from value_at bits value_of user_line menu_line printed escaped digit_of account_with digits
 op-is-let-in hash =
     let own = own_of op_about in
-    ap (λ (user : Listed). unless_denied own (denial_of (first_denial (entry_rules (entry_ask nobody_there 0 user)))) (enters nobody_there own user turns.Enters)) op-listed
+    ap (λ (user : Listed). unless_denied own (first_ground (password_grounds nobody_there own 0 (digest_given right_line.params) user)) (enters nobody_there own user (Sender senders.Enters))) op-listed
 
 abbrev op_there : Known
 op_there = record rival_waiting { present = 1 ∷ []; abouts = rival_about ∷ (facts_of op_present).about 1 ∷ [] }
 
 op-comes-first : (hash : List ℕ → List ℕ) → hash zeros ≡ zeros → hash one ≡ one → hash (codes "secret" ++ zeros) ≡ secret_digest → Comes staffed hash op_first op_there
-unfolding with_share
+unfolding owed_with lags_with
 op-comes-first hash same same_one secret =
     says-more staffed hash rival_named rival_waiting op_there 1 right_line 0 entry_effect Kept (rival-waits hash same same_one secret)
     (refl, refl, refl, pass-read, refl, refl) (op-is-let-in hash) refl refl
@@ -173,18 +169,18 @@ abbrev taken_told : List ℕ
 taken_told = ended (codes "ISTA 222 Nick\\staken")
 
 abbrev taken_effect : Effect
-taken_effect = record { own = taken_told ∷ []; others = []; hearers = Others; turn = turns.Falls; world = Same; searched = None }
+taken_effect = record { own = taken_told ∷ []; others = []; hearers = Others; change = Sender senders.Falls }
 
 abbrev op_here : Sight
 op_here = record { setup = staffed; users = op_user ∷ []; bans = []; topic = [] }
 
 rival-is-denied : (hash : List ℕ → List ℕ) → effect_of staffed hash (facts_of op_there) 2 pass_text 0 (Ok right_line) ≡ taken_effect
-unfolding accepted refused request_denied request_of entry_ask left spelled bytes_from number_from value_at bits value_of denial denial_text
+unfolding accepted refused request_denied request_of entry_grounds left spelled bytes_from number_from value_at bits value_of denial denial_text
 rival-is-denied hash =
     let own = own_of rival_about in
     let prepared : PreparedLine = record { bytes = pass_text; owner = None; password = None } in
     ap (λ s. heard s own prepared 0 (Ok right_line)) (λ i. record { setup = staffed; users = op-listed i ∷ []; bans = []; topic = [] })
-    ∙ ap (λ (user : Listed). unless_denied own (denial_of (first_denial (entry_rules (entry_ask op_here 0 user)))) (enters op_here own user turns.Enters)) rival-listed
+    ∙ ap (λ (user : Listed). unless_denied own (first_ground (password_grounds op_here own 0 (digest_given right_line.params) user)) (enters op_here own user (Sender senders.Enters))) rival-listed
 
 abbrev rival_over : Known
 rival_over = record op_there {
@@ -192,7 +188,7 @@ rival_over = record op_there {
 }
 
 rival-falls : (hash : List ℕ → List ℕ) → hash zeros ≡ zeros → hash one ≡ one → hash (codes "secret" ++ zeros) ≡ secret_digest → Comes staffed hash rival_refused rival_over
-unfolding with_share
+unfolding owed_with lags_with
 rival-falls hash same same_one secret =
     says-more staffed hash op_first op_there rival_over 2 right_line 0 taken_effect Ended (op-comes-first hash same same_one secret)
     (refl, refl, refl, pass-read, refl, refl) (rival-is-denied hash) refl refl

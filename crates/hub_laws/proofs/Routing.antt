@@ -10,7 +10,10 @@ use Rattle.adc_line.specs.declared.kind.Kind.{Kind}
 use Rattle.adc_line.specs.declared.kind.Kind.TheVariants as kinds
 use Rattle.feature_route.specs.Audiences.{audience, both_if, by_kind, direct, echoed, featured, holds, holds_words}
 use Rattle.feature_route.specs.Matching.{su_words}
+use Rattle.hub_rules.specs.declared.effect.Change.{Change}
+use Rattle.hub_rules.specs.declared.effect.Change.TheVariants.{Nothing, Sender}
 use Rattle.hub_rules.specs.declared.effect.Effect.{Effect}
+use Rattle.hub_rules.specs.declared.effect.SenderChange.TheVariants as senders
 use Rattle.hub_rules.specs.declared.history.Entry.{Entry}
 use Rattle.hub_rules.specs.declared.request.Request.{Request}
 use Rattle.hub_rules.specs.declared.request.Request.TheVariants.{Message, Search}
@@ -28,6 +31,7 @@ use Rattle.hub_rules.specs.Texts.{ended}
 use Rattle.login_state.specs.declared.stage.Stage.{Stage}
 use Rattle.login_state.specs.declared.stage.Stage.TheVariants.{Gone, Normal}
 use Rattle.hub_laws.specs.Routing.{EmptyLinesOweNothing, IsMessage, JoinsAndTakesOweNothing, MessagesAreRouted, QuietQuits, WhoIsOutIsNotHeard, has_wanted, is_for, is_named}
+use Rattle.hub_laws.proofs.Lagging.{given-nothing}
 
 -- ---- for whom a message is
 
@@ -66,16 +70,12 @@ nobody-there hub target is = ap (is_target_here hub) is
 by-kind : (kind : Kind) (hub : Sight) (line : Reading) (own sid : ℕ) (su : List ℕ) → line.from ≡ Some own
     → holds (by_kind kind line (is_target_here hub line.target)) sid su ≡ is_for kind line (is_target_here hub line.target) own sid su
 unfolding holds_words
-by-kind kinds.Broadcast hub line own sid su from = refl
-by-kind kinds.Client hub line own sid su from = refl
 by-kind kinds.Direct hub line own sid su from = direct-is (is_target_here hub line.target) line.target sid (su_words su)
 by-kind kinds.Echo hub line own sid su from =
     ap (λ (o : Option ℕ). holds_words (echoed (is_target_here hub line.target) line.target o) sid (su_words su)) from
     ∙ echo-is (is_target_here hub line.target) line.target own sid (su_words su) (nobody-there hub line.target)
 by-kind kinds.Feature hub line own sid su from = feature-is line.features sid su
-by-kind kinds.Hub hub line own sid su from = refl
-by-kind kinds.Info hub line own sid su from = refl
-by-kind kinds.Udp hub line own sid su from = refl
+by-kind _ hub line own sid su from = refl
 
 audience-is : (hub : Sight) (line : Reading) (own sid : ℕ) (su : List ℕ) → line.from ≡ Some own
     → holds (audience line (is_target_here hub line.target)) sid su ≡ is_for line.kind line (is_target_here hub line.target) own sid su
@@ -85,14 +85,14 @@ audience-is hub line own sid su from = by-kind line.kind hub line own sid su fro
 -- ---- what a message leads to
 
 -- whether it is a search makes no difference to who hears it
-abbrev passed : Sight → Reading → Option ℕ → Effect
-passed hub line searched = passes_on hub line searched
+abbrev passed : Sight → Reading → Change → Effect
+passed hub line change = passes_on hub line change
 
 message-passes : (hub : Sight) (own : Own) (prepared : PreparedLine) (now : ℕ) (line : Reading) (request : Request)
-    → (request ≡ Message) ⊎ (request ≡ Search) → (searched : Option ℕ) × (accepted hub own prepared now line request ≡ passed hub line searched)
+    → (request ≡ Message) ⊎ (request ≡ Search) → (change : Change) × (accepted hub own prepared now line request ≡ passed hub line change)
 unfolding accepted
-message-passes hub own prepared now line request (inl is) = (None, ap (λ (r : Request). accepted hub own prepared now line r) is)
-message-passes hub own prepared now line request (inr is) = (Some now, ap (λ (r : Request). accepted hub own prepared now line r) is)
+message-passes hub own prepared now line request (inl is) = (Nothing, ap (λ (r : Request). accepted hub own prepared now line r) is)
+message-passes hub own prepared now line request (inr is) = (Sender (senders.Searches now), ap (λ (r : Request). accepted hub own prepared now line r) is)
 
 more-than-none : (n : ℕ) → (suc n == 0) ≡ false
 more-than-none n = grind (arith, nat_tests)
@@ -123,7 +123,7 @@ module _ (setup : Configured) (hash : List ℕ → List ℕ) (h : List Entry) (c
   abbrev f : Facts
   f = facts setup hash h
 
-  effect-is : (searched : Option ℕ) × (effect_of_line setup hash f c bytes now ≡ passed (sight_of setup f) line searched)
+  effect-is : (change : Change) × (effect_of_line setup hash f c bytes now ≡ passed (sight_of setup f) line change)
   effect-is =
       let same = prepared-bytes setup hash (f.about c).challenge bytes in
       let goes = message-passes (sight_of setup f) (own_of (f.about c)) (prepared setup hash (f.about c).challenge bytes) now line (request_of Normal line.kind line.command) message.to_users in (
@@ -137,15 +137,11 @@ module _ (setup : Configured) (hash : List ℕ → List ℕ) (h : List Entry) (c
 abbrev none : List (List ℕ)
 none = []
 
-given-none : (b : Bool) → given_if b none ≡ none
-given-none true = refl
-given-none false = refl
-
-owes-message : (hub : Sight) (line : Reading) (searched : Option ℕ) (is_caller : Bool) (own : ℕ) (a : About) → line.from ≡ Some own
-    → owes is_caller (passed hub line searched) a
+owes-message : (hub : Sight) (line : Reading) (change : Change) (is_caller : Bool) (own : ℕ) (a : About) → line.from ≡ Some own
+    → owes is_caller (passed hub line change) a
     ≡ given_if (is_present a.stage && is_for line.kind line (is_target_here hub line.target) own a.sid (su_in a.fields)) (ended line.text ∷ [])
-owes-message hub line searched is_caller own a from =
-    ap₂ (λ b (own : List (List ℕ)). given_if (is_present a.stage && b) (ended line.text ∷ []) ++ own) (audience-is hub line own a.sid (su_in a.fields) from) (given-none is_caller)
+owes-message hub line change is_caller own a from =
+    ap₂ (λ b (own : List (List ℕ)). given_if (is_present a.stage && b) (ended line.text ∷ []) ++ own) (audience-is hub line own a.sid (su_in a.fields) from) (given-nothing is_caller)
     ∙ append-nil _
 
 pub messages_are_routed : MessagesAreRouted

@@ -17,18 +17,18 @@ use Rattle.inf_fields.specs.Cleaning.{dotted}
 use Rattle.inf_fields.specs.Field.{printed}
 use Rattle.login_state.specs.Denials.{denial_text}
 use Rattle.operator_acts.specs.Bans.{left}
+use Rattle.hub_rules.specs.declared.effect.Change.TheVariants.{Nothing, Sender}
 use Rattle.hub_rules.specs.declared.effect.Effect.{Effect}
 use Rattle.hub_rules.specs.declared.effect.Hearers.TheVariants.{Others}
-use Rattle.hub_rules.specs.declared.effect.Turn.TheVariants as turns
-use Rattle.hub_rules.specs.declared.effect.World.TheVariants.{Same}
+use Rattle.hub_rules.specs.declared.effect.SenderChange.TheVariants as senders
 use Rattle.hub_rules.specs.declared.history.Verdict.TheVariants.{Kept}
 use Rattle.hub_rules.specs.Accounts.{account_with}
-use Rattle.hub_rules.specs.Asks.{entry_ask}
+use Rattle.hub_rules.specs.Grounds.{login_grounds}
 use Rattle.hub_rules.specs.Denied.{request_denied}
 use Rattle.hub_rules.specs.Effects.{accepted, denial}
 use Rattle.hub_rules.specs.Identities.{listed}
 use Rattle.hub_rules.specs.Requests.{refused, request_of}
-use Rattle.hub_rules.specs.Shares.{with_share}
+use Rattle.hub_rules.specs.Shares.{lags_with, owed_with}
 use Rattle.hub_rules.specs.Sights.{Sight}
 use Rattle.hub_rules.specs.Texts.{ended, hub_line, identifier_line, support_line, user_line}
 use Rattle.hub_laws.specs.Conversations.{greeting_of, zeros}
@@ -45,7 +45,7 @@ abbrev ana_greeted : Known
 ana_greeted = record (nobody_yet patient) { last = 1; opened = 1 ∷ []; abouts = greeted 1 1 (greeting_of (codes "AAAB")) ∷ [] }
 
 ana-asks : (hash : List ℕ → List ℕ) → Comes patient hash patient_asked ana_greeted
-unfolding with_share support_line identifier_line hub_line escaped digit_of
+unfolding owed_with lags_with support_line identifier_line hub_line escaped digit_of
 ana-asks hash =
     greets-more patient hash [] (nobody_yet patient) ana_greeted 1 1 0 (opens patient hash) refl refl (next-at (facts_of (nobody_yet patient)) refl)
     (refl, refl, refl, sup-read, refl, refl) refl refl refl
@@ -55,7 +55,7 @@ nobody_there = record { setup = patient; users = []; bans = []; topic = [] }
 
 ana-decided : (hash : List ℕ → List ℕ) → hash zeros ≡ zeros
     → effect_of patient hash (facts_of ana_greeted) 1 ana_text 0 (Ok (login_line ana_text 1 ana_words)) ≡ entry_effect (ana_user 1) [] ana_told
-unfolding entry_ask left account_with user_line printed digit_of spelled bytes_from number_from value_at bits value_of number_at dotted digits
+unfolding login_grounds left account_with user_line printed digit_of spelled bytes_from number_from value_at bits value_of number_at dotted digits
 ana-decided hash same = ana-logs-in patient hash ana_greeted nobody_there 1 1 0 (greeting_of (codes "AAAB")) ana_text refl same refl refl refl
 
 -- ana, by when it last searched, and what it was owed since it is there
@@ -66,7 +66,7 @@ ana_there searched more = record ana_greeted {
 }
 
 ana-enters : (hash : List ℕ → List ℕ) → hash zeros ≡ zeros → Comes patient hash patient_entered (ana_there None [])
-unfolding with_share listed
+unfolding owed_with lags_with listed
 ana-enters hash same =
     says-more patient hash patient_asked ana_greeted (ana_there None []) 1 (login_line ana_text 1 ana_words) 0 (entry_effect (ana_user 1) [] ana_told) Kept (ana-asks hash)
     (refl, refl, refl, ana-read, refl, refl) (ana-decided hash same) refl refl
@@ -90,28 +90,28 @@ abbrev search_told : List ℕ
 search_told = ended search_text
 
 first-goes-out : (hash : List ℕ → List ℕ) → hash zeros ≡ zeros → Comes patient hash first_search (ana_there (Some 5) (search_told ∷ []))
-unfolding accepted refused request_denied request_of audience listed with_share holds_words
+unfolding accepted refused request_denied request_of audience listed owed_with lags_with holds_words
 first-goes-out hash same =
-    says-more patient hash patient_entered (ana_there None []) (ana_there (Some 5) (search_told ∷ [])) 1 search_line 5 (passed search_text audiences.All (Some 5)) Kept
+    says-more patient hash patient_entered (ana_there None []) (ana_there (Some 5) (search_told ∷ [])) 1 search_line 5 (passed search_text audiences.All (Sender (senders.Searches 5))) Kept
     (ana-enters hash same) (refl, refl, refl, search-read, refl, refl) refl refl refl
 
 abbrev soon_told : List ℕ
 soon_told = ended (codes "ISTA 100 Search\\stoo\\ssoon")
 
 abbrev soon_effect : Effect
-soon_effect = record { own = soon_told ∷ []; others = []; hearers = Others; turn = turns.Stays; world = Same; searched = None }
+soon_effect = record { own = soon_told ∷ []; others = []; hearers = Others; change = Nothing }
 
 early-is-denied : (hash : List ℕ → List ℕ) → hash zeros ≡ zeros → Comes patient hash early_search (ana_there (Some 5) (search_told ∷ soon_told ∷ []))
-unfolding refused request_denied request_of denial denial_text with_share
+unfolding refused request_denied request_of denial denial_text owed_with lags_with
 early-is-denied hash same =
     says-more patient hash first_search (ana_there (Some 5) (search_told ∷ [])) (ana_there (Some 5) (search_told ∷ soon_told ∷ [])) 1 search_line 14 soon_effect Kept
     (first-goes-out hash same) (refl, refl, refl, search-read, refl, refl) refl refl refl
 
 late-goes-out : (hash : List ℕ → List ℕ) → hash zeros ≡ zeros → Comes patient hash late_search (ana_there (Some 15) (search_told ∷ soon_told ∷ search_told ∷ []))
-unfolding accepted refused request_denied request_of audience listed with_share holds_words
+unfolding accepted refused request_denied request_of audience listed owed_with lags_with holds_words
 late-goes-out hash same =
     says-more patient hash early_search (ana_there (Some 5) (search_told ∷ soon_told ∷ [])) (ana_there (Some 15) (search_told ∷ soon_told ∷ search_told ∷ [])) 1 search_line 15
-    (passed search_text audiences.All (Some 15)) Kept (early-is-denied hash same) (refl, refl, refl, search-read, refl, refl) refl refl refl
+    (passed search_text audiences.All (Sender (senders.Searches 15))) Kept (early-is-denied hash same) (refl, refl, refl, search-read, refl, refl) refl refl refl
 
 pub searches-must-wait : SearchesMustWait
 searches-must-wait hash same = let comes = late-goes-out hash same in (comes.legal, ap (λ f. (f.about 1).owed) comes.known)

@@ -1,18 +1,16 @@
 -- What is passed on of an accepted update may be known, and what is merged of such updates too.
-use Rattle.std.proofs.Common.{◌≡◌, ◌∙◌, sym, ap, refl, subst, ℕ, Bool, true, false, cond, not, ◌&&◌, ◌||◌, ◌⊎◌, inl, inr, ◌==◌, List, [], ◌∷◌, ◌++◌, length, map, filter, Option, Some, None, is_some, unwrap_or, arith}
+use Rattle.std.proofs.Common.{◌≡◌, ◌∙◌, sym, ap, refl, subst, ℕ, Bool, true, false, cond, not, ◌&&◌, ◌||◌, ◌⊎◌, inl, inr, List, [], ◌∷◌, ◌++◌, map, filter, Option, Some, None, is_some, unwrap_or}
 use Rattle.std.specs.Prelude.{if◌then◌else◌}
 use Rattle.std.specs.List.{AllByRecursion}
 use Rattle.std.specs.Option.{option_map}
 use Rattle.std.specs.Str.{bytes_eq}
-use Rattle.std.proofs.lemmas.Bool.{eqb-true, false≢true}
+use Rattle.std.proofs.lemmas.Bool.{false≢true}
 use Rattle.std.proofs.lemmas.Slice.Eq.{bytes_eq-Decides}
 use Rattle.inf_fields.specs.Cleaning.{any_address, asks_for_address, clean, dotted, is_held_back, with_address}
 use Rattle.inf_fields.specs.Field.{Field, besides, field, has_name, is_called, value_of}
 use Rattle.inf_fields.specs.FieldNames.{address_name}
 use Rattle.inf_fields.specs.Merging.{followed_by, is_empty_value, latest, leave, merged_with, settled}
-use Rattle.login_state.specs.declared.findings.Address.TheVariants.{Right, Wrong}
-use Rattle.hub_rules.specs.Asks as asks
-use Rattle.hub_rules.specs.Asks.{address_found}
+use Rattle.hub_rules.specs.Grounds.{is_empty, is_wrong_address}
 use Rattle.hub_rules.specs.Identities.{given}
 use Rattle.hub_laws.specs.Secrets.{IsPublic}
 
@@ -117,29 +115,29 @@ address-clean [] peer = refl
 address-clean (f ∷ u) peer = address-cons peer f u (is_held_back f) (is_called address_name f) refl refl (address-clean u peer)
 
 -- an address that is right is none, one to fill in, or the one that the hub sees
-length-nil : (w : List ℕ) → (length w == 0) ≡ true → w ≡ []
-length-nil [] is = refl
-length-nil (b ∷ more) is = let e : length (b ∷ more) ≡ 0 = eqb-true (length (b ∷ more)) 0 is in absurd (omega (arith, e))
+empty-nil : (w : List ℕ) → is_empty w ≡ true → w ≡ []
+empty-nil [] is = refl
+empty-nil (b ∷ more) is = absurd (false≢true is)
 
 filled-own : (peer : List ℕ) (any : Bool) → (if any then dotted peer else dotted peer) ≡ dotted peer
 filled-own peer true = refl
 filled-own peer false = refl
 
-is-right : (peer w : List ℕ) (none any own : Bool) → (length w == 0) ≡ none → bytes_eq w asks.any_address ≡ any → bytes_eq w (dotted peer) ≡ own
-    → (if none || any || own then Right else Wrong peer) ≡ Right → (filled peer w ≡ []) ⊎ (filled peer w ≡ dotted peer)
-is-right peer w true any own is-none is-any is-own right = inl (ap (filled peer) (length-nil w is-none))
-is-right peer w false true own is-none is-any is-own right = inr (ap (filled peer) ((bytes_eq-Decides w asks.any_address).0 is-any))
+is-right : (peer w : List ℕ) (none any own : Bool) → is_empty w ≡ none → bytes_eq w any_address ≡ any → bytes_eq w (dotted peer) ≡ own
+    → not (none || any || own) ≡ false → (filled peer w ≡ []) ⊎ (filled peer w ≡ dotted peer)
+is-right peer w true any own is-none is-any is-own right = inl (ap (filled peer) (empty-nil w is-none))
+is-right peer w false true own is-none is-any is-own right = inr (ap (filled peer) ((bytes_eq-Decides w any_address).0 is-any))
 is-right peer w false false true is-none is-any is-own right = inr (ap (filled peer) ((bytes_eq-Decides w (dotted peer)).0 is-own) ∙ filled-own peer (bytes_eq any_address (dotted peer)))
-is-right peer w false false false is-none is-any is-own right = let none : ⊥ = cc right in absurd none
+is-right peer w false false false is-none is-any is-own right = absurd (false≢true (sym right))
 
-pub passed-address : (peer : List ℕ) (o : Option (List ℕ)) (v : List ℕ) → address_found peer (unwrap_or o []) ≡ Right → option_map (filled peer) o ≡ Some v → (v ≡ []) ⊎ (v ≡ dotted peer)
+pub passed-address : (peer : List ℕ) (o : Option (List ℕ)) (v : List ℕ) → is_wrong_address peer (unwrap_or o []) ≡ false → option_map (filled peer) o ≡ Some v → (v ≡ []) ⊎ (v ≡ dotted peer)
 passed-address peer None v right is = let none : ⊥ = cc is in absurd none
 passed-address peer (Some w) v right is =
     let e : filled peer w ≡ v = cc is in
     subst (λ (x : List ℕ). (x ≡ []) ⊎ (x ≡ dotted peer)) e
-    (is-right peer w (length w == 0) (bytes_eq w asks.any_address) (bytes_eq w (dotted peer)) refl refl refl right)
+    (is-right peer w (is_empty w) (bytes_eq w any_address) (bytes_eq w (dotted peer)) refl refl refl right)
 
-pub clean-passed : (u : List Field) (peer : List ℕ) → address_found peer (given address_name u) ≡ Right → HasPassed peer (clean u peer)
+pub clean-passed : (u : List Field) (peer : List ℕ) → is_wrong_address peer (given address_name u) ≡ false → HasPassed peer (clean u peer)
 clean-passed u peer right = record {
   kept = clean-kept u peer;
   address = λ v is. passed-address peer (value_of address_name u) v right (sym (address-clean u peer) ∙ is);

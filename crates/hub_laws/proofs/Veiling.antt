@@ -1,5 +1,5 @@
 -- What a line leads to is the same, whatever the passwords, but for the digest that is waited for.
-use Rattle.std.proofs.Common.{◌≡◌, ◌∙◌, sym, ap, ap₂, refl, ℕ, suc, Bool, true, false, not, ◌&&◌, ◌||◌, ◌==◌, ◌⊎◌, inl, inr, List, [], ◌∷◌, ◌++◌, length, map, Option, Some, None, Result, Ok, Err, arith}
+use Rattle.std.proofs.Common.{◌≡◌, ◌∙◌, sym, ap, ap₂, refl, ℕ, suc, Bool, true, false, not, ◌&&◌, ◌||◌, ◌==◌, ◌⊎◌, inl, inr, List, [], ◌∷◌, ◌++◌, length, map, Option, Some, None, Result, Ok, Err, arith, subst}
 use Rattle.std.specs.Prelude.{codes, if◌then◌else◌, is_some}
 use Rattle.std.specs.Option.{option_map}
 use Rattle.std.specs.Str.{bytes_eq}
@@ -21,49 +21,45 @@ use Rattle.inf_fields.specs.declared.fault.InfFault.{InfFault}
 use Rattle.login_state.specs.declared.deny.Deny.{Deny}
 use Rattle.login_state.specs.declared.deny.Deny.TheVariants as denials
 use Rattle.login_state.specs.declared.fault.SupFault.{SupFault}
-use Rattle.login_state.specs.declared.findings.Account.TheVariants.{Touched, Untouched}
-use Rattle.login_state.specs.declared.findings.Admission.TheVariants.{Admitted, RegisteredOnly}
 use Rattle.login_state.specs.declared.stage.Stage.{Stage}
 use Rattle.login_state.specs.declared.stage.Stage.TheVariants as stages
-use Rattle.login_state.specs.Checks.{first_denial}
 use Rattle.login_state.specs.Mentions.{ucmd}
-use Rattle.login_state.specs.Orders.{entry_rules, inf_rules, update_rules}
-use Rattle.login_state.specs.Rules.{unless, wrong_password}
 use Rattle.login_state.specs.Support.{has_feature}
 use Rattle.login_state.specs.SupportAnswers.{applied}
 use Rattle.operator_acts.specs.Acts.{act_at}
 use Rattle.operator_acts.specs.declared.act.Act.{Act}
 use Rattle.operator_acts.specs.declared.act.Act.TheVariants as acts
 use Rattle.user_table.specs.Listed.{Listed}
+use Rattle.hub_rules.specs.declared.effect.Change.{Change}
+use Rattle.hub_rules.specs.declared.effect.Change.TheVariants.{Sender}
 use Rattle.hub_rules.specs.declared.effect.Effect.{Effect}
 use Rattle.hub_rules.specs.declared.effect.Hearers.TheVariants.{Others}
-use Rattle.hub_rules.specs.declared.effect.Turn.{Turn}
-use Rattle.hub_rules.specs.declared.effect.Turn.TheVariants as turns
-use Rattle.hub_rules.specs.declared.effect.World.TheVariants.{Same}
+use Rattle.hub_rules.specs.declared.effect.SenderChange.TheVariants as senders
 use Rattle.hub_rules.specs.declared.request.Request.{Request}
 use Rattle.hub_rules.specs.declared.request.Request.TheVariants as requests
 use Rattle.hub_rules.specs.Accounts.{account_with, operates}
 use Rattle.hub_rules.specs.Acts.{act_denied, act_effect, asked_denied, asked_effect, ban_denied, ban_effect, is_command, is_operator, kick_effect, text_in, user_called}
-use Rattle.hub_rules.specs.Asks.{account_found, admission_found, entry_ask, login_ask, update_ask}
 use Rattle.hub_rules.specs.Configured.{Account}
-use Rattle.hub_rules.specs.Denied.{denial_of, denied, digest_given, login_denied, or_else, password_denied, request_denied, update_denied}
+use Rattle.hub_rules.specs.Denied.{denied, digest_given, login_denied, or_else, password_denied, request_denied, update_denied}
 use Rattle.hub_rules.specs.Effects.{accepted, admits, denial, enters, entrant, given_if, greets, heard, is_over, line_effect, line_of, logs_in, unless_denied, updates_user}
+use Rattle.hub_rules.specs.Grounds.{differs, entry_grounds, first_ground, is_digest, login_grounds, touches_account, update_grounds}
 use Rattle.hub_rules.specs.Identities.{key_in, listed}
 use Rattle.hub_rules.specs.Quiet.{nothing}
 use Rattle.hub_rules.specs.Requests.{refused, request_of}
 use Rattle.hub_rules.specs.Sights.{Own, PreparedLine, Sight, is_account, user_after}
 use Rattle.hub_rules.specs.Texts.{client_type, ended, hub_line, menu_line, user_line}
-use Rattle.hub_laws.specs.Passwords.{is_digest, is_password, is_right, is_to_hub, without_password}
-use Rattle.hub_invariants.proofs.Outcomes.{asked, asked_at, at-verify}
+use Rattle.hub_laws.proofs.Checked.{is_barred, with_test}
+use Rattle.hub_laws.specs.Passwords.{is_password, is_right, is_to_hub, without_password}
+use Rattle.hub_invariants.proofs.Outcomes.{Asked, asked}
 use Rattle.hub_laws.proofs.Heard.{reading-ascii}
 
 -- the digest that is waited for is veiled
-abbrev pub veiled_turn : Turn → Turn
-veiled_turn (turns.Waits entrant expected) = turns.Waits entrant []
-veiled_turn turn = turn
+abbrev pub veiled_change : Change → Change
+veiled_change (Sender (senders.Waits entrant expected)) = Sender (senders.Waits entrant [])
+veiled_change change = change
 
 abbrev pub veiled : Effect → Effect
-veiled effect = record effect { turn = veiled_turn effect.turn }
+veiled effect = record effect { change = veiled_change effect.change }
 
 -- the same hub with other accounts, a connection of which it expects another digest, a line with another digest
 abbrev pub other_hub : Sight → List Account → Sight
@@ -130,16 +126,14 @@ lines-alike : (hub : Sight) (accounts : List Account) (users : List Listed) → 
 lines-alike hub accounts [] alike = refl
 lines-alike hub accounts (user ∷ users) alike = ap₂ (λ (l : List ℕ) (ls : List (List ℕ)). l ∷ ls) (line-alike hub accounts user alike) (lines-alike hub accounts users alike)
 
-enters-alike : (hub : Sight) (accounts : List Account) (own : Own) (expected : List ℕ) (user : Listed) (turn : Turn) → AreAlike hub.setup.accounts accounts
-    → veiled (enters hub own user turn) ≡ veiled (enters (other_hub hub accounts) (other_own own expected) user turn)
-enters-alike hub accounts own expected user turn alike =
+enters-alike : (hub : Sight) (accounts : List Account) (own : Own) (expected : List ℕ) (user : Listed) (change : Change) → AreAlike hub.setup.accounts accounts
+    → veiled (enters hub own user change) ≡ veiled (enters (other_hub hub accounts) (other_own own expected) user change)
+enters-alike hub accounts own expected user change alike =
     ap₂ (λ (ls : List (List ℕ)) (l : List ℕ). record {
       own = ls ++ l ∷ given_if (has_feature ucmd own.features) (map menu_line hub.setup.menu);
       others = l ∷ [];
       hearers = Others;
-      turn = veiled_turn turn;
-      world = Same;
-      searched = None;
+      change = veiled_change change;
     }) (lines-alike hub accounts hub.users alike) (line-alike hub accounts user alike)
 
 -- ---- what an accepted line leads to
@@ -154,7 +148,7 @@ admits-alike : (hub : Sight) (accounts : List Account) (own : Own) (expected : L
     → AreAlike hub.setup.accounts accounts
     → veiled (admits hub own line b user) ≡ veiled (admits (other_hub hub accounts) (other_own own expected) (other_line line password) b user)
 admits-alike hub accounts own expected line password user true alike = refl
-admits-alike hub accounts own expected line password user false alike = enters-alike hub accounts own expected user (turns.EntersAs (entrant user)) alike
+admits-alike hub accounts own expected line password user false alike = enters-alike hub accounts own expected user (Sender (senders.EntersAs (entrant user))) alike
 
 login-alike : (hub : Sight) (accounts : List Account) (own : Own) (expected : List ℕ) (line : PreparedLine) (password : Option (List ℕ)) (r : Result (List Field) InfFault)
     → AreAlike hub.setup.accounts accounts
@@ -180,11 +174,9 @@ ban-alike own expected now seconds reason (Some target) = refl
 
 asked-alike : (hub : Sight) (accounts : List Account) (own : Own) (expected : List ℕ) (now : ℕ) (act : Option Act)
     → asked_effect hub own now act ≡ asked_effect (other_hub hub accounts) (other_own own expected) now act
-asked-alike hub accounts own expected now None = refl
 asked-alike hub accounts own expected now (Some (acts.Kick nick reason)) = kick-alike own expected reason (user_called hub nick)
 asked-alike hub accounts own expected now (Some (acts.Ban nick seconds reason)) = ban-alike own expected now seconds reason (user_called hub nick)
-asked-alike hub accounts own expected now (Some (acts.Unban cid)) = refl
-asked-alike hub accounts own expected now (Some (acts.Topic text)) = refl
+asked-alike hub accounts own expected now _ = refl
 
 act-alike : (hub : Sight) (accounts : List Account) (own : Own) (expected : List ℕ) (now : ℕ) (params : List (List ℕ))
     → act_effect hub own now params ≡ act_effect (other_hub hub accounts) (other_own own expected) now params
@@ -199,39 +191,33 @@ unfolding accepted
 accepted-alike hub accounts own expected line password now reading requests.Greeting alike = greets-alike hub accounts own expected now (applied own.features reading.params)
 accepted-alike hub accounts own expected line password now reading requests.Login alike =
     login-alike hub accounts own expected line password (updates.reading reading.params) alike
-accepted-alike hub accounts own expected line password now reading requests.Password alike = enters-alike hub accounts own expected (listed own.sid own.fields) turns.Enters alike
+accepted-alike hub accounts own expected line password now reading requests.Password alike = enters-alike hub accounts own expected (listed own.sid own.fields) (Sender senders.Enters) alike
 accepted-alike hub accounts own expected line password now reading requests.Update alike = ap veiled (update-alike own expected (updates.reading reading.params))
-accepted-alike hub accounts own expected line password now reading requests.Support alike = refl
 accepted-alike hub accounts own expected line password now reading requests.Act alike = ap veiled (act-alike hub accounts own expected now reading.params)
-accepted-alike hub accounts own expected line password now reading requests.Search alike = refl
-accepted-alike hub accounts own expected line password now reading requests.Message alike = refl
-accepted-alike hub accounts own expected line password now reading requests.Nothing alike = refl
+accepted-alike hub accounts own expected line password now reading _ alike = refl
 
 -- ---- which rule denies a line
 
-admission-alike : (hub : Sight) (accounts : List Account) (key : List ℕ) → AreAlike hub.setup.accounts accounts
-    → admission_found hub key ≡ admission_found (other_hub hub accounts) key
-admission-alike hub accounts key alike =
-    ap (λ b. if hub.setup.registered_only && not b then RegisteredOnly else Admitted) (account-alike hub accounts key alike)
+barred-alike : (hub : Sight) (accounts : List Account) (key : List ℕ) → AreAlike hub.setup.accounts accounts → is_barred hub key ≡ is_barred (other_hub hub accounts) key
+barred-alike hub accounts key alike = ap (λ b. hub.setup.registered_only && not b) (account-alike hub accounts key alike)
 
 login-denied-alike : (hub : Sight) (accounts : List Account) (own : Own) (expected : List ℕ) (digest : Option (List ℕ)) (now : ℕ) (r : Result (List Field) InfFault)
     → AreAlike hub.setup.accounts accounts → login_denied hub own digest now r ≡ login_denied (other_hub hub accounts) (other_own own expected) digest now r
-unfolding login_ask entry_ask
+unfolding login_grounds
 login-denied-alike hub accounts own expected digest now (Ok u) alike =
-    ap (λ a. denial_of (first_denial (inf_rules (record (login_ask hub now own.peer digest u (user_after own u)) { admission = a }))))
-    (admission-alike hub accounts (user_after own u).key alike)
+    ap (λ b. first_ground (with_test 12 b (login_grounds hub own now digest u (user_after own u)))) (barred-alike hub accounts (user_after own u).key alike)
 login-denied-alike hub accounts own expected digest now (Err fault) alike = refl
 
 touched-alike : (hub : Sight) (accounts : List Account) (before after : List ℕ) → AreAlike hub.setup.accounts accounts
-    → account_found hub before after ≡ account_found (other_hub hub accounts) before after
+    → touches_account hub before after ≡ touches_account (other_hub hub accounts) before after
 touched-alike hub accounts before after alike =
-    ap₂ (λ a b. if not (bytes_eq after before) && (a || b) then Touched else Untouched) (account-alike hub accounts before alike) (account-alike hub accounts after alike)
+    ap₂ (λ a b. differs after before && (a || b)) (account-alike hub accounts before alike) (account-alike hub accounts after alike)
 
 update-denied-alike : (hub : Sight) (accounts : List Account) (own : Own) (expected : List ℕ) (r : Result (List Field) InfFault) → AreAlike hub.setup.accounts accounts
     → update_denied hub own r ≡ update_denied (other_hub hub accounts) (other_own own expected) r
-unfolding update_ask
+unfolding update_grounds
 update-denied-alike hub accounts own expected (Ok u) alike =
-    ap (λ a. denial_of (first_denial (update_rules (record (update_ask hub own u (user_after own u)) { account = a }))))
+    ap (λ b. first_ground (with_test 4 b (update_grounds hub own u (user_after own u))))
     (touched-alike hub accounts (key_in own.fields) (user_after own u).key alike)
 update-denied-alike hub accounts own expected (Err fault) alike = refl
 
@@ -240,11 +226,8 @@ ban-denied-alike hub accounts None = refl
 ban-denied-alike hub accounts (Some target) = refl
 
 asked-denied-alike : (hub : Sight) (accounts : List Account) (act : Option Act) → asked_denied hub act ≡ asked_denied (other_hub hub accounts) act
-asked-denied-alike hub accounts None = refl
-asked-denied-alike hub accounts (Some (acts.Kick nick reason)) = refl
 asked-denied-alike hub accounts (Some (acts.Ban nick seconds reason)) = ban-denied-alike hub accounts (user_called hub nick)
-asked-denied-alike hub accounts (Some (acts.Unban cid)) = refl
-asked-denied-alike hub accounts (Some (acts.Topic text)) = refl
+asked-denied-alike hub accounts _ = refl
 
 act-denied-alike : (hub : Sight) (accounts : List Account) (own : Own) (expected : List ℕ) (params : List (List ℕ)) → AreAlike hub.setup.accounts accounts
     → act_denied hub own params ≡ act_denied (other_hub hub accounts) (other_own own expected) params
@@ -254,35 +237,26 @@ act-denied-alike hub accounts own expected params alike =
     (operator-alike hub accounts own alike) (asked-denied-alike hub accounts (act_at (text_in params)))
 
 -- a password is denied where it is not right
-wrong-unless : (expected : List ℕ) (given : Option (List ℕ)) → wrong_password expected given ≡ unless (is_digest expected given) denials.Password
-wrong-unless expected None = refl
-wrong-unless expected (Some digest) = refl
-
 password-alike : (hub : Sight) (accounts : List Account) (own : Own) (expected : List ℕ) (now : ℕ) (params others : List (List ℕ))
     → is_digest own.expected (digest_given params) ≡ is_digest expected (digest_given others)
     → password_denied hub own now params ≡ password_denied (other_hub hub accounts) (other_own own expected) now others
-unfolding entry_ask
+unfolding entry_grounds
 password-alike hub accounts own expected now params others right =
-    ap (λ (wrong : Option Deny). or_else (denial_of (first_denial (wrong ∷ []))) (denial_of (first_denial (entry_rules (entry_ask hub now (listed own.sid own.fields))))))
-    (wrong-unless own.expected (digest_given params) ∙ ap (λ b. unless b denials.Password) right ∙ sym (wrong-unless expected (digest_given others)))
+    ap (λ b. first_ground ((not b, denials.Password) ∷ entry_grounds hub now (listed own.sid own.fields))) right
 
 request-denied-alike : (hub : Sight) (accounts : List Account) (own : Own) (expected : List ℕ) (line : PreparedLine) (password : Option (List ℕ)) (now : ℕ) (reading : Reading)
     (request : Request) → AreAlike hub.setup.accounts accounts
     → (request ≡ requests.Password → is_digest own.expected (digest_given reading.params) ≡ is_digest expected (digest_given reading.params))
     → request_denied hub own line now reading request ≡ request_denied (other_hub hub accounts) (other_own own expected) (other_line line password) now reading request
 unfolding request_denied
-request-denied-alike hub accounts own expected line password now reading requests.Greeting alike right = refl
 request-denied-alike hub accounts own expected line password now reading requests.Login alike right =
     login-denied-alike hub accounts own expected line.owner now (updates.reading reading.params) alike
 request-denied-alike hub accounts own expected line password now reading requests.Password alike right =
     password-alike hub accounts own expected now reading.params reading.params (right refl)
 request-denied-alike hub accounts own expected line password now reading requests.Update alike right =
     update-denied-alike hub accounts own expected (updates.reading reading.params) alike
-request-denied-alike hub accounts own expected line password now reading requests.Support alike right = refl
 request-denied-alike hub accounts own expected line password now reading requests.Act alike right = act-denied-alike hub accounts own expected reading.params alike
-request-denied-alike hub accounts own expected line password now reading requests.Search alike right = refl
-request-denied-alike hub accounts own expected line password now reading requests.Message alike right = refl
-request-denied-alike hub accounts own expected line password now reading requests.Nothing alike right = refl
+request-denied-alike hub accounts own expected line password now reading _ alike right = refl
 
 -- ---- the same line in both hubs
 
@@ -304,7 +278,7 @@ heard-alike hub accounts own expected line password now (Ok reading) alike right
     ∙ ap (λ d. veiled (unless_denied (other_own own expected) (or_else (refused own.stage own.sid reading) d)
     (accepted (other_hub hub accounts) (other_own own expected) (other_line line password) now reading request)))
     (request-denied-alike hub accounts own expected line password now reading request alike
-    (λ asks. right (at-verify own.stage (ap (asked_at own.stage) (sym asks) ∙ asked own.stage reading.kind reading.command))))
+    (λ asks. right (subst (Asked own.stage) asks (asked own.stage reading.kind reading.command))))
 heard-alike hub accounts own expected line password now (Err fault) alike right = ap veiled (denial-alike own expected denials.Protocol)
 
 abbrev unless_over : Bool → Bool → Effect → Effect
@@ -332,23 +306,11 @@ record IsPass (reading : Reading) : Type 0 where
 
 to-hub : (kind : Kind) → is_to_hub kind ≡ true → kind ≡ kinds.Hub
 to-hub kinds.Hub is = refl
-to-hub kinds.Broadcast is = absurd (false≢true is)
-to-hub kinds.Client is = absurd (false≢true is)
-to-hub kinds.Direct is = absurd (false≢true is)
-to-hub kinds.Echo is = absurd (false≢true is)
-to-hub kinds.Feature is = absurd (false≢true is)
-to-hub kinds.Info is = absurd (false≢true is)
-to-hub kinds.Udp is = absurd (false≢true is)
+to-hub _ is = absurd (false≢true is)
 
 names-nobody : (kind : Kind) (ws : List (List ℕ)) (from target : Option ℕ) (features : Option (List ℕ)) → kind ≡ kinds.Hub → IsAddressed kind ws from target features → from ≡ None
 names-nobody kinds.Hub ws from target features is addressed = addressed.1
-names-nobody kinds.Broadcast ws from target features is addressed = let none : ⊥ = cc is in absurd none
-names-nobody kinds.Client ws from target features is addressed = let none : ⊥ = cc is in absurd none
-names-nobody kinds.Direct ws from target features is addressed = let none : ⊥ = cc is in absurd none
-names-nobody kinds.Echo ws from target features is addressed = let none : ⊥ = cc is in absurd none
-names-nobody kinds.Feature ws from target features is addressed = let none : ⊥ = cc is in absurd none
-names-nobody kinds.Info ws from target features is addressed = let none : ⊥ = cc is in absurd none
-names-nobody kinds.Udp ws from target features is addressed = let none : ⊥ = cc is in absurd none
+names-nobody _ ws from target features is addressed = let none : ⊥ = cc is in absurd none
 
 both-true : (a b : Bool) → (a && b) ≡ true → (a ≡ true) × (b ≡ true)
 both-true true b is = (refl, is)
@@ -398,11 +360,8 @@ pass-refused stage sid reading pass =
 pass-request : (stage : Stage) → (request_of stage kinds.Hub (codes "PAS") ≡ requests.Nothing)
     ⊎ ((request_of stage kinds.Hub (codes "PAS") ≡ requests.Password) × (stage ≡ stages.Verify))
 unfolding request_of
-pass-request stages.Protocol = inl refl
-pass-request stages.Identify = inl refl
 pass-request stages.Verify = inr (refl, refl)
-pass-request stages.Normal = inl refl
-pass-request stages.Gone = inl refl
+pass-request _ = inl refl
 
 pass-asks : (stage : Stage) (reading : Reading) → IsPass reading → request_of stage reading.kind reading.command ≡ request_of stage kinds.Hub (codes "PAS")
 pass-asks stage reading pass = ap₂ (request_of stage) pass.kind pass.command
@@ -423,9 +382,9 @@ outcome-alike hub accounts own expected line another now reading others refusal 
     ∙ ap (λ (r : Request). veiled (outcome (other_hub hub accounts) (other_own own expected) another now others refusal r)) (sym is)
 outcome-alike hub accounts own expected line another now reading others refusal request alike (inr asks) right =
     ap (λ (r : Request). veiled (outcome hub own line now reading refusal r)) asks.0
-    ∙ ap (λ d. veiled (unless_denied own (or_else refusal d) (enters hub own (listed own.sid own.fields) turns.Enters)))
+    ∙ ap (λ d. veiled (unless_denied own (or_else refusal d) (enters hub own (listed own.sid own.fields) (Sender senders.Enters))))
     (password-alike hub accounts own expected now reading.params others.params (right asks.1))
-    ∙ unless-alike own expected _ _ _ (enters-alike hub accounts own expected (listed own.sid own.fields) turns.Enters alike)
+    ∙ unless-alike own expected _ _ _ (enters-alike hub accounts own expected (listed own.sid own.fields) (Sender senders.Enters) alike)
     ∙ ap (λ (r : Request). veiled (outcome (other_hub hub accounts) (other_own own expected) another now others refusal r)) (sym asks.0)
 
 heard-pass : (hub : Sight) (own : Own) (line : PreparedLine) (now : ℕ) (reading : Reading) → IsPass reading

@@ -1,5 +1,5 @@
 -- After every history, whoever is present under the nick of an account gave its password, and whoever waits is waited for with its digest.
-use Rattle.std.proofs.Common.{◌≡◌, ◌∙◌, sym, ap, ap₂, refl, subst, ℕ, ◌+◌, Bool, true, false, not, ◌&&◌, ◌⊎◌, inl, inr, ◌==◌, List, [], ◌∷◌, ◌++◌, Option, Some, None, is_some, Ok, unwrap_or}
+use Rattle.std.proofs.Common.{◌≡◌, ◌∙◌, sym, ap, ap₂, refl, subst, ℕ, Bool, true, false, not, ◌&&◌, ◌⊎◌, inl, inr, ◌==◌, List, [], ◌∷◌, ◌++◌, Option, Some, None, is_some, Ok, unwrap_or}
 use Rattle.std.specs.Prelude.{codes, if◌then◌else◌}
 use Rattle.std.specs.Str.{bytes_eq}
 use Rattle.std.proofs.lemmas.Bool.{false≢true, eqb-true}
@@ -12,29 +12,30 @@ use Rattle.inf_fields.specs.Field.{Field}
 use Rattle.inf_fields.specs.Updates as updates
 use Rattle.login_state.specs.declared.stage.Stage.{Stage}
 use Rattle.login_state.specs.declared.stage.Stage.TheVariants as stages
+use Rattle.hub_rules.specs.declared.effect.Change.{Change}
+use Rattle.hub_rules.specs.declared.effect.Change.TheVariants.{Sender}
 use Rattle.hub_rules.specs.declared.effect.Effect.{Effect}
-use Rattle.hub_rules.specs.declared.effect.Turn.{Turn}
+use Rattle.hub_rules.specs.declared.effect.SenderChange.TheVariants as senders
 use Rattle.hub_rules.specs.declared.history.Call.{Call}
-use Rattle.hub_rules.specs.declared.history.Call.TheVariants.{Join, Line, Quit, Take}
+use Rattle.hub_rules.specs.declared.history.Call.TheVariants.{Line}
 use Rattle.hub_rules.specs.declared.history.Entry.{Entry}
 use Rattle.hub_rules.specs.declared.request.Request.TheVariants as requests
 use Rattle.hub_rules.specs.Accounts.{account_with}
 use Rattle.hub_rules.specs.Configured.{Account, Configured}
 use Rattle.hub_rules.specs.Effects.{departure}
-use Rattle.hub_rules.specs.Facts.{Facts, facts, about_after, after, closed, effect_of_line, given, happens, has_joins, has_place, joined, newcomer, next_sid, own_of, sight_of}
+use Rattle.hub_rules.specs.Facts.{Facts, facts, effect_of_line, own_of, sight_of}
 use Rattle.hub_rules.specs.Identities.{key_in}
 use Rattle.hub_rules.specs.Prepared.{is_broadcast, password_digest, password_of, prepared, update_if, update_in, update_of}
 use Rattle.hub_rules.specs.Requests.{request_of}
-use Rattle.hub_rules.specs.Shares.{About, chosen, expected_after, fields_after, given_share, has_room, owes, removed_if, stage_after, turned, with_share}
+use Rattle.hub_rules.specs.Shares.{About, chosen, expected_after, fields_after, removed_by, stage_after}
 use Rattle.hub_rules.specs.Said.{accepted_line}
 use Rattle.hub_rules.specs.Sights.{PreparedLine}
 use Rattle.hub_laws.specs.Registered.{HasGiven, NicksAreProved, OnlyAccountsEnter}
-use Rattle.hub_invariants.proofs.Saying.{about-fields}
-use Rattle.hub_invariants.proofs.Sound.{about-stage, removed_by, stage_next}
+use Rattle.hub_invariants.proofs.Becoming.{Becomes, becomes}
+use Rattle.hub_invariants.proofs.Sound.{stage_next}
 use Rattle.hub_invariants.proofs.Tidy.{is_unnamed, tidy_of}
 use Rattle.hub_laws.proofs.Checked.{KeepsNick}
 use Rattle.hub_laws.proofs.Entrances.{EntersUnasked, GivesPassword, IsAsked, IsChecked, IsHereStill, WaitsStill, checked-line, read-accepted}
-use Rattle.hub_laws.proofs.Joining.{effect-same}
 use Rattle.hub_laws.proofs.Passing.{key-merged}
 
 -- what is so of the user of a connection, by its stage, its fields, the digest that is waited for and the challenge
@@ -102,24 +103,12 @@ password-if false is = let none : ⊥ = cc is in absurd none
 is-inf : (kind : Kind) (command : List ℕ) → request_of stages.Identify kind command ≡ requests.Login → (is_broadcast kind && bytes_eq command (codes "INF")) ≡ true
 unfolding request_of
 is-inf kinds.Broadcast command is = login-if (bytes_eq command (codes "INF")) is
-is-inf kinds.Client command is = let none : ⊥ = cc is in absurd none
-is-inf kinds.Direct command is = let none : ⊥ = cc is in absurd none
-is-inf kinds.Echo command is = let none : ⊥ = cc is in absurd none
-is-inf kinds.Feature command is = let none : ⊥ = cc is in absurd none
-is-inf kinds.Hub command is = let none : ⊥ = cc is in absurd none
-is-inf kinds.Info command is = let none : ⊥ = cc is in absurd none
-is-inf kinds.Udp command is = let none : ⊥ = cc is in absurd none
+is-inf _ command is = let none : ⊥ = cc is in absurd none
 
 is-pas : (kind : Kind) (command : List ℕ) → request_of stages.Verify kind command ≡ requests.Password → (kind ≡ kinds.Hub) × (command ≡ codes "PAS")
 unfolding request_of
 is-pas kinds.Hub command is = (refl, (bytes_eq-Decides command (codes "PAS")).0 (password-if (bytes_eq command (codes "PAS")) is))
-is-pas kinds.Broadcast command is = let none : ⊥ = cc is in absurd none
-is-pas kinds.Client command is = let none : ⊥ = cc is in absurd none
-is-pas kinds.Direct command is = let none : ⊥ = cc is in absurd none
-is-pas kinds.Echo command is = let none : ⊥ = cc is in absurd none
-is-pas kinds.Feature command is = let none : ⊥ = cc is in absurd none
-is-pas kinds.Info command is = let none : ⊥ = cc is in absurd none
-is-pas kinds.Udp command is = let none : ⊥ = cc is in absurd none
+is-pas _ command is = let none : ⊥ = cc is in absurd none
 
 prepared-bytes : (setup : Configured) (hash : List ℕ → List ℕ) (challenge bytes : List ℕ) → (prepared setup hash challenge bytes).bytes ≡ bytes
 unfolding prepared
@@ -156,17 +145,17 @@ accounts_of setup fields = account_with (key_in fields) setup.accounts
 asked-waits : (setup : Configured) (hash : List ℕ → List ℕ) (f : Facts) (c : ℕ) (bytes : List ℕ) (now : ℕ) (said : Option Reading) (effect : Effect)
     → ((reading : Reading) → said ≡ Some reading → lines.reading bytes ≡ Ok reading) → ((f.about c).stage ≡ stages.Identify → (f.about c).fields ≡ [])
     → IsAsked (sight_of setup f) (own_of (f.about c)) (prepared setup hash (f.about c).challenge bytes) now said effect
-    → password_of hash (f.about c).challenge (accounts_of setup (fields_after effect.turn (f.about c).fields)) ≡ Some (expected_after effect.turn (f.about c).expected)
+    → password_of hash (f.about c).challenge (accounts_of setup (fields_after effect.change (f.about c).fields)) ≡ Some (expected_after effect.change (f.about c).expected)
 asked-waits setup hash f c bytes now said effect reads unnamed asked =
     let a : About = f.about c in
     let logs = asked.logs in
-    let key : key_in (fields_after effect.turn a.fields) ≡ key_in logs.update =
+    let key : key_in (fields_after effect.change a.fields) ≡ key_in logs.update =
     ap key_in logs.merges ∙ key-merged a.fields logs.update a.peer (unnamed logs.at) in
-    let password : (prepared setup hash a.challenge bytes).password ≡ password_of hash a.challenge (accounts_of setup (fields_after effect.turn a.fields)) =
+    let password : (prepared setup hash a.challenge bytes).password ≡ password_of hash a.challenge (accounts_of setup (fields_after effect.change a.fields)) =
     login-password setup hash a.challenge bytes logs.reading logs.update (reads logs.reading logs.is_said)
     (subst (λ stage. request_of stage logs.reading.kind logs.reading.command ≡ requests.Login) logs.at logs.asks) logs.words
     ∙ ap (λ k. password_of hash a.challenge (account_with k setup.accounts)) (sym key) in
-    found-password hash a.challenge (accounts_of setup (fields_after effect.turn a.fields)) asked.account
+    found-password hash a.challenge (accounts_of setup (fields_after effect.change a.fields)) asked.account
     ∙ ap Some (ap (λ o. unwrap_or o []) (sym password) ∙ sym asked.expected)
 
 gives-proof : (setup : Configured) (hash : List ℕ → List ℕ) (h : List Entry) (e : Entry) (c : ℕ) (bytes : List ℕ) (now : ℕ) (said : Option Reading) (fields : List Field)
@@ -200,7 +189,7 @@ waits-after : (setup : Configured) (hash : List ℕ → List ℕ) (f : Facts) (c
     → ((reading : Reading) → said ≡ Some reading → lines.reading bytes ≡ Ok reading) → ((f.about c).stage ≡ stages.Identify → (f.about c).fields ≡ [])
     → ((f.about c).stage ≡ stages.Verify → password_of hash (f.about c).challenge (accounts_of setup (f.about c).fields) ≡ Some (f.about c).expected)
     → WaitsStill (own_of (f.about c)) effect ⊎ IsAsked (sight_of setup f) (own_of (f.about c)) (prepared setup hash (f.about c).challenge bytes) now said effect
-    → password_of hash (f.about c).challenge (accounts_of setup (fields_after effect.turn (f.about c).fields)) ≡ Some (expected_after effect.turn (f.about c).expected)
+    → password_of hash (f.about c).challenge (accounts_of setup (fields_after effect.change (f.about c).fields)) ≡ Some (expected_after effect.change (f.about c).expected)
 waits-after setup hash f c bytes now said effect reads unnamed waits (inl still) =
     ap (λ fs. password_of hash (f.about c).challenge (accounts_of setup fs)) still.fields ∙ waits still.at ∙ ap Some (sym still.expected)
 waits-after setup hash f c bytes now said effect reads unnamed waits (inr asked) = asked-waits setup hash f c bytes now said effect reads unnamed asked
@@ -209,7 +198,7 @@ abbrev Enters : Configured → (List ℕ → List ℕ) → Facts → ℕ → ℕ
 Enters setup hash f c now said effect =
     IsHereStill (sight_of setup f) (own_of (f.about c)) effect
     ⊎ (EntersUnasked (sight_of setup f) (own_of (f.about c)) now said effect
-    ⊎ GivesPassword (sight_of setup f) (own_of (f.about c)) now said (fields_after effect.turn (f.about c).fields))
+    ⊎ GivesPassword (sight_of setup f) (own_of (f.about c)) now said (fields_after effect.change (f.about c).fields))
 
 keeps-account : (setup : Configured) (f : Facts) (before afterwards : List ℕ) → KeepsNick (sight_of setup f) before afterwards
     → is_some (account_with before setup.accounts) ≡ true → is_some (account_with afterwards setup.accounts) ≡ true
@@ -218,7 +207,7 @@ keeps-account setup f before afterwards (inr neither) has = absurd (false≢true
 
 admitted-after : (setup : Configured) (hash : List ℕ → List ℕ) (h : List Entry) (c now : ℕ) (said : Option Reading) (effect : Effect)
     → VouchedBy setup hash h c ((facts setup hash h).about c) → Enters setup hash (facts setup hash h) c now said effect → setup.registered_only ≡ true
-    → is_some (accounts_of setup (fields_after effect.turn ((facts setup hash h).about c).fields)) ≡ true
+    → is_some (accounts_of setup (fields_after effect.change ((facts setup hash h).about c).fields)) ≡ true
 admitted-after setup hash h c now said effect vouched (inl here) only = keeps-account setup (facts setup hash h) _ _ here.nick (vouched.admitted here.at only)
 admitted-after setup hash h c now said effect vouched (inr (inl unasked)) only =
     absurd (false≢true (sym unasked.logs.admitted ∙ ap₂ (λ r a. r && not a) only unasked.account))
@@ -236,127 +225,71 @@ keeps-proved setup hash h e c account afterwards vouched at (inr neither) has = 
 proved-after : (setup : Configured) (hash : List ℕ → List ℕ) (h : List Entry) (e : Entry) (c : ℕ) (bytes : List ℕ) (now : ℕ) (said : Option Reading) (effect : Effect)
     → e.call ≡ Line c bytes now → ((reading : Reading) → said ≡ Some reading → lines.reading bytes ≡ Ok reading)
     → VouchedBy setup hash h c ((facts setup hash h).about c) → Enters setup hash (facts setup hash h) c now said effect
-    → (account : Account) → accounts_of setup (fields_after effect.turn ((facts setup hash h).about c).fields) ≡ Some account
+    → (account : Account) → accounts_of setup (fields_after effect.change ((facts setup hash h).about c).fields) ≡ Some account
     → HasGiven setup hash (e ∷ h) c (hash (account.password ++ ((facts setup hash h).about c).challenge))
 proved-after setup hash h e c bytes now said effect call reads vouched (inl here) account has = keeps-proved setup hash h e c account _ vouched here.at here.nick has
 proved-after setup hash h e c bytes now said effect call reads vouched (inr (inl unasked)) account has = absurd (false≢true (sym unasked.account ∙ ap is_some has))
 proved-after setup hash h e c bytes now said effect call reads vouched (inr (inr gives)) account has =
     gives-proof setup hash h e c bytes now said _ account call reads gives (vouched.waits gives.at) has
 
-turn-vouched : (setup : Configured) (hash : List ℕ → List ℕ) (h : List Entry) (e : Entry) (c : ℕ) (bytes : List ℕ) (now : ℕ) (said : Option Reading) (effect : Effect)
+change-vouched : (setup : Configured) (hash : List ℕ → List ℕ) (h : List Entry) (e : Entry) (c : ℕ) (bytes : List ℕ) (now : ℕ) (said : Option Reading) (effect : Effect)
     → e.call ≡ Line c bytes now → ((reading : Reading) → said ≡ Some reading → lines.reading bytes ≡ Ok reading)
     → IsChecked (sight_of setup (facts setup hash h)) (own_of ((facts setup hash h).about c)) (prepared setup hash ((facts setup hash h).about c).challenge bytes) now said effect
     → VouchedBy setup hash h c ((facts setup hash h).about c)
-    → IsVouched setup hash (e ∷ h) c (stage_after effect.turn ((facts setup hash h).about c).stage) (fields_after effect.turn ((facts setup hash h).about c).fields)
-    (expected_after effect.turn ((facts setup hash h).about c).expected) ((facts setup hash h).about c).challenge
-turn-vouched setup hash h e c bytes now said effect call reads checked vouched = record {
+    → IsVouched setup hash (e ∷ h) c (stage_after effect.change ((facts setup hash h).about c).stage) (fields_after effect.change ((facts setup hash h).about c).fields)
+    (expected_after effect.change ((facts setup hash h).about c).expected) ((facts setup hash h).about c).challenge
+change-vouched setup hash h e c bytes now said effect call reads checked vouched = record {
   waits = λ at. waits-after setup hash (facts setup hash h) c bytes now said effect reads
       (λ is. (tidy_of setup hash h c).unnamed (ap is_unnamed is)) vouched.waits (checked.waits at);
   admitted = λ at. admitted-after setup hash h c now said effect vouched (checked.enters at);
   proved = λ at. proved-after setup hash h e c bytes now said effect call reads vouched (checked.enters at);
 }
 
--- ---- what an effect does to the digest that is waited for
-
-share-expected : (room : Bool) (a : About) (share : List (List ℕ)) → (given_share room a share).expected ≡ a.expected
-share-expected true a share = refl
-share-expected false a share = refl
-
-with_share-expected : (a : About) (share : List (List ℕ)) → (with_share a share).expected ≡ a.expected
-unfolding with_share
-with_share-expected a share = share-expected (has_room a share) a share
-
-next-expected : (removed is_caller : Bool) (effect : Effect) (a b : About) → b.expected ≡ a.expected
-    → (removed_if removed (chosen is_caller (turned effect b) b)).expected ≡ chosen is_caller (expected_after effect.turn a.expected) a.expected
-next-expected true true effect a b same = ap (expected_after effect.turn) same
-next-expected true false effect a b same = same
-next-expected false true effect a b same = ap (expected_after effect.turn) same
-next-expected false false effect a b same = same
-
-about-expected : (c : ℕ) (effect : Effect) (f : Facts) (d : ℕ)
-    → (about_after c effect f.about d).expected ≡ chosen (d == c) (expected_after effect.turn (f.about d).expected) (f.about d).expected
-about-expected c effect f d = next-expected _ (d == c) effect (f.about d) (with_share (f.about d) (owes (d == c) effect (f.about d))) (with_share-expected (f.about d) _)
-
 -- ---- one call
 
-vouched-next : (setup : Configured) (hash : List ℕ → List ℕ) (h : List Entry) (e : Entry) (c : ℕ) (removed same : Bool) (turn : Turn) (a : About) → VouchedBy setup hash h c a
-    → (same ≡ true → IsVouched setup hash (e ∷ h) c (stage_after turn a.stage) (fields_after turn a.fields) (expected_after turn a.expected) a.challenge)
-    → IsVouched setup hash (e ∷ h) c (stage_next removed same turn a.stage) (chosen same (fields_after turn a.fields) a.fields) (chosen same (expected_after turn a.expected) a.expected)
+vouched-next : (setup : Configured) (hash : List ℕ → List ℕ) (h : List Entry) (e : Entry) (c : ℕ) (removed same : Bool) (change : Change) (a : About) → VouchedBy setup hash h c a
+    → (same ≡ true → IsVouched setup hash (e ∷ h) c (stage_after change a.stage) (fields_after change a.fields) (expected_after change a.expected) a.challenge)
+    → IsVouched setup hash (e ∷ h) c (stage_next removed same change a.stage) (chosen same (fields_after change a.fields) a.fields) (chosen same (expected_after change a.expected) a.expected)
     a.challenge
-vouched-next setup hash h e c true same turn a vouched turns = vouched-gone setup hash (e ∷ h) c _ _ a.challenge
-vouched-next setup hash h e c false true turn a vouched turns = turns refl
-vouched-next setup hash h e c false false turn a vouched turns = vouched-still setup hash h e c a.stage a.fields a.expected a.challenge vouched
+vouched-next setup hash h e c true same change a vouched own = vouched-gone setup hash (e ∷ h) c _ _ a.challenge
+vouched-next setup hash h e c false true change a vouched own = own refl
+vouched-next setup hash h e c false false change a vouched own = vouched-still setup hash h e c a.stage a.fields a.expected a.challenge vouched
 
-moved : (setup : Configured) (hash : List ℕ → List ℕ) (h : List Entry) (c : ℕ) (stage : Stage) (fields : List Field) (expected challenge : List ℕ) (b : About)
-    → b.stage ≡ stage → b.fields ≡ fields → b.expected ≡ expected → b.challenge ≡ challenge → IsVouched setup hash h c stage fields expected challenge → VouchedBy setup hash h c b
-moved setup hash h c stage fields expected challenge b is_stage is_fields is_expected is_challenge vouched =
-    subst (λ s. IsVouched setup hash h c s b.fields b.expected b.challenge) (sym is_stage)
-    (subst (λ fs. IsVouched setup hash h c stage fs b.expected b.challenge) (sym is_fields)
-    (subst (λ ex. IsVouched setup hash h c stage fields ex b.challenge) (sym is_expected)
-    (subst (λ ch. IsVouched setup hash h c stage fields expected ch) (sym is_challenge) vouched)))
-
-effect-vouched : (setup : Configured) (hash : List ℕ → List ℕ) (h : List Entry) (e : Entry) (c : ℕ) (effect : Effect) (f : Facts) (d : ℕ) → VouchedBy setup hash h d (f.about d)
-    → ((d == c) ≡ true → IsVouched setup hash (e ∷ h) d (stage_after effect.turn (f.about d).stage) (fields_after effect.turn (f.about d).fields)
-    (expected_after effect.turn (f.about d).expected) (f.about d).challenge)
-    → VouchedBy setup hash (e ∷ h) d ((happens c effect f).about d)
-unfolding happens
-effect-vouched setup hash h e c effect f d vouched turns =
-    moved setup hash (e ∷ h) d _ _ _ _ (about_after c effect f.about d) (about-stage c effect f d) (about-fields c effect f d) (about-expected c effect f d)
-    (effect-same c effect f d).challenge
-    (vouched-next setup hash h e d (removed_by effect (f.about d)) (d == c) effect.turn (f.about d) vouched turns)
-
-line-vouched : (setup : Configured) (hash : List ℕ → List ℕ) (h : List Entry) (e : Entry) (c : ℕ) (bytes : List ℕ) (now : ℕ) (d : ℕ) → e.call ≡ Line c bytes now
-    → VouchedBy setup hash h d ((facts setup hash h).about d)
-    → VouchedBy setup hash (e ∷ h) d ((happens c (effect_of_line setup hash (facts setup hash h) c bytes now) (facts setup hash h)).about d)
-line-vouched setup hash h e c bytes now d call vouched =
+line-vouched : (setup : Configured) (hash : List ℕ → List ℕ) (h : List Entry) (e : Entry) (c : ℕ) (bytes : List ℕ) (now : ℕ) → e.call ≡ Line c bytes now
+    → VouchedBy setup hash h c ((facts setup hash h).about c)
+    → IsVouched setup hash (e ∷ h) c (stage_after (effect_of_line setup hash (facts setup hash h) c bytes now).change ((facts setup hash h).about c).stage)
+    (fields_after (effect_of_line setup hash (facts setup hash h) c bytes now).change ((facts setup hash h).about c).fields)
+    (expected_after (effect_of_line setup hash (facts setup hash h) c bytes now).change ((facts setup hash h).about c).expected) ((facts setup hash h).about c).challenge
+line-vouched setup hash h e c bytes now call vouched =
     let f : Facts = facts setup hash h in
     let line : PreparedLine = prepared setup hash (f.about c).challenge bytes in
-    let effect : Effect = effect_of_line setup hash f c bytes now in
-    effect-vouched setup hash h e c effect f d vouched
-    (λ is. subst (λ x. VouchedBy setup hash h x (f.about x)
-    → IsVouched setup hash (e ∷ h) x (stage_after effect.turn (f.about x).stage) (fields_after effect.turn (f.about x).fields)
-    (expected_after effect.turn (f.about x).expected) (f.about x).challenge) (sym (eqb-true d c is))
-    (turn-vouched setup hash h e c bytes now (accepted_line (sight_of setup f) (own_of (f.about c)) line now) effect call
+    change-vouched setup hash h e c bytes now (accepted_line (sight_of setup f) (own_of (f.about c)) line now) (effect_of_line setup hash f c bytes now) call
     (λ reading said. ap lines.reading (sym (prepared-bytes setup hash (f.about c).challenge bytes)) ∙ read-accepted (sight_of setup f) (own_of (f.about c)) line now reading said)
-    (checked-line (sight_of setup f) (own_of (f.about c)) line now)) vouched)
+    (checked-line (sight_of setup f) (own_of (f.about c)) line now) vouched
 
-quit-vouched : (setup : Configured) (hash : List ℕ → List ℕ) (h : List Entry) (e : Entry) (c : ℕ) (f : Facts) (d : ℕ) → VouchedBy setup hash h d (f.about d)
-    → VouchedBy setup hash (e ∷ h) d ((closed c (happens c (departure (f.about c).stage (f.about c).sid) f)).about d)
-unfolding closed
-quit-vouched setup hash h e c f d vouched =
-    effect-vouched setup hash h e c (departure (f.about c).stage (f.about c).sid) f d vouched (λ is. vouched-gone setup hash (e ∷ h) d _ _ (f.about d).challenge)
+module _ (setup : Configured) (hash : List ℕ → List ℕ) (h : List Entry) (e : Entry) (d : ℕ) where
+  abbrev f : Facts
+  f = facts setup hash h
 
-join-one : (setup : Configured) (hash : List ℕ → List ℕ) (h : List Entry) (e : Entry) (f : Facts) (owner : ℕ) (peer challenge : List ℕ) (d : ℕ) (same : Bool)
-    → VouchedBy setup hash h d (f.about d) → VouchedBy setup hash (e ∷ h) d (chosen same (newcomer owner (next_sid f) peer challenge) (f.about d))
-join-one setup hash h e f owner peer challenge d true vouched = vouched-joined setup hash (e ∷ h) d [] [] challenge
-join-one setup hash h e f owner peer challenge d false vouched = vouched-still setup hash h e d _ _ _ _ vouched
-
-join-vouched : (setup : Configured) (hash : List ℕ → List ℕ) (h : List Entry) (e : Entry) (f : Facts) (owner : ℕ) (peer challenge : List ℕ) (d : ℕ) (is_accepted : Bool)
-    → VouchedBy setup hash h d (f.about d) → VouchedBy setup hash (e ∷ h) d ((chosen is_accepted (joined f owner peer challenge) f).about d)
-unfolding joined
-join-vouched setup hash h e f owner peer challenge d true vouched = join-one setup hash h e f owner peer challenge d (d == (f.joins + 1)) vouched
-join-vouched setup hash h e f owner peer challenge d false vouched = vouched-still setup hash h e d _ _ _ _ vouched
-
-take-vouched : (setup : Configured) (hash : List ℕ → List ℕ) (h : List Entry) (e : Entry) (count d : ℕ) (a : About) (same : Bool) → VouchedBy setup hash h d a
-    → VouchedBy setup hash (e ∷ h) d (chosen same (given count a) a)
-take-vouched setup hash h e count d a true vouched = vouched-still setup hash h e d a.stage a.fields a.expected a.challenge vouched
-take-vouched setup hash h e count d a false vouched = vouched-still setup hash h e d a.stage a.fields a.expected a.challenge vouched
-
-call-vouched : (setup : Configured) (hash : List ℕ → List ℕ) (h : List Entry) (e : Entry) (call : Call) (d : ℕ) → e.call ≡ call → VouchedBy setup hash h d ((facts setup hash h).about d)
-    → VouchedBy setup hash (e ∷ h) d ((after setup hash (facts setup hash h) e.caller call).about d)
-unfolding after
-call-vouched setup hash h e (Join peer challenge now) d is vouched =
-    join-vouched setup hash h e (facts setup hash h) e.caller peer challenge d (has_place setup (facts setup hash h) && has_joins (facts setup hash h)) vouched
-call-vouched setup hash h e (Line c bytes now) d is vouched = line-vouched setup hash h e c bytes now d is vouched
-call-vouched setup hash h e (Quit c) d is vouched = quit-vouched setup hash h e c (facts setup hash h) d vouched
-call-vouched setup hash h e (Take c count) d is vouched = take-vouched setup hash h e count d ((facts setup hash h).about d) (d == c) vouched
+  vouched-after : {call : Call} {a : About} → Becomes setup hash f e.caller d call a → e.call ≡ call → VouchedBy setup hash h d (f.about d) → VouchedBy setup hash (e ∷ h) d a
+  vouched-after (Becomes.joins peer challenge now place at) is vouched = vouched-joined setup hash (e ∷ h) d [] [] challenge
+  vouched-after (Becomes.says c bytes now) is vouched =
+      let effect : Effect = effect_of_line setup hash f c bytes now in
+      vouched-next setup hash h e d (removed_by effect (f.about d)) (d == c) effect.change (f.about d) vouched
+      (λ same. subst (λ x. VouchedBy setup hash h x (f.about x)
+      → IsVouched setup hash (e ∷ h) x (stage_after effect.change (f.about x).stage) (fields_after effect.change (f.about x).fields)
+      (expected_after effect.change (f.about x).expected) (f.about x).challenge) (sym (eqb-true d c same)) (line-vouched setup hash h e c bytes now is) vouched)
+  vouched-after (Becomes.quits c) is vouched =
+      vouched-next setup hash h e d (removed_by (departure (f.about c).stage (f.about c).sid) (f.about d)) (d == c) (Sender senders.Falls) (f.about d) vouched
+      (λ same. vouched-gone setup hash (e ∷ h) d _ _ (f.about d).challenge)
+  vouched-after _ is vouched = vouched-still setup hash h e d (f.about d).stage (f.about d).fields (f.about d).expected (f.about d).challenge vouched
 
 -- ---- every history
 
 vouched_of : (setup : Configured) (hash : List ℕ → List ℕ) (h : List Entry) (d : ℕ) → VouchedBy setup hash h d ((facts setup hash h).about d)
 unfolding facts
 vouched_of setup hash [] d = vouched-gone setup hash [] d [] [] []
-vouched_of setup hash (e ∷ h) d = call-vouched setup hash h e e.call d refl (vouched_of setup hash h d)
+vouched_of setup hash (e ∷ h) d = vouched-after setup hash h e d (becomes setup hash (facts setup hash h) e.caller d e.call) refl (vouched_of setup hash h d)
 
 pub nicks_are_proved : NicksAreProved
 nicks_are_proved setup hash h c account at has = (vouched_of setup hash h c).proved at account has

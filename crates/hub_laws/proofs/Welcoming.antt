@@ -1,46 +1,32 @@
 -- What a line owes that brings a user in.
-use Rattle.std.proofs.Common.{◌≡◌, ◌∙◌, sym, ap, ap₂, refl, subst, ℕ, Bool, true, false, ◌&&◌, ◌⊎◌, inl, inr, ◌==◌, List, [], ◌∷◌, ◌++◌, map, Result, Ok, Err}
+use Rattle.std.proofs.Common.{◌≡◌, ◌∙◌, sym, ap, ap₂, refl, subst, ℕ, Bool, true, false, ◌&&◌, ◌⊎◌, inl, inr, ◌==◌, List, [], ◌∷◌, ◌++◌, map, Option}
 use Rattle.std.proofs.lemmas.Bool.{false≢true, eqb-true, eq-eqb}
 use Rattle.adc_line.specs.Lines.{Reading}
 use Rattle.inf_fields.specs.Field.{Field}
-use Rattle.inf_fields.specs.Cleaning.{clean}
-use Rattle.inf_fields.specs.Merging.{merged_with}
-use Rattle.inf_fields.specs.Updates as updates
-use Rattle.inf_fields.specs.declared.fault.InfFault.{InfFault}
-use Rattle.login_state.specs.declared.deny.Deny.{Deny}
-use Rattle.login_state.specs.declared.fault.SupFault.{SupFault}
 use Rattle.login_state.specs.declared.stage.Stage.{Stage}
 use Rattle.login_state.specs.declared.stage.Stage.TheVariants as stages
-use Rattle.login_state.specs.Denials.{is_fatal}
 use Rattle.login_state.specs.Mentions.{ucmd}
 use Rattle.login_state.specs.Support.{has_feature}
-use Rattle.login_state.specs.SupportAnswers.{applied}
 use Rattle.hub_rules.specs.declared.effect.Effect.{Effect}
 use Rattle.hub_rules.specs.declared.effect.Hearers.{Hearers}
 use Rattle.hub_rules.specs.declared.effect.Hearers.TheVariants.{Others}
 use Rattle.hub_rules.specs.declared.history.Call.TheVariants.{Line}
 use Rattle.hub_rules.specs.declared.history.Entry.{Entry}
 use Rattle.hub_rules.specs.declared.request.Request.{Request}
-use Rattle.hub_rules.specs.declared.request.Request.TheVariants as requests
 use Rattle.hub_rules.specs.Accounts.{account_with}
-use Rattle.hub_rules.specs.Acts.{act_effect}
 use Rattle.hub_rules.specs.Configured.{Configured}
-use Rattle.hub_rules.specs.Effects.{accepted, admits, denial, fall_if, given_if, greets, is_present, learns, line_effect, line_of, logs_in, updates_user}
+use Rattle.hub_rules.specs.Effects.{given_if, is_present, line_of}
 use Rattle.hub_rules.specs.Facts.{Facts, facts, about_after, after, effect_of_line, happens, own_of, sight_of, user_of}
 use Rattle.hub_rules.specs.Identities.{key_in, listed}
 use Rattle.hub_rules.specs.Lagging.{share}
-use Rattle.hub_rules.specs.Prepared.{prepared}
-use Rattle.hub_rules.specs.Requests.{request_of}
-use Rattle.hub_rules.specs.Shares.{About, chosen, fields_after, hears_those, owes, stage_after}
-use Rattle.hub_rules.specs.Sights.{Own, PreparedLine, Sight, account_of, is_account, user_after}
+use Rattle.hub_rules.specs.Shares.{About, chosen, fields_after, hears_those, owes, removed_by, stage_after}
+use Rattle.hub_rules.specs.Sights.{Own, PreparedLine, Sight, account_of}
 use Rattle.hub_rules.specs.Texts.{menu_line, user_line}
 use Rattle.hub_laws.specs.Welcoming.{EntrantsAreWelcomed, EntriesAreHeard}
 use Rattle.hub_invariants.proofs.Members.{and-false}
-use Rattle.hub_invariants.proofs.Outcomes.{by_act, by_line}
-use Rattle.hub_invariants.proofs.Saying.{about-fields}
-use Rattle.hub_invariants.proofs.Sids.{about-sid}
-use Rattle.hub_invariants.proofs.Sound.{about-stage, removed_by}
-use Rattle.hub_laws.proofs.Operating.{nobody_banned_enters, takes-turn}
+use Rattle.hub_invariants.proofs.Outcomes.{Outcome, greets, lets_in, line-outcome, proves, shuts_out, waits}
+use Rattle.hub_laws.proofs.Moving.{moves-to, gone-normal, identify-normal, verify-normal}
+use Rattle.hub_laws.proofs.Operating.{nobody_banned_enters}
 
 -- ---- one line
 
@@ -54,68 +40,17 @@ record Welcomes (hub : Sight) (own : Own) (effect : Effect) (fields : List Field
   welcomes : effect.own ≡ map (line_of hub) hub.users ++ line_by hub own fields ∷ given_if (has_feature ucmd own.features) (map menu_line hub.setup.menu)
 
 abbrev IsWelcome : Sight → Own → Effect → Type 0
-IsWelcome hub own effect = stage_after effect.turn own.stage ≡ stages.Normal → (own.stage ≡ stages.Normal) ⊎ Welcomes hub own effect (fields_after effect.turn own.fields)
+IsWelcome hub own effect = stage_after effect.change own.stage ≡ stages.Normal → (own.stage ≡ stages.Normal) ⊎ Welcomes hub own effect (fields_after effect.change own.fields)
 
-gone-normal : stages.Gone ≡ stages.Normal → ⊥
-gone-normal is = cc is
-
-identify-normal : stages.Identify ≡ stages.Normal → ⊥
-identify-normal is = cc is
-
-verify-normal : stages.Verify ≡ stages.Normal → ⊥
-verify-normal is = cc is
-
-welcome-still : (hub : Sight) (own : Own) (effect : Effect) → stage_after effect.turn own.stage ≡ own.stage → IsWelcome hub own effect
-welcome-still hub own effect same here = inl (sym same ∙ here)
-
-welcome-fall : (hub : Sight) (own : Own) (effect : Effect) (b : Bool) → effect.turn ≡ fall_if b → IsWelcome hub own effect
-welcome-fall hub own effect true is here = let none : stages.Gone ≡ stages.Normal = sym (ap (λ turn. stage_after turn own.stage) is) ∙ here in absurd (gone-normal none)
-welcome-fall hub own effect false is here = inl (sym (ap (λ turn. stage_after turn own.stage) is) ∙ here)
-
-welcome-denial : (hub : Sight) (own : Own) (deny : Deny) → IsWelcome hub own (denial own deny)
-unfolding denial
-welcome-denial hub own deny here = welcome-fall hub own _ (is_fatal deny) refl here
-
-welcome-greets : (hub : Sight) (own : Own) (now : ℕ) (r : Result (List (List ℕ)) SupFault) → IsWelcome hub own (greets hub own now r)
-welcome-greets hub own now (Ok features) here = absurd (identify-normal here)
-welcome-greets hub own now (Err fault) here = inl here
-
-welcome-learns : (hub : Sight) (own : Own) (r : Result (List (List ℕ)) SupFault) → IsWelcome hub own (learns r)
-welcome-learns hub own (Ok features) here = inl here
-welcome-learns hub own (Err fault) here = inl here
-
-welcome-admits : (hub : Sight) (own : Own) (line : PreparedLine) (fields : List Field) (b : Bool) → IsWelcome hub own (admits hub own line b (listed own.sid fields))
-unfolding listed
-welcome-admits hub own line fields true here = absurd (verify-normal here)
-welcome-admits hub own line fields false here = inr (record { others = refl; hearers = refl; welcomes = refl })
-
-welcome-login : (hub : Sight) (own : Own) (line : PreparedLine) (r : Result (List Field) InfFault) → IsWelcome hub own (logs_in hub own line r)
-welcome-login hub own line (Ok u) here = welcome-admits hub own line (merged_with own.fields (clean u own.peer)) (is_account hub (user_after own u).key) here
-welcome-login hub own line (Err fault) here = inl here
-
-welcome-update : (hub : Sight) (own : Own) (r : Result (List Field) InfFault) → IsWelcome hub own (updates_user own r)
-welcome-update hub own (Ok u) here = inl here
-welcome-update hub own (Err fault) here = inl here
-
-welcome-act : (hub : Sight) (own : Own) (now : ℕ) (params : List (List ℕ)) → IsWelcome hub own (act_effect hub own now params)
-welcome-act hub own now params = by_act hub own now params (IsWelcome hub own) (λ here. inl here) (λ others world here. inl here)
-
-welcome-accepted : (hub : Sight) (own : Own) (line : PreparedLine) (now : ℕ) (reading : Reading) (request : Request) → IsWelcome hub own (accepted hub own line now reading request)
-unfolding accepted listed
-welcome-accepted hub own line now reading requests.Greeting here = welcome-greets hub own now (applied own.features reading.params) here
-welcome-accepted hub own line now reading requests.Login here = welcome-login hub own line (updates.reading reading.params) here
-welcome-accepted hub own line now reading requests.Password here = inr (record { others = refl; hearers = refl; welcomes = refl })
-welcome-accepted hub own line now reading requests.Update here = welcome-update hub own (updates.reading reading.params) here
-welcome-accepted hub own line now reading requests.Support here = welcome-learns hub own (applied own.features reading.params) here
-welcome-accepted hub own line now reading requests.Act here = welcome-act hub own now reading.params here
-welcome-accepted hub own line now reading requests.Search here = inl here
-welcome-accepted hub own line now reading requests.Message here = inl here
-welcome-accepted hub own line now reading requests.Nothing here = inl here
-
-welcome-line : (hub : Sight) (own : Own) (line : PreparedLine) (now : ℕ) → IsWelcome hub own (line_effect hub own line now)
-welcome-line hub own line now =
-    by_line hub own line now (IsWelcome hub own) (λ here. inl here) (λ deny still. welcome-denial hub own deny)
-    (λ reading still none. welcome-accepted hub own line now reading (request_of own.stage reading.kind reading.command))
+module _ {hub : Sight} {own : Own} {line : PreparedLine} {now : ℕ} where
+  welcome-outcome : {said : Option Reading} {request : Request} {effect : Effect} → Outcome hub own line now said request effect → IsWelcome hub own effect
+  unfolding listed
+  welcome-outcome (shuts_out deny) here = absurd (gone-normal here)
+  welcome-outcome (greets reading features at applies) here = absurd (identify-normal here)
+  welcome-outcome (waits reading u logs account) here = absurd (verify-normal here)
+  welcome-outcome (lets_in reading u logs account) here = inr (record { others = refl; hearers = refl; welcomes = refl })
+  welcome-outcome (proves reading at asks none) here = inr (record { others = refl; hearers = refl; welcomes = refl })
+  welcome-outcome _ here = inl here
 
 -- ---- the call that brings a user in
 
@@ -141,14 +76,14 @@ brings-by : (setup : Configured) (hash : List ℕ → List ℕ) (f : Facts) (cal
 unfolding after happens
 brings-by setup hash f caller c bytes now absent here =
     let effect : Effect = effect_of_line setup hash f c bytes now in
-    let takes = takes-turn (removed_by effect (f.about c)) (c == c) effect.turn (f.about c).stage absent (sym (about-stage c effect f c) ∙ here) in
-    let fields : (about_after c effect f.about c).fields ≡ fields_after effect.turn (f.about c).fields =
-    about-fields c effect f c ∙ ap (λ b. chosen b (fields_after effect.turn (f.about c).fields) (f.about c).fields) (eq-eqb c c refl) in
+    let moved = moves-to (removed_by effect (f.about c)) (c == c) effect.change (f.about c).stage stages.Normal gone-normal absent here in
+    let fields : (about_after c effect f.about c).fields ≡ fields_after effect.change (f.about c).fields =
+    ap (λ b. chosen b (fields_after effect.change (f.about c).fields) (f.about c).fields) (eq-eqb c c refl) in
     record {
       welcomes = subst (Welcomes (sight_of setup f) (own_of (f.about c)) effect) (sym fields)
-          (entered (sight_of setup f) (own_of (f.about c)) effect (fields_after effect.turn (f.about c).fields) absent
-          (welcome-line (sight_of setup f) (own_of (f.about c)) (prepared setup hash (f.about c).challenge bytes) now takes.turns));
-      same_sid = about-sid c effect f c;
+          (entered (sight_of setup f) (own_of (f.about c)) effect (fields_after effect.change (f.about c).fields) absent
+          (welcome-outcome (line-outcome setup hash f c bytes now) moved.moves));
+      same_sid = refl;
     }
 
 brings : (setup : Configured) (hash : List ℕ → List ℕ) (h : List Entry) (e : Entry) (c : ℕ) → (((facts setup hash h).about c).stage ≡ stages.Normal → ⊥)

@@ -2,14 +2,15 @@
 use Rattle.std.specs.Prelude.{◌≡◌, ◌⊎◌, ◌≤◌, ℕ, List, [], ◌∷◌, ◌++◌}
 use Rattle.login_state.specs.declared.stage.Stage.TheVariants.{Gone, Normal}
 use Rattle.hub_rules.specs.declared.effect.Banned.{Banned}
-use Rattle.hub_rules.specs.declared.effect.World.TheVariants.{Ban, Kick}
+use Rattle.hub_rules.specs.declared.effect.Change.TheVariants.{Hub}
+use Rattle.hub_rules.specs.declared.effect.HubChange.TheVariants.{Ban, Kick}
 use Rattle.hub_rules.specs.declared.history.Call.{Call}
 use Rattle.hub_rules.specs.declared.history.Entry.{Entry}
 use Rattle.hub_rules.specs.Configured.{Configured}
 use Rattle.hub_rules.specs.Facts.{facts}
 use Rattle.hub_rules.specs.History.{sid, stage}
 use Rattle.hub_rules.specs.Lagging.{share}
-use Rattle.hub_rules.specs.World.{world_of}
+use Rattle.hub_rules.specs.World.{change_of}
 
 -- a connection that is shut out is owed nothing by any call
 abbrev pub WhoIsOutHearsNothing : Type 0
@@ -26,6 +27,6 @@ OutIsForGood =
 abbrev pub KicksShutOut : Type 0
 KicksShutOut =
     (setup : Configured) (hash : List ℕ → List ℕ) (h : List Entry) (e : Entry) (d : ℕ) (banned : Banned) → stage setup hash h d ≡ Normal
-    → (world_of setup hash (facts setup hash h) e.call ≡ Kick (sid setup hash h d))
-    ⊎ ((world_of setup hash (facts setup hash h) e.call ≡ Ban banned) × (banned.sid ≡ sid setup hash h d))
+    → (change_of setup hash (facts setup hash h) e.call ≡ Hub (Kick (sid setup hash h d)))
+    ⊎ ((change_of setup hash (facts setup hash h) e.call ≡ Hub (Ban banned)) × (banned.sid ≡ sid setup hash h d))
     → stage setup hash (e ∷ h) d ≡ Gone

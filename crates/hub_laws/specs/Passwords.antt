@@ -1,5 +1,5 @@
 -- Lines say nothing of a password but whether it was right: with other passwords in the hub and in the clients' answers, all are owed the same.
-use Rattle.std.specs.Prelude.{◌≡◌, ◌⊎◌, ℕ, ◌==◌, ◌&&◌, Bool, true, false, List, [], ◌∷◌, codes, map, Option, Some, None, Result, Ok, Err}
+use Rattle.std.specs.Prelude.{◌≡◌, ◌⊎◌, ℕ, ◌==◌, ◌&&◌, Bool, true, false, List, [], ◌∷◌, codes, map, Result, Ok, Err}
 use Rattle.std.specs.Str.{bytes_eq}
 use Rattle.adc_line.specs.declared.fault.LineFault.{LineFault}
 use Rattle.adc_line.specs.declared.kind.Kind.{Kind}
@@ -14,6 +14,7 @@ use Rattle.hub_rules.specs.Configured.{Account, Configured}
 use Rattle.hub_rules.specs.Denied.{digest_given}
 use Rattle.hub_rules.specs.Effects.{given_if}
 use Rattle.hub_rules.specs.Facts.{facts}
+use Rattle.hub_rules.specs.Grounds.{is_digest}
 use Rattle.hub_rules.specs.History.{about, owed, stage}
 use Rattle.hub_rules.specs.Lagging.{share}
 use Rattle.hub_rules.specs.Texts.{challenge_line}
@@ -36,10 +37,6 @@ is_to_hub kind = false
 abbrev pub is_password : Result Reading LineFault → Bool
 is_password (Ok line) = is_to_hub line.kind && bytes_eq line.command (codes "PAS")
 is_password (Err fault) = false
-
-abbrev pub is_digest : List ℕ → Option (List ℕ) → Bool
-is_digest expected None = false
-is_digest expected (Some digest) = bytes_eq digest expected
 
 -- it gives the digest that is expected
 abbrev pub is_right : List ℕ → Result Reading LineFault → Bool

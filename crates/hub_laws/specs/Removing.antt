@@ -1,8 +1,9 @@
 -- All who are present hear once of a user whom an operator shuts out, before they are owed any line of a later user with that nick.
 use Rattle.std.specs.Prelude.{◌≡◌, ℕ, ◌≤◌, ◌==◌, true, false, List, [], ◌∷◌, ◌++◌, Option, Some, None}
 use Rattle.login_state.specs.declared.stage.Stage.TheVariants.{Normal}
-use Rattle.hub_rules.specs.declared.effect.World.{World}
-use Rattle.hub_rules.specs.declared.effect.World.TheVariants as worlds
+use Rattle.hub_rules.specs.declared.effect.Change.{Change}
+use Rattle.hub_rules.specs.declared.effect.Change.TheVariants.{Hub}
+use Rattle.hub_rules.specs.declared.effect.HubChange.TheVariants as shared
 use Rattle.hub_rules.specs.declared.history.Call.TheVariants.{Line}
 use Rattle.hub_rules.specs.declared.history.Entry.{Entry}
 use Rattle.hub_rules.specs.Configured.{Configured}
@@ -13,22 +14,22 @@ use Rattle.hub_rules.specs.Identities.{key_in}
 use Rattle.hub_rules.specs.Lagging.{share}
 use Rattle.hub_rules.specs.Shares.{is_removed}
 use Rattle.hub_rules.specs.Texts.{done_line, removal_line}
-use Rattle.hub_rules.specs.World.{world_of}
+use Rattle.hub_rules.specs.World.{change_of}
 
 -- the entry is a kick or a ban of the user of connection c, who is present
 pub record Removes (setup : Configured) (hash : List ℕ → List ℕ) (h : List Entry) (e : Entry) (c : ℕ) : Type 0 where
   pub present : stage setup hash h c ≡ Normal
-  pub named : is_removed (world_of setup hash (facts setup hash h) e.call) (sid setup hash h c) ≡ true
+  pub named : is_removed (change_of setup hash (facts setup hash h) e.call) (sid setup hash h c) ≡ true
 
 -- for how many seconds, where it is a ban
-abbrev pub seconds_of : World → Option ℕ
-seconds_of (worlds.Ban banned) = Some banned.seconds
-seconds_of world = None
+abbrev pub seconds_of : Change → Option ℕ
+seconds_of (Hub (shared.Ban banned)) = Some banned.seconds
+seconds_of change = None
 
 -- the line that says it: who was shut out, by which operator, for how long and why
 abbrev pub told_of_removal : Configured → (List ℕ → List ℕ) → List Entry → Entry → ℕ → ℕ → List ℕ → List ℕ
 told_of_removal setup hash h e c operator reason =
-    removal_line (sid setup hash h c) (sid setup hash h operator) (seconds_of (world_of setup hash (facts setup hash h) e.call)) reason
+    removal_line (sid setup hash h c) (sid setup hash h operator) (seconds_of (change_of setup hash (facts setup hash h) e.call)) reason
 
 -- it is a line of the operator's connection, and each user who is present, the one that is shut out too, is owed this line, once, and nothing
 -- else, but the operator, who is told then that it is done
@@ -52,7 +53,7 @@ RemovalsComeFirst =
 abbrev pub OnlyUsersAreRemoved : Type 0
 OnlyUsersAreRemoved =
     (setup : Configured) (hash : List ℕ → List ℕ) (h : List Entry) (e : Entry) (named : ℕ)
-    → is_removed (world_of setup hash (facts setup hash h) e.call) named ≡ true → (c : ℕ) × Removes setup hash h e c × (sid setup hash h c ≡ named)
+    → is_removed (change_of setup hash (facts setup hash h) e.call) named ≡ true → (c : ℕ) × Removes setup hash h e c × (sid setup hash h c ≡ named)
 
 -- the user of connection n is present under the nick with this normal form C
 abbrev pub HasNick : Configured → (List ℕ → List ℕ) → List Entry → ℕ → List ℕ → Type 0

@@ -1,7 +1,8 @@
 -- All who are present are told of an operator's act, once, and the operator that it is done.
 use Rattle.std.specs.Prelude.{◌≡◌, ℕ, ◌==◌, List, [], ◌∷◌, ◌++◌, Some, None}
-use Rattle.hub_rules.specs.declared.effect.World.{World}
-use Rattle.hub_rules.specs.declared.effect.World.TheVariants as worlds
+use Rattle.hub_rules.specs.declared.effect.Change.TheVariants.{Hub}
+use Rattle.hub_rules.specs.declared.effect.HubChange.{HubChange}
+use Rattle.hub_rules.specs.declared.effect.HubChange.TheVariants as shared
 use Rattle.hub_rules.specs.declared.history.Call.TheVariants.{Line}
 use Rattle.hub_rules.specs.declared.history.Entry.{Entry}
 use Rattle.hub_rules.specs.Configured.{Configured}
@@ -10,20 +11,19 @@ use Rattle.hub_rules.specs.Facts.{facts}
 use Rattle.hub_rules.specs.History.{sid, stage}
 use Rattle.hub_rules.specs.Lagging.{share}
 use Rattle.hub_rules.specs.Texts.{done_line, removal_line, topic_line}
-use Rattle.hub_rules.specs.World.{world_of}
+use Rattle.hub_rules.specs.World.{change_of}
 
 -- the line that tells of it: who was shut out, by which operator, for how long and why; or the new topic
-abbrev pub news_of : World → ℕ → List ℕ → List (List ℕ)
-news_of worlds.Same operator reason = []
-news_of (worlds.Kick target) operator reason = removal_line target operator None reason ∷ []
-news_of (worlds.Ban banned) operator reason = removal_line banned.sid operator (Some banned.seconds) reason ∷ []
-news_of (worlds.Unban cid) operator reason = []
-news_of (worlds.Topic text) operator reason = topic_line text ∷ []
+abbrev pub news_of : HubChange → ℕ → List ℕ → List (List ℕ)
+news_of (shared.Kick target) operator reason = removal_line target operator None reason ∷ []
+news_of (shared.Ban banned) operator reason = removal_line banned.sid operator (Some banned.seconds) reason ∷ []
+news_of (shared.Unban cid) operator reason = []
+news_of (shared.Topic text) operator reason = topic_line text ∷ []
 
 -- a call that changes something for all is the line of an operator; it owes that to all who are present, for some reason, and to the operator then that it is done
 abbrev pub ActsAreHeard : Type 0
 ActsAreHeard =
-    (setup : Configured) (hash : List ℕ → List ℕ) (h : List Entry) (e : Entry) → (world_of setup hash (facts setup hash h) e.call ≡ worlds.Same → ⊥)
+    (setup : Configured) (hash : List ℕ → List ℕ) (h : List Entry) (e : Entry) (act : HubChange) → change_of setup hash (facts setup hash h) e.call ≡ Hub act
     → (c : ℕ) × (bytes : List ℕ) × (now : ℕ) × (reason : List ℕ) × (e.call ≡ Line c bytes now)
     × ((d : ℕ) → share setup hash (facts setup hash h) d e.call
-    ≡ given_if (is_present (stage setup hash h d)) (news_of (world_of setup hash (facts setup hash h) e.call) (sid setup hash h c) reason) ++ given_if (d == c) (done_line ∷ []))
+    ≡ given_if (is_present (stage setup hash h d)) (news_of act (sid setup hash h c) reason) ++ given_if (d == c) (done_line ∷ []))

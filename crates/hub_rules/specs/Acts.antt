@@ -9,11 +9,11 @@ use Rattle.operator_acts.specs.declared.act.Act.{Act}
 use Rattle.operator_acts.specs.declared.act.Act.TheVariants as acts
 use Rattle.user_table.specs.Listed.{Listed}
 use Rattle.user_table.specs.Tables.{user_by_key}
+use Rattle.hub_rules.specs.declared.effect.Change.TheVariants.{Hub}
 use Rattle.hub_rules.specs.declared.effect.Effect.{Effect}
 use Rattle.hub_rules.specs.declared.effect.Hearers.TheVariants.{Those}
-use Rattle.hub_rules.specs.declared.effect.Turn.TheVariants.{Stays}
-use Rattle.hub_rules.specs.declared.effect.World.{World}
-use Rattle.hub_rules.specs.declared.effect.World.TheVariants as worlds
+use Rattle.hub_rules.specs.declared.effect.HubChange.{HubChange}
+use Rattle.hub_rules.specs.declared.effect.HubChange.TheVariants as shared
 use Rattle.hub_rules.specs.Accounts.{operates}
 use Rattle.hub_rules.specs.Identities.{meaning, key_in, key_of_points}
 use Rattle.hub_rules.specs.Quiet.{nothing}
@@ -63,25 +63,25 @@ act_denied hub own params =
     else asked_denied hub (act_at (text_in params))
 
 -- all users who are present are told, and then the operator that it is done
-abbrev pub carried : List (List ℕ) → World → Effect
-carried others world = record { own = done_line ∷ []; others = others; hearers = Those audiences.All; turn = Stays; world = world; searched = None }
+abbrev pub carried : List (List ℕ) → HubChange → Effect
+carried others change = record { own = done_line ∷ []; others = others; hearers = Those audiences.All; change = Hub change }
 
 abbrev pub kick_effect : Own → List ℕ → Option Listed → Effect
 kick_effect own reason None = nothing
-kick_effect own reason (Some target) = carried (removal_line target.sid own.sid None reason ∷ []) (worlds.Kick target.sid)
+kick_effect own reason (Some target) = carried (removal_line target.sid own.sid None reason ∷ []) (shared.Kick target.sid)
 
 abbrev pub ban_effect : Own → ℕ → ℕ → List ℕ → Option Listed → Effect
 ban_effect own now seconds reason None = nothing
 ban_effect own now seconds reason (Some target) =
     carried (removal_line target.sid own.sid (Some seconds) reason ∷ [])
-    (worlds.Ban (record { sid = target.sid; cid = target.cid; seconds = seconds; now = now }))
+    (shared.Ban (record { sid = target.sid; cid = target.cid; seconds = seconds; now = now }))
 
 abbrev pub asked_effect : Sight → Own → ℕ → Option Act → Effect
 asked_effect hub own now None = nothing
 asked_effect hub own now (Some (acts.Kick nick reason)) = kick_effect own reason (user_called hub nick)
 asked_effect hub own now (Some (acts.Ban nick seconds reason)) = ban_effect own now seconds reason (user_called hub nick)
-asked_effect hub own now (Some (acts.Unban cid)) = carried [] (worlds.Unban cid)
-asked_effect hub own now (Some (acts.Topic text)) = carried (topic_line text ∷ []) (worlds.Topic text)
+asked_effect hub own now (Some (acts.Unban cid)) = carried [] (shared.Unban cid)
+asked_effect hub own now (Some (acts.Topic text)) = carried (topic_line text ∷ []) (shared.Topic text)
 
 -- what an accepted message to the hub leads to
 unfoldable pub act_effect : Sight → Own → ℕ → List (List ℕ) → Effect

@@ -5,19 +5,15 @@ use Rattle.adc_line.specs.Lines.{Reading}
 use Rattle.inf_fields.specs.Field.{Field}
 use Rattle.inf_fields.specs.Updates as updates
 use Rattle.inf_fields.specs.declared.fault.InfFault.{InfFault}
-use Rattle.login_state.specs.declared.checks.Check.{Check}
-use Rattle.login_state.specs.declared.checks.Check.TheVariants as checks
 use Rattle.login_state.specs.declared.deny.Deny.{Deny}
 use Rattle.login_state.specs.declared.deny.Deny.TheVariants as denials
 use Rattle.login_state.specs.declared.fault.SupFault.{SupFault}
-use Rattle.login_state.specs.Checks.{first_denial}
-use Rattle.login_state.specs.Orders.{sup_rules, inf_rules, update_rules, pass_rules, entry_rules}
 use Rattle.login_state.specs.SupportAnswers.{applied}
 use Rattle.search_pass.specs.Searches.{may_search}
 use Rattle.hub_rules.specs.declared.request.Request.{Request}
 use Rattle.hub_rules.specs.declared.request.Request.TheVariants as requests
 use Rattle.hub_rules.specs.Acts.{act_denied}
-use Rattle.hub_rules.specs.Asks.{login_ask, entry_ask, update_ask}
+use Rattle.hub_rules.specs.Grounds.{first_ground, sup_grounds, login_grounds, password_grounds, update_grounds}
 use Rattle.hub_rules.specs.Requests.{request_of, refused}
 use Rattle.hub_rules.specs.Sights.{Sight, Own, PreparedLine, user_after}
 use Rattle.hub_rules.specs.Identities.{listed}
@@ -26,18 +22,14 @@ abbrev pub or_else : Option Deny → Option Deny → Option Deny
 or_else (Some deny) later = Some deny
 or_else None later = later
 
-abbrev pub denial_of : Check → Option Deny
-denial_of checks.Go = None
-denial_of (checks.Deny deny) = Some deny
-
 -- of a SUP: its words, how many features are left, which
 abbrev pub sup_denied : Result (List (List ℕ)) SupFault → Option Deny
-sup_denied (Ok features) = denial_of (first_denial (sup_rules features))
+sup_denied (Ok features) = first_ground (sup_grounds features)
 sup_denied (Err fault) = Some denials.Protocol
 
 -- of a login: its words, what they say
 abbrev pub login_denied : Sight → Own → Option (List ℕ) → ℕ → Result (List Field) InfFault → Option Deny
-login_denied hub own digest now (Ok u) = denial_of (first_denial (inf_rules (login_ask hub now own.peer digest u (user_after own u))))
+login_denied hub own digest now (Ok u) = first_ground (login_grounds hub own now digest u (user_after own u))
 login_denied hub own digest now (Err fault) = Some denials.Protocol
 
 -- the digest that the first parameter of a PAS spells
@@ -47,13 +39,11 @@ digest_given (word ∷ more) = spelled 24 word
 
 -- of a password: the digest, and then what may have changed since the login
 abbrev pub password_denied : Sight → Own → ℕ → List (List ℕ) → Option Deny
-password_denied hub own now params =
-    or_else (denial_of (first_denial (pass_rules own.expected (digest_given params))))
-    (denial_of (first_denial (entry_rules (entry_ask hub now (listed own.sid own.fields)))))
+password_denied hub own now params = first_ground (password_grounds hub own now (digest_given params) (listed own.sid own.fields))
 
 -- of an update: its words, what they say
 abbrev pub update_denied : Sight → Own → Result (List Field) InfFault → Option Deny
-update_denied hub own (Ok u) = denial_of (first_denial (update_rules (update_ask hub own u (user_after own u))))
+update_denied hub own (Ok u) = first_ground (update_grounds hub own u (user_after own u))
 update_denied hub own (Err fault) = Some denials.Protocol
 
 -- of a search: the time since the last one

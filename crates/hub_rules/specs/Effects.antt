@@ -25,12 +25,12 @@ use Rattle.login_state.specs.SupportAnswers.{applied}
 use Rattle.outboxes.specs.Quits.{quit_line}
 use Rattle.user_table.specs.Listed.{Listed}
 use Rattle.user_table.specs.Tables.{has_sid, totals_of}
+use Rattle.hub_rules.specs.declared.effect.Change.{Change}
+use Rattle.hub_rules.specs.declared.effect.Change.TheVariants.{Nothing, Sender}
 use Rattle.hub_rules.specs.declared.effect.Effect.{Effect}
 use Rattle.hub_rules.specs.declared.effect.Entrant.{Entrant}
 use Rattle.hub_rules.specs.declared.effect.Hearers.TheVariants.{Others, Those}
-use Rattle.hub_rules.specs.declared.effect.Turn.{Turn}
-use Rattle.hub_rules.specs.declared.effect.Turn.TheVariants as turns
-use Rattle.hub_rules.specs.declared.effect.World.TheVariants.{Same}
+use Rattle.hub_rules.specs.declared.effect.SenderChange.TheVariants as senders
 use Rattle.hub_rules.specs.declared.request.Request.{Request}
 use Rattle.hub_rules.specs.declared.request.Request.TheVariants as requests
 use Rattle.hub_rules.specs.Acts.{act_effect}
@@ -57,9 +57,9 @@ given_if false xs = []
 
 -- ---- denials and departures
 
-abbrev pub fall_if : Bool → Turn
-fall_if true = turns.Falls
-fall_if false = turns.Stays
+abbrev pub fall_if : Bool → Change
+fall_if true = Sender senders.Falls
+fall_if false = Nothing
 
 -- the others who are present hear that a user left, where it was present
 abbrev pub farewell : Stage → ℕ → List (List ℕ)
@@ -71,14 +71,12 @@ denial own deny = record {
   own = denial_line deny ∷ [];
   others = given_if (is_fatal deny) (farewell own.stage own.sid);
   hearers = Others;
-  turn = fall_if (is_fatal deny);
-  world = Same;
-  searched = None;
+  change = fall_if (is_fatal deny);
 }
 
 -- a connection leaves
 abbrev pub departure : Stage → ℕ → Effect
-departure stage sid = record { own = []; others = farewell stage sid; hearers = Others; turn = turns.Falls; world = Same; searched = None }
+departure stage sid = record { own = []; others = farewell stage sid; hearers = Others; change = Sender senders.Falls }
 
 -- ---- SUP
 
@@ -93,12 +91,12 @@ greeting hub now sid features = support_line ∷ identifier_line sid ∷ hub_lin
 -- the client is greeted, and may log in
 abbrev pub greets : Sight → Own → ℕ → Result (List (List ℕ)) SupFault → Effect
 greets hub own now (Ok features) =
-    record { own = greeting hub now own.sid features; others = []; hearers = Others; turn = turns.Greets features; world = Same; searched = None }
+    record { own = greeting hub now own.sid features; others = []; hearers = Others; change = Sender (senders.Greets features) }
 greets hub own now (Err fault) = nothing
 
 -- the client supports other features from now on
 abbrev pub learns : Result (List (List ℕ)) SupFault → Effect
-learns (Ok features) = record { own = []; others = []; hearers = Others; turn = turns.Learns features; world = Same; searched = None }
+learns (Ok features) = record { own = []; others = []; hearers = Others; change = Sender (senders.Learns features) }
 learns (Err fault) = nothing
 
 -- ---- entering
@@ -112,14 +110,12 @@ welcome hub features user =
     map (line_of hub) hub.users ++ line_of hub user ∷ given_if (has_feature ucmd features) (map menu_line hub.setup.menu)
 
 -- a user enters: it hears who is there, and the others hear of it
-abbrev pub enters : Sight → Own → Listed → Turn → Effect
-enters hub own user turn = record {
+abbrev pub enters : Sight → Own → Listed → Change → Effect
+enters hub own user change = record {
   own = welcome hub own.features user;
   others = line_of hub user ∷ [];
   hearers = Others;
-  turn = turn;
-  world = Same;
-  searched = None;
+  change = change;
 }
 
 abbrev pub entrant : Listed → Entrant
@@ -131,11 +127,9 @@ admits hub own prepared true user = record {
   own = challenge_line own.challenge ∷ [];
   others = [];
   hearers = Others;
-  turn = turns.Waits (entrant user) (unwrap_or prepared.password []);
-  world = Same;
-  searched = None;
+  change = Sender (senders.Waits (entrant user) (unwrap_or prepared.password []));
 }
-admits hub own prepared false user = enters hub own user (turns.EntersAs (entrant user))
+admits hub own prepared false user = enters hub own user (Sender (senders.EntersAs (entrant user)))
 
 abbrev pub logs_in : Sight → Own → PreparedLine → Result (List Field) InfFault → Effect
 logs_in hub own prepared (Ok u) = admits hub own prepared (is_account hub (user_after own u).key) (user_after own u)
@@ -156,13 +150,11 @@ update_effect own u = record {
   own = [];
   others = line_unless_empty own.sid u;
   hearers = Those audiences.All;
-  turn = turns.Updates (record {
+  change = Sender (senders.Updates (record {
     update = u;
     nick = option_map nick_points (value_of nick_name u);
     support = feature_set (su_in (merged_with own.fields u));
-  });
-  world = Same;
-  searched = None;
+  }));
 }
 
 abbrev pub updates_user : Own → Result (List Field) InfFault → Effect
@@ -176,14 +168,12 @@ is_target_here hub None = false
 is_target_here hub (Some target) = is_here (has_sid target) hub
 
 -- those for whom it is hear the line as it came
-abbrev pub passes_on : Sight → Reading → Option ℕ → Effect
-passes_on hub line searched = record {
+abbrev pub passes_on : Sight → Reading → Change → Effect
+passes_on hub line change = record {
   own = [];
   others = ended line.text ∷ [];
   hearers = Those (audience line (is_target_here hub line.target));
-  turn = turns.Stays;
-  world = Same;
-  searched = searched;
+  change = change;
 }
 
 -- ---- any line
@@ -192,12 +182,12 @@ passes_on hub line searched = record {
 unfoldable pub accepted : Sight → Own → PreparedLine → ℕ → Reading → Request → Effect
 accepted hub own prepared now line requests.Greeting = greets hub own now (applied own.features line.params)
 accepted hub own prepared now line requests.Login = logs_in hub own prepared (updates.reading line.params)
-accepted hub own prepared now line requests.Password = enters hub own (listed own.sid own.fields) turns.Enters
+accepted hub own prepared now line requests.Password = enters hub own (listed own.sid own.fields) (Sender senders.Enters)
 accepted hub own prepared now line requests.Update = updates_user own (updates.reading line.params)
 accepted hub own prepared now line requests.Support = learns (applied own.features line.params)
 accepted hub own prepared now line requests.Act = act_effect hub own now line.params
-accepted hub own prepared now line requests.Search = passes_on hub line (Some now)
-accepted hub own prepared now line requests.Message = passes_on hub line None
+accepted hub own prepared now line requests.Search = passes_on hub line (Sender (senders.Searches now))
+accepted hub own prepared now line requests.Message = passes_on hub line Nothing
 accepted hub own prepared now line requests.Nothing = nothing
 
 abbrev pub unless_denied : Own → Option Deny → Effect → Effect

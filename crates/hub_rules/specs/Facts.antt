@@ -6,11 +6,11 @@ use Rattle.login_state.specs.declared.stage.Stage.TheVariants as stages
 use Rattle.operator_acts.specs.Bans.{with_ban, without_ban}
 use Rattle.operator_acts.specs.declared.ban.Ban.{Ban}
 use Rattle.user_table.specs.Listed.{Listed}
+use Rattle.hub_rules.specs.declared.effect.Change.{Change}
+use Rattle.hub_rules.specs.declared.effect.Change.TheVariants.{Hub, Sender}
 use Rattle.hub_rules.specs.declared.effect.Effect.{Effect}
-use Rattle.hub_rules.specs.declared.effect.Turn.{Turn}
-use Rattle.hub_rules.specs.declared.effect.Turn.TheVariants as turns
-use Rattle.hub_rules.specs.declared.effect.World.{World}
-use Rattle.hub_rules.specs.declared.effect.World.TheVariants as worlds
+use Rattle.hub_rules.specs.declared.effect.HubChange.TheVariants as shared
+use Rattle.hub_rules.specs.declared.effect.SenderChange.TheVariants as senders
 use Rattle.hub_rules.specs.declared.history.Call.{Call}
 use Rattle.hub_rules.specs.declared.history.Call.TheVariants.{Join, Line, Quit, Take}
 use Rattle.hub_rules.specs.declared.history.Entry.{Entry}
@@ -87,10 +87,10 @@ effect_of_line setup hash f c bytes now =
 
 -- ---- what an effect does
 
-abbrev pub enters : Turn → Bool
-enters turns.Enters = true
-enters (turns.EntersAs entrant) = true
-enters turn = false
+abbrev pub enters : Change → Bool
+enters (Sender senders.Enters) = true
+enters (Sender (senders.EntersAs entrant)) = true
+enters change = false
 
 abbrev pub newcomer_if : Bool → ℕ → List ℕ
 newcomer_if true c = c ∷ []
@@ -103,22 +103,22 @@ about_after c effect about d = affected (d == c) effect (about d)
 -- those whose users are still present, and the one that enters
 abbrev pub present_after : ℕ → Effect → (ℕ → About) → List ℕ → List ℕ
 present_after c effect about present =
-    filter (λ d. is_present (about_after c effect about d).stage) present ++ newcomer_if (enters effect.turn) c
+    filter (λ d. is_present (about_after c effect about d).stage) present ++ newcomer_if (enters effect.change) c
 
-abbrev pub bans_after : World → List (List ℕ × Ban) → List (List ℕ × Ban)
-bans_after (worlds.Ban banned) bans = with_ban bans banned.cid (record { seconds = banned.seconds; moment = banned.now })
-bans_after (worlds.Unban cid) bans = without_ban bans cid
-bans_after world bans = bans
+abbrev pub bans_after : Change → List (List ℕ × Ban) → List (List ℕ × Ban)
+bans_after (Hub (shared.Ban banned)) bans = with_ban bans banned.cid (record { seconds = banned.seconds; moment = banned.now })
+bans_after (Hub (shared.Unban cid)) bans = without_ban bans cid
+bans_after change bans = bans
 
-abbrev pub topic_after : World → List ℕ → List ℕ
-topic_after (worlds.Topic topic) before = topic
-topic_after world before = before
+abbrev pub topic_after : Change → List ℕ → List ℕ
+topic_after (Hub (shared.Topic topic)) before = topic
+topic_after change before = before
 
 unfoldable pub happens : ℕ → Effect → Facts → Facts
 happens c effect f = record f {
   present = present_after c effect f.about f.present;
-  bans = bans_after effect.world f.bans;
-  topic = topic_after effect.world f.topic;
+  bans = bans_after effect.change f.bans;
+  topic = topic_after effect.change f.topic;
   about = about_after c effect f.about;
 }
 

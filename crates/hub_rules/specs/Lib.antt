@@ -6,12 +6,12 @@ pub mod Sights
 pub mod Prepared
 pub mod Quiet
 pub mod Acts
-pub mod Asks
 pub mod Requests
 pub mod Denied
 pub mod Effects
 pub mod Shares
 pub mod Facts
+pub mod Grounds
 pub mod Lagging
 pub mod Legal
 pub mod History

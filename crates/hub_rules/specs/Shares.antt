@@ -1,18 +1,18 @@
 -- What each connection is owed, and what becomes of each, by one effect.
-use Rattle.std.specs.Prelude.{ℕ, ◌==◌, ◌&&◌, not, Bool, true, false, List, [], ◌++◌, drop, Option, Some, None}
+use Rattle.std.specs.Prelude.{ℕ, ◌==◌, ◌&&◌, ◌||◌, not, Bool, true, false, List, [], ◌++◌, drop, Option, Some, None}
 use Rattle.feature_route.specs.Audiences.{holds}
 use Rattle.inf_fields.specs.Field.{Field}
 use Rattle.inf_fields.specs.Merging.{merged_with}
 use Rattle.login_state.specs.declared.stage.Stage.{Stage}
 use Rattle.login_state.specs.declared.stage.Stage.TheVariants as stages
 use Rattle.outboxes.specs.Backlogs.{Backlog, fits}
+use Rattle.hub_rules.specs.declared.effect.Change.{Change}
+use Rattle.hub_rules.specs.declared.effect.Change.TheVariants.{Hub, Sender}
 use Rattle.hub_rules.specs.declared.effect.Effect.{Effect}
 use Rattle.hub_rules.specs.declared.effect.Hearers.{Hearers}
 use Rattle.hub_rules.specs.declared.effect.Hearers.TheVariants.{Others, Those}
-use Rattle.hub_rules.specs.declared.effect.Turn.{Turn}
-use Rattle.hub_rules.specs.declared.effect.Turn.TheVariants as turns
-use Rattle.hub_rules.specs.declared.effect.World.{World}
-use Rattle.hub_rules.specs.declared.effect.World.TheVariants as worlds
+use Rattle.hub_rules.specs.declared.effect.HubChange.TheVariants as shared
+use Rattle.hub_rules.specs.declared.effect.SenderChange.TheVariants as senders
 use Rattle.hub_rules.specs.Effects.{given_if, is_present}
 use Rattle.hub_rules.specs.Identities.{su_in}
 
@@ -63,13 +63,12 @@ backlog_of a = record { lines = waiting a; lags = a.lags; cap = max_lines; bytes
 abbrev pub has_room : About → List (List ℕ) → Bool
 has_room a share = not a.lags && fits (backlog_of a) share
 
-abbrev pub given_share : Bool → About → List (List ℕ) → About
-given_share true a share = record a { owed = a.owed ++ share }
-given_share false a share = record a { lags = true }
-
 -- A share is added whole or not at all. The first that does not fit makes the connection lag, and then nothing is added any more.
-unfoldable pub with_share : About → List (List ℕ) → About
-with_share a share = given_share (has_room a share) a share
+unfoldable pub owed_with : About → List (List ℕ) → List (List ℕ)
+owed_with a share = chosen (has_room a share) (a.owed ++ share) a.owed
+
+unfoldable pub lags_with : About → List (List ℕ) → Bool
+lags_with a share = not (has_room a share) || a.lags
 
 abbrev pub hears_those : Bool → Hearers → About → Bool
 hears_those is_caller Others a = not is_caller
@@ -85,57 +84,52 @@ owes is_caller effect a = given_if (hears is_caller effect.hearers a) effect.oth
 
 -- ---- what becomes of a connection
 
-abbrev pub stage_after : Turn → Stage → Stage
-stage_after turns.Stays stage = stage
-stage_after (turns.Greets features) stage = stages.Identify
-stage_after (turns.Waits entrant expected) stage = stages.Verify
-stage_after turns.Enters stage = stages.Normal
-stage_after (turns.EntersAs entrant) stage = stages.Normal
-stage_after (turns.Learns features) stage = stage
-stage_after (turns.Updates change) stage = stage
-stage_after turns.Falls stage = stages.Gone
+abbrev pub stage_after : Change → Stage → Stage
+stage_after (Sender (senders.Greets features)) stage = stages.Identify
+stage_after (Sender (senders.Waits entrant expected)) stage = stages.Verify
+stage_after (Sender senders.Enters) stage = stages.Normal
+stage_after (Sender (senders.EntersAs entrant)) stage = stages.Normal
+stage_after (Sender senders.Falls) stage = stages.Gone
+stage_after change stage = stage
 
-abbrev pub features_after : Turn → List (List ℕ) → List (List ℕ)
-features_after (turns.Greets features) before = features
-features_after (turns.Learns features) before = features
-features_after turn before = before
+abbrev pub features_after : Change → List (List ℕ) → List (List ℕ)
+features_after (Sender (senders.Greets features)) before = features
+features_after (Sender (senders.Learns features)) before = features
+features_after change before = before
 
-abbrev pub fields_after : Turn → List Field → List Field
-fields_after (turns.Waits entrant expected) before = entrant.user.fields
-fields_after (turns.EntersAs entrant) before = entrant.user.fields
-fields_after (turns.Updates change) before = merged_with before change.update
-fields_after turn before = before
+abbrev pub fields_after : Change → List Field → List Field
+fields_after (Sender (senders.Waits entrant expected)) before = entrant.user.fields
+fields_after (Sender (senders.EntersAs entrant)) before = entrant.user.fields
+fields_after (Sender (senders.Updates revision)) before = merged_with before revision.update
+fields_after change before = before
 
-abbrev pub expected_after : Turn → List ℕ → List ℕ
-expected_after (turns.Waits entrant expected) before = expected
-expected_after turns.Enters before = []
-expected_after turn before = before
+abbrev pub expected_after : Change → List ℕ → List ℕ
+expected_after (Sender (senders.Waits entrant expected)) before = expected
+expected_after (Sender senders.Enters) before = []
+expected_after change before = before
 
-abbrev pub searched_after : Option ℕ → Option ℕ → Option ℕ
-searched_after None before = before
-searched_after (Some now) before = Some now
-
--- the turn of the connection that sent the line
-abbrev pub turned : Effect → About → About
-turned effect a = record a {
-  stage = stage_after effect.turn a.stage;
-  features = features_after effect.turn a.features;
-  fields = fields_after effect.turn a.fields;
-  expected = expected_after effect.turn a.expected;
-  searched = searched_after effect.searched a.searched;
-}
+abbrev pub searched_after : Change → Option ℕ → Option ℕ
+searched_after (Sender (senders.Searches now)) before = Some now
+searched_after change before = before
 
 -- the user whom an operator shuts out
-abbrev pub is_removed : World → ℕ → Bool
-is_removed (worlds.Kick sid) own = own == sid
-is_removed (worlds.Ban banned) own = own == banned.sid
-is_removed world own = false
+abbrev pub is_removed : Change → ℕ → Bool
+is_removed (Hub (shared.Kick sid)) own = own == sid
+is_removed (Hub (shared.Ban banned)) own = own == banned.sid
+is_removed change own = false
 
-abbrev pub removed_if : Bool → About → About
-removed_if true a = record a { stage = stages.Gone }
-removed_if false a = a
+-- whether an operator shuts this connection out
+abbrev pub removed_by : Effect → About → Bool
+removed_by effect a = is_present a.stage && is_removed effect.change a.sid
 
--- what an effect makes of a connection: its share, its turn where it sent the line, and that it is shut out where it is the user to be
+-- What an effect makes of a connection: it is owed its share; it changes where it sent the line; it is shut out where it is the user to be.
 abbrev pub affected : Bool → Effect → About → About
-affected is_caller effect a =
-    removed_if (is_present a.stage && is_removed effect.world a.sid) (chosen is_caller (turned effect (with_share a (owes is_caller effect a))) (with_share a (owes is_caller effect a)))
+affected is_caller effect a = record a {
+  stage = chosen (removed_by effect a) stages.Gone (chosen is_caller (stage_after effect.change a.stage) a.stage);
+  features = chosen is_caller (features_after effect.change a.features) a.features;
+  fields = chosen is_caller (fields_after effect.change a.fields) a.fields;
+  expected = chosen is_caller (expected_after effect.change a.expected) a.expected;
+  searched = chosen is_caller (searched_after effect.change a.searched) a.searched;
+  owed = owed_with a (owes is_caller effect a);
+  lags = lags_with a (owes is_caller effect a);
+}

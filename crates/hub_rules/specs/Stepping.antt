@@ -28,7 +28,7 @@ use Rattle.hub_rules.specs.Prepared.{prepared}
 use Rattle.hub_rules.specs.Requests.{request_of}
 use Rattle.hub_rules.specs.Shares.{is_removed}
 use Rattle.hub_rules.specs.Sights.{Own, PreparedLine, Sight, is_account, user_after}
-use Rattle.hub_rules.specs.World.{world_of}
+use Rattle.hub_rules.specs.World.{change_of}
 
 abbrev pub gone_if : Bool → Option Stage
 gone_if true = Some stages.Gone
@@ -77,7 +77,7 @@ only_if false made = None
 
 -- an operator shuts the user of connection c out
 abbrev pub shuts_out : Configured → (List ℕ → List ℕ) → Facts → ℕ → Call → Bool
-shuts_out setup hash f c call = is_present (f.about c).stage && is_removed (world_of setup hash f call) (f.about c).sid
+shuts_out setup hash f c call = is_present (f.about c).stage && is_removed (change_of setup hash f call) (f.about c).sid
 
 -- what a call itself makes of the stage of connection c: an accepted join, a line of its own, its quit
 abbrev pub call_stage : Configured → (List ℕ → List ℕ) → Facts → ℕ → Call → Option Stage

@@ -19,9 +19,9 @@ pub struct Entrant {
     pub support: FeatureSet,
 }
 
-/// The change of a user.
+/// The new fields of a user who is present.
 #[derive(Debug, Drop)]
-pub struct Change {
+pub struct Revision {
     /// The fields that change.
     pub update: Update,
     /// The nick, where the update has one.
@@ -30,11 +30,9 @@ pub struct Change {
     pub support: FeatureSet,
 }
 
-/// The turn that the connection takes which sent a line.
+/// A change of the connection that sent a line.
 #[derive(Debug, Drop)]
-pub enum Turn {
-    /// No change.
-    Stays,
+pub enum SenderChange {
     /// The first SUP: the client said what it supports, and may log in.
     Greets(Features),
     /// The wait for a password: the user may enter once it gives this digest.
@@ -46,7 +44,9 @@ pub enum Turn {
     /// The support of other features.
     Learns(Features),
     /// The fields of its user change.
-    Updates(Change),
+    Updates(Revision),
+    /// A search goes out at this moment, in seconds.
+    Searches(u64),
     /// The removal of the connection: it is shut out.
     Falls,
 }
@@ -97,11 +97,9 @@ impl Topic {
     }
 }
 
-/// The change for all.
+/// A change of what all connections share, by an operator.
 #[derive(Debug, Drop)]
-pub enum World {
-    /// No change.
-    Same,
+pub enum HubChange {
     /// The removal of this user, who is shut out.
     Kick(Sid),
     /// The removal of this user, and of whoever comes with its identifier.
@@ -110,6 +108,17 @@ pub enum World {
     Unban(Cid),
     /// The topic is another.
     Topic(Topic),
+}
+
+/// The one thing that a line changes.
+#[derive(Debug, Drop)]
+pub enum Change {
+    /// No change.
+    Nothing,
+    /// The connection that sent the line changes.
+    Sender(SenderChange),
+    /// What all connections share changes.
+    Hub(HubChange),
 }
 
 /// The users, of those who are present, who hear what is said to them all.
@@ -130,10 +139,6 @@ pub struct Effect<'a> {
     pub others: Batch,
     /// The users who hear it.
     pub hearers: Hearers<'a>,
-    /// The turn that the connection takes which sent the line.
-    pub turn: Turn,
-    /// The change for all.
-    pub world: World,
-    /// The moment, where the line is a search that goes out.
-    pub searched: Option<u64>,
+    /// The change.
+    pub change: Change,
 }

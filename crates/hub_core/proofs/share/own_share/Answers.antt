@@ -10,8 +10,8 @@ use Rattle.hub_core.proofs.share.own_share.Goals as goal
 pub returns : goal.returns
 returns c =
     c.in_ok-push_share.ensures
-    ∙ ap (λ (ss : List Share). ss ++ share_at c.place-place.result c.in_ok-lines.lines) c.new-shares.ensures.items
-    ∙ ap (share_at c.place-place.result) c.in_ok-lines.ensures
-    ∙ ap (λ (s : Seat). share_at c.place-place.result (seat_share c.args.number c.args.effect.now s)) c.index-seats-place.is
-    ∙ sym (alone c.args.number (seat_share c.args.number c.args.effect.now) c.args.seats.now c.place-place.result c.index-seats-place.result
-    (quiet-others c.args.number c.args.effect.now c.requires.none) c.requires.rising (stands_first c.args.number c.args.seats.now c.place-place.result c.place-place.ensures))
+    ∙ ap (λ (ss : List Share). ss ++ share_at c.args.place c.in_ok-lines.lines) c.new-shares.ensures.items
+    ∙ ap (share_at c.args.place) c.in_ok-lines.ensures
+    ∙ ap (λ (s : Seat). share_at c.args.place (seat_share c.args.number c.args.effect.now s)) c.index-seats-place.is
+    ∙ sym (alone c.args.number (seat_share c.args.number c.args.effect.now) c.args.seats.now c.args.place c.index-seats-place.result
+    (quiet-others c.args.number c.args.effect.now c.requires.none) c.requires.rising (stands_first c.args.number c.args.seats.now c.args.place c.requires.place))

@@ -1,55 +1,97 @@
 use Rattle.std.proofs.Common.{◌∙◌, sym, ap}
-use Rattle.adc_line.specs.WordsLeft.{words_left}
+use Rattle.adc_line.specs.Lines.{Reading}
 use Rattle.inf_fields.specs.Updates as updates
+use Rattle.login_state.specs.declared.stage.Stage.TheVariants as stages
 use Rattle.hub_rules.specs.declared.request.Request.TheVariants as requests
-use Rattle.hub_rules.specs.Acts.{act_denied, act_effect}
-use Rattle.hub_rules.specs.Denied.{password_denied, request_denied}
-use Rattle.hub_rules.specs.Effects.{accepted, unless_denied}
-use Rattle.hub_decisions.specs.Progresses.{own_of, sight_of, stage_of}
-use Rattle.hub_decisions.proofs.Asking.{as-asked, asked-is, said-of, suits}
-use Rattle.hub_decisions.proofs.Knowing.{when-ok}
+use Rattle.hub_rules.specs.Denied.{request_denied}
+use Rattle.hub_rules.specs.Effects.{accepted}
+use Rattle.hub_rules.specs.Sights.{Own}
+use Rattle.hub_decisions.specs.Requested.{effect_of_act, effect_of_login, effect_of_password, effect_of_update}
+use Rattle.hub_decisions.proofs.Asking.{as-asked, asked-is, known-at, said-of, suits}
+use Rattle.hub_decisions.proofs.Knowing.{has-user, no-user, when-ok}
+use Rattle.hub_decisions.proofs.Logging.{login-said}
+use Rattle.hub_decisions.proofs.Updating.{update-said}
 use Rattle.hub_decisions.proofs.decision.requested.Goals as goal
 
 pub returns-in-Login : goal.returns-in-Login
 unfolding request_denied accepted
-returns-in-Login g c =
-    let asked = asked-is requests.Login c.request_of.result (stage_of c.args.own.now.progress) c.stage.result c.args.message.now.kind c.kind.result c.args.message.now.command c.command.result
-    c.request_of.ensures c.stage.ensures c.kind.ensures c.command.ensures c.in-Login.is in
-    let suited = suits requests.Login (stage_of c.args.own.now.progress) c.args.message.now.kind c.args.message.now.command asked in
+returns-in-Login c =
+    let own : Own = c.args.own.now in
+    let message : Reading = c.args.message.now in
+    let asked = asked-is requests.Login c.request_of-request.result own.stage c.own.inside.stage message.kind c.kind.result message.command c.command.result
+    c.request_of-request.ensures (ap (λ (o : Own). o.stage) c.own.view_is) c.kind.ensures c.command.ensures c.in-Login.is in
+    let suited = suits requests.Login own.stage message.kind message.command asked in
     when-ok c.logs_in.result c.logs_in.ensures
-    (λ effect is reads known.
-    as-asked (sight_of c.args.hub.now.setup.now (g.U.Users.listed c.args.hub.now.users.now) c.args.hub.now.bans.now c.args.hub.now.topic.now) (own_of c.args.own.now) c.args.line.now c.args.now c.args.message.now requests.Login effect asked
-    (is (updates.reading c.args.message.now.params) (said-of c.args.message.now c.args.line.now.bytes reads suited.1 suited.2) suited.0))
+    (λ effect is known.
+    as-asked c.args.hub.now own c.args.line.now c.args.now message requests.Login effect asked
+    (is (known-at own _ stages.Identify suited.0 known)
+    ∙ ap (effect_of_login c.args.hub.now own c.args.line.now c.args.now) (sym (said-of message c.args.line.now.bytes c.requires suited.1 suited.2))
+    ∙ login-said c.args.hub.now own c.args.line.now c.args.now (updates.reading message.params)))
 
-pub returns-in-Update : goal.returns-in-Update
+pub returns-in-Some : goal.returns-in-Some
 unfolding request_denied accepted
-returns-in-Update g c =
-    let asked = asked-is requests.Update c.request_of.result (stage_of c.args.own.now.progress) c.stage.result c.args.message.now.kind c.kind.result c.args.message.now.command c.command.result
-    c.request_of.ensures c.stage.ensures c.kind.ensures c.command.ensures c.in-Update.is in
-    let suited = suits requests.Update (stage_of c.args.own.now.progress) c.args.message.now.kind c.args.message.now.command asked in
-    when-ok c.updates.result c.updates.ensures
-    (λ effect is reads known.
-    as-asked (sight_of c.args.hub.now.setup.now (g.U.Users.listed c.args.hub.now.users.now) c.args.hub.now.bans.now c.args.hub.now.topic.now) (own_of c.args.own.now) c.args.line.now c.args.now c.args.message.now requests.Update effect asked
-    (is (updates.reading c.args.message.now.params) (said-of c.args.message.now c.args.line.now.bytes reads suited.1 suited.2) suited.0 known))
-
-pub returns-in-Password : goal.returns-in-Password
-unfolding request_denied accepted
-returns-in-Password g c =
-    let asked = asked-is requests.Password c.request_of.result (stage_of c.args.own.now.progress) c.stage.result c.args.message.now.kind c.kind.result c.args.message.now.command c.command.result
-    c.request_of.ensures c.stage.ensures c.kind.ensures c.command.ensures c.in-Password.is in
-    let suited = suits requests.Password (stage_of c.args.own.now.progress) c.args.message.now.kind c.args.message.now.command asked in
+returns-in-Some c =
+    let own : Own = c.args.own.now in
+    let message : Reading = c.args.message.now in
+    let asked = asked-is requests.Password c.request_of-request.result own.stage c.own.inside.stage message.kind c.kind.result message.command c.command.result
+    c.request_of-request.ensures (ap (λ (o : Own). o.stage) c.own.view_is) c.kind.ensures c.command.ensures c.in-Password.is in
+    let suited = suits requests.Password own.stage message.kind message.command asked in
     when-ok c.enters.result c.enters.ensures
-    (λ effect is reads known.
-    as-asked (sight_of c.args.hub.now.setup.now (g.U.Users.listed c.args.hub.now.users.now) c.args.hub.now.bans.now c.args.hub.now.topic.now) (own_of c.args.own.now) c.args.line.now c.args.now c.args.message.now requests.Password effect asked
-    (is suited known ∙ ap (λ words. unless_denied (own_of c.args.own.now) (password_denied (sight_of c.args.hub.now.setup.now (g.U.Users.listed c.args.hub.now.users.now) c.args.hub.now.bans.now c.args.hub.now.topic.now) (own_of c.args.own.now) c.args.now words) (accepted (sight_of c.args.hub.now.setup.now (g.U.Users.listed c.args.hub.now.users.now) c.args.hub.now.bans.now c.args.hub.now.topic.now) (own_of c.args.own.now) c.args.line.now c.args.now c.args.message.now requests.Password)) c.params-in-Password.ensures))
+    (λ effect is known.
+    as-asked c.args.hub.now own c.args.line.now c.args.now message requests.Password effect asked
+    (is (has-user own c.args.user c.in-Some.user (known-at own _ stages.Verify suited known) c.in-Some.is) ∙ ap (effect_of_password c.args.hub.now own c.args.now) c.params-in-Some.ensures))
 
-pub returns-in-Act : goal.returns-in-Act
+pub returns-in-None : goal.returns-in-None
+returns-in-None c =
+    let own : Own = c.args.own.now in
+    let message : Reading = c.args.message.now in
+    let asked = asked-is requests.Password c.request_of-request.result own.stage c.own.inside.stage message.kind c.kind.result message.command c.command.result
+    c.request_of-request.ensures (ap (λ (o : Own). o.stage) c.own.view_is) c.kind.ensures c.command.ensures c.in-Password.is in
+    let suited = suits requests.Password own.stage message.kind message.command asked in
+    λ known. absurd (no-user own c.args.user (known-at own _ stages.Verify suited known) c.in-None.is)
+
+pub returns-in-Some-user : goal.returns-in-Some-user
 unfolding request_denied accepted
-returns-in-Act g c =
-    let asked = asked-is requests.Act c.request_of.result (stage_of c.args.own.now.progress) c.stage.result c.args.message.now.kind c.kind.result c.args.message.now.command c.command.result
-    c.request_of.ensures c.stage.ensures c.kind.ensures c.command.ensures c.in-Act.is in
-    let suited = suits requests.Act (stage_of c.args.own.now.progress) c.args.message.now.kind c.args.message.now.command asked in
+returns-in-Some-user c =
+    let own : Own = c.args.own.now in
+    let message : Reading = c.args.message.now in
+    let asked = asked-is requests.Update c.request_of-request.result own.stage c.own.inside.stage message.kind c.kind.result message.command c.command.result
+    c.request_of-request.ensures (ap (λ (o : Own). o.stage) c.own.view_is) c.kind.ensures c.command.ensures c.in-Update.is in
+    let suited = suits requests.Update own.stage message.kind message.command asked in
+    when-ok c.updates.result c.updates.ensures
+    (λ effect is known.
+    as-asked c.args.hub.now own c.args.line.now c.args.now message requests.Update effect asked
+    (is (has-user own c.args.user c.in-Some-user.user (known-at own _ stages.Normal suited.0 known) c.in-Some-user.is)
+    ∙ ap (effect_of_update c.args.hub.now own) (sym (said-of message c.args.line.now.bytes c.requires suited.1 suited.2))
+    ∙ update-said c.args.hub.now own (updates.reading message.params)))
+
+pub returns-in-None-user : goal.returns-in-None-user
+returns-in-None-user c =
+    let own : Own = c.args.own.now in
+    let message : Reading = c.args.message.now in
+    let asked = asked-is requests.Update c.request_of-request.result own.stage c.own.inside.stage message.kind c.kind.result message.command c.command.result
+    c.request_of-request.ensures (ap (λ (o : Own). o.stage) c.own.view_is) c.kind.ensures c.command.ensures c.in-Update.is in
+    let suited = suits requests.Update own.stage message.kind message.command asked in
+    λ known. absurd (no-user own c.args.user (known-at own _ stages.Normal suited.0 known) c.in-None-user.is)
+
+pub returns-in-Some-user-2 : goal.returns-in-Some-user-2
+unfolding request_denied accepted
+returns-in-Some-user-2 c =
+    let own : Own = c.args.own.now in
+    let message : Reading = c.args.message.now in
+    let asked = asked-is requests.Act c.request_of-request.result own.stage c.own.inside.stage message.kind c.kind.result message.command c.command.result
+    c.request_of-request.ensures (ap (λ (o : Own). o.stage) c.own.view_is) c.kind.ensures c.command.ensures c.in-Act.is in
+    let suited = suits requests.Act own.stage message.kind message.command asked in
     when-ok c.acts.result c.acts.ensures
-    (λ effect is reads known.
-    as-asked (sight_of c.args.hub.now.setup.now (g.U.Users.listed c.args.hub.now.users.now) c.args.hub.now.bans.now c.args.hub.now.topic.now) (own_of c.args.own.now) c.args.line.now c.args.now c.args.message.now requests.Act effect asked
-    (is suited known ∙ ap (λ words. unless_denied (own_of c.args.own.now) (act_denied (sight_of c.args.hub.now.setup.now (g.U.Users.listed c.args.hub.now.users.now) c.args.hub.now.bans.now c.args.hub.now.topic.now) (own_of c.args.own.now) words) (act_effect (sight_of c.args.hub.now.setup.now (g.U.Users.listed c.args.hub.now.users.now) c.args.hub.now.bans.now c.args.hub.now.topic.now) (own_of c.args.own.now) c.args.now words)) c.params-in-Act.ensures))
+    (λ effect is known.
+    as-asked c.args.hub.now own c.args.line.now c.args.now message requests.Act effect asked
+    (is (has-user own c.args.user c.in-Some-user-2.user (known-at own _ stages.Normal suited known) c.in-Some-user-2.is) ∙ ap (effect_of_act c.args.hub.now own c.args.now) c.params-in-Some-user-2.ensures))
+
+pub returns-in-None-user-2 : goal.returns-in-None-user-2
+returns-in-None-user-2 c =
+    let own : Own = c.args.own.now in
+    let message : Reading = c.args.message.now in
+    let asked = asked-is requests.Act c.request_of-request.result own.stage c.own.inside.stage message.kind c.kind.result message.command c.command.result
+    c.request_of-request.ensures (ap (λ (o : Own). o.stage) c.own.view_is) c.kind.ensures c.command.ensures c.in-Act.is in
+    let suited = suits requests.Act own.stage message.kind message.command asked in
+    λ known. absurd (no-user own c.args.user (known-at own _ stages.Normal suited known) c.in-None-user-2.is)

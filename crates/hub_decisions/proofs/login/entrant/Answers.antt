@@ -1,4 +1,4 @@
-use Rattle.std.proofs.Common.{◌≡◌, ◌∙◌, ap}
+use Rattle.std.proofs.Common.{◌∙◌, ap}
 use Rattle.feature_route.specs.Matching.{feature_set}
 use Rattle.hub_rules.specs.Identities.{given}
 use Rattle.hub_decisions.proofs.Logging.{made-entrant}

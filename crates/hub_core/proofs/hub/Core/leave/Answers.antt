@@ -1,4 +1,4 @@
-use Rattle.std.proofs.Common.{◌∙◌, sym, ap, ap₂, ◌≤◌, length, subst}
+use Rattle.std.proofs.Common.{◌≡◌, ◌∙◌, sym, ap, ap₂, length}
 use Rattle.std.specs.Arc.{arc_value}
 use Rattle.std.proofs.lemmas.List.{with_items_is}
 use Rattle.user_table.specs.Tables.{without_sid}
@@ -15,21 +15,18 @@ use Rattle.hub_core.proofs.hub.Core.leave.Goals as goal
 
 pub returns : goal.returns
 returns c =
-    let at : StandsFirst c.args.number c.self.inside.seats.items c.place.result =
-    found c.args.number c.self.inside.seats.items c.deref.result.now c.place.result c.deref.ensures.value c.place.ensures in
-    record {
-      left = same-core (arc_value c.self.inside.setup) c.self.inside.joins c.self.inside.last
-          (with_items_is c.forget.new.seats c.tell_if.new.seats
-          (ap length c.tell_if.ensures ∙ length-told c.is_present-was_present.result c.index-seat.result.now.sid c.deref_mut.result.now ∙ c.deref_mut.ensures.len)
-          ∙ c.tell_if.ensures
-          ∙ ap (told_all_if c.is_present-was_present.result c.index-seat.result.now.sid) (c.deref_mut.ensures.value ∙ c.forget.ensures)
-          ∙ ap₂ (λ b sid. told_all_if b sid (others_of c.args.number c.self.inside.seats.items))
-          (c.is_present-was_present.ensures ∙ ap (λ p. is_present (stage_in p)) (sym (phase-at c.args.number c.self.inside.seats.items c.place.result c.index-seat.result.now at c.index-seat.ensures)))
-          (sym (sid-at c.args.number c.self.inside.seats.items c.place.result c.index-seat.result.now at c.index-seat.ensures)))
-          (c.remove.ensures.left ∙ ap (λ sid. without_sid sid c.self.inside.commons.users) (sym (sid-at c.args.number c.self.inside.seats.items c.place.result c.index-seat.result.now at c.index-seat.ensures)))
-          ∙ ap (left_core c.args.number) c.self.view_is;
-      few = subst (λ (s : CoreState). s.setup.max_users ≤ 900) c.self.view_is c.self.invariant.0;
-    }
+    let seats : c.args.self.now.seats ≡ c.self.inside.seats.items = sym (ap (λ (s : CoreState). s.seats) c.self.view_is) in
+    let at : StandsFirst c.args.number c.self.inside.seats.items c.args.place = found c.args.number c.self.inside.seats.items c.args.self.now.seats c.args.place seats c.requires in
+    same-core (arc_value c.self.inside.setup) c.self.inside.joins c.self.inside.last
+    (with_items_is c.forget.new.seats c.tell_if.new.seats
+    (ap length c.tell_if.ensures ∙ length-told c.is_present-was_present.result c.index-seat.result.now.sid c.deref_mut.result.now ∙ c.deref_mut.ensures.len)
+    ∙ c.tell_if.ensures
+    ∙ ap (told_all_if c.is_present-was_present.result c.index-seat.result.now.sid) (c.deref_mut.ensures.value ∙ c.forget.ensures)
+    ∙ ap₂ (λ b sid. told_all_if b sid (others_of c.args.number c.self.inside.seats.items))
+    (c.is_present-was_present.ensures ∙ ap (λ p. is_present (stage_in p)) (sym (phase-at c.args.number c.self.inside.seats.items c.args.place c.index-seat.result.now at c.index-seat.ensures)))
+    (sym (sid-at c.args.number c.self.inside.seats.items c.args.place c.index-seat.result.now at c.index-seat.ensures)))
+    (c.remove.ensures.left ∙ ap (λ sid. without_sid sid c.self.inside.commons.users) (sym (sid-at c.args.number c.self.inside.seats.items c.args.place c.index-seat.result.now at c.index-seat.ensures)))
+    ∙ ap (left_core c.args.number) c.self.view_is
 
 pub invariant_of-self : goal.invariant_of-self
 invariant_of-self c = (

@@ -1,16 +1,19 @@
--- What the checks of a login, of an update and of a password find (ADC 1.0, "INF", "PAS").
-use Rattle.std.specs.Prelude.{ℕ, ◌==◌, ◌&&◌, ◌||◌, not, Bool, true, false, List, [], ◌∷◌, length, chars, codes, Option, Some, None, is_some, if◌then◌else◌}
+-- What the checks of a login, of an update and of a password are asked, by what the rules look at (ADC 1.0, "INF", "PAS").
+use Rattle.std.specs.Prelude.{ℕ, ◌==◌, ◌&&◌, ◌||◌, not, Bool, true, false, List, [], ◌∷◌, length, chars, Option, Some, None, is_some, if◌then◌else◌}
 use Rattle.std.specs.Str.{bytes_eq}
 use Rattle.adc_base32.specs.Spelled.{spelled}
 use Rattle.adc_ids.specs.Nicks.{is_nick}
 use Rattle.inf_fields.specs.Amounts.{number_at}
-use Rattle.inf_fields.specs.Cleaning.{clean, dotted}
+use Rattle.inf_fields.specs.Cleaning.{any_address, clean, dotted}
 use Rattle.inf_fields.specs.Field.{Field, value_of}
 use Rattle.inf_fields.specs.FieldNames.{id_name, private_id_name, nick_name, share_size_name, shared_files_name, address_name}
 use Rattle.inf_fields.specs.Merging.{fits}
 use Rattle.login_state.specs.declared.asks.EntryAsk.{EntryAsk}
 use Rattle.login_state.specs.declared.asks.InfAsk.{InfAsk}
 use Rattle.login_state.specs.declared.asks.UpdateAsk.{UpdateAsk}
+use Rattle.login_state.specs.declared.checks.Check.{Check}
+use Rattle.login_state.specs.declared.checks.Check.TheVariants as checks
+use Rattle.login_state.specs.declared.deny.Deny.{Deny}
 use Rattle.login_state.specs.declared.findings.Account.{Account}
 use Rattle.login_state.specs.declared.findings.Account.TheVariants.{Untouched, Touched}
 use Rattle.login_state.specs.declared.findings.Address.{Address}
@@ -37,6 +40,11 @@ use Rattle.hub_rules.specs.Sights.{Sight, is_account, is_here, another_has_key}
 use Rattle.user_table.specs.Listed.{Listed}
 use Rattle.user_table.specs.Tables.{has_key, has_cid}
 
+-- the answer of a check as a denial
+abbrev pub denial_of : Check → Option Deny
+denial_of checks.Go = None
+denial_of (checks.Deny deny) = Some deny
+
 abbrev pub good_if : Bool → Validity
 good_if true = Good
 good_if false = Bad
@@ -61,9 +69,6 @@ abbrev pub identity_found : Option (List ℕ) → Option (List ℕ) → Identity
 identity_found (Some cid) (Some digest) = if bytes_eq cid digest then Own else Foreign
 identity_found (Some cid) None = Foreign
 identity_found None digest = Foreign
-
-abbrev pub any_address : List ℕ
-any_address = codes "0.0.0.0"
 
 -- an address: none, one that the hub is to fill in, or the one that it sees
 abbrev pub address_found : List ℕ → List ℕ → Address

@@ -1,0 +1,21 @@
+-- A hub's fields as contracts see them.
+use Rattle.std.specs.Prelude.{◌<◌, ◌≤◌}
+use Rattle.std.specs.Arc.{arc_value}
+use Rattle.hub_core.specs.declared.hub.Core.TheInside.{Inside}
+use Rattle.hub_core.specs.CoreState.{CoreState}
+use Rattle.hub_core.specs.Numbers.{Ordered}
+
+abbrev pub core_view : Inside → CoreState
+core_view c = record {
+  setup = arc_value c.setup;
+  joins = c.joins;
+  last = c.last;
+  seats = c.seats.items;
+  users = c.commons.users;
+  bans = c.commons.bans;
+  topic = c.commons.topic;
+}
+
+-- no more connections are admitted than a hub may have, each identifier is one, and the seats stand in the order of their joins
+abbrev pub IsCore : Inside → Type 0
+IsCore c = ((arc_value c.setup).max_users ≤ 900) × (c.last < 1_048_576) × Ordered c.joins c.seats.items

@@ -1,0 +1,17 @@
+-- The connection that sent a line, as the rules of the hub have it.
+use Rattle.std.specs.Prelude.{[]}
+use Rattle.std.specs.Option.{option_copied, unwrap_or}
+use Rattle.hub_decisions.specs.declared.own.Own.TheInside.{Inside}
+use Rattle.hub_rules.specs.Sights.{Own}
+
+abbrev pub own_view : Inside → Own
+own_view own = record {
+  sid = own.sid;
+  peer = own.peer;
+  challenge = own.challenge;
+  stage = own.stage;
+  features = own.features.now;
+  fields = unwrap_or (option_copied own.fields) [];
+  expected = unwrap_or own.expected [];
+  searched = own.searched;
+}

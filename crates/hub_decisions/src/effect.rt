@@ -1,0 +1,50 @@
+ghost use Rattle.std.specs.Prelude.{◌≡◌, []};
+ghost use Rattle.hub_rules.specs.Quiet.{nothing};
+ghost use Rattle.hub_rules.specs.declared.effect.Change.TheVariants as changes;
+ghost use Rattle.hub_rules.specs.declared.effect.Hearers.TheVariants as hearers;
+
+use feature_route::Audience;
+use hub_rules::{Change, Effect, Hearers, SenderChange};
+use outboxes::Batch;
+use std::alloc::Global;
+
+/// Makes the effect by which nothing happens. Takes no memory.
+pub(crate) fn nothing<'a>(alloc: Global) -> Effect<'a>
+    ensures { result ≡ nothing }
+{
+    Effect {
+        own: Batch::new(alloc),
+        others: Batch::new(alloc),
+        hearers: Hearers::Others,
+        change: Change::Nothing,
+    }
+}
+
+/// Makes the effect by which the connection changes that sent the line, and nobody else is told. Takes no memory.
+pub(crate) fn answer<'a>(alloc: Global, own: Batch, change: SenderChange) -> Effect<'a>
+    ensures { result ≡ record { own = own; others = []; hearers = hearers.Others; change = changes.Sender change } }
+{
+    Effect {
+        own,
+        others: Batch::new(alloc),
+        hearers: Hearers::Others,
+        change: Change::Sender(change),
+    }
+}
+
+/// Makes the effect by which the users of an audience are told, and nobody else. Takes no memory.
+pub(crate) fn publish<'a>(
+    alloc: Global,
+    others: Batch,
+    audience: Audience<'a>,
+    change: Change,
+) -> Effect<'a>
+    ensures { result ≡ record { own = []; others = others; hearers = hearers.Those audience.entry; change = change } }
+{
+    Effect {
+        own: Batch::new(alloc),
+        others,
+        hearers: Hearers::Those(audience),
+        change,
+    }
+}

@@ -1,0 +1,128 @@
+-- Why a SUP, a login, a password or an update is denied: its grounds, in the order in which they are looked at (ADC 1.0, "SUP", "INF", "PAS").
+use Rattle.std.specs.Prelude.{ℕ, ◌==◌, ◌&&◌, ◌||◌, not, Bool, true, false, List, [], ◌∷◌, chars, codes, Option, Some, None, is_some}
+use Rattle.std.specs.Option.{unwrap_or}
+use Rattle.std.specs.Str.{bytes_eq}
+use Rattle.adc_base32.specs.Spelled.{spelled}
+use Rattle.adc_ids.specs.Nicks.{is_nick}
+use Rattle.inf_fields.specs.Amounts.{number_at}
+use Rattle.inf_fields.specs.Cleaning.{any_address, clean, dotted}
+use Rattle.inf_fields.specs.Field.{Field, value_of}
+use Rattle.inf_fields.specs.FieldNames.{id_name, private_id_name, nick_name, share_size_name, shared_files_name, address_name}
+use Rattle.inf_fields.specs.Merging.{fits}
+use Rattle.login_state.specs.declared.deny.Deny.{Deny}
+use Rattle.login_state.specs.declared.deny.Deny.TheVariants as denials
+use Rattle.login_state.specs.declared.deny.InfField.TheVariants as fields
+use Rattle.login_state.specs.declared.deny.Severity.TheVariants.{Fatal, Recoverable}
+use Rattle.login_state.specs.Mentions.{base, tigr}
+use Rattle.login_state.specs.Support.{has_feature}
+use Rattle.operator_acts.specs.Bans.{left}
+use Rattle.operator_acts.specs.declared.left.Left.{Left}
+use Rattle.operator_acts.specs.declared.left.Left.TheVariants as lefts
+use Rattle.user_table.specs.Listed.{Listed}
+use Rattle.user_table.specs.Tables.{has_key, has_cid}
+use Rattle.hub_rules.specs.Identities.{given, meaning, nick_in, key_in}
+use Rattle.hub_rules.specs.Sights.{Sight, Own, is_account, is_here, another_has_key}
+
+-- the first that holds decides
+abbrev pub first_ground : List (Bool × Deny) → Option Deny
+first_ground [] = None
+first_ground ((true, deny) ∷ more) = Some deny
+first_ground ((false, deny) ∷ more) = first_ground more
+
+-- ---- SUP
+
+-- by the features that are left
+abbrev pub sup_grounds : List (List ℕ) → List (Bool × Deny)
+sup_grounds features = (not (has_feature base features), denials.NoBase) ∷ (not (has_feature tigr features), denials.NoHash) ∷ []
+
+-- ---- what is looked for in words
+
+abbrev pub is_empty : List ℕ → Bool
+is_empty [] = true
+is_empty (b ∷ more) = false
+
+abbrev pub differs : List ℕ → List ℕ → Bool
+differs value other = not (bytes_eq value other)
+
+-- a number that need not be there
+abbrev pub is_bad_amount : List ℕ → Bool
+is_bad_amount value = not (is_empty value || is_some (number_at value))
+
+-- an address that is neither left to the hub nor the one that it sees
+abbrev pub is_wrong_address : List ℕ → List ℕ → Bool
+is_wrong_address peer address = not (is_empty address || bytes_eq address any_address || bytes_eq address (dotted peer))
+
+-- a nick that is given must be one
+abbrev pub is_bad_nick : Option (List ℕ) → Bool
+is_bad_nick None = false
+is_bad_nick (Some nick) = not (is_nick (chars (meaning nick)))
+
+-- ---- entering
+
+abbrev pub is_ever : Left → Bool
+is_ever lefts.Ever = true
+is_ever left = false
+
+abbrev pub seconds_of : Left → ℕ
+seconds_of (lefts.For seconds) = seconds
+seconds_of left = 0
+
+abbrev pub is_timed : Left → Bool
+is_timed (lefts.For seconds) = true
+is_timed left = false
+
+-- of a user who is to enter: what may have changed since its login, once its password is right
+unfoldable pub entry_grounds : Sight → ℕ → Listed → List (Bool × Deny)
+entry_grounds hub now user =
+    (is_ever (left hub.bans user.cid now), denials.BannedEver)
+    ∷ (is_timed (left hub.bans user.cid now), denials.BannedFor (seconds_of (left hub.bans user.cid now)))
+    ∷ (is_here (has_key user.key) hub, denials.NickTaken Fatal)
+    ∷ (is_here (has_cid user.cid) hub, denials.CidTaken)
+    ∷ []
+
+abbrev pub is_digest : List ℕ → Option (List ℕ) → Bool
+is_digest expected None = false
+is_digest expected (Some digest) = bytes_eq digest expected
+
+-- of a password: the digest that it gives
+abbrev pub password_grounds : Sight → Own → ℕ → Option (List ℕ) → Listed → List (Bool × Deny)
+password_grounds hub own now digest user = (not (is_digest own.expected digest), denials.Password) ∷ entry_grounds hub now user
+
+-- of a login: the digest of the private identifier, what the words say, the user that they make
+unfoldable pub login_grounds : Sight → Own → ℕ → Option (List ℕ) → List Field → Listed → List (Bool × Deny)
+login_grounds hub own now digest u user =
+    (is_empty (given id_name u), denials.Missing fields.Id)
+    ∷ (is_empty (given private_id_name u), denials.Missing fields.Pid)
+    ∷ (is_empty (given nick_name u), denials.Missing fields.Nick)
+    ∷ (not (is_some (spelled 24 (given id_name u))), denials.BadField Fatal fields.Id)
+    ∷ (not (is_some digest), denials.BadField Fatal fields.Pid)
+    ∷ (is_bad_amount (given share_size_name u), denials.BadField Fatal fields.ShareSize)
+    ∷ (is_bad_amount (given shared_files_name u), denials.BadField Fatal fields.SharedFiles)
+    ∷ (differs (unwrap_or (spelled 24 (given id_name u)) []) (unwrap_or digest []), denials.BadPid)
+    ∷ (not (is_nick (chars (nick_in u))), denials.BadNick Fatal)
+    ∷ (is_ever (left hub.bans user.cid now), denials.BannedEver)
+    ∷ (is_timed (left hub.bans user.cid now), denials.BannedFor (seconds_of (left hub.bans user.cid now)))
+    ∷ (is_wrong_address own.peer (given address_name u), denials.Address Fatal own.peer)
+    ∷ (hub.setup.registered_only && not (is_account hub user.key), denials.Registered)
+    ∷ (is_here (has_key user.key) hub, denials.NickTaken Fatal)
+    ∷ (is_here (has_cid user.cid) hub, denials.CidTaken)
+    ∷ []
+
+-- ---- updates
+
+-- nobody takes the nick of an account, or leaves it
+abbrev pub touches_account : Sight → List ℕ → List ℕ → Bool
+touches_account hub before afterwards = differs afterwards before && (is_account hub before || is_account hub afterwards)
+
+-- of an update by a user who is present: what the words say, and the user that they make
+unfoldable pub update_grounds : Sight → Own → List Field → Listed → List (Bool × Deny)
+update_grounds hub own u user =
+    (differs (unwrap_or (value_of id_name u) (given id_name own.fields)) (given id_name own.fields), denials.BadField Recoverable fields.Id)
+    ∷ (is_bad_amount (given share_size_name u), denials.BadField Recoverable fields.ShareSize)
+    ∷ (is_bad_amount (given shared_files_name u), denials.BadField Recoverable fields.SharedFiles)
+    ∷ (is_bad_nick (value_of nick_name u), denials.BadNick Recoverable)
+    ∷ (touches_account hub (key_in own.fields) user.key, denials.Access (codes "BINF"))
+    ∷ (is_wrong_address own.peer (given address_name u), denials.Address Recoverable own.peer)
+    ∷ (not (fits own.fields (clean u own.peer)), denials.Protocol)
+    ∷ (another_has_key hub own.sid user.key, denials.NickTaken Recoverable)
+    ∷ []
