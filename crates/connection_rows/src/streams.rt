@@ -30,14 +30,8 @@ struct Ran<'a> {
 /// Makes a hub with this menu.
 fn hub_with(alloc: Global, menu: &[MenuEntry<'_>]) -> Option<Arc<Setup>> {
     let options = Options {
-        name: "Hub",
-        topic: "",
-        accounts: &[],
         commands: menu,
-        registered_only: false,
-        search_interval: 0,
-        max_users: 512,
-        opening: 0,
+        ..Options::named("Hub")
     };
     Arc::new(alloc, Setup::new(alloc, &options).ok()?).ok()
 }

@@ -30,14 +30,8 @@ pub fn opened(alloc: Global) -> io::Result<(SharedHub, Host<First24>)>
 /// Makes what hubs are set up with here.
 pub fn setup(alloc: Global) -> io::Result<Arc<Setup>> {
     let options = Options {
-        name: "Hub",
-        topic: "",
-        accounts: &[],
-        commands: &[],
-        registered_only: false,
-        search_interval: 0,
         max_users: 900,
-        opening: 0,
+        ..Options::named("Hub")
     };
     match Setup::new(alloc, &options) {
         Ok(setup) => Ok(Arc::new(alloc, setup)?),

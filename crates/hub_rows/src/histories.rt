@@ -223,14 +223,9 @@ fn setup(alloc: Global) -> Result<Arc<Setup>, AllocError> {
         operator: true,
     }];
     let options = Options {
-        name: "Hub",
-        topic: "",
         accounts: &accounts,
-        commands: &[],
-        registered_only: false,
-        search_interval: 0,
         max_users: 4,
-        opening: 0,
+        ..Options::named("Hub")
     };
     match Setup::new(alloc, &options) {
         Ok(setup) => Ok(Arc::new(alloc, setup)?),

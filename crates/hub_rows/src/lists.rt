@@ -5,17 +5,6 @@ use std::alloc::Global;
 use std::process::Abort;
 use std::sync::Arc;
 
-const PLAIN: Options<'static> = Options {
-    name: "Hub",
-    topic: "",
-    accounts: &[],
-    commands: &[],
-    registered_only: false,
-    search_interval: 0,
-    max_users: 512,
-    opening: 0,
-};
-
 /// The lines that the callers send.
 #[derive(Drop)]
 struct Lines {
@@ -77,7 +66,8 @@ fn a_list_of_calls_is_answered_in_turn(rt: HostRuntime) {
 }
 
 fn setup(rt: &impl Abort, alloc: Global) -> Arc<Setup> {
-    match Arc::new(alloc, again!(rt; Setup::new(alloc, &PLAIN))) {
+    let options = Options::named("Hub");
+    match Arc::new(alloc, again!(rt; Setup::new(alloc, &options))) {
         Ok(setup) => setup,
         Err(refused) => match Arc::new(alloc, refused.value) {
             Ok(setup) => setup,

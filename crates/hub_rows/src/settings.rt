@@ -5,47 +5,24 @@ use hub_core::{Account, MenuEntry, MenuItem, Options, SetupRefused};
 use std::alloc::Global;
 use std::process::Abort;
 
-/// The settings that one line alone sets.
-#[derive(Clone, Copy)]
-struct Told<'a> {
-    name: &'a str,
-    topic: &'a str,
-    registered_only: bool,
-    interval: u32,
-    max_users: u32,
-    opening: u32,
-}
-
 /// Opens the hub that the first lines of a conversation describe, or tells why it is refused.
 pub(crate) fn open(rt: &impl Abort, alloc: Global, text: &str) -> Result<Hub, SetupRefused> {
     let lines = setting_lines(rt, alloc, text);
     let mut accounts = Vec::new(alloc);
     let mut commands = Vec::new(alloc);
-    let mut told = Told {
-        name: "Hub",
-        topic: "",
-        registered_only: false,
-        interval: 0,
-        max_users: 512,
-        opening: 0,
-    };
+    let mut options = Options::named("Hub");
     for line in &lines {
         match line.as_str().split_once(' ') {
             Some(("account", rest)) => keep(rt, &mut accounts, account(rt, rest)),
             Some(("menu", rest)) => keep(rt, &mut commands, menu_entry(rt, rest)),
-            Some((name, rest)) => told = set(rt, told, name, rest),
-            None => told = set(rt, told, line.as_str(), ""),
+            Some((name, rest)) => options = set(rt, options, name, rest),
+            None => options = set(rt, options, line.as_str(), ""),
         }
     }
     let options = Options {
-        name: told.name,
-        topic: told.topic,
         accounts: accounts.as_slice(),
         commands: commands.as_slice(),
-        registered_only: told.registered_only,
-        search_interval: told.interval,
-        max_users: told.max_users,
-        opening: u64::from(told.opening),
+        ..options
     };
     Hub::open(rt, alloc, &options)
 }
@@ -73,17 +50,18 @@ fn told_text(rt: &impl Abort, alloc: Global, told: &str) -> String {
     }
 }
 
-fn set<'a>(rt: &impl Abort, mut told: Told<'a>, name: &str, rest: &'a str) -> Told<'a> {
+/// Sets what one line sets, the lists of accounts and of menu entries apart.
+fn set<'a>(rt: &impl Abort, mut options: Options<'a>, name: &str, rest: &'a str) -> Options<'a> {
     match name {
-        "name" => told.name = rest,
-        "topic" => told.topic = rest,
-        "interval" => told.interval = number(rt, rest),
-        "max_users" => told.max_users = number(rt, rest),
-        "opening" => told.opening = number(rt, rest),
-        "registered_only" if rest.is_empty() => told.registered_only = true,
+        "name" => options.name = rest,
+        "topic" => options.topic = rest,
+        "interval" => options.search_interval = number(rt, rest),
+        "max_users" => options.max_users = number(rt, rest),
+        "opening" => options.opening = u64::from(number(rt, rest)),
+        "registered_only" if rest.is_empty() => options.registered_only = true,
         _ => panic!(rt; "unknown setting {name}"),
     }
-    told
+    options
 }
 
 fn number(rt: &impl Abort, told: &str) -> u32 {

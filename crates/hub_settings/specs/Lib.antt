@@ -1,11 +1,6 @@
 pub mod Keys
 pub mod Values
 pub mod Lists
-pub mod Written
-pub mod Program
-pub mod Fronts
-pub mod Chains
-pub mod Hubs
-pub mod Judged
-pub mod Told
+pub mod Settings
+pub mod Answers
 pub mod Reading

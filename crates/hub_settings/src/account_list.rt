@@ -2,23 +2,39 @@ ghost use Rattle.std.specs.Prelude.{◌≡◌, codes, map, IfOk};
 ghost use Rattle.std.specs.Option.{option_and_then, option_map};
 ghost use Rattle.toml.specs.Data.{as_table, get_member};
 ghost use Rattle.toml.specs.View.{array_view, table_view, view};
-ghost use Rattle.hub_settings.specs.Lists.{account_in, accounts_at, all_accounts};
-ghost use Rattle.hub_settings.specs.Written.{account_text};
+ghost use Rattle.hub_setup.specs.Settings.{account_text};
+ghost use Rattle.hub_settings.specs.Lists.{account_in, accounts_at, all_accounts, written_accounts};
 
 use crate::keys::first_unknown;
 use crate::values::{text_at, truth_of, value_at};
-use hub_setup::Account;
+use hub_setup::{Account, Accounts, ListRefused};
 use std::alloc::{AllocError, Global};
 use toml::{Table, Value};
 
-/// Reads the accounts of a settings file; `None` where what stands at their key is no list of accounts.
+/// Reads the registered users of a settings file; `None` where what stands at their key is no list of accounts, or no hub can
+/// have these.
 ///
 /// Refused only where memory runs out.
-pub(crate) fn accounts<'a>(
+pub(crate) fn accounts(alloc: Global, table: &Table) -> Result<Option<Accounts>, AllocError>
+    ensures { IfOk result (λ accounts. accounts ≡ accounts_at (get_member (codes "account") (table_view table.now))) }
+{
+    let Some(written) = written_accounts(alloc, table)? else {
+        return Ok(None);
+    };
+    match Accounts::new(alloc, &written) {
+        Ok(accounts) => Ok(Some(accounts)),
+        Err(ListRefused::Memory) => Err(AllocError),
+        Err(ListRefused::Limit) => Ok(None),
+        Err(ListRefused::Entry) => Ok(None),
+    }
+}
+
+fn written_accounts<'a>(
     alloc: Global,
     table: &'a Table,
 ) -> Result<Option<Vec<Account<'a>>>, AllocError>
-    ensures { IfOk result (λ accounts. option_map (λ all. map account_text all.items) accounts ≡ accounts_at (get_member (codes "account") (table_view table.entry.now))) }
+    ensures { IfOk result (λ accounts. option_map (λ all. map account_text all.items) accounts
+        ≡ written_accounts (get_member (codes "account") (table_view table.entry.now))) }
 {
     let Some(value) = value_at(table, "account") else {
         return Ok(Some(Vec::new(alloc)));

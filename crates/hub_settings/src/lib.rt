@@ -4,12 +4,9 @@
 mod account_list;
 mod command_list;
 mod fault;
-mod front;
 mod hash_name;
-mod hub_setting;
 mod keys;
-mod limits;
-mod parts;
+mod plain_keys;
 mod reading;
 mod settings;
 mod values;

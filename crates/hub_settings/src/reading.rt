@@ -1,16 +1,20 @@
-ghost use Rattle.std.specs.Prelude.{◌≡◌};
+ghost use Rattle.std.specs.Prelude.{◌≡◌, ◌≤◌, codes, length, IfOk};
 ghost use Rattle.std.specs.Option.{option_map};
 ghost use Rattle.toml.specs.View.{table_view};
+ghost use Rattle.hub_settings.specs.Answers.{Reads, ReadsUnlessMemory};
 ghost use Rattle.hub_settings.specs.Keys.{first_unknown};
 ghost use Rattle.hub_settings.specs.Reading.{IsRead};
-ghost use Rattle.hub_settings.specs.Told.{Tells, known_keys, settings};
+ghost use Rattle.hub_settings.specs.Settings.{Listens, hash_called, known_keys, plain_keys, settings, settings_of, some_text};
 
+use crate::account_list::accounts;
+use crate::command_list::menu;
 use crate::fault::{KeyName, Refusal, SettingsFault};
-use crate::front::{front, listen_at};
-use crate::hub_setting::hub_in;
+use crate::hash_name::HashName;
 use crate::keys::first_unknown;
-use crate::limits::limits;
+use crate::plain_keys::PlainKeys;
 use crate::settings::Settings;
+use crate::values::{number, text, text_or, truth};
+use hub_setup::{MOST_USERS, Options, Setup};
 use std::alloc::Global;
 use std::net::SocketAddrV4;
 use toml::Table;
@@ -50,33 +54,69 @@ pub fn read_settings(alloc: Global, text: &str, opening: u64) -> Result<Settings
 }
 
 /// Reads what a table of settings says. The value of its key `listen` was read before.
-#[tactic(auto, unfolding(crate::specs::Told::settings))]
+#[tactic(auto, unfolding(crate::specs::Settings::settings))]
 fn read_table<'a>(
     alloc: Global,
     table: &'a Table,
     listen: Option<SocketAddrV4>,
     opening: u64,
 ) -> Result<Settings, Refusal<'a>>
-    ensures { Tells (λ s. s) result (settings opening listen (table_view table.entry.now)) }
+    ensures { ReadsUnlessMemory result (settings opening listen (table_view table.entry.now)) }
 {
-    let front = match front(table, listen) {
-        Ok(front) => front,
+    let keys = match plain_keys(table, listen, opening) {
+        Ok(keys) => keys,
         Err(key) => return Err(Refusal::Key(key)),
     };
-    let limits = match limits(table) {
-        Ok(limits) => limits,
-        Err(key) => return Err(Refusal::Key(key)),
+    let Some(accounts) = accounts(alloc, table)? else {
+        return Err(Refusal::Key("account"));
     };
-    let setup = match hub_in(alloc, table, &front, &limits, opening) {
-        Ok(setup) => setup,
-        Err(Refusal::Memory) => return Err(Refusal::Memory),
-        Err(Refusal::Key(key)) => return Err(Refusal::Key(key)),
+    let Some(menu) = menu(alloc, table)? else {
+        return Err(Refusal::Key("command"));
     };
     if let Some(key) = unknown_key(table) {
         return Err(Refusal::Key(key));
     }
-    let settings = Settings::new(alloc, setup, &front, &limits)?;
-    Ok(settings)
+    let setup = Setup::with_lists(alloc, &keys.options, accounts, menu)?;
+    Ok(Settings::new(alloc, setup, &keys)?)
+}
+
+/// Reads the keys that are no lists, or gives the first whose value is not one that it may have. The value of the key `listen`
+/// was read before.
+#[tactic(auto, unfolding(crate::specs::Settings::plain_keys))]
+fn plain_keys(
+    table: &Table,
+    listen: Option<SocketAddrV4>,
+    opening: u64,
+) -> Result<PlainKeys<'_>, &'static str>
+    ensures { Reads settings_of result (plain_keys opening listen (table_view table.entry.now)) }
+{
+    let name = some_text(text(table, "name", "Hub")?, "name")?;
+    let topic = text(table, "topic", "")?;
+    let listen = listen.ok_or("listen")?;
+    let hash = hash_called(text(table, "hash", "tiger")?)?;
+    let tables = text(table, "tables", "tiger.bin")?;
+    let registered_only = truth(table, "registered_only")?;
+    let search_interval = number(table, "search_interval", 0, u32::MAX, 0)?;
+    let max_users = number(table, "max_users", 1, MOST_USERS, 512)?;
+    let threads = number(table, "threads", 1, 64, 2)?;
+    let stop_after = number(table, "stop_after", 0, 65_536, 0)?;
+    let seed_file = text(table, "seed_file", "/dev/urandom")?;
+    Ok(PlainKeys {
+        options: Options {
+            topic,
+            registered_only,
+            search_interval,
+            max_users,
+            opening,
+            ..Options::named(name)
+        },
+        listen,
+        hash,
+        tables,
+        threads,
+        stop_after,
+        seed_file,
+    })
 }
 
 /// Finds the first key, by bytes, that is none of a settings file.
@@ -99,4 +139,36 @@ fn unknown_key(table: &Table) -> Option<&str>
         "command",
     ];
     first_unknown(table, &known)
+}
+
+/// Gives a text, or this key where it is empty.
+fn some_text<'a>(text: &'a str, key: &'static str) -> Result<&'a str, &'static str>
+    ensures some { IfOk result (λ s. 1 ≤ length s.now) }
+    ensures exact { Reads (λ s. s.now) result (some_text key.entry.now text.entry.now) }
+{
+    if text.is_empty() {
+        return Err(key);
+    }
+    Ok(text)
+}
+
+/// Reads the address and port to listen at.
+fn listen_at(table: &Table) -> Option<SocketAddrV4>
+    ensures { Listens (table_view table.now) result }
+{
+    let text = text_or(table, "listen", "127.0.0.1:4111")?;
+    match SocketAddrV4::parse_ascii(text.as_bytes()) {
+        Ok(address) => Some(address),
+        Err(_) => None,
+    }
+}
+
+fn hash_called(name: &str) -> Result<HashName, &'static str>
+    ensures { Reads (λ hash. hash) result (hash_called name.now) }
+{
+    match name {
+        "tiger" => Ok(HashName::Tiger),
+        "first24" => Ok(HashName::First24),
+        _ => Err("hash"),
+    }
 }

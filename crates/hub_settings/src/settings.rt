@@ -1,10 +1,9 @@
 ghost use Rattle.std.specs.Prelude.{◌≡◌, IfOk};
 ghost use Rattle.std.specs.Arc.{arc_value};
-ghost use Rattle.hub_settings.specs.Fronts.{front_of, limits_of};
-ghost use Rattle.hub_settings.specs.Told.{told_of};
+ghost use Rattle.hub_settings.specs.Settings.{settings_of};
 
 use crate::hash_name::HashName;
-use crate::parts::{FrontText, LimitsText};
+use crate::plain_keys::PlainKeys;
 use hub_setup::Setup;
 use std::alloc::{AllocError, Global};
 use std::marker::Model;
@@ -26,30 +25,37 @@ pub struct Settings {
 impl Model for Settings {
     ghost use Rattle.std.specs.Arc.{arc_value};
     ghost use Rattle.std.specs.String.{string_bytes};
-    ghost use Rattle.hub_settings.specs.Told.{Told};
+    ghost use Rattle.hub_settings.specs.Settings.{ServerSettings};
 
-    ghost Value = { Told };
+    ghost Value = { ServerSettings };
 
-    ghost view = { λ s. record { hub = arc_value s.setup; listen = s.listen; hash = s.hash; tables = string_bytes s.tables; threads = s.threads; stop_after = s.stop_after; seed_file = string_bytes s.seed_file } };
+    ghost view = { λ s. record {
+      hub = arc_value s.setup;
+      listen = s.listen;
+      hash = s.hash;
+      tables = string_bytes s.tables;
+      threads = s.threads;
+      stop_after = s.stop_after;
+      seed_file = string_bytes s.seed_file;
+    } };
 }
 
 impl Settings {
     pub(crate) fn new(
         alloc: Global,
         setup: Setup,
-        front: &FrontText<'_>,
-        limits: &LimitsText<'_>,
+        keys: &PlainKeys<'_>,
     ) -> Result<Settings, AllocError>
-        ensures { IfOk result (λ s. s ≡ told_of (front_of front.now) (limits_of limits.now) setup) }
+        ensures { IfOk result (λ s. s ≡ record (settings_of keys.now) { hub = setup }) }
     {
         Ok(Settings {
             setup: Arc::new(alloc, setup).map_err(|_| AllocError)?,
-            listen: front.listen,
-            hash: front.hash,
-            tables: String::from_str(alloc, front.tables)?,
-            threads: limits.threads,
-            stop_after: limits.stop_after,
-            seed_file: String::from_str(alloc, limits.seed_file)?,
+            listen: keys.listen,
+            hash: keys.hash,
+            tables: String::from_str(alloc, keys.tables)?,
+            threads: keys.threads,
+            stop_after: keys.stop_after,
+            seed_file: String::from_str(alloc, keys.seed_file)?,
         })
     }
 

@@ -11,22 +11,37 @@ use Rattle.hub_setup.specs.declared.options.MenuEntry.{MenuEntry}
 use Rattle.hub_setup.specs.declared.options.MenuItem.{MenuItem}
 use Rattle.hub_setup.specs.declared.options.MenuItem.TheVariants.{Text, Separator}
 use Rattle.hub_setup.specs.declared.options.Options.{Options}
+use Rattle.hub_setup.specs.declared.refused.ListRefused.{ListRefused}
+use Rattle.hub_setup.specs.declared.refused.ListRefused.TheVariants as lists
 use Rattle.hub_setup.specs.declared.refused.SetupRefused.{SetupRefused}
 use Rattle.hub_setup.specs.declared.refused.SetupRefused.TheVariants as refusals
 
+-- the most connections, registered users and entries of the menu that a hub may have
+abbrev pub most_users : ℕ
+most_users = 900
+
+abbrev pub most_accounts : ℕ
+most_accounts = 32
+
+abbrev pub most_commands : ℕ
+most_commands = 64
+
+-- an account as it is written
+pub record AccountText : Type 0 where
+  pub nick : List ℕ
+  pub password : List ℕ
+  pub operator : Bool
+
+abbrev pub account_text : Account → AccountText
+account_text account = record { nick = account.nick.now; password = account.password.now; operator = account.operator }
+
 -- a nick, with a password that is not empty
-abbrev pub is_account : Account → Bool
-is_account account = is_nick (chars account.nick.now) && not (length account.password.now == 0)
+abbrev pub is_account : AccountText → Bool
+is_account account = is_nick (chars account.nick) && not (length account.password == 0)
 
 -- the registered user
-abbrev pub account_of : Account → hub.Account
-account_of account = record { key = key_of account.nick.now; password = account.password.now; operator = account.operator }
-
-abbrev pub registered_user : Account → Result hub.Account SetupRefused
-registered_user account = if is_account account then Ok (account_of account) else Err refusals.Account
-
-abbrev pub all_registered : List Account → Result (List hub.Account) SetupRefused
-all_registered accounts = if list_all is_account accounts then Ok (map account_of accounts) else Err refusals.Account
+abbrev pub account_of : AccountText → hub.Account
+account_of account = record { key = key_of account.nick; password = account.password; operator = account.operator }
 
 -- no two of the keys are the same
 unfoldable pub are_distinct : List (List ℕ) → Bool
@@ -36,11 +51,18 @@ are_distinct (key ∷ keys) = not (list_any (bytes_eq key) keys) && are_distinct
 abbrev pub have_distinct_keys : List hub.Account → Bool
 have_distinct_keys accounts = are_distinct (map (λ (account : hub.Account). account.key) accounts)
 
--- all of them, where each is an account and their keys differ
-abbrev pub accounts_of : List Account → Result (List hub.Account) SetupRefused
+abbrev pub registered_user : AccountText → Result hub.Account ListRefused
+registered_user account = if is_account account then Ok (account_of account) else Err lists.Entry
+
+abbrev pub registered_users : List AccountText → Result (List hub.Account) ListRefused
+registered_users accounts = if list_all is_account accounts then Ok (map account_of accounts) else Err lists.Entry
+
+-- all of them, where they are not too many, each is an account and their keys differ
+unfoldable pub accounts_of : List AccountText → Result (List hub.Account) ListRefused
 accounts_of accounts =
-    if list_all is_account accounts && have_distinct_keys (map account_of accounts) then Ok (map account_of accounts)
-    else Err refusals.Account
+    if nat_lt most_accounts (length accounts) then Err lists.Limit
+    else if not (list_all is_account accounts && have_distinct_keys (map account_of accounts)) then Err lists.Entry
+    else Ok (map account_of accounts)
 
 -- what a client sends by an entry of its menu; a line between entries has no text
 abbrev pub text_of : MenuItem → Option (List ℕ)
@@ -51,47 +73,80 @@ abbrev pub entry_of : MenuEntry → hub.MenuEntry
 entry_of entry = record { name = entry.name.now; context = entry.context; text = text_of entry.item }
 
 -- a name that is not empty, shown in at least one of the four places
-abbrev pub is_command : MenuEntry → Bool
-is_command entry = not (length entry.name.now == 0) && not (entry.context == 0) && not (nat_lt 15 entry.context)
+abbrev pub is_command : hub.MenuEntry → Bool
+is_command entry = not (length entry.name == 0) && not (entry.context == 0) && not (nat_lt 15 entry.context)
+
+-- all of them, where they are not too many and each is a command
+unfoldable pub menu_of : List hub.MenuEntry → Result (List hub.MenuEntry) ListRefused
+menu_of entries =
+    if nat_lt most_commands (length entries) then Err lists.Limit
+    else if not (list_all is_command entries) then Err lists.Entry
+    else Ok entries
 
 -- a list or a number is past what the hub takes
 abbrev pub is_past_limit : Options → Bool
-is_past_limit o = nat_lt 32 (length o.accounts.now) || nat_lt 64 (length o.commands.now) || o.max_users == 0 || nat_lt 900 o.max_users
+is_past_limit o =
+    nat_lt most_accounts (length o.accounts.now) || nat_lt most_commands (length o.commands.now) || o.max_users == 0
+    || nat_lt most_users o.max_users
 
--- the hub with these registered users
-abbrev pub hub_of : Options → Configured
-hub_of o = record {
+-- the hub of these options with these registered users and this menu
+abbrev pub hub_with : Options → List hub.Account → List hub.MenuEntry → Configured
+hub_with o accounts menu = record {
   name = o.name.now;
   topic = o.topic.now;
-  accounts = map account_of o.accounts.now;
-  menu = map entry_of o.commands.now;
+  accounts = accounts;
+  menu = menu;
   registered_only = o.registered_only;
   search_interval = o.search_interval;
   max_users = o.max_users;
   opening = o.opening;
 }
 
+-- what follows from a list, or its refusal: this one where an entry is at fault
+abbrev pub or_refused : {X Y : Type 0} → SetupRefused → Result X ListRefused → (X → Result Y SetupRefused) → Result Y SetupRefused
+or_refused entry (Ok x) next = next x
+or_refused entry (Err lists.Memory) next = Err refusals.Memory
+or_refused entry (Err lists.Limit) next = Err refusals.Limit
+or_refused entry (Err lists.Entry) next = Err entry
+
 -- what these options make, or the first of their faults
 unfoldable pub configured : Options → Result Configured SetupRefused
 configured o =
     if is_past_limit o then Err refusals.Limit
     else if length o.name.now == 0 then Err refusals.Name
-    else if not (list_all is_account o.accounts.now && have_distinct_keys (map account_of o.accounts.now)) then Err refusals.Account
-    else if not (list_all is_command o.commands.now) then Err refusals.Command
-    else Ok (hub_of o)
+    else or_refused refusals.Account (accounts_of (map account_text o.accounts.now)) (λ accounts.
+    or_refused refusals.Command (menu_of (map entry_of o.commands.now)) (λ menu.
+    Ok (hub_with o accounts menu)))
 
--- `view` of an answer is what is wanted, or the fault is the one that is wanted; want of memory says nothing
-abbrev pub Gives : {X Y : Type 0} → (X → Y) → Result X SetupRefused → Result Y SetupRefused → Type 0
+-- the hub of this name with nothing that settings may add, for 512 users, opened at moment 0
+abbrev pub plain_hub : List ℕ → Configured
+plain_hub name = record {
+  name = name;
+  topic = [];
+  accounts = [];
+  menu = [];
+  registered_only = false;
+  search_interval = 0;
+  max_users = 512;
+  opening = 0;
+}
+
+-- `view` of a list is what is wanted, or the fault is the one that is wanted; want of memory says nothing
+abbrev pub Gives : {X Y : Type 0} → (X → Y) → Result X ListRefused → Result Y ListRefused → Type 0
 Gives view (Ok x) wanted = wanted ≡ Ok (view x)
-Gives view (Err refusals.Memory) wanted = Unit {0}
-Gives view (Err refusals.Limit) wanted = wanted ≡ Err refusals.Limit
-Gives view (Err refusals.Name) wanted = wanted ≡ Err refusals.Name
-Gives view (Err refusals.Account) wanted = wanted ≡ Err refusals.Account
-Gives view (Err refusals.Command) wanted = wanted ≡ Err refusals.Command
+Gives view (Err lists.Memory) wanted = Unit {0}
+Gives view (Err lists.Limit) wanted = wanted ≡ Err lists.Limit
+Gives view (Err lists.Entry) wanted = wanted ≡ Err lists.Entry
 
 -- within the limits and with a name, which takes no memory to see
 abbrev pub IsNamedWithinLimits : Options → Type 0
 IsNamedWithinLimits o = (is_past_limit o ≡ false) × (length o.name.now ≢ 0)
 
+-- the setup is what is wanted, or the fault is the one that is wanted; want of memory says nothing
 abbrev pub IsConfigured : Result Configured SetupRefused → Result Configured SetupRefused → Type 0
-IsConfigured answer wanted = Gives (λ setup. setup) answer wanted
+IsConfigured (Ok setup) wanted = wanted ≡ Ok setup
+IsConfigured (Err refusals.Memory) wanted = Unit {0}
+IsConfigured (Err refusals.Limit) wanted = wanted ≡ Err refusals.Limit
+IsConfigured (Err refusals.Name) wanted = wanted ≡ Err refusals.Name
+IsConfigured (Err refusals.Account) wanted = wanted ≡ Err refusals.Account
+IsConfigured (Err refusals.Command) wanted = wanted ≡ Err refusals.Command

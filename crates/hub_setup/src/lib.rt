@@ -1,19 +1,22 @@
 //! The setup of a hub, the lines that are made ready before its turn, and the messages that it writes.
 #![tactic(auto)]
 
+mod accounts;
 mod menu;
 mod options;
 mod preparation;
 mod refused;
-mod registered;
 mod setup;
 mod texts;
 mod user_texts;
 
-pub use options::{Account, MenuEntry, MenuItem, Options};
+pub use accounts::{Accounts, Registered};
+pub use menu::Menu;
+pub use options::{
+    Account, MOST_ACCOUNTS, MOST_COMMANDS, MOST_USERS, MenuEntry, MenuItem, Options,
+};
 pub use preparation::{Prepared, Says, prepare};
-pub use refused::{LineRefused, SetupRefused};
-pub use registered::Registered;
+pub use refused::{LineRefused, ListRefused, SetupRefused};
 pub use setup::Setup;
 pub use texts::{
     challenge_line, denial_line, done_line, hub_line, identifier_line, passed_line, ping_fields,

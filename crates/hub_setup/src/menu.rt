@@ -1,11 +1,12 @@
-ghost use Rattle.std.specs.Prelude.{◌≡◌, ◌++◌, map, IfOk, OnOk};
+ghost use Rattle.std.specs.Prelude.{◌≡◌, ◌++◌, map, IfErr, IfOk, IsOk, OnOk};
 ghost use Rattle.std.specs.List.{list_all};
 ghost use Rattle.std.specs.Option.{option_map};
 ghost use Rattle.std.specs.String.{string_bytes};
 ghost use Rattle.hub_rules.specs.Texts.{menu_item, menu_line};
-ghost use Rattle.hub_setup.specs.Settings.{entry_of, is_command, text_of};
+ghost use Rattle.hub_setup.specs.Settings.{Gives, entry_of, is_command, menu_of, text_of};
 
-use crate::options::{MenuEntry, MenuItem};
+use crate::options::{MOST_COMMANDS, MenuEntry, MenuItem};
+use crate::refused::ListRefused;
 use crate::texts::ended;
 use adc_line::escape;
 use bytes::Bytes;
@@ -55,11 +56,51 @@ impl MenuLine {
     }
 }
 
+/// The entries for the clients' menus: at most 64.
+#[derive(Debug, Drop)]
+pub struct Menu {
+    lines: Vec<MenuLine>,
+}
+
+impl Model for Menu {
+    ghost use Rattle.std.specs.Prelude.{List};
+    ghost use Rattle.hub_rules.specs.Configured.{MenuEntry};
+
+    ghost Value = { List MenuEntry };
+
+    ghost view = { λ m. m.lines.items };
+}
+
+impl Menu {
+    /// Makes the menu of these entries, whose messages are written here, once.
+    ///
+    /// Refused, by the first that applies: `Limit` over 64 entries; `Entry` where one has no name or a context that is not
+    /// 1 to 15 (ADC-EXT, "UCMD"). `Memory` where memory runs out for a menu without a fault.
+    #[tactic(auto, unfolding(crate::specs::Settings::menu_of))]
+    pub fn new(alloc: Global, entries: &[MenuEntry<'_>]) -> Result<Menu, ListRefused>
+        ensures exact { Gives (λ menu. menu) result (menu_of (map entry_of entries.now)) }
+        ensures memory { IfErr result (λ fault. fault ≡ ListRefused.Memory → IsOk (menu_of (map entry_of entries.now))) }
+    {
+        if entries.len() > MOST_COMMANDS {
+            return Err(ListRefused::Limit);
+        }
+        if !are_commands(entries) {
+            return Err(ListRefused::Entry);
+        }
+        let lines = menu_lines(alloc, entries)?;
+        Ok(Menu { lines })
+    }
+
+    /// Adds the messages behind those of a batch, in order.
+    pub(crate) fn add_to(&self, batch: Batch) -> Result<Batch, AllocError>
+        ensures { IfOk result (λ all. all ≡ batch ++ map menu_line self.now) }
+    {
+        add_lines(&self.lines, batch)
+    }
+}
+
 /// Writes the messages of all entries, in order.
-pub(crate) fn menu_lines(
-    alloc: Global,
-    entries: &[MenuEntry<'_>],
-) -> Result<Vec<MenuLine>, AllocError>
+fn menu_lines(alloc: Global, entries: &[MenuEntry<'_>]) -> Result<Vec<MenuLine>, AllocError>
     ensures { IfOk result (λ lines. lines.items ≡ map entry_of entries.now) }
 {
     let mut lines = Vec::with_capacity(alloc, entries.len())?;
@@ -71,8 +112,7 @@ pub(crate) fn menu_lines(
     Ok(lines)
 }
 
-/// Makes a batch with the messages of the menu behind its own.
-pub(crate) fn with_menu(menu: &[MenuLine], batch: Batch) -> Result<Batch, AllocError>
+fn add_lines(menu: &[MenuLine], batch: Batch) -> Result<Batch, AllocError>
     ensures { IfOk result (λ all. all ≡ batch ++ map menu_line menu.now) }
 {
     let mut batch = batch;
@@ -83,8 +123,8 @@ pub(crate) fn with_menu(menu: &[MenuLine], batch: Batch) -> Result<Batch, AllocE
 }
 
 /// Answers whether each entry has a name, and a context of 1 to 15.
-pub(crate) fn are_commands(entries: &[MenuEntry<'_>]) -> bool
-    ensures { result ≡ list_all is_command entries.now }
+fn are_commands(entries: &[MenuEntry<'_>]) -> bool
+    ensures { result ≡ list_all is_command (map entry_of entries.now) }
 {
     'entries: for entry in entries {
         if !is_command(entry) {
@@ -95,7 +135,7 @@ pub(crate) fn are_commands(entries: &[MenuEntry<'_>]) -> bool
 }
 
 fn is_command(entry: &MenuEntry<'_>) -> bool
-    ensures { result ≡ is_command entry.now }
+    ensures { result ≡ is_command (entry_of entry.now) }
 {
     !entry.name.is_empty() && entry.context != 0 && entry.context <= 15
 }

@@ -1,3 +1,15 @@
+ghost use Rattle.std.specs.Prelude.{◌≡◌, ◌≢◌, [], Ok, length};
+ghost use Rattle.hub_setup.specs.Settings.{configured, hub_with, plain_hub};
+
+/// The most registered users that a hub may have.
+pub const MOST_ACCOUNTS: usize = 32;
+
+/// The most entries that a hub may have for the clients' menus.
+pub const MOST_COMMANDS: usize = 64;
+
+/// The most connections that a hub may be set up to admit.
+pub const MOST_USERS: u32 = 900;
+
 /// A registered user.
 #[derive(Clone, Copy, Debug)]
 pub struct Account<'a> {
@@ -48,4 +60,27 @@ pub struct Options<'a> {
     pub max_users: u32,
     /// The moment at which the hub opens, in seconds.
     pub opening: u64,
+}
+
+impl<'a> Options<'a> {
+    /// Gives the options of a hub of this name with nothing that settings may add, for 512 users, that opens at moment 0.
+    /// An empty name is kept, and refused by `Setup::new`.
+    #[tactic(auto, unfolding(crate::specs::Settings::configured, crate::specs::Settings::accounts_of, crate::specs::Settings::are_distinct, crate::specs::Settings::menu_of))]
+    pub fn named(name: &'a str) -> Options<'a>
+        ensures hub { hub_with result [] [] ≡ plain_hub name.entry.now }
+        ensures accounts { result.accounts.now ≡ [] }
+        ensures commands { result.commands.now ≡ [] }
+        ensures configured { length name.entry.now ≢ 0 → configured result ≡ Ok (plain_hub name.entry.now) }
+    {
+        Options {
+            name,
+            topic: "",
+            accounts: &[],
+            commands: &[],
+            registered_only: false,
+            search_interval: 0,
+            max_users: 512,
+            opening: 0,
+        }
+    }
 }

@@ -8,8 +8,8 @@ ghost use Rattle.hub_rules.specs.Identities.{key_in, nick_in};
 ghost use Rattle.hub_rules.specs.Prepared.{owner_digest, password_digest, password_of, prepared, update_in, update_of};
 ghost use Rattle.hub_setup.specs.PreparedReading.{IsSaid};
 
+use crate::accounts::Registered;
 use crate::refused::LineRefused;
-use crate::registered::Registered;
 use crate::setup::Setup;
 use adc_ids::Pid;
 use adc_line::{Kind, Line, LineFault, UnescapeFault, unescape};

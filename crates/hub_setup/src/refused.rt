@@ -16,6 +16,17 @@ pub enum SetupRefused {
     Command = 5,
 }
 
+/// The cause for which a list makes no accounts or no menu, looked for in the order 2, 3, 1.
+#[derive(Clone, Copy, Debug, PartialEq, Eq)]
+pub enum ListRefused {
+    /// Memory ran out, before a fault that comes later was looked for.
+    Memory = 1,
+    /// There are too many entries.
+    Limit = 2,
+    /// An entry is not as it has to be.
+    Entry = 3,
+}
+
 /// The cause for which a line was not made ready; it may be tried again.
 #[derive(Clone, Copy, Debug, PartialEq, Eq)]
 pub enum LineRefused {
@@ -31,6 +42,17 @@ impl From<AllocError> for SetupRefused {
 
     fn from(_: AllocError) -> SetupRefused {
         SetupRefused::Memory
+    }
+}
+
+impl From<AllocError> for ListRefused {
+    ghost use Rattle.std.specs.Prelude.{◌≡◌};
+    ghost use Rattle.hub_setup.specs.declared.refused.ListRefused.TheVariants.{Memory};
+
+    ghost from_gives = { λ _ refused. refused ≡ Memory };
+
+    fn from(_: AllocError) -> ListRefused {
+        ListRefused::Memory
     }
 }
 

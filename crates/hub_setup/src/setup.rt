@@ -1,33 +1,24 @@
-ghost use Rattle.std.specs.Prelude.{◌≡◌, ◌≤◌, ◌++◌, map, IfOk, IfErr};
+ghost use Rattle.std.specs.Prelude.{◌≡◌, ◌≢◌, ◌≤◌, ◌++◌, length, map, IfOk, IfErr};
 ghost use Rattle.std.specs.Option.{option_copied};
 ghost use Rattle.hub_rules.specs.Accounts.{account_with};
 ghost use Rattle.hub_rules.specs.Texts.{menu_line};
-ghost use Rattle.hub_setup.specs.Settings.{configured, IsConfigured, IsNamedWithinLimits, is_past_limit};
+ghost use Rattle.hub_setup.specs.Settings.{configured, hub_with, is_past_limit, most_users, IsConfigured, IsNamedWithinLimits};
 
-use crate::menu::{MenuLine, are_commands, menu_lines, with_menu};
-use crate::options::Options;
-use crate::refused::SetupRefused;
-use crate::registered::{Registered, registered_users};
+use crate::accounts::{Accounts, Registered};
+use crate::menu::Menu;
+use crate::options::{MOST_ACCOUNTS, MOST_COMMANDS, MOST_USERS, Options};
+use crate::refused::{ListRefused, SetupRefused};
 use outboxes::Batch;
 use std::alloc::{AllocError, Global};
 use std::marker::Model;
-
-/// The number of registered users that a hub may have.
-const MOST_ACCOUNTS: usize = 32;
-
-/// The number of entries that a hub may have for the clients' menus.
-const MOST_COMMANDS: usize = 64;
-
-/// The number of connections that a hub may be set up to admit.
-const MOST_USERS: u32 = 900;
 
 /// The setup of a hub.
 #[derive(Debug, Drop)]
 pub struct Setup {
     name: String,
     topic: String,
-    accounts: Vec<Registered>,
-    menu: Vec<MenuLine>,
+    accounts: Accounts,
+    menu: Menu,
     registered_only: bool,
     search_interval: u32,
     max_users: u32,
@@ -35,15 +26,25 @@ pub struct Setup {
 }
 
 impl Model for Setup {
+    ghost use Rattle.std.specs.Prelude.{◌≤◌};
+    ghost use Rattle.std.specs.String.{string_bytes};
     ghost use Rattle.hub_rules.specs.Configured.{Configured};
+    ghost use Rattle.hub_setup.specs.Settings.{most_users};
 
     ghost Value = { Configured };
 
-    ghost use Rattle.hub_setup.specs.SetupView.{setup_view, IsWithinLimits};
+    ghost view = { λ s. record {
+      name = string_bytes s.name;
+      topic = string_bytes s.topic;
+      accounts = s.accounts;
+      menu = s.menu;
+      registered_only = s.registered_only;
+      search_interval = s.search_interval;
+      max_users = s.max_users;
+      opening = s.opening;
+    } };
 
-    ghost view = { setup_view };
-
-    ghost invariant = { IsWithinLimits };
+    ghost invariant = { λ s. (1 ≤ s.max_users) × (s.max_users ≤ most_users) };
 }
 
 impl Setup {
@@ -65,15 +66,39 @@ impl Setup {
         if options.name.is_empty() {
             return Err(SetupRefused::Name);
         }
-        let accounts = registered_users(alloc, options.accounts)?;
-        if !are_commands(options.commands) {
-            return Err(SetupRefused::Command);
-        }
+        let accounts = match Accounts::new(alloc, options.accounts) {
+            Ok(accounts) => accounts,
+            Err(ListRefused::Memory) => return Err(SetupRefused::Memory),
+            Err(ListRefused::Limit) => return Err(SetupRefused::Limit),
+            Err(ListRefused::Entry) => return Err(SetupRefused::Account),
+        };
+        let menu = match Menu::new(alloc, options.commands) {
+            Ok(menu) => menu,
+            Err(ListRefused::Memory) => return Err(SetupRefused::Memory),
+            Err(ListRefused::Limit) => return Err(SetupRefused::Limit),
+            Err(ListRefused::Entry) => return Err(SetupRefused::Command),
+        };
+        Ok(Setup::with_lists(alloc, options, accounts, menu)?)
+    }
+
+    /// Makes the setup of options that have a name and admit 1 to 900 connections, with these accounts and this menu in
+    /// place of their lists, which are not looked at. Refused only where memory runs out.
+    pub fn with_lists(
+        alloc: Global,
+        options: &Options<'_>,
+        accounts: Accounts,
+        menu: Menu,
+    ) -> Result<Setup, AllocError>
+        requires named { length options.now.name.now ≢ 0 }
+        requires some { 1 ≤ options.now.max_users }
+        requires few { options.now.max_users ≤ most_users }
+        ensures { IfOk result (λ setup. setup ≡ hub_with options.now accounts menu) }
+    {
         Ok(Setup {
             name: String::from_str(alloc, options.name)?,
             topic: String::from_str(alloc, options.topic)?,
             accounts,
-            menu: menu_lines(alloc, options.commands)?,
+            menu,
             registered_only: options.registered_only,
             search_interval: options.search_interval,
             max_users: options.max_users,
@@ -120,7 +145,7 @@ impl Setup {
     pub fn max_users(&self) -> u32
         ensures exact { result ≡ self.now.max_users }
         ensures some { 1 ≤ self.now.max_users }
-        ensures few { self.now.max_users ≤ 900 }
+        ensures few { self.now.max_users ≤ most_users }
     {
         self.max_users
     }
@@ -129,7 +154,7 @@ impl Setup {
     pub fn account(&self, key: &str) -> Option<&Registered>
         ensures { option_copied result ≡ account_with key.now self.now.accounts }
     {
-        find_account(&self.accounts, key)
+        self.accounts.find(key)
     }
 
     /// Makes a batch with the messages behind its own that tell a client of the menu (ADC-EXT, "UCMD"). They are shared and
@@ -137,7 +162,7 @@ impl Setup {
     pub fn menu(&self, batch: Batch) -> Result<Batch, AllocError>
         ensures { IfOk result (λ all. all ≡ batch ++ map menu_line self.now.menu) }
     {
-        with_menu(&self.menu, batch)
+        self.menu.add_to(batch)
     }
 }
 
@@ -148,16 +173,4 @@ fn is_past_limit(options: &Options<'_>) -> bool
         || options.commands.len() > MOST_COMMANDS
         || options.max_users == 0
         || options.max_users > MOST_USERS
-}
-
-#[tactic(auto, unfolding(hub_rules::specs::Accounts::account_with))]
-fn find_account<'a>(accounts: &'a [Registered], key: &str) -> Option<&'a Registered>
-    ensures { option_copied result ≡ account_with key.entry.now accounts.entry.now }
-{
-    'accounts: for account in accounts {
-        if account.key() == key {
-            return Some(account);
-        }
-    }
-    None
 }

@@ -3,7 +3,7 @@ ghost use Rattle.std.specs.Fmt.{decimal};
 ghost use Rattle.std.specs.Option.{option_copied};
 ghost use Rattle.hub_rules.specs.Texts.{ban_field, client_type, reason_field, removal_line, update_line, user_line};
 
-use crate::registered::Registered;
+use crate::accounts::Registered;
 use crate::texts::ended;
 use adc_base32::Sid;
 use adc_line::escape;

@@ -111,16 +111,7 @@ fn attempt<R: Wait + Clock + RandomSource + AllocGlobal>(
     rt: &R,
     input: &[u8],
 ) -> Option<(End, Vec<u8>)> {
-    let options = Options {
-        name: "Hub",
-        topic: "",
-        accounts: &[],
-        commands: &[],
-        registered_only: false,
-        search_interval: 0,
-        max_users: 512,
-        opening: 0,
-    };
+    let options = Options::named("Hub");
     let setup = Setup::new(rt.alloc(), &options).ok()?;
     let setup = Arc::new(rt.alloc(), setup).ok()?;
     let (hub, mut host) = Hub::open(rt.alloc(), setup.clone().ok()?, &First24).ok()?;

@@ -1,9 +1,3 @@
-/// The most accounts.
-pub(crate) const MAX_ACCOUNTS: usize = 32;
-
-/// The most entries of the menu.
-pub(crate) const MAX_COMMANDS: usize = 64;
-
 pub(crate) const ACCOUNT_LIST: &str = "a list of tables, [[account]]";
 
 pub(crate) const COMMAND_LIST: &str = "a list of tables, [[command]]";
@@ -32,9 +26,13 @@ pub(crate) const CONTENT: &str = "a text, or separator = true";
 
 pub(crate) const NO_TEXT: &str = "no text beside separator = true";
 
-/// Tells what may stand at a key of the settings; of a key that is none, which keys there are.
-pub(crate) fn allowed_at(key: &str) -> &'static str {
-    match key {
+/// The keys of the settings.
+pub(crate) const KEYS: &str =
+    "name, topic, listen, hash, tables, registered_only, search_interval, max_users, threads, stop_after, seed_file, account, command";
+
+/// Gives what may stand at a key of the settings; `None` of a key that is none of them.
+pub(crate) fn allowed_at(key: &str) -> Option<&'static str> {
+    let allowed = match key {
         "name" => SOME_TEXT,
         "topic" | "tables" | "seed_file" => TEXT,
         "listen" => "an IPv4 address and a port, as 127.0.0.1:4111",
@@ -46,28 +44,7 @@ pub(crate) fn allowed_at(key: &str) -> &'static str {
         "stop_after" => "a whole number from 0 to 65536",
         "account" => ACCOUNT_LIST,
         "command" => COMMAND_LIST,
-        _ => {
-            "name, topic, listen, hash, tables, registered_only, search_interval, max_users, threads, stop_after, seed_file, account, command"
-        }
-    }
-}
-
-/// Tests whether a key is one of the settings.
-pub(crate) fn is_known(key: &str) -> bool {
-    matches!(
-        key,
-        "name"
-            | "topic"
-            | "listen"
-            | "hash"
-            | "tables"
-            | "registered_only"
-            | "search_interval"
-            | "max_users"
-            | "threads"
-            | "stop_after"
-            | "seed_file"
-            | "account"
-            | "command"
-    )
+        _ => return None,
+    };
+    Some(allowed)
 }

@@ -1,6 +1,7 @@
-use crate::allowed::{self, MAX_ACCOUNTS, MAX_COMMANDS};
+use crate::allowed;
 use crate::findings::{Finding, Found};
 use adc_ids::{Nick, NickFault};
+use hub_setup::{MOST_ACCOUNTS, MOST_COMMANDS};
 use std::alloc::{AllocError, Global};
 use toml::{Table, Value};
 
@@ -39,8 +40,9 @@ pub(crate) fn finding_at<'a>(
     key: &'a str,
 ) -> Result<Finding<'a>, AllocError> {
     let value = table.get(key);
+    let allowed = allowed::allowed_at(key);
     let found = match value {
-        Some(_) if !allowed::is_known(key) => Found::Unknown,
+        Some(_) if allowed.is_none() => Found::Unknown,
         Some(value) if key == "account" => Found::Secret(value),
         Some(value) => Found::Value(value),
         None => Found::Nothing,
@@ -60,7 +62,7 @@ pub(crate) fn finding_at<'a>(
         entry: None,
         inner: None,
         found,
-        allowed: allowed::allowed_at(key),
+        allowed: allowed.unwrap_or(allowed::KEYS),
     })
 }
 
@@ -73,13 +75,13 @@ fn account_finding<'a>(
             return Ok(Some(flaw.in_entry("account", entry)));
         }
     }
-    if items.len() > MAX_ACCOUNTS {
+    if items.len() > MOST_ACCOUNTS {
         let flaw = Flaw {
             inner: None,
             found: Found::Surplus,
             allowed: allowed::ACCOUNTS,
         };
-        return Ok(Some(flaw.in_entry("account", MAX_ACCOUNTS)));
+        return Ok(Some(flaw.in_entry("account", MOST_ACCOUNTS)));
     }
     repeated_nick(alloc, items)
 }
@@ -166,7 +168,7 @@ fn command_finding<'a>(items: &'a Vec<Value>) -> Option<Finding<'a>> {
             return Some(flaw.in_entry("command", entry));
         }
     }
-    if items.len() <= MAX_COMMANDS {
+    if items.len() <= MOST_COMMANDS {
         return None;
     }
     let flaw = Flaw {
@@ -174,7 +176,7 @@ fn command_finding<'a>(items: &'a Vec<Value>) -> Option<Finding<'a>> {
         found: Found::Surplus,
         allowed: allowed::COMMANDS,
     };
-    Some(flaw.in_entry("command", MAX_COMMANDS))
+    Some(flaw.in_entry("command", MOST_COMMANDS))
 }
 
 fn command_flaw(item: &Value) -> Option<Flaw<'_>> {

@@ -4,22 +4,18 @@ pub(crate) mod texts;
 
 use crate::rows::{say_bytes, twice, unknown};
 use bytes::Bytes;
-use hub_setup::{Account, MenuEntry, MenuItem, Options, Setup, SetupRefused};
-use std::alloc::AllocGlobal;
+use hub_setup::{
+    Account, Accounts, ListRefused, Menu, MenuEntry, MenuItem, Options, Setup, SetupRefused,
+};
+use std::alloc::{AllocError, AllocGlobal};
 use std::io::Print;
 use std::process::Abort;
 
 /// Gives the options of a hub of this name, with no accounts and no menu, for one connection.
 fn options<'a>(name: &'a str) -> Options<'a> {
     Options {
-        name,
-        topic: "",
-        accounts: &[],
-        commands: &[],
-        registered_only: false,
-        search_interval: 0,
         max_users: 1,
-        opening: 0,
+        ..Options::named(name)
     }
 }
 
@@ -51,6 +47,36 @@ fn setup(rt: &(impl Abort + AllocGlobal + Print), options: &Options<'_>) -> Setu
     match set_up(rt, options) {
         Ok(setup) => setup,
         Err(_) => unknown(rt, "options"),
+    }
+}
+
+/// Makes a setup of lists that have no fault.
+fn of_lists(
+    rt: &(impl Abort + AllocGlobal + Print),
+    accounts: &[Account<'_>],
+    commands: &[MenuEntry<'_>],
+) -> Setup {
+    let options = Options::named("Hub");
+    match twice!(rt; "hub_setup::Setup::with_lists", AllocError,
+        Setup::with_lists(rt.alloc(), &options, accounts_of(rt, accounts), menu_of(rt, commands)))
+    {
+        Ok(setup) => setup,
+        Err(AllocError) => unknown(rt, "lists"),
+    }
+}
+
+fn accounts_of(rt: &(impl Abort + AllocGlobal + Print), accounts: &[Account<'_>]) -> Accounts {
+    match twice!(rt; "hub_setup::Accounts::new", ListRefused::Memory, Accounts::new(rt.alloc(), accounts))
+    {
+        Ok(accounts) => accounts,
+        Err(_) => unknown(rt, "accounts"),
+    }
+}
+
+fn menu_of(rt: &(impl Abort + AllocGlobal + Print), commands: &[MenuEntry<'_>]) -> Menu {
+    match twice!(rt; "hub_setup::Menu::new", ListRefused::Memory, Menu::new(rt.alloc(), commands)) {
+        Ok(menu) => menu,
+        Err(_) => unknown(rt, "menu"),
     }
 }
 

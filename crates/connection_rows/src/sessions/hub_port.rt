@@ -27,16 +27,7 @@ pub(crate) struct HubLeft {
 impl HubPort {
     /// Opens a new hub, to which others have come, each by greeting and this login line; and one more connection.
     pub(crate) fn open(rt: &impl Abort, alloc: Global, others: &[&[u8]]) -> HubPort {
-        let options = Options {
-            name: "Hub",
-            topic: "",
-            accounts: &[],
-            commands: &[],
-            registered_only: false,
-            search_interval: 0,
-            max_users: 512,
-            opening: 0,
-        };
+        let options = Options::named("Hub");
         let setup = again!(rt; Setup::new(alloc, &options));
         let setup = match Arc::new(alloc, setup) {
             Ok(setup) => setup,

@@ -35,14 +35,8 @@ pub(crate) struct Guest {
 /// Makes a hub's setup for so many users.
 pub(crate) fn setup_for(rt: &impl Abort, alloc: Global, max_users: u32) -> Arc<Setup> {
     let options = Options {
-        name: "Hub",
-        topic: "",
-        accounts: &[],
-        commands: &[],
-        registered_only: false,
-        search_interval: 0,
         max_users,
-        opening: 0,
+        ..Options::named("Hub")
     };
     match Arc::new(alloc, again!(rt; Setup::new(alloc, &options))) {
         Ok(setup) => setup,

@@ -16,6 +16,7 @@ fn setups(rt: HostRuntime) {
         tells bob -> a user
         tells ana -> nobody
         menu -> ISTA 000 Done<x0a>ICMD Help CT1 TTHMSG\s!help\n<x0a>ICMD Sep CT2 SP1<x0a>
+        listed -> ISTA 000 Done<x0a>ICMD Help CT1 TTHMSG\s!help\n<x0a>ICMD Sep CT2 SP1<x0a>
         topic new one -> new one
     ",
     );

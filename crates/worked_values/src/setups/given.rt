@@ -28,6 +28,7 @@ impl Part for Given {
             "faults" => faults(rt, text, said),
             "tells" => tells(rt, text, said),
             "menu" => menu(rt, said),
+            "listed" => listed(rt, said),
             "topic" => topic(rt, text, said),
             _ => unknown(rt, name),
         }
@@ -152,17 +153,36 @@ fn tells(rt: &(impl Abort + AllocGlobal + Print), text: &str, said: &mut Vec<u8>
     }
 }
 
-/// Says the lines of a menu of two entries behind another line, each with its line feed.
+const COMMANDS: [MenuEntry<'static>; 2] = [
+    MenuEntry {
+        name: "Help",
+        context: 1,
+        item: MenuItem::Text("HMSG !help\n"),
+    },
+    MenuEntry {
+        name: "Sep",
+        context: 2,
+        item: MenuItem::Separator,
+    },
+];
+
+/// Says the menu of a setup of options.
 fn menu(rt: &(impl Abort + AllocGlobal + Print), said: &mut Vec<u8>) {
-    let commands = [
-        entry("Help", 1, MenuItem::Text("HMSG !help\n")),
-        entry("Sep", 2, MenuItem::Separator),
-    ];
     let options = Options {
-        commands: &commands,
+        commands: &COMMANDS,
         ..options("Hub")
     };
-    let setup = setup(rt, &options);
+    say_menu(rt, &setup(rt, &options), said);
+}
+
+/// Says the menu of a setup of lists.
+fn listed(rt: &(impl Abort + AllocGlobal + Print), said: &mut Vec<u8>) {
+    let setup = of_lists(rt, &[account("ana", "secret", true)], &COMMANDS);
+    say_menu(rt, &setup, said);
+}
+
+/// Says the lines of a menu of two entries behind another line, each with its line feed.
+fn say_menu(rt: &(impl Abort + AllocGlobal + Print), setup: &Setup, said: &mut Vec<u8>) {
     let lines = twice!(rt; "hub_setup::Setup::menu", AllocError, setup.menu(done(rt)));
     let mut queue = outbox(rt, 8, 1000);
     match lines {

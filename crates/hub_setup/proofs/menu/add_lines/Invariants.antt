@@ -1,6 +1,6 @@
 use Rattle.std.proofs.Common.{◌≡◌, ◌++◌, map, drop}
 use Rattle.hub_rules.specs.Texts.{menu_line}
-use Rattle.hub_setup.proofs.menu.with_menu.Given as goal
+use Rattle.hub_setup.proofs.menu.add_lines.Given as goal
 
 -- the messages so far and those that are left are all
 abbrev pub invariant-loop-entry : goal.invariant-loop-entry

@@ -1,7 +1,7 @@
 use Rattle.std.proofs.Common.{◌≡◌, map, drop}
 use Rattle.std.specs.List.{list_any}
 use Rattle.std.specs.Str.{bytes_eq}
-use Rattle.hub_setup.proofs.registered.has_key.Given as goal
+use Rattle.hub_setup.proofs.accounts.has_key.Given as goal
 
 abbrev pub invariant-users : goal.invariant-users
 invariant-users l =

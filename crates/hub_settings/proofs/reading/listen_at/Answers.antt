@@ -1,7 +1,7 @@
 use Rattle.std.proofs.Common.{sym, subst, List, ℕ, Option, None}
 use Rattle.std.specs.Net.Grammar.{IsSocketV4Text}
-use Rattle.hub_settings.specs.Program.{IsSpelled}
-use Rattle.hub_settings.proofs.front.listen_at.Goals as goal
+use Rattle.hub_settings.specs.Settings.{IsSpelled}
+use Rattle.hub_settings.proofs.reading.listen_at.Goals as goal
 
 pub returns-in-Err : goal.returns-in-Err
 returns-in-Err c =
