@@ -1,5 +1,5 @@
 -- Base32 text and the bytes that it spells, bit by bit (RFC 4648, section 6; ADC 1.0, "Message syntax").
-use Rattle.std.specs.Prelude.{◌≡◌, ℕ, zero, suc, ◌+◌, ◌*◌, ◌-◌, ◌/◌, ◌%◌, ◌^◌, List, [], ◌∷◌, ◌++◌, length, replicate, IsSome}
+use Rattle.std.specs.Prelude.{◌≡◌, ℕ, zero, suc, ◌+◌, ◌*◌, ◌-◌, ◌/◌, ◌%◌, ◌^◌, ◌<◌, List, [], ◌∷◌, ◌++◌, length, replicate, IsSome}
 use Rattle.std.specs.List.{All, flat_map}
 use Rattle.std.specs.Option.{unwrap_or}
 use Rattle.adc_base32.specs.Digits.{value_at}
@@ -38,3 +38,11 @@ IsBase32 text bytes =
     (length text ≡ text_len (length bytes))
     × AreDigits text
     × (text_bits text ≡ byte_bits bytes ++ replicate (5 * length text - 8 * length bytes) 0)
+
+abbrev pub AreBytes : List ℕ → Type 0
+AreBytes bytes = All (λ b. b < 256) bytes
+
+-- a text has one list of so many bytes
+abbrev pub HasOneReading : Type 0
+HasOneReading =
+    (text bytes other : List ℕ) → length other ≡ length bytes → AreBytes bytes → AreBytes other → IsBase32 text bytes → IsBase32 text other → other ≡ bytes

@@ -11,6 +11,11 @@ abbrev pub IsNextFree : ℕ → List ℕ → ℕ → Type 0
 IsNextFree last taken n =
     (passed : ℕ) × (n ≡ following last passed) × (Contains taken n → ⊥) × ((k : ℕ) → k < passed → Contains taken (following last k))
 
+-- n is the first of these numbers that is not taken, once `base` of them are passed over
+abbrev pub IsFirstFree : ℕ → ℕ → List ℕ → ℕ → Type 0
+IsFirstFree last base taken n =
+    (k : ℕ) × (n ≡ following last (base + k)) × (Contains taken n → ⊥) × ((j : ℕ) → j < k → Contains taken (following last (base + j)))
+
 abbrev pub is_taken : ℕ → List ℕ → Bool
 is_taken n taken = list_any (nat_eq n) taken
 

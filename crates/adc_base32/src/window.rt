@@ -2,7 +2,7 @@ ghost use Rattle.std.specs.Prelude.{◌≡◌, ℕ, ◌+◌, ◌<◌, ◌≤◌,
 ghost use Rattle.std.specs.Bool.{Decides};
 ghost use Rattle.std.specs.List.{Contains};
 ghost use Rattle.adc_base32.specs.Sids.{sid_count};
-ghost use Rattle.adc_base32.specs.Turns.{following, IsNextFree};
+ghost use Rattle.adc_base32.specs.Turns.{following, IsFirstFree, IsNextFree};
 
 use crate::Sid;
 
@@ -17,7 +17,7 @@ pub(crate) const WINDOWS: u32 = 1_023;
 pub(crate) fn first_free(last: u32, base: u32, taken: &[Sid]) -> Option<u32>
     requires last_in { last < sid_count }
     requires base_in { base + 1_025 ≤ 1_048_575 }
-    ensures found { IfSome result (λ n. (k : ℕ) × (n ≡ following last (base + k)) × (Contains taken.now n → ⊥) × ((j : ℕ) → j < k → Contains taken.now (following last (base + j)))) }
+    ensures found { IfSome result (λ n. IsFirstFree last base taken.now n) }
     ensures full { IfNone result ((j : ℕ) → j < 1_025 → Contains taken.now (following last (base + j))) }
 {
     let held = held_in(last, base, taken);

@@ -12,6 +12,10 @@ module _ {S P B : Type 0} (told : S → StreamCall → S → Type 0) (calls : P 
   abbrev pub SessionGives : {Left : Type 0} → (P → Left → Type 0) → Session S P B → End × S × Left → Type 0
   SessionGives leaves session out = IfSome session.live (λ live. Gives told calls leaves (begun (state_of live)) out.0 out.1 out.2)
 
+  -- whatever comes out of the later one could have come out of the earlier
+  abbrev pub GivesAsBefore : {Left : Type 0} → (P → Left → Type 0) → Session S P B → Session S P B → Type 0
+  GivesAsBefore {Left} leaves earlier later = (out : End × S × Left) → SessionGives leaves later out → SessionGives leaves earlier out
+
   -- the same, after at most so many calls
   abbrev pub EndsIn : {Left : Type 0} → (P → Left → Type 0) → ℕ → Session S P B → End × S × Left → Type 0
   EndsIn leaves most session out = IfSome session.live (λ live. GivesIn told calls leaves most (begun (state_of live)) out.0 out.1 out.2)

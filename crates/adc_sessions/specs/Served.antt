@@ -57,3 +57,8 @@ pub record Served {S P Left : Type 0} (told : S → StreamCall → S → Type 0)
   -- once the port said that it hears nothing more, nothing is read and no line is handed over
   pub silent : FallsSilent false events
   pub cause : Cause end events
+
+-- whatever a session of this stream and this port ends with, that holds of it
+abbrev pub Serves : {S P Left : Type 0} → (S → StreamCall → S → Type 0) → (P → PortCall → P → Type 0) → (P → Left → Type 0) → S → P → (End × S × Left → Type 0) → Type 0
+Serves {S} {P} {Left} told calls leaves stream port gives =
+    (end : End) (stream' : S) (left : Left) → gives (end, stream', left) → Served told calls leaves stream port end stream' left

@@ -8,6 +8,7 @@ mod incoming;
 mod live;
 mod port;
 mod session;
+mod stream;
 
 pub use accept::{Accept, AcceptEnd};
 pub use bell::Bell;
@@ -15,3 +16,4 @@ pub use ending::{End, SessionRefused};
 pub use incoming::{Incoming, Peer, Starter};
 pub use port::Port;
 pub use session::Session;
+pub use stream::Stream;

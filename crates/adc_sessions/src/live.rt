@@ -3,11 +3,11 @@ ghost use Rattle.futures.specs.Task.{IsArmed, Keeps};
 ghost use Rattle.futures.specs.Poll.{OnPending};
 ghost use Rattle.adc_line.specs.Frames.{HasNoLf};
 ghost use Rattle.adc_line.specs.Stream.{IsLine};
-ghost use Rattle.adc_sessions.specs.Events.{StreamStep};
 
 use crate::bell::Bell;
 use crate::ending::End;
 use crate::port::Port;
+use crate::stream::Stream;
 use adc_line::{Framer, Next};
 use futures::task::{Context, Poll};
 use hub_rules::Verdict;
@@ -95,7 +95,7 @@ impl<S: AsyncRead + AsyncWrite, P: Port, B: Bell> Live<S, P, B> {
     /// Makes up to 64 turns, each of which makes at most one call of the stream or the port. It rests before only where no
     /// take has to follow, or where the stream would not take what waits.
     pub(crate) fn run(&mut self, cx: &mut Context<'_>) -> Poll<End>
-        ensures polled { Polled (StreamStep S.reads S.is_at_end S.AsyncRead.fails S.writes S.is_full S.AsyncWrite.fails) P.step 64 (state_of self.old) result (state_of self.new) (cx.new.is_woken ≡ true) (self.new.is_listening ≡ true) }
+        ensures polled { Polled ⟦<S as Stream>⟧.told P.step 64 (state_of self.old) result (state_of self.new) (cx.new.is_woken ≡ true) (self.new.is_listening ≡ true) }
         ensures registered { OnPending result (IsArmed cx.new) }
         ensures kept { Keeps cx.old cx.new }
     {
@@ -120,7 +120,7 @@ impl<S: AsyncRead + AsyncWrite, P: Port, B: Bell> Live<S, P, B> {
 
     /// Makes one turn. Bytes that wait to be written go first; then the take that each poll makes; then lines.
     fn turn(&mut self, cx: &mut Context<'_>) -> Turn
-        ensures turned { Turned (StreamStep S.reads S.is_at_end S.AsyncRead.fails S.writes S.is_full S.AsyncWrite.fails) P.step (state_of self.old) result (state_of self.new) (self.new.is_listening ≡ true) }
+        ensures turned { Turned ⟦<S as Stream>⟧.told P.step (state_of self.old) result (state_of self.new) (self.new.is_listening ≡ true) }
         ensures registered { result ≡ Turn.Rest → IsArmed cx.new }
         ensures kept { Keeps cx.old cx.new }
     {
@@ -158,7 +158,7 @@ impl<S: AsyncRead + AsyncWrite, P: Port, B: Bell> Live<S, P, B> {
         requires written { length self.old.output.items ≤ self.old.written }
         requires heard { self.old.is_over ≡ false }
         requires taken { self.old.is_fresh ≡ false }
-        ensures turned { Turned (StreamStep S.reads S.is_at_end S.AsyncRead.fails S.writes S.is_full S.AsyncWrite.fails) P.step (state_of self.old) result (state_of self.new) (self.new.is_listening ≡ true) }
+        ensures turned { Turned ⟦<S as Stream>⟧.told P.step (state_of self.old) result (state_of self.new) (self.new.is_listening ≡ true) }
         ensures registered { result ≡ Turn.Rest → IsArmed cx.new }
         ensures kept { Keeps cx.old cx.new }
     {
@@ -186,7 +186,7 @@ impl<S: AsyncRead + AsyncWrite, P: Port, B: Bell> Live<S, P, B> {
     /// and no more.
     fn take(&mut self) -> Turn
         requires { length self.old.output.items ≤ self.old.written }
-        ensures turned { Turned (StreamStep S.reads S.is_at_end S.AsyncRead.fails S.writes S.is_full S.AsyncWrite.fails) P.step (state_of self.old) result (state_of self.new) (self.new.is_listening ≡ true) }
+        ensures turned { Turned ⟦<S as Stream>⟧.told P.step (state_of self.old) result (state_of self.new) (self.new.is_listening ≡ true) }
         ensures goes_on { result ≢ Turn.Rest }
     {
         self.output.clear();
@@ -209,7 +209,7 @@ impl<S: AsyncRead + AsyncWrite, P: Port, B: Bell> Live<S, P, B> {
         requires written { length self.old.output.items ≤ self.old.written }
         requires heard { self.old.is_over ≡ false }
         requires taken { self.old.is_fresh ≡ false }
-        ensures turned { Turned (StreamStep S.reads S.is_at_end S.AsyncRead.fails S.writes S.is_full S.AsyncWrite.fails) P.step (with_line self.old.line.items (state_of self.old)) result (state_of self.new) (self.new.is_listening ≡ true) }
+        ensures turned { Turned ⟦<S as Stream>⟧.told P.step (with_line self.old.line.items (state_of self.old)) result (state_of self.new) (self.new.is_listening ≡ true) }
         ensures goes_on { result ≢ Turn.Rest }
     {
         self.owes_take = true;
@@ -227,7 +227,7 @@ impl<S: AsyncRead + AsyncWrite, P: Port, B: Bell> Live<S, P, B> {
     fn wait_to_take(&mut self, cx: &mut Context<'_>) -> Turn
         requires written { length self.old.output.items ≤ self.old.written }
         requires taken { self.old.is_fresh ≡ false }
-        ensures turned { Turned (StreamStep S.reads S.is_at_end S.AsyncRead.fails S.writes S.is_full S.AsyncWrite.fails) P.step (state_of self.old) result (state_of self.new) (self.new.is_listening ≡ true) }
+        ensures turned { Turned ⟦<S as Stream>⟧.told P.step (state_of self.old) result (state_of self.new) (self.new.is_listening ≡ true) }
         ensures registered { result ≡ Turn.Rest → IsArmed cx.new }
         ensures kept { Keeps cx.old cx.new }
     {
@@ -248,7 +248,7 @@ impl<S: AsyncRead + AsyncWrite, P: Port, B: Bell> Live<S, P, B> {
         requires no_line { HasNoLf self.old.framer }
         requires heard { self.old.is_over ≡ false }
         requires taken { self.old.is_fresh ≡ false }
-        ensures turned { Turned (StreamStep S.reads S.is_at_end S.AsyncRead.fails S.writes S.is_full S.AsyncWrite.fails) P.step (state_of self.old) result (state_of self.new) (self.new.is_listening ≡ true) }
+        ensures turned { Turned ⟦<S as Stream>⟧.told P.step (state_of self.old) result (state_of self.new) (self.new.is_listening ≡ true) }
         ensures registered { result ≡ Turn.Rest → IsArmed cx.new }
         ensures kept { Keeps cx.old cx.new }
     {
@@ -273,7 +273,7 @@ impl<S: AsyncRead + AsyncWrite, P: Port, B: Bell> Live<S, P, B> {
         requires written { length self.old.output.items ≤ self.old.written }
         requires no_line { HasNoLf self.old.framer }
         requires met { self.old.has_met_end ≡ true }
-        ensures turned { Turned (StreamStep S.reads S.is_at_end S.AsyncRead.fails S.writes S.is_full S.AsyncWrite.fails) P.step (state_of self.old) result (state_of self.new) (self.new.is_listening ≡ true) }
+        ensures turned { Turned ⟦<S as Stream>⟧.told P.step (state_of self.old) result (state_of self.new) (self.new.is_listening ≡ true) }
         ensures goes_on { result ≢ Turn.Rest }
     {
         // The last lines may have answers.
@@ -291,7 +291,7 @@ impl<S: AsyncRead + AsyncWrite, P: Port, B: Bell> Live<S, P, B> {
         requires no_line { HasNoLf self.old.framer }
         requires heard { self.old.is_over ≡ false }
         requires taken { self.old.is_fresh ≡ false }
-        ensures turned { Turned (StreamStep S.reads S.is_at_end S.AsyncRead.fails S.writes S.is_full S.AsyncWrite.fails) P.step (state_of self.old) result (state_of self.new) (self.new.is_listening ≡ true) }
+        ensures turned { Turned ⟦<S as Stream>⟧.told P.step (state_of self.old) result (state_of self.new) (self.new.is_listening ≡ true) }
         ensures registered { result ≡ Turn.Rest → IsArmed cx.new }
         ensures kept { Keeps cx.old cx.new }
     {
@@ -331,7 +331,7 @@ impl<S: AsyncRead + AsyncWrite, P: Port, B: Bell> Live<S, P, B> {
     /// Offers the stream all that waits, in one write.
     fn write(&mut self, cx: &mut Context<'_>) -> Turn
         requires { self.old.written < length self.old.output.items }
-        ensures turned { Turned (StreamStep S.reads S.is_at_end S.AsyncRead.fails S.writes S.is_full S.AsyncWrite.fails) P.step (state_of self.old) result (state_of self.new) (self.new.is_listening ≡ true) }
+        ensures turned { Turned ⟦<S as Stream>⟧.told P.step (state_of self.old) result (state_of self.new) (self.new.is_listening ≡ true) }
         ensures registered { result ≡ Turn.Rest → IsArmed cx.new }
         ensures kept { Keeps cx.old cx.new }
     {

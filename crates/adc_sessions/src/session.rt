@@ -1,14 +1,13 @@
 ghost use Rattle.std.specs.Prelude.{◌≡◌, length, IfOk, IfErr};
 ghost use Rattle.futures.specs.Task.{IsArmed, Covers, Keeps};
 ghost use Rattle.futures.specs.Poll.{IfReady, OnPending};
-ghost use Rattle.adc_sessions.specs.declared.ending.End.{End};
-ghost use Rattle.adc_sessions.specs.Events.{StreamStep};
-ghost use Rattle.adc_sessions.specs.Served.{Served};
+ghost use Rattle.adc_sessions.specs.Served.{Serves};
 
 use crate::bell::Bell;
 use crate::ending::{End, SessionRefused};
 use crate::live::Live;
 use crate::port::Port;
+use crate::stream::Stream;
 use futures::Future;
 use futures::task::{Context, Poll};
 use std::alloc::{AllocError, Global};
@@ -47,7 +46,7 @@ impl<S: AsyncRead + AsyncWrite, P: Port, B: Bell> Session<S, P, B> {
         port: P,
         bell: B,
     ) -> Result<Session<S, P, B>, (SessionRefused, S, P, B)>
-        ensures serves { IfOk result (λ session. (end : End) (stream' : S) (left : P.Left) → ⟦<Session<S, P, B> as Future>⟧.gives session (end, stream', left) → Served (StreamStep S.reads S.is_at_end S.AsyncRead.fails S.writes S.is_full S.AsyncWrite.fails) P.step P.leaves stream port end stream' left) }
+        ensures serves { IfOk result (λ session. Serves ⟦<S as Stream>⟧.told P.step P.leaves stream port (⟦<Session<S, P, B> as Future>⟧.gives session)) }
         ensures back { IfErr result (λ back. (back.1 ≡ stream) × (back.2 ≡ port) × (back.3 ≡ bell)) }
     {
         let Ok(input) = input(alloc) else {
@@ -66,21 +65,21 @@ fn input(alloc: Global) -> Result<Vec<u8>, AllocError>
 }
 
 impl<S: AsyncRead + AsyncWrite, P: Port, B: Bell> Future for Session<S, P, B> {
-    ghost use Rattle.adc_sessions.specs.Outcome.{SessionGives, EndsIn, GoesOnIn};
+    ghost use Rattle.adc_sessions.specs.Outcome.{SessionGives, GivesAsBefore, EndsIn, GoesOnIn};
 
     type Output = (End, S, P::Left);
 
-    ghost gives = { λ session out. SessionGives (StreamStep S.reads S.is_at_end S.AsyncRead.fails S.writes S.is_full S.AsyncWrite.fails) P.step P.leaves session out };
+    ghost gives = { λ session out. SessionGives ⟦<S as Stream>⟧.told P.step P.leaves session out };
 
     /// Makes at most 64 calls of the stream and the port together: so it hands over at most 64 lines and writes
     /// at most 64 times. The first call that is no write is a take. Where it is pending, it has made all 64 and has woken its
     /// task; or the stream would not take what waits to be written; or its last call of the port is a take that gave fewer
     /// lines than it asked for, and the bell was not rung. After the end it does nothing but ask to be polled again.
     fn poll(&mut self, cx: &mut Context<'_>) -> Poll<Self::Output>
-        ensures value { IfReady result (λ out. SessionGives (StreamStep S.reads S.is_at_end S.AsyncRead.fails S.writes S.is_full S.AsyncWrite.fails) P.step P.leaves self.old out) }
-        ensures same { OnPending result ((out : _) → SessionGives (StreamStep S.reads S.is_at_end S.AsyncRead.fails S.writes S.is_full S.AsyncWrite.fails) P.step P.leaves self.new out → SessionGives (StreamStep S.reads S.is_at_end S.AsyncRead.fails S.writes S.is_full S.AsyncWrite.fails) P.step P.leaves self.old out) }
-        ensures ends_in_few { IfReady result (λ out. EndsIn (StreamStep S.reads S.is_at_end S.AsyncRead.fails S.writes S.is_full S.AsyncWrite.fails) P.step P.leaves 64 self.old out) }
-        ensures goes_on_in_few { OnPending result (GoesOnIn (StreamStep S.reads S.is_at_end S.AsyncRead.fails S.writes S.is_full S.AsyncWrite.fails) P.step 64 cx.new self.old self.new) }
+        ensures value { IfReady result (λ out. SessionGives ⟦<S as Stream>⟧.told P.step P.leaves self.old out) }
+        ensures same { OnPending result (GivesAsBefore ⟦<S as Stream>⟧.told P.step P.leaves self.old self.new) }
+        ensures ends_in_few { IfReady result (λ out. EndsIn ⟦<S as Stream>⟧.told P.step P.leaves 64 self.old out) }
+        ensures goes_on_in_few { OnPending result (GoesOnIn ⟦<S as Stream>⟧.told P.step 64 cx.new self.old self.new) }
         ensures registered { OnPending result (IsArmed cx.new) }
         ensures kept { Keeps cx.old cx.new }
     {

@@ -1,7 +1,8 @@
 -- What the program is asked for, and how it ends.
-use Rattle.std.specs.Prelude.{◌≡◌, ℕ, false, List, [], ◌∷◌, codes, Option}
+use Rattle.std.specs.Prelude.{◌≡◌, ℕ, List, [], ◌∷◌, codes, Option}
 use Rattle.std.specs.Io.KnownBytes.{Keeps}
 use Rattle.hub_rules.specs.Configured.{Configured}
+use Rattle.hub_setup.specs.Settings.{plain_hub}
 use Rattle.session_hash.specs.First24.{first_24}
 use Rattle.hub_endings.specs.Endings.{status_of, message_of}
 use Rattle.hub_endings.specs.declared.ending.Ending.{Ending}
@@ -29,16 +30,7 @@ AsksToServe words = (path : List ℕ) × (words ≡ codes "serve" ∷ path ∷ [
 
 -- the hub of a connection on standard input: named Hub, with nothing that settings may add, for 512 users, opened at moment 0
 abbrev pub stdin_setup : Configured
-stdin_setup = record {
-  name = codes "Hub";
-  topic = [];
-  accounts = [];
-  menu = [];
-  registered_only = false;
-  search_interval = 0;
-  max_users = 512;
-  opening = 0;
-}
+stdin_setup = plain_hub (codes "Hub")
 
 -- what an ending says of the input and the output
 abbrev pub EndsBy : Ending → List (List ℕ) → Option (List ℕ) → Option (List ℕ) → Option (List ℕ) → Option (List ℕ) → Type 0
@@ -53,6 +45,10 @@ EndsBy endings.Transfer words unread left held holds =
 -- the status is that of an ending that the words, the input and the output bear out
 abbrev pub Ends : ℕ → List (List ℕ) → Option (List ℕ) → Option (List ℕ) → Option (List ℕ) → Option (List ℕ) → Type 0
 Ends status words unread left held holds = (ending : Ending) × (status ≡ status_of ending) × EndsBy ending words unread left held holds
+
+-- the same, unless a server is asked for, by what input and output tell of themselves
+abbrev pub EndsOver : {I O : Type 0} → ℕ → List (List ℕ) → (I → Option (List ℕ)) → I → I → (O → Option (List ℕ)) → O → O → Type 0
+EndsOver status words remains before after holds old new = (AsksToServe words → ⊥) → Ends status words (remains before) (remains after) (holds old) (holds new)
 
 -- the message of that ending was written, or its front
 abbrev pub Tells : ℕ → Option (List ℕ) → Option (List ℕ) → Type 0

@@ -2,7 +2,7 @@ ghost use Rattle.std.specs.Prelude.{◌≡◌, ◌↔◌, IsTrue, IfOk, IfSome, 
 ghost use Rattle.std.specs.Arc.{arc_value};
 ghost use Rattle.std.specs.String.{string_bytes};
 ghost use Rattle.hub_setup.specs.Settings.{configured};
-ghost use Rattle.hub_program.specs.Endings.{AsksForStdin, AsksToServe, stdin_setup, ending_of, EndsBy, Ends, Tells};
+ghost use Rattle.hub_program.specs.Endings.{AsksForStdin, AsksToServe, stdin_setup, ending_of, EndsBy, Ends, EndsOver, Tells};
 
 use crate::start::serve_file;
 use hub_core::{Options, Setup, SetupRefused};
@@ -41,7 +41,7 @@ where
     I: Read,
     O: Write,
     E: Write + Send,
-    ensures ends { (AsksToServe (map string_bytes words.now) → ⊥) → Ends result (map string_bytes words.now) (I.remaining input.old) (I.remaining input.new) (O.contents output.old) (O.contents output.new) }
+    ensures ends { EndsOver result (map string_bytes words.now) I.remaining input.old input.new O.contents output.old output.new }
     ensures tells { (AsksToServe (map string_bytes words.now) → ⊥) → Tells result (E.contents errors.old) (E.contents errors.new) }
 {
     if let Some(path) = settings_path(words) {
@@ -116,14 +116,5 @@ fn stdin_setup(alloc: Global) -> Result<Arc<Setup>, AllocError>
 fn stdin_options() -> Options<'static>
     ensures { configured result ≡ Ok stdin_setup }
 {
-    Options {
-        name: "Hub",
-        topic: "",
-        accounts: &[],
-        commands: &[],
-        registered_only: false,
-        search_interval: 0,
-        max_users: 512,
-        opening: 0,
-    }
+    Options::named("Hub")
 }

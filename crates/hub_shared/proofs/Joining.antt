@@ -1,5 +1,5 @@
 -- A visitor joins and becomes a pass; a pass quits and becomes a visitor.
-use Rattle.std.proofs.Common.{◌≡◌, ◌∙◌, sym, ap, ap₂, refl, subst, ℕ, Bool, true, false, not, ◌&&◌, ◌||◌, ◌==◌, cond, List, Result, Ok, Err}
+use Rattle.std.proofs.Common.{◌≡◌, ◌∙◌, sym, ap, ap₂, refl, subst, ℕ, Bool, true, false, not, ◌&&◌, ◌||◌, ◌==◌, List, Result, Ok, Err}
 use Rattle.std.proofs.lemmas.Bool.{eq-eqb}
 use Rattle.one_history.specs.States.{SeatState}
 use Rattle.hub_core.specs.Moves.{entry}
@@ -15,7 +15,7 @@ use Rattle.hub_rules.specs.Legal.{Legal}
 use Rattle.hub_rules.specs.Opening.{has_joined, has_quit}
 use Rattle.hub_shared.specs.declared.about.About.{About}
 use Rattle.hub_shared.specs.Callers.{IsPass, IsVisitor}
-use Rattle.hub_shared.specs.Connections.{challenge_in, has_stayed}
+use Rattle.hub_shared.specs.Connections.{has_stayed}
 use Rattle.hub_shared.proofs.Known.{new-quit, none-quit}
 use Rattle.hub_shared.proofs.Turns.{Gives, Takes, given-mine}
 

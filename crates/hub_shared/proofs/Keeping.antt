@@ -9,7 +9,7 @@ use Rattle.hub_rules.specs.Effects.{departure}
 use Rattle.hub_rules.specs.Facts.{Facts, after, joined, closed, happens, given, has_place, has_joins, newcomer, next_sid, effect_of_line}
 use Rattle.hub_rules.specs.Legal.{join_reply, reply}
 use Rattle.hub_rules.specs.Opening.{joins_as, quits}
-use Rattle.hub_rules.specs.Shares.{About, chosen, given_share, has_room, owes, removed_if, turned, with_share}
+use Rattle.hub_rules.specs.Shares.{About, chosen}
 use Rattle.hub_invariants.proofs.Members.{has, has-append}
 use Rattle.hub_invariants.proofs.Sound.{or-true}
 use Rattle.hub_shared.specs.Connections.{challenge_of}
@@ -27,24 +27,9 @@ then a b c x y = record { owner = x.owner ∙ y.owner; challenge = x.challenge �
 
 -- ---- an effect
 
-share-same : (room : Bool) (a : About) (share : List (List ℕ)) → Same (given_share room a share) a
-share-same true a share = record { owner = refl; challenge = refl }
-share-same false a share = record { owner = refl; challenge = refl }
-
-with_share-same : (a : About) (share : List (List ℕ)) → Same (with_share a share) a
-unfolding with_share
-with_share-same a share = share-same (has_room a share) a share
-
-removed-same : (removed is_caller : Bool) (effect : Effect) (b : About) → Same (removed_if removed (chosen is_caller (turned effect b) b)) b
-removed-same true true effect b = record { owner = refl; challenge = refl }
-removed-same true false effect b = record { owner = refl; challenge = refl }
-removed-same false true effect b = record { owner = refl; challenge = refl }
-removed-same false false effect b = record { owner = refl; challenge = refl }
-
 happens-same : (c : ℕ) (effect : Effect) (f : Facts) (d : ℕ) → Same ((happens c effect f).about d) (f.about d)
 unfolding happens
-happens-same c effect f d =
-    then _ _ _ (removed-same _ (d == c) effect (with_share (f.about d) (owes (d == c) effect (f.about d)))) (with_share-same (f.about d) (owes (d == c) effect (f.about d)))
+happens-same c effect f d = record { owner = refl; challenge = refl }
 
 given-same : (count : ℕ) (a : About) (is : Bool) → Same (chosen is (given count a) a) a
 given-same count a true = record { owner = refl; challenge = refl }

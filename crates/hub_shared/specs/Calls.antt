@@ -1,16 +1,19 @@
 -- What each call on a hub tells its caller. A history is written newest first, so 'h begins with s' says that s is an end of h.
 use Rattle.std.specs.Prelude.{◌≡◌, ℕ, List, ◌∷◌, ◌++◌, length, drop}
 use Rattle.one_history.specs.Histories.{Begins}
+use Rattle.outboxes.specs.declared.taken.Taken.{Taken}
 use Rattle.hub_core.specs.Moves.{entry}
 use Rattle.hub_core.specs.declared.refused.JoinRefused.{JoinRefused}
 use Rattle.hub_core.specs.declared.refused.JoinRefused.TheVariants as refusals
 use Rattle.hub_rules.specs.declared.history.Call.{Call}
+use Rattle.hub_rules.specs.declared.history.Call.TheVariants.{Line, Take}
 use Rattle.hub_rules.specs.declared.history.Entry.{Entry}
 use Rattle.hub_rules.specs.declared.history.Reply.{Reply}
 use Rattle.hub_rules.specs.declared.history.Reply.TheVariants as replies
+use Rattle.hub_rules.specs.declared.history.Verdict.{Verdict}
 use Rattle.hub_rules.specs.Legal.{Legal}
 use Rattle.hub_rules.specs.Configured.{Configured}
-use Rattle.hub_shared.specs.Callers.{Caller}
+use Rattle.hub_shared.specs.Callers.{Caller, PassState}
 use Rattle.hub_shared.specs.Connections.{entries_of}
 
 -- the hub: its setup, and what its hash means
@@ -42,3 +45,12 @@ module _ (setup : Configured) (hash : List ℕ → List ℕ) where
 -- what is behind the bytes that were there
 abbrev pub behind : List ℕ → List ℕ → List ℕ
 behind before after = drop (length before) after
+
+-- the connection of this pass has sent a line
+abbrev pub SaysLine : {H : Type 0} → Configured → (List ℕ → List ℕ) → PassState H → List ℕ → ℕ → Verdict → Caller → Type 0
+SaysLine setup hash pass bytes now verdict new = Made setup hash pass.caller (Line pass.connection bytes now) (replies.Said verdict) new
+
+-- it has taken lines, whose bytes stand behind those that were there
+abbrev pub TakesLines : {H : Type 0} → Configured → (List ℕ → List ℕ) → PassState H → ℕ → List ℕ → List ℕ → Taken → Caller → Type 0
+TakesLines setup hash pass count before after taken new =
+    Made setup hash pass.caller (Take pass.connection count) (replies.Took (behind before after) taken.lines taken.ended) new

@@ -2,9 +2,7 @@ ghost use Rattle.std.specs.Prelude.{◌≡◌, ◌≤◌, ◌++◌, IfOk, OnOk, 
 ghost use Rattle.hub_core.specs.Promises.{seen_of};
 ghost use Rattle.hub_rules.specs.History.{view};
 ghost use Rattle.hub_rules.specs.Prepared.{prepared};
-ghost use Rattle.hub_rules.specs.declared.history.Call.TheVariants.{Line, Take};
-ghost use Rattle.hub_rules.specs.declared.history.Reply.TheVariants.{Said, Took};
-ghost use Rattle.hub_shared.specs.Calls.{Made, Saw, behind};
+ghost use Rattle.hub_shared.specs.Calls.{SaysLine, Saw, TakesLines, behind};
 
 use crate::entered::enter;
 use crate::hub::Hub;
@@ -33,7 +31,7 @@ impl<H: SessionHash> Hub<H> {
         requires here { pass.old.home ≡ self.now.home }
         requires prepared { line.now ≡ prepared self.now.setup (H.digest_of self.now.hash) pass.old.challenge line.now.bytes }
         ensures same { pass.new ≡ record pass.old { caller = pass.new.caller } }
-        ensures made { IfOk result (λ verdict. Made self.now.setup (H.digest_of self.now.hash) pass.old.caller (Line pass.old.connection line.now.bytes now) (Said verdict) pass.new.caller) }
+        ensures made { IfOk result (λ verdict. SaysLine self.now.setup (H.digest_of self.now.hash) pass.old line.now.bytes now verdict pass.new.caller) }
         ensures refused { OnErr result (Saw self.now.setup (H.digest_of self.now.hash) pass.old.caller pass.new.caller) }
     {
         let mut core = self.lock.take(rt, &mut pass.seat);
@@ -67,7 +65,7 @@ impl<H: SessionHash> Hub<H> {
         requires some { 1 ≤ count }
         requires few { count ≤ 256 }
         ensures same { pass.new ≡ record pass.old { caller = pass.new.caller } }
-        ensures made { IfOk result (λ taken. Made self.now.setup (H.digest_of self.now.hash) pass.old.caller (Take pass.old.connection count) (Took (behind out.old.items out.new.items) taken.lines taken.ended) pass.new.caller) }
+        ensures made { IfOk result (λ taken. TakesLines self.now.setup (H.digest_of self.now.hash) pass.old count out.old.items out.new.items taken pass.new.caller) }
         ensures appended { OnOk result (out.new.items ≡ out.old.items ++ behind out.old.items out.new.items) }
         ensures refused { OnErr result (Saw self.now.setup (H.digest_of self.now.hash) pass.old.caller pass.new.caller) }
         ensures unchanged { OnErr result (out.new.items ≡ out.old.items) }

@@ -18,11 +18,11 @@ use Rattle.hub_rules.specs.declared.history.Reply.{Reply}
 use Rattle.hub_rules.specs.declared.history.Reply.TheVariants.{Said, Took}
 use Rattle.hub_rules.specs.declared.history.Verdict.{Verdict}
 use Rattle.hub_rules.specs.Configured.{Configured}
-use Rattle.hub_rules.specs.Effects.{is_over, is_present}
+use Rattle.hub_rules.specs.Effects.{is_over}
 use Rattle.hub_rules.specs.Facts.{Facts, after, effect_of_line, facts, given, happens}
 use Rattle.hub_rules.specs.Legal.{Legal, has_ended, is_open, reply}
 use Rattle.hub_rules.specs.Prepared.{prepared}
-use Rattle.hub_rules.specs.Shares.{About, affected, given_share, has_room, is_removed, owes, removed_if, turned, waiting, with_share}
+use Rattle.hub_rules.specs.Shares.{About, affected, chosen, has_room, owed_with, owes, waiting}
 use Rattle.hub_rules.specs.Sights.{PreparedLine}
 use Rattle.hub_invariants.proofs.Calls.{sound_of}
 use Rattle.hub_invariants.proofs.Kept.{given-bytes}
@@ -51,22 +51,14 @@ pub record IsKept (a b : About) : Type 0 where
   pub challenge : b.challenge ≡ a.challenge
   pub taken : take b.taken b.owed ≡ take a.taken a.owed
 
-share-kept : (room : Bool) (a : About) (share : List (List ℕ)) → a.taken ≤ length a.owed → IsKept a (given_share room a share)
-share-kept true a share within = record { owner = refl; challenge = refl; taken = take-append-le a.taken a.owed share within }
-share-kept false a share within = record { owner = refl; challenge = refl; taken = refl }
-
-removed-kept : (removed : Bool) (a b : About) → IsKept a b → IsKept a (removed_if removed b)
-removed-kept true a b kept = record { owner = kept.owner; challenge = kept.challenge; taken = kept.taken }
-removed-kept false a b kept = kept
-
-turned-kept : (effect : Effect) (a b : About) → IsKept a b → IsKept a (turned effect b)
-turned-kept effect a b kept = record { owner = kept.owner; challenge = kept.challenge; taken = kept.taken }
+taken-kept : (room : Bool) (taken : ℕ) (owed share : List (List ℕ)) → taken ≤ length owed → take taken (chosen room (owed ++ share) owed) ≡ take taken owed
+taken-kept true taken owed share within = take-append-le taken owed share within
+taken-kept false taken owed share within = refl
 
 affected-kept : (effect : Effect) (a : About) → a.taken ≤ length a.owed → IsKept a (affected true effect a)
-unfolding with_share
+unfolding owed_with
 affected-kept effect a within =
-    removed-kept (is_present a.stage && is_removed effect.world a.sid) a _
-    (turned-kept effect a (with_share a (owes true effect a)) (share-kept (has_room a (owes true effect a)) a (owes true effect a) within))
+    record { owner = refl; challenge = refl; taken = taken-kept (has_room a (owes true effect a)) a.taken a.owed (owes true effect a) within }
 
 -- a take that gave fewer lines than it might leaves none
 given-all : (count : ℕ) (a : About) → a.taken ≤ length a.owed → length (take count (waiting a)) < count → (given count a).taken ≡ length (given count a).owed

@@ -1,3 +1,4 @@
 pub mod Runs
 pub mod Faults
 pub mod Serving
+pub mod Streams

@@ -1,7 +1,6 @@
 ghost use Rattle.std.specs.Prelude.{IfErr, OnOk};
 ghost use Rattle.std.specs.Arc.{arc_value};
-ghost use Rattle.hub_stream.specs.Faults.{StopsBy};
-ghost use Rattle.hub_stream.specs.Runs.{IsServed};
+ghost use Rattle.hub_stream.specs.Streams.{RunServes, RunStops};
 
 use crate::fault::RunFault;
 use crate::session::StreamSession;
@@ -33,8 +32,8 @@ pub fn run_one<H: SessionHash, R: Read, W: Write>(
     reader: &mut R,
     writer: &mut W,
 ) -> Result<(), RunFault>
-    ensures ok { OnOk result (IsServed (arc_value setup) (H.digest_of hash.now) (R.remaining reader.old) (R.remaining reader.new) (W.contents writer.old) (W.contents writer.new)) }
-    ensures fault { IfErr result (λ fault. StopsBy fault (arc_value setup) (H.digest_of hash.now) (R.remaining reader.old) (R.remaining reader.new) (W.contents writer.old) (W.contents writer.new)) }
+    ensures ok { OnOk result (RunServes (arc_value setup) (H.digest_of hash.now) R.remaining reader.old reader.new W.contents writer.old writer.new) }
+    ensures fault { IfErr result (λ fault. RunStops fault (arc_value setup) (H.digest_of hash.now) R.remaining reader.old reader.new W.contents writer.old writer.new) }
 {
     let mut session = StreamSession::open(alloc, &setup)?;
     let mut buffer = [0; READ_LENGTH];

@@ -3,7 +3,7 @@ ghost use Rattle.std.specs.Arc.{arc_value};
 ghost use Rattle.hub_core.specs.Moves.{StandsAt};
 ghost use Rattle.hub_rules.specs.Configured.{Configured};
 ghost use Rattle.hub_stream.specs.Runs.{first};
-ghost use Rattle.hub_stream.specs.Serving.{IsReady, IsRunning, Starts, CatchesUp, FallsShort, GoesOn, BreaksOff, Hears, StopsHearing, IsInAnswering};
+ghost use Rattle.hub_stream.specs.Serving.{IsReady, IsRunning, Starts, FallsShort, IsInAnswering};
 
 use crate::fault::RunFault;
 use adc_line::{Framer, Next};
@@ -38,6 +38,8 @@ pub(crate) struct StreamSession {
 }
 
 impl StreamSession {
+    ghost use Rattle.hub_stream.specs.Streams.{AnswersLine, BreaksInLine, HearsPiece, StopsInPiece, WritesAll};
+
     /// Opens a hub, which the connection joins.
     ///
     /// Refused: `Memory`.
@@ -71,8 +73,8 @@ impl StreamSession {
         writer: &mut W,
     ) -> Result<bool, RunFault>
         requires ready { IsReady (arc_value setup.now) (H.digest_of hash.now) self.old.core (W.contents writer.old) }
-        ensures ok { IfOk result (λ ended. Hears (arc_value setup.now) (H.digest_of hash.now) (self.old.framer ++ piece.now) self.new.framer ended self.old.core self.new.core (W.contents writer.old) (W.contents writer.new)) }
-        ensures fault { IfErr result (λ fault. StopsHearing fault (arc_value setup.now) (H.digest_of hash.now) (self.old.framer ++ piece.now) self.new.framer self.old.core self.new.core (W.contents writer.old) (W.contents writer.new)) }
+        ensures ok { IfOk result (λ ended. HearsPiece (arc_value setup.now) (H.digest_of hash.now) self.old piece.now ended self.new W.contents writer.old writer.new) }
+        ensures fault { IfErr result (λ fault. StopsInPiece fault (arc_value setup.now) (H.digest_of hash.now) self.old piece.now self.new W.contents writer.old writer.new) }
     {
         self.framer.feed(piece)?;
         let mut ended = false;
@@ -96,9 +98,9 @@ impl StreamSession {
         writer: &mut W,
     ) -> Result<bool, RunFault>
         requires ready { IsReady (arc_value setup.now) (H.digest_of hash.now) self.old.core (W.contents writer.old) }
-        ensures ok { IfOk result (λ ended. GoesOn (arc_value setup.now) (H.digest_of hash.now) (self.old.line.items ∷ []) ended self.old.core self.new.core (W.contents writer.old) (W.contents writer.new)) }
+        ensures ok { IfOk result (λ ended. AnswersLine (arc_value setup.now) (H.digest_of hash.now) ended self.old self.new W.contents writer.old writer.new) }
         ensures framer { self.new.framer ≡ self.old.framer }
-        ensures err { OnErr result (BreaksOff (arc_value setup.now) (H.digest_of hash.now) (self.old.line.items ∷ []) self.old.core (W.contents writer.old) (W.contents writer.new)) }
+        ensures err { OnErr result (BreaksInLine (arc_value setup.now) (H.digest_of hash.now) self.old W.contents writer.old writer.new) }
         ensures fault { IfErr result IsInAnswering }
     {
         let line = prepare(alloc, setup, hash, CHALLENGE, &self.line)?;
@@ -110,7 +112,7 @@ impl StreamSession {
     /// Takes all that waits for the connection, and writes it. It tells whether nothing more will come.
     fn write_waiting<W: Write>(&mut self, writer: &mut W) -> Result<bool, RunFault>
         requires running { (setup : Configured) × (hash : List ℕ → List ℕ) × IsRunning setup hash self.old.core (W.contents writer.old) }
-        ensures ok { IfOk result (λ ended. (setup : Configured) (hash : List ℕ → List ℕ) → CatchesUp setup hash ended self.old.core self.new.core (W.contents writer.old) (W.contents writer.new)) }
+        ensures ok { IfOk result (λ ended. WritesAll ended self.old self.new W.contents writer.old writer.new) }
         ensures framer { self.new.framer ≡ self.old.framer }
         ensures err { OnErr result ((setup : Configured) (hash : List ℕ → List ℕ) → FallsShort setup hash self.old.core (W.contents writer.old) (W.contents writer.new)) }
         ensures fault { IfErr result IsInAnswering }

@@ -1,10 +1,10 @@
 -- What is answered where the words of a SUP are read.
-use Rattle.std.specs.Prelude.{◌≡◌, ◌≢◌, ℕ, Bool, not, nat_lt, List, length, is_some, Result, Ok, Err, if◌then◌else◌}
+use Rattle.std.specs.Prelude.{◌≡◌, ◌≢◌, ℕ, Bool, not, nat_lt, List, [], ◌∷◌, ◌++◌, length, is_some, IfOk, Result, Ok, Err, if◌then◌else◌}
 use Rattle.std.specs.List.{list_all}
 use Rattle.login_state.specs.declared.fault.SupFault.{SupFault}
 use Rattle.login_state.specs.declared.fault.SupFault.TheVariants.{Memory, Bad, TooMany}
 use Rattle.login_state.specs.Mentions.{mention_at}
-use Rattle.login_state.specs.Support.{supported_after, said}
+use Rattle.login_state.specs.Support.{features_of, supported_after, said}
 
 -- how many features a client may have
 abbrev pub most_features : ℕ
@@ -31,3 +31,8 @@ Gives (Ok features) wanted = wanted ≡ Ok features
 Gives (Err Memory) wanted = wanted ≢ Err Bad
 Gives (Err Bad) wanted = wanted ≡ Err Bad
 Gives (Err TooMany) wanted = wanted ≡ Err TooMany
+
+-- what is supported after these words, where the features before are those of a client that sent some SUP: those after this one too
+abbrev pub GoesOnLineByLine : List (List ℕ) → List (List ℕ) → Result (List (List ℕ)) SupFault → Type 0
+GoesOnLineByLine before words answer =
+    (lines : List (List (List ℕ))) → before ≡ features_of lines → IfOk answer (λ features. features ≡ features_of (lines ++ words ∷ []))

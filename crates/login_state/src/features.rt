@@ -2,7 +2,7 @@ ghost use Rattle.std.specs.Prelude.{◌≡◌, ℕ, List, [], ◌∷◌, ◌++�
 ghost use Rattle.adc_line.specs.WordsLeft.{words_left};
 ghost use Rattle.login_state.specs.Seen.{is_in, unseen};
 ghost use Rattle.login_state.specs.Support.{has_feature, is_mentioned, speaks_of, added, features_of, all_said, said, supported, supported_after, IsLastAdded};
-ghost use Rattle.login_state.specs.SupportAnswers.{are_mentions, applied, Gives};
+ghost use Rattle.login_state.specs.SupportAnswers.{are_mentions, applied, Gives, GoesOnLineByLine};
 ghost use Rattle.std.specs.List.{IsDistinct};
 ghost use Rattle.std.specs.Str.{bytes_eq};
 
@@ -53,7 +53,7 @@ impl Features {
     /// than 64 features are left after the whole line. `Memory` comes last.
     pub fn apply(&self, alloc: Global, words: Words<'_>) -> Result<Features, SupFault>
         ensures exact { Gives result (applied self.now (words_left words.entry)) }
-        ensures line_by_line { (lines : List (List (List ℕ))) → self.now ≡ features_of lines → IfOk result (λ features. features ≡ features_of (lines ++ words_left words.entry ∷ [])) }
+        ensures line_by_line { GoesOnLineByLine self.now (words_left words.entry) result }
     {
         self.read(alloc, words)
     }

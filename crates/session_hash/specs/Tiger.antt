@@ -1,5 +1,5 @@
 -- Tiger, by Ross Anderson and Eli Biham, as a function on lists: `tables` is a list of 1,024 words.
-use Rattle.std.specs.Prelude.{ℕ, zero, suc, ◌*◌, List, ◌++◌, length, drop, slice_index, slice_set, bit_xor}
+use Rattle.std.specs.Prelude.{ℕ, zero, suc, ◌*◌, List, ◌++◌, length, take, drop, slice_index, slice_set, bit_xor}
 use Rattle.std.specs.Int.{w64, to_le_bytes}
 use Rattle.session_hash.specs.declared.tiger.Registers.{Registers}
 use Rattle.session_hash.specs.Words.{add64, sub64, mul64, not_up, not_down, byte_of}
@@ -78,6 +78,10 @@ start = record { a = 0x0123456789ABCDEF; b = 0xFEDCBA9876543210; c = 0xF096A5B4C
 -- block k of some bytes, as eight words
 abbrev pub block : List ℕ → ℕ → List ℕ
 block bytes k = words_from 8 (drop (64 * k) bytes)
+
+-- two blocks
+abbrev pub compressed_twice : List ℕ → Registers → List ℕ → Registers
+compressed_twice tables r bytes = compressed tables (compressed tables r (words_from 8 (take 64 bytes))) (words_from 8 (drop 64 bytes))
 
 -- the registers after the first n blocks
 unfoldable pub absorbed : List ℕ → List ℕ → ℕ → Registers

@@ -2,7 +2,7 @@ ghost use Rattle.std.specs.Prelude.{◌≡◌, ◌+◌, ◌≤◌, ◌/◌, ◌%
 ghost use Rattle.arrayvec.specs.ArrayVec.{array_vec_len};
 ghost use Rattle.session_hash.specs.Padding.{padding, padded, block_count, IsTail};
 ghost use Rattle.session_hash.specs.Tables.{words_from};
-ghost use Rattle.session_hash.specs.Tiger.{tiger, absorbed, compressed, bytes_of};
+ghost use Rattle.session_hash.specs.Tiger.{tiger, absorbed, compressed, compressed_twice, bytes_of};
 
 use crate::tiger::{Registers, compress};
 use crate::words::block_words;
@@ -61,7 +61,7 @@ fn absorb_tail(tables: &[u64], registers: Registers, tail: &[u8]) -> Registers
     requires tables { length tables.now ≡ 1024 }
     requires blocks { IsTail (length tail.now) }
     ensures one { length tail.now ≡ 64 → result ≡ compressed tables.now registers (words_from 8 tail.now) }
-    ensures two { length tail.now ≡ 128 → result ≡ compressed tables.now (compressed tables.now registers (words_from 8 (take 64 tail.now))) (words_from 8 (drop 64 tail.now)) }
+    ensures two { length tail.now ≡ 128 → result ≡ compressed_twice tables.now registers tail.now }
 {
     if tail.len() == BLOCK {
         return compress(tables, registers, block_words(tail));
