@@ -253,9 +253,9 @@ low-bits-Decides text n m c u k long is fits unused =
     )
 
 -- what the first bits make, where the others are zero
-pub decoded : (text bytes : List ℕ) (n : ℕ) → length bytes ≡ n → length text ≡ text_len n → AreDigits text → byte_bits bytes ≡ take (8 * length bytes) (text_bits text)
+pub bits-spell : (text bytes : List ℕ) (n : ℕ) → length bytes ≡ n → length text ≡ text_len n → AreDigits text → byte_bits bytes ≡ take (8 * length bytes) (text_bits text)
     → drop (8 * n) (text_bits text) ≡ replicate (5 * length text - 8 * n) 0 → IsBase32 text bytes
-decoded text bytes n long fits digits first rest = (
+bits-spell text bytes n long fits digits first rest = (
   fits ∙ ap text_len (sym long),
   digits,
   sym (take-append-drop (8 * n) (text_bits text))

@@ -1,5 +1,5 @@
--- What a text spells is what the relation says: its bits, cut into eights, are the bytes.
-use Rattle.std.proofs.Common.{◌≡◌, ◌≢◌, ◌∙◌, sym, ap, ap₂, refl, ℕ, zero, suc, ◌+◌, ◌*◌, ◌-◌, ◌/◌, ◌%◌, ◌^◌, ◌<◌, ◌&&◌, ◌==◌, Bool, true, false, ◌∷◌, [], ◌++◌, List, length, replicate, take, drop, Option, Some, None, IsSome, unwrap_or, subst, arith, append_assoc}
+-- The bytes that a text spells are those of the relation: its bits, cut into eights, are the bytes.
+use Rattle.std.proofs.Common.{◌≡◌, ◌≢◌, ◌∙◌, sym, ap, ap₂, refl, ℕ, zero, suc, ◌+◌, ◌*◌, ◌-◌, ◌/◌, ◌%◌, ◌^◌, ◌<◌, ◌&&◌, ◌==◌, Bool, true, false, ◌∷◌, [], ◌++◌, List, length, replicate, take, drop, Option, Some, None, IsSome, unwrap_or, subst, arith, append_assoc, cond}
 use Rattle.std.specs.List.{All, list_all}
 use Rattle.std.proofs.lemmas.Bool.{false≢true, eq-eqb, eqb-true}
 use Rattle.std.proofs.lemmas.List.Elements.{All-head, All-tail, All-cons, All-nil}
@@ -9,7 +9,7 @@ use Rattle.std.proofs.lemmas.List.{length-drop}
 use Rattle.std.proofs.Math.Seq.{take-append_seam, drop-append_seam}
 use Rattle.adc_base32.specs.Bits.{bits, byte_bits, digit_bits, text_bits, value_of, AreDigits, IsBase32, text_len}
 use Rattle.adc_base32.specs.Digits.{digit_of, value_at}
-use Rattle.adc_base32.specs.Spelled.{number_from, bytes_from, digits_from, is_digit, is_zero, spells, only_if, spelled, spelling}
+use Rattle.adc_base32.specs.Spelled.{number_from, bytes_from, digits_from, is_digit, is_zero, spells, spelled_bytes, spelling}
 use Rattle.adc_base32.proofs.Spelling.{digit_of-value_at}
 use Rattle.adc_base32.proofs.BitLists.{length-bits}
 use Rattle.adc_base32.proofs.Codes.{length-byte_bits, length-text_bits}
@@ -87,8 +87,8 @@ zeros-all [] e = refl
 zeros-all (x ∷ xs) e = let tests = both (is_zero x) (list_all is_zero xs) e in ap₂ (λ (y : ℕ) (ys : List ℕ). y ∷ ys) (eqb-true x 0 tests.0) (zeros-all xs tests.1)
 
 -- a text that spells bytes spells these alone
-pub spelled-of : (n : ℕ) (text bytes : List ℕ) → length bytes ≡ n → IsBase32 text bytes → All (λ b. b < 256) bytes → spelled n text ≡ Some bytes
-unfolding spelled
+pub spelled-of : (n : ℕ) (text bytes : List ℕ) → length bytes ≡ n → IsBase32 text bytes → All (λ b. b < 256) bytes → spelled_bytes n text ≡ Some bytes
+unfolding spelled_bytes
 spelled-of n text bytes long spelt small =
     let seam : text_bits text ≡ byte_bits bytes ++ replicate (5 * length text - 8 * length bytes) 0 = spelt.2 in
     let fits : (length text == text_len n) ≡ true = ap (λ k. length text == text_len k) (sym long) ∙ eq-eqb (length text) (text_len (length bytes)) spelt.0 in
@@ -96,31 +96,31 @@ spelled-of n text bytes long spelt small =
     ap (λ k. drop k (text_bits text)) (ap (λ k. 8 * k) (sym long) ∙ sym (length-byte_bits bytes))
     ∙ ap (drop (length (byte_bits bytes))) seam ∙ drop-append_seam (byte_bits bytes) (replicate (5 * length text - 8 * length bytes) 0) in
     let zeros : list_all is_zero (drop (8 * n) (text_bits text)) ≡ true = ap (list_all is_zero) rest ∙ all-zeros (5 * length text - 8 * length bytes) in
-    ap₂ only_if (ap₂ ◌&&◌ (ap₂ ◌&&◌ fits (all-digits text spelt.1)) zeros)
+    ap₂ (λ b bytes. cond b (Some bytes) None) (ap₂ ◌&&◌ (ap₂ ◌&&◌ fits (all-digits text spelt.1)) zeros)
     (ap₂ bytes_from (sym long) seam ∙ bytes_from-byte_bits bytes (replicate (5 * length text - 8 * length bytes) 0) small)
 
-unspelled : (n : ℕ) (text : List ℕ) → spells n text ≡ false → spelled n text ≡ None
-unfolding spelled
-unspelled n text fails = ap (λ b. only_if b (bytes_from n (text_bits text))) fails
+unspelled : (n : ℕ) (text : List ℕ) → spells n text ≡ false → spelled_bytes n text ≡ None
+unfolding spelled_bytes
+unspelled n text fails = ap (λ b. cond b (Some (bytes_from n (text_bits text))) None) fails
 
 refuted : (b : Bool) → (b ≡ true → ⊥) → b ≡ false
 refuted true against = absurd (against refl)
 refuted false against = refl
 
 -- of another length, it spells none
-pub spelled-length : (n : ℕ) (text : List ℕ) → length text ≢ text_len n → spelled n text ≡ None
+pub spelled-length : (n : ℕ) (text : List ℕ) → length text ≢ text_len n → spelled_bytes n text ≡ None
 spelled-length n text long =
     unspelled n text (refuted (spells n text) (λ yes. long (eqb-true (length text) (text_len n)
     (both (length text == text_len n) (list_all is_digit text) (both (length text == text_len n && list_all is_digit text) (list_all is_zero (drop (8 * n) (text_bits text))) yes).0).0)))
 
 -- with a character that is no digit, it spells none
-pub spelled-digits : (n : ℕ) (text : List ℕ) → (AreDigits text → ⊥) → spelled n text ≡ None
+pub spelled-digits : (n : ℕ) (text : List ℕ) → (AreDigits text → ⊥) → spelled_bytes n text ≡ None
 spelled-digits n text odd =
     unspelled n text (refuted (spells n text) (λ yes. odd (digits-all text
     (both (length text == text_len n) (list_all is_digit text) (both (length text == text_len n && list_all is_digit text) (list_all is_zero (drop (8 * n) (text_bits text))) yes).0).1)))
 
 -- with other bits than zeros behind the bytes, it spells none
-pub spelled-zeros : (n : ℕ) (text : List ℕ) → (drop (8 * n) (text_bits text) ≡ replicate (5 * length text - 8 * n) 0 → ⊥) → spelled n text ≡ None
+pub spelled-zeros : (n : ℕ) (text : List ℕ) → (drop (8 * n) (text_bits text) ≡ replicate (5 * length text - 8 * n) 0 → ⊥) → spelled_bytes n text ≡ None
 spelled-zeros n text odd =
     unspelled n text (refuted (spells n text) (λ yes.
     let zeros = (both (length text == text_len n && list_all is_digit text) (list_all is_zero (drop (8 * n) (text_bits text))) yes).1 in

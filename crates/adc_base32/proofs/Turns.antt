@@ -1,12 +1,12 @@
 -- The next free identifier, as it is computed, is the one that the rule gives.
-use Rattle.std.proofs.Common.{◌≡◌, ◌∙◌, sym, ap, refl, subst, ℕ, zero, suc, ◌+◌, ◌-◌, ◌%◌, ◌<◌, ◌≤◌, ◌∷◌, [], List, length, Bool, true, false, eqb, nat_eq, arith, inl, inr}
+use Rattle.std.proofs.Common.{◌≡◌, ◌∙◌, sym, ap, refl, subst, ℕ, zero, suc, ◌+◌, ◌-◌, ◌%◌, ◌<◌, ◌≤◌, ◌∷◌, [], List, length, Bool, true, false, eqb, nat_eq, arith, inl, inr, cond}
 use Rattle.std.specs.List.{Contains, list_any}
 use Rattle.std.specs.Cmp.{nat_eq_equiv}
 use Rattle.std.proofs.lemmas.Bool.{false≢true, cases_lt, eqb-true}
 use Rattle.std.proofs.lemmas.Map.Views.{list_any-from_Contains, Contains-from_any}
 use Rattle.std.proofs.Math.Nat.{add-mod_right}
 use Rattle.adc_base32.proofs.Vacancies.{not-all_taken}
-use Rattle.adc_base32.specs.Turns.{following, IsNextFree, is_taken, chosen, next_within, next_free}
+use Rattle.adc_base32.specs.Turns.{following, IsNextFree, is_taken, next_within, next_free}
 
 follows : (last k : ℕ) → following (following last 0) k ≡ following last (k + 1)
 follows last k = omega (arith)
@@ -24,7 +24,7 @@ free-is n taken free = free-by n taken (is_taken n taken) refl free
 stop : (most last : ℕ) (taken : List ℕ) → is_taken (following last 0) taken ≡ false → next_within most last taken ≡ following last 0
 unfolding next_within
 stop zero last taken free = refl
-stop (suc most) last taken free = ap (λ b. chosen b (next_within most (following last 0) taken) (following last 0)) free
+stop (suc most) last taken free = ap (λ b. cond b (next_within most (following last 0) taken) (following last 0)) free
 
 last-looked : (last : ℕ) (taken : List ℕ) → next_within 0 last taken ≡ following last 0
 unfolding next_within
@@ -32,7 +32,7 @@ last-looked last taken = refl
 
 pass : (most last : ℕ) (taken : List ℕ) → is_taken (following last 0) taken ≡ true → next_within (suc most) last taken ≡ next_within most (following last 0) taken
 unfolding next_within
-pass most last taken is = ap (λ b. chosen b (next_within most (following last 0) taken) (following last 0)) is
+pass most last taken is = ap (λ b. cond b (next_within most (following last 0) taken) (following last 0)) is
 
 next_within-is : (passed most last : ℕ) (taken : List ℕ) → passed ≤ most → (Contains taken (following last passed) → ⊥)
     → ((k : ℕ) → k < passed → Contains taken (following last k)) → next_within most last taken ≡ following last passed
@@ -98,7 +98,7 @@ following-range : (last k : ℕ) → (0 < following last k) × (following last k
 following-range last k = (omega arith, omega arith)
 
 within-range : (most last : ℕ) (taken : List ℕ) (b : Bool) (next : ℕ) → (0 < next) × (next < 1_048_576)
-    → (0 < chosen b next (following last 0)) × (chosen b next (following last 0) < 1_048_576)
+    → (0 < cond b next (following last 0)) × (cond b next (following last 0) < 1_048_576)
 within-range most last taken true next range = range
 within-range most last taken false next range = following-range last 0
 

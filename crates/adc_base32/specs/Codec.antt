@@ -1,4 +1,4 @@
--- Why a text spells no bytes, and which text does.
+-- The faults of a text that spells no bytes, and the text that does.
 use Rattle.std.specs.Prelude.{◌≡◌, ◌≢◌, ℕ, ◌*◌, ◌-◌, List, length, drop, replicate}
 use Rattle.adc_base32.specs.Bits.{AreDigits, IsBase32, text_bits, text_len}
 use Rattle.adc_base32.specs.declared.fault.B32.{B32}

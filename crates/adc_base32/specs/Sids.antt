@@ -1,6 +1,9 @@
 -- Session identifiers (ADC 1.0, "Client identification"): numbers below 2^20, as four base32 digits.
-use Rattle.std.specs.Prelude.{ℕ, ◌+◌, ◌*◌, ◌/◌, ◌%◌, ◌==◌, List, [], ◌∷◌, length, slice_index, Option, Some, None, option_and_then, if◌then◌else◌}
-use Rattle.adc_base32.specs.Digits.{digit_of, value_at}
+use Rattle.std.specs.Prelude.{ℕ, ◌+◌, ◌*◌, ◌/◌, ◌%◌, ◌==◌, ◌&&◌, List, [], ◌∷◌, length, Option, Some, None, if◌then◌else◌}
+use Rattle.std.specs.List.{fold, list_all}
+use Rattle.adc_base32.specs.Bits.{value_of}
+use Rattle.adc_base32.specs.Digits.{digit_of}
+use Rattle.adc_base32.specs.Spelled.{is_digit}
 
 -- how many identifiers there are
 abbrev pub sid_count : ℕ
@@ -10,15 +13,9 @@ sid_count = 1_048_576
 abbrev pub sid_text : ℕ → List ℕ
 sid_text n = digit_of (n / 32768) ∷ digit_of (n / 1024 % 32) ∷ digit_of (n / 32 % 32) ∷ digit_of (n % 32) ∷ []
 
--- the number that four characters spell, where each is a digit
-unfoldable pub four_digits : ℕ → ℕ → ℕ → ℕ → Option ℕ
-four_digits c d e f =
-    option_and_then (λ (a : ℕ). option_and_then (λ (b : ℕ). option_and_then (λ (g : ℕ).
-    option_and_then (λ (h : ℕ). Some (((a * 32 + b) * 32 + g) * 32 + h)) (value_at f)) (value_at e)) (value_at d)) (value_at c)
-
--- the number that a text spells
+-- the number that a text spells, where it has four characters and each is a digit
 unfoldable pub sid_at : List ℕ → Option ℕ
 sid_at text =
-    if length text == 4
-    then four_digits (slice_index text 0) (slice_index text 1) (slice_index text 2) (slice_index text 3)
+    if length text == 4 && list_all is_digit text
+    then Some (fold (λ number digit. number * 32 + value_of digit) 0 text)
     else None

@@ -1,5 +1,5 @@
 -- The bytes that a base32 text spells, and the text that spells bytes, computed from their bits.
-use Rattle.std.specs.Prelude.{ℕ, zero, suc, ◌+◌, ◌-◌, ◌*◌, ◌==◌, ◌&&◌, Bool, true, false, List, [], ◌∷◌, ◌++◌, length, take, drop, replicate, Option, Some, None, is_some}
+use Rattle.std.specs.Prelude.{ℕ, zero, suc, ◌+◌, ◌-◌, ◌*◌, ◌==◌, ◌&&◌, Bool, true, false, List, [], ◌∷◌, ◌++◌, length, take, drop, replicate, Option, Some, None, is_some, if◌then◌else◌}
 use Rattle.std.specs.List.{list_all}
 use Rattle.adc_base32.specs.Digits.{digit_of, value_at}
 use Rattle.adc_base32.specs.Bits.{byte_bits, text_bits, text_len}
@@ -24,13 +24,9 @@ is_zero bit = bit == 0
 abbrev pub spells : ℕ → List ℕ → Bool
 spells n text = length text == text_len n && list_all is_digit text && list_all is_zero (drop (8 * n) (text_bits text))
 
-abbrev pub only_if : Bool → List ℕ → Option (List ℕ)
-only_if true bytes = Some bytes
-only_if false bytes = None
-
 -- the n bytes that a text spells, if it spells so many
-unfoldable pub spelled : ℕ → List ℕ → Option (List ℕ)
-spelled n text = only_if (spells n text) (bytes_from n (text_bits text))
+unfoldable pub spelled_bytes : ℕ → List ℕ → Option (List ℕ)
+spelled_bytes n text = if spells n text then Some (bytes_from n (text_bits text)) else None
 
 -- so many digits, five bits each
 unfoldable pub digits_from : ℕ → List ℕ → List ℕ

@@ -1,5 +1,5 @@
 -- Which session identifier comes next: the numbers from 1 on, one after another, and after the last the first again.
-use Rattle.std.specs.Prelude.{◌≡◌, ℕ, zero, suc, ◌+◌, ◌%◌, ◌<◌, nat_eq, Bool, true, false, List}
+use Rattle.std.specs.Prelude.{◌≡◌, ℕ, zero, suc, ◌+◌, ◌%◌, ◌<◌, nat_eq, Bool, true, false, List, if◌then◌else◌}
 use Rattle.std.specs.List.{Contains, list_any}
 
 -- the number that comes after `last` when so many are passed over: last + 1, last + 2, .., with 1 after 1,048,575
@@ -19,14 +19,10 @@ IsFirstFree last base taken n =
 abbrev pub is_taken : ℕ → List ℕ → Bool
 is_taken n taken = list_any (nat_eq n) taken
 
-abbrev pub chosen : Bool → ℕ → ℕ → ℕ
-chosen true later first = later
-chosen false later first = first
-
 -- the same computed, where at most so many are passed over
 unfoldable pub next_within : ℕ → ℕ → List ℕ → ℕ
 next_within zero last taken = following last 0
-next_within (suc most) last taken = chosen (is_taken (following last 0) taken) (next_within most (following last 0) taken) (following last 0)
+next_within (suc most) last taken = if is_taken (following last 0) taken then next_within most (following last 0) taken else following last 0
 
 -- the first number after `last` that is not taken, where fewer than all are
 abbrev pub next_free : ℕ → List ℕ → ℕ

@@ -3,10 +3,10 @@ ghost use Rattle.std.specs.Bool.{Decides};
 ghost use Rattle.std.specs.List.{All};
 ghost use Rattle.adc_base32.specs.Bits.{AreDigits, IsBase32, byte_bits, text_bits, text_len, value_of};
 ghost use Rattle.adc_base32.specs.Codec.{HasBytes, IsDecodeFault};
-ghost use Rattle.adc_base32.specs.Spelled.{spelled};
+ghost use Rattle.adc_base32.specs.Spelled.{spelled_bytes};
 
-use crate::digit::value;
 use crate::fault::B32;
+use crate::sid::value;
 use std::alloc::Global;
 
 /// Reads the n bytes that a base32 text spells, where its bits beyond them are zero (RFC 4648, section 6; ADC 1.0, "Message
@@ -23,7 +23,7 @@ pub fn decode(alloc: Global, text: &[u8], n: usize) -> Result<Vec<u8>, B32>
     ensures no_bytes { IfErr result (λ fault. fault ≢ B32.Memory → (bytes : List ℕ) → length bytes ≡ n → IsBase32 text.now bytes → ⊥) }
     ensures memory { IfErr result (λ fault. fault ≡ B32.Memory → HasBytes n text.now) }
 {
-    let bytes = checked(alloc, text, n)?;
+    let bytes = decode_checked_text(alloc, text, n)?;
     Ok(bytes)
 }
 
@@ -35,14 +35,14 @@ pub fn decode24(text: &[u8]) -> Result<[u8; 24], B32>
     ensures fault { IfErr result (λ fault. IsDecodeFault text.now 24 fault) }
     ensures no_bytes { IfErr result (λ fault. (bytes : List ℕ) → length bytes ≡ 24 → IsBase32 text.now bytes → ⊥) }
     ensures no_memory { IfErr result (λ fault. fault ≢ B32.Memory) }
-    ensures read { IfOk result (λ bytes. spelled 24 text.now ≡ Some bytes) }
-    ensures unread { IfErr result (λ _. spelled 24 text.now ≡ None) }
+    ensures read { IfOk result (λ bytes. spelled_bytes 24 text.now ≡ Some bytes) }
+    ensures unread { IfErr result (λ _. spelled_bytes 24 text.now ≡ None) }
 {
     let bytes = checked24(text)?;
     Ok(bytes)
 }
 
-fn checked(alloc: Global, text: &[u8], n: usize) -> Result<Vec<u8>, B32>
+fn decode_checked_text(alloc: Global, text: &[u8], n: usize) -> Result<Vec<u8>, B32>
     ensures count { IfOk result (λ bytes. vec_len bytes ≡ n) }
     ensures spelt { IfOk result (λ bytes. IsBase32 text.now bytes.items) }
     ensures small { IfOk result (λ bytes. All (λ b. b < 256) bytes.items) }
@@ -60,8 +60,8 @@ fn checked24(text: &[u8]) -> Result<[u8; 24], B32>
     ensures small { IfOk result (λ bytes. All (λ b. b < 256) bytes) }
     ensures fault { IfErr result (λ fault. IsDecodeFault text.now 24 fault) }
     ensures no_memory { IfErr result (λ fault. fault ≢ B32.Memory) }
-    ensures read { IfOk result (λ bytes. spelled 24 text.now ≡ Some bytes) }
-    ensures unread { IfErr result (λ _. spelled 24 text.now ≡ None) }
+    ensures read { IfOk result (λ bytes. spelled_bytes 24 text.now ≡ Some bytes) }
+    ensures unread { IfErr result (λ _. spelled_bytes 24 text.now ≡ None) }
 {
     check(text, 24)?;
     let mut bytes = [0; 24];
@@ -75,7 +75,7 @@ fn check(text: &[u8], n: usize) -> Result<(), B32>
     ensures zeros { IfOk result (λ _. drop (8 * n) (text_bits text.now) ≡ replicate (5 * length text.now - 8 * n) 0) }
     ensures fault { IfErr result (λ fault. IsDecodeFault text.now n fault) }
     ensures no_memory { IfErr result (λ fault. fault ≢ B32.Memory) }
-    ensures unread { IfErr result (λ _. spelled n text.now ≡ None) }
+    ensures unread { IfErr result (λ _. spelled_bytes n text.now ≡ None) }
 {
     if n > text.len() || n / 5 * 8 + (n % 5 * 8 + 4) / 5 != text.len() {
         return Err(B32::Length);

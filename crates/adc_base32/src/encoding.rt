@@ -4,8 +4,8 @@ ghost use Rattle.adc_base32.specs.Digits.{digit_of};
 ghost use Rattle.adc_base32.specs.Spelled.{spelling};
 ghost use Rattle.adc_base32.specs.Bits.{IsBase32, text_len};
 
-use crate::digit::character;
 use crate::fault::B32;
+use crate::sid::character;
 use std::alloc::{AllocError, Global};
 
 /// Writes the base32 text of the bytes: `(8 n + 4) / 5` digits for n bytes, upper case, with no padding (RFC 4648, section

@@ -2,7 +2,6 @@
 #![tactic(auto)]
 
 mod decoding;
-mod digit;
 mod encoding;
 mod fault;
 mod laws;

@@ -1,11 +1,35 @@
 ghost use Rattle.std.specs.Prelude.{◌≡◌, ℕ, ◌+◌, ◌<◌, ◌↔◌, length, IsSome, IfSome, IfNone};
 ghost use Rattle.std.specs.List.{Contains};
-ghost use Rattle.adc_base32.specs.Sids.{sid_count, sid_text, sid_at, four_digits};
+ghost use Rattle.adc_base32.specs.FourDigits.{four_digits, read_digits};
+ghost use Rattle.adc_base32.specs.Sids.{sid_count, sid_text, sid_at};
 ghost use Rattle.adc_base32.specs.Turns.{IsNextFree, next_free};
+ghost use Rattle.adc_base32.specs.Digits.{digit_of, value_at};
 
-use crate::digit::{character, value};
 use crate::window::{WINDOW, WINDOWS, first_free};
 use std::marker::Model;
+
+/// Gives the character of a value.
+#[tactic(auto, unfolding(crate::specs::Digits::digit_of))]
+pub(crate) fn character(value: u8) -> u8
+    requires { value < 32 }
+    ensures exact { result ≡ digit_of value }
+    ensures ascii { result < 128 }
+{
+    if value < 26 { value + b'A' } else { value + 24 }
+}
+
+/// Gives the value of a character that is a digit, below 32.
+#[tactic(auto, unfolding(crate::specs::Digits::value_at))]
+pub(crate) fn value(character: u8) -> Option<u8>
+    ensures exact { result ≡ value_at character }
+    ensures below { IfSome result (λ v. v < 32) }
+{
+    match character {
+        b'A'..=b'Z' => Some(character - b'A'),
+        b'2'..=b'7' => Some(character - 24),
+        _ => None,
+    }
+}
 
 /// The count of session identifiers.
 const COUNT: u32 = 1_048_576;
@@ -91,9 +115,8 @@ impl Sid {
     }
 }
 
-#[tactic(auto, unfolding(crate::specs::Sids::sid_at))]
 fn read(text: &[u8]) -> Option<Sid>
-    ensures { result ≡ sid_at text.now }
+    ensures { result ≡ read_digits text.now }
 {
     let [a, b, c, d] = text else {
         return None;
@@ -101,7 +124,7 @@ fn read(text: &[u8]) -> Option<Sid>
     four(*a, *b, *c, *d)
 }
 
-#[tactic(auto, unfolding(crate::specs::Sids::four_digits))]
+#[tactic(auto, unfolding(crate::specs::FourDigits::four_digits))]
 fn four(a: u8, b: u8, c: u8, d: u8) -> Option<Sid>
     ensures { result ≡ four_digits a b c d }
 {

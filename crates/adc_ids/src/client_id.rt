@@ -1,6 +1,6 @@
 ghost use Rattle.std.specs.Prelude.{◌≡◌, ℕ, List, length, IfSome, IfNone};
 ghost use Rattle.adc_base32.specs.Bits.{IsBase32};
-ghost use Rattle.adc_base32.specs.Spelled.{spelled, spelling};
+ghost use Rattle.adc_base32.specs.Spelled.{spelled_bytes, spelling};
 
 use adc_base32::{decode24, encode24};
 use std::marker::Model;
@@ -38,7 +38,7 @@ impl Cid {
     /// character that is no digit, or unused low bits that are not zero.
     pub fn parse(text: &[u8]) -> Option<Cid>
         ensures spelt { IfSome result (λ cid. IsBase32 text.now cid) }
-        ensures exact { result ≡ spelled 24 text.now }
+        ensures exact { result ≡ spelled_bytes 24 text.now }
         ensures only { IfNone result ((bytes : List ℕ) → length bytes ≡ 24 → IsBase32 text.now bytes → ⊥) }
     {
         match decode24(text) {

@@ -1,6 +1,6 @@
 ghost use Rattle.std.specs.Prelude.{◌≡◌, ℕ, List, length, IfSome, IfNone};
 ghost use Rattle.adc_base32.specs.Bits.{IsBase32};
-ghost use Rattle.adc_base32.specs.Spelled.{spelled};
+ghost use Rattle.adc_base32.specs.Spelled.{spelled_bytes};
 
 use adc_base32::decode24;
 use std::marker::Model;
@@ -31,7 +31,7 @@ impl Pid {
     /// character that is no digit, or unused low bits that are not zero.
     pub fn parse(text: &[u8]) -> Option<Pid>
         ensures spelt { IfSome result (λ pid. IsBase32 text.now pid) }
-        ensures exact { result ≡ spelled 24 text.now }
+        ensures exact { result ≡ spelled_bytes 24 text.now }
         ensures only { IfNone result ((bytes : List ℕ) → length bytes ≡ 24 → IsBase32 text.now bytes → ⊥) }
     {
         match decode24(text) {

@@ -7,11 +7,11 @@ use Rattle.std.proofs.lemmas.List.Elements.{All-nil, All-cons, All-head, All-tai
 use Rattle.std.proofs.lemmas.List.Splits.{slice_split_none, slice_split_at, slice_split-cons_yes, slice_split-cons_no}
 use Rattle.adc_base32.specs.Digits.{digit_of}
 use Rattle.adc_base32.specs.Sids.{sid_text}
-use Rattle.adc_line.specs.Grammar.{letter, IsCommand, IsCid, Part, part_text, IsPart, IsFeatureWord}
-use Rattle.adc_line.specs.Header.{is_letter, is_letter_or_digit, is_sign}
+use Rattle.adc_line.specs.Grammar.{IsCommand, IsCid, Part, part_text, IsPart, IsFeatureWord}
+use Rattle.adc_line.specs.Header.{letter, is_letter, is_letter_or_digit, is_sign}
 use Rattle.adc_line.specs.Words.{blank, is_blank, words}
-use Rattle.adc_line.specs.declared.kind.Kind.{Kind}
-use Rattle.adc_line.specs.declared.kind.Kind.TheVariants.{Broadcast, Client, Direct, Echo, Feature, Hub, Info, Udp}
+use Rattle.adc_line.specs.declared.header.Kind.{Kind}
+use Rattle.adc_line.specs.declared.header.Kind.TheVariants.{Broadcast, Client, Direct, Echo, Feature, Hub, Info, Udp}
 
 abbrev pub HasNoBlank : List ℕ → Type 0
 HasNoBlank word = All (λ b. is_blank b ≡ false) word

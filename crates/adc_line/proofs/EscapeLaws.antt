@@ -3,7 +3,7 @@ use Rattle.std.proofs.Common.{◌≡◌, ℕ, Bool, true, false, ◌||◌, List,
 use Rattle.std.specs.Prelude.{◌==◌, Option, Some, None}
 use Rattle.std.specs.Option.{option_map, option_and_then}
 use Rattle.std.proofs.lemmas.Bool.{cases_Bool, cond-true, cond-false, eqb-true}
-use Rattle.adc_line.specs.Escapes.{escaped, escaped_byte, is_special, backslash, escape_means, unescaped}
+use Rattle.adc_line.specs.Escapes.{escaped_text, escaped_byte, is_special, backslash, escape_means, unescaped_text}
 use Rattle.adc_line.proofs.EscapeLemmas.{escaped-nil, escaped-cons, escaped_byte-plain, unescaped-nil, unescaped-plain_byte}
 
 -- each special byte has an escape, which stands for it
@@ -32,19 +32,19 @@ escape_of b special =
     no_test false false true p q r e = cc
     no_test false false false p q r e = cc
 
-pub unescaped-escaped : (text : List ℕ) → unescaped (escaped text) ≡ Some text
-unfolding unescaped
-unescaped-escaped [] = ap unescaped escaped-nil ∙ unescaped-nil
+pub unescaped-escaped : (text : List ℕ) → unescaped_text (escaped_text text) ≡ Some text
+unfolding unescaped_text
+unescaped-escaped [] = ap unescaped_text escaped-nil ∙ unescaped-nil
 unescaped-escaped (b ∷ text) =
     let rest = unescaped-escaped text in
-    ap unescaped (escaped-cons b text)
+    ap unescaped_text (escaped-cons b text)
     ∙ (elim (cases_Bool (is_special b)) [
       | inl special ↦
           let e = escape_of b special in
-          ap (λ xs. unescaped (xs ++ escaped text)) e.spelt ∙ ap (option_and_then (λ (x : ℕ). option_map (λ (more : List ℕ). x ∷ more) (unescaped (escaped text)))) e.means
+          ap (λ xs. unescaped_text (xs ++ escaped_text text)) e.spelt ∙ ap (option_and_then (λ (x : ℕ). option_map (λ (more : List ℕ). x ∷ more) (unescaped_text (escaped_text text)))) e.means
           ∙ ap (option_map (λ (more : List ℕ). b ∷ more)) rest
       | inr plain ↦
-          ap (λ xs. unescaped (xs ++ escaped text)) (escaped_byte-plain b plain) ∙ unescaped-plain_byte b (escaped text) plain ∙ ap (option_map (λ (more : List ℕ). b ∷ more)) rest
+          ap (λ xs. unescaped_text (xs ++ escaped_text text)) (escaped_byte-plain b plain) ∙ unescaped-plain_byte b (escaped_text text) plain ∙ ap (option_map (λ (more : List ℕ). b ∷ more)) rest
     ])
 
 -- what an escape means is spelt by it
@@ -73,42 +73,42 @@ pub byte_of : (b : ℕ) (rest : Option (List ℕ)) (text : List ℕ) → option_
 byte_of b None text e = cc
 byte_of b (Some more) text e = (more, refl, cc)
 
-pub escaped-unescaped : (word text : List ℕ) → unescaped word ≡ Some text → escaped text ≡ word
-unfolding unescaped
-escaped-unescaped [] text e = let none : text ≡ [] = cc in ap escaped none ∙ escaped-nil
+pub escaped-unescaped : (word text : List ℕ) → unescaped_text word ≡ Some text → escaped_text text ≡ word
+unfolding unescaped_text
+escaped-unescaped [] text e = let none : text ≡ [] = cc in ap escaped_text none ∙ escaped-nil
 escaped-unescaped (b ∷ []) text e =
     elim (cases_Bool (is_special b)) [
       | inl special ↦ let bad : None ≡ Some text = sym (cond-true _ _ _ special) ∙ e in cc
       | inr plain ↦
           let one : Some (b ∷ []) ≡ Some text = sym (cond-false _ _ _ plain) ∙ e in
           let same : text ≡ b ∷ [] = cc in
-          ap escaped same ∙ escaped-cons b [] ∙ ap₂ ◌++◌ (escaped_byte-plain b plain) escaped-nil
+          ap escaped_text same ∙ escaped-cons b [] ∙ ap₂ ◌++◌ (escaped_byte-plain b plain) escaped-nil
     ]
 escaped-unescaped (b ∷ c ∷ more) text e =
     elim (cases_Bool (b == backslash)) [
       | inl slash ↦
-          let parts = parts_of (escape_means c) (unescaped more) text (sym (cond-true _ _ _ slash) ∙ e) in
-          ap escaped parts.4 ∙ escaped-cons parts.0 parts.1 ∙ ap₂ ◌++◌ (spelt_by c parts.0 parts.2) (escaped-unescaped more parts.1 parts.3)
+          let parts = parts_of (escape_means c) (unescaped_text more) text (sym (cond-true _ _ _ slash) ∙ e) in
+          ap escaped_text parts.4 ∙ escaped-cons parts.0 parts.1 ∙ ap₂ ◌++◌ (spelt_by c parts.0 parts.2) (escaped-unescaped more parts.1 parts.3)
           ∙ ap (λ x. x ∷ c ∷ more) (sym (eqb-true b 92 slash))
       | inr other ↦
           let left = sym (cond-false _ _ _ other) ∙ e in
           elim (cases_Bool (is_special b)) [
             | inl special ↦ let bad : None ≡ Some text = sym (cond-true _ _ _ special) ∙ left in cc
             | inr plain ↦
-                let parts = byte_of b (unescaped (c ∷ more)) text (sym (cond-false _ _ _ plain) ∙ left) in
-                ap escaped parts.2 ∙ escaped-cons b parts.0 ∙ ap₂ ◌++◌ (escaped_byte-plain b plain) (escaped-unescaped (c ∷ more) parts.0 parts.1)
+                let parts = byte_of b (unescaped_text (c ∷ more)) text (sym (cond-false _ _ _ plain) ∙ left) in
+                ap escaped_text parts.2 ∙ escaped-cons b parts.0 ∙ ap₂ ◌++◌ (escaped_byte-plain b plain) (escaped-unescaped (c ∷ more) parts.0 parts.1)
           ]
     ]
 
-pub read_back : (word text : List ℕ) → word ≡ escaped text → unescaped word ≡ Some text
-read_back word text h = ap unescaped h ∙ unescaped-escaped text
+pub read_back : (word text : List ℕ) → word ≡ escaped_text text → unescaped_text word ≡ Some text
+read_back word text h = ap unescaped_text h ∙ unescaped-escaped text
 
-pub one_text : (word text other : List ℕ) → unescaped word ≡ Some text → escaped other ≡ word → other ≡ text
+pub one_text : (word text other : List ℕ) → unescaped_text word ≡ Some text → escaped_text other ≡ word → other ≡ text
 one_text word text other h spelt =
-    let both : Some other ≡ Some text = sym (unescaped-escaped other) ∙ ap unescaped spelt ∙ h in
+    let both : Some other ≡ Some text = sym (unescaped-escaped other) ∙ ap unescaped_text spelt ∙ h in
     cc
 
-pub no_text : (word text : List ℕ) → unescaped word ≡ None → escaped text ≡ word → ⊥
+pub no_text : (word text : List ℕ) → unescaped_text word ≡ None → escaped_text text ≡ word → ⊥
 no_text word text h spelt =
-    let both : Some text ≡ None = sym (unescaped-escaped text) ∙ ap unescaped spelt ∙ h in
+    let both : Some text ≡ None = sym (unescaped-escaped text) ∙ ap unescaped_text spelt ∙ h in
     cc

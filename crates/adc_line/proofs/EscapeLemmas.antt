@@ -9,7 +9,7 @@ use Rattle.std.specs.Str.{IsUtf8}
 use Rattle.std.proofs.lemmas.Str.{IsUtf8-drop, IsCharBoundary-after_ascii}
 use Rattle.std.proofs.lemmas.Bool.Decides.{nat_tests}
 use Rattle.std.proofs.lemmas.List.Elements.{All-head, All-tail}
-use Rattle.adc_line.specs.Escapes.{escaped, escaped_byte, is_special, backslash, escape_means, unescaped}
+use Rattle.adc_line.specs.Escapes.{escaped_text, escaped_byte, is_special, backslash, escape_means, unescaped_text}
 
 -- a byte that is not special stands for itself
 pub escaped_byte-plain : (b : ℕ) → is_special b ≡ false → escaped_byte b ≡ b ∷ []
@@ -23,19 +23,19 @@ escaped_byte-plain b plain = by_tests (b == 32) (b == 10) (b == 92) plain
     by_tests false false false e = refl
 
 -- a run of such bytes stands for itself
-pub escaped-plain : (run more : List ℕ) → All (λ b. is_special b ≡ false) run → escaped (run ++ more) ≡ run ++ escaped more
-unfolding escaped
+pub escaped-plain : (run more : List ℕ) → All (λ b. is_special b ≡ false) run → escaped_text (run ++ more) ≡ run ++ escaped_text more
+unfolding escaped_text
 escaped-plain [] more plain = refl
 escaped-plain (b ∷ run) more plain =
-    ap (λ first. first ++ escaped (run ++ more)) (escaped_byte-plain b (All-head (λ x. is_special x ≡ false) b run plain))
+    ap (λ first. first ++ escaped_text (run ++ more)) (escaped_byte-plain b (All-head (λ x. is_special x ≡ false) b run plain))
     ∙ ap (λ rest. b ∷ rest) (escaped-plain run more (All-tail (λ x. is_special x ≡ false) b run plain))
 
-pub escaped-cons : (b : ℕ) (more : List ℕ) → escaped (b ∷ more) ≡ escaped_byte b ++ escaped more
-unfolding escaped
+pub escaped-cons : (b : ℕ) (more : List ℕ) → escaped_text (b ∷ more) ≡ escaped_byte b ++ escaped_text more
+unfolding escaped_text
 escaped-cons b more = refl
 
-pub escaped-nil : escaped [] ≡ []
-unfolding escaped
+pub escaped-nil : escaped_text [] ≡ []
+unfolding escaped_text
 escaped-nil = refl
 
 pub special_is_ascii : (b : ℕ) → is_special b ≡ true → b < 128
@@ -51,17 +51,17 @@ utf8_behind text run after b utf8 cut ascii =
     subst IsUtf8 behind (IsUtf8-drop text (length run + 1) utf8 boundary)
 
 -- the step of a spelling: a run, then a special byte
-pub escaped-step : (word rest run after : List ℕ) (b : ℕ) (text : List ℕ) → word ++ escaped rest ≡ escaped text → rest ≡ run ++ b ∷ after → All (λ x. is_special x ≡ false) run
-    → ((word ++ run) ++ escaped_byte b) ++ escaped after ≡ escaped text
+pub escaped-step : (word rest run after : List ℕ) (b : ℕ) (text : List ℕ) → word ++ escaped_text rest ≡ escaped_text text → rest ≡ run ++ b ∷ after → All (λ x. is_special x ≡ false) run
+    → ((word ++ run) ++ escaped_byte b) ++ escaped_text after ≡ escaped_text text
 escaped-step word rest run after b text so_far cut plain =
-    append_assoc (word ++ run) (escaped_byte b) (escaped after) ∙ append_assoc word run (escaped_byte b ++ escaped after)
+    append_assoc (word ++ run) (escaped_byte b) (escaped_text after) ∙ append_assoc word run (escaped_byte b ++ escaped_text after)
     ∙ ap (λ xs. word ++ (run ++ xs)) (sym (escaped-cons b after)) ∙ ap (λ xs. word ++ xs) (sym (escaped-plain run (b ∷ after) plain))
-    ∙ ap (λ xs. word ++ escaped xs) (sym cut) ∙ so_far
+    ∙ ap (λ xs. word ++ escaped_text xs) (sym cut) ∙ so_far
 
 -- the last run
-pub escaped-end : (word rest run text : List ℕ) → word ++ escaped rest ≡ escaped text → rest ≡ run → All (λ x. is_special x ≡ false) run → word ++ run ≡ escaped text
+pub escaped-end : (word rest run text : List ℕ) → word ++ escaped_text rest ≡ escaped_text text → rest ≡ run → All (λ x. is_special x ≡ false) run → word ++ run ≡ escaped_text text
 escaped-end word rest run text so_far same plain =
-    ap (λ xs. word ++ xs) (sym (append-nil run) ∙ ap (λ xs. run ++ xs) (sym escaped-nil) ∙ sym (escaped-plain run [] plain) ∙ ap escaped (append-nil run) ∙ ap escaped (sym same)) ∙ so_far
+    ap (λ xs. word ++ xs) (sym (append-nil run) ∙ ap (λ xs. run ++ xs) (sym escaped-nil) ∙ sym (escaped-plain run [] plain) ∙ ap escaped_text (append-nil run) ∙ ap escaped_text (sym same)) ∙ so_far
 
 option_map_same : (o : Option (List ℕ)) → option_map (λ (text : List ℕ). text) o ≡ o
 option_map_same None = refl
@@ -75,63 +75,63 @@ pub plain_is_no_backslash : (b : ℕ) → is_special b ≡ false → (b == backs
 plain_is_no_backslash b plain = grind (arith, nat_tests)
 
 -- a byte that is not special, and what follows it
-pub unescaped-plain_byte : (b : ℕ) (more : List ℕ) → is_special b ≡ false → unescaped (b ∷ more) ≡ option_map (λ (text : List ℕ). b ∷ text) (unescaped more)
-unfolding unescaped
+pub unescaped-plain_byte : (b : ℕ) (more : List ℕ) → is_special b ≡ false → unescaped_text (b ∷ more) ≡ option_map (λ (text : List ℕ). b ∷ text) (unescaped_text more)
+unfolding unescaped_text
 unescaped-plain_byte b [] plain = cond-false _ _ _ plain
 unescaped-plain_byte b (c ∷ more) plain = cond-false _ _ _ (plain_is_no_backslash b plain) ∙ cond-false _ _ _ plain
 
-pub unescaped-plain : (run more : List ℕ) → All (λ b. is_special b ≡ false) run → unescaped (run ++ more) ≡ option_map (λ (text : List ℕ). run ++ text) (unescaped more)
-unescaped-plain [] more plain = sym (option_map_same (unescaped more))
+pub unescaped-plain : (run more : List ℕ) → All (λ b. is_special b ≡ false) run → unescaped_text (run ++ more) ≡ option_map (λ (text : List ℕ). run ++ text) (unescaped_text more)
+unescaped-plain [] more plain = sym (option_map_same (unescaped_text more))
 unescaped-plain (b ∷ run) more plain =
     unescaped-plain_byte b (run ++ more) (All-head (λ x. is_special x ≡ false) b run plain)
     ∙ ap (option_map (λ (text : List ℕ). b ∷ text)) (unescaped-plain run more (All-tail (λ x. is_special x ≡ false) b run plain))
-    ∙ option_map_twice (λ (text : List ℕ). run ++ text) (λ (text : List ℕ). b ∷ text) (unescaped more)
+    ∙ option_map_twice (λ (text : List ℕ). run ++ text) (λ (text : List ℕ). b ∷ text) (unescaped_text more)
 
 -- a blank or a line feed stands for nothing
-pub unescaped-bare : (b : ℕ) (more : List ℕ) → is_special b ≡ true → b ≢ backslash → unescaped (b ∷ more) ≡ None
-unfolding unescaped
+pub unescaped-bare : (b : ℕ) (more : List ℕ) → is_special b ≡ true → b ≢ backslash → unescaped_text (b ∷ more) ≡ None
+unfolding unescaped_text
 unescaped-bare b [] special other = cond-true _ _ _ special
 unescaped-bare b (c ∷ more) special other = cond-false _ _ _ (ne_eqb b 92 other) ∙ cond-true _ _ _ special
 
 -- an escape, by what stands behind its backslash
-pub unescaped-escape : (xs : List ℕ) (meant : ℕ) → 0 < length xs → escape_means (get_or xs 0 0) ≡ Some meant → unescaped (backslash ∷ xs) ≡ option_map (λ (text : List ℕ). meant ∷ text) (unescaped (drop 1 xs))
-unfolding unescaped
+pub unescaped-escape : (xs : List ℕ) (meant : ℕ) → 0 < length xs → escape_means (get_or xs 0 0) ≡ Some meant → unescaped_text (backslash ∷ xs) ≡ option_map (λ (text : List ℕ). meant ∷ text) (unescaped_text (drop 1 xs))
+unfolding unescaped_text
 unescaped-escape [] meant some e = absurd (omega arith)
-unescaped-escape (c ∷ more) meant some e = ap (option_and_then (λ (x : ℕ). option_map (λ (text : List ℕ). x ∷ text) (unescaped more))) e
+unescaped-escape (c ∷ more) meant some e = ap (option_and_then (λ (x : ℕ). option_map (λ (text : List ℕ). x ∷ text) (unescaped_text more))) e
 
-pub unescaped-stray : (xs : List ℕ) → 0 < length xs → escape_means (get_or xs 0 0) ≡ None → unescaped (backslash ∷ xs) ≡ None
-unfolding unescaped
+pub unescaped-stray : (xs : List ℕ) → 0 < length xs → escape_means (get_or xs 0 0) ≡ None → unescaped_text (backslash ∷ xs) ≡ None
+unfolding unescaped_text
 unescaped-stray [] some e = absurd (omega arith)
-unescaped-stray (c ∷ more) some e = ap (option_and_then (λ (x : ℕ). option_map (λ (text : List ℕ). x ∷ text) (unescaped more))) e
+unescaped-stray (c ∷ more) some e = ap (option_and_then (λ (x : ℕ). option_map (λ (text : List ℕ). x ∷ text) (unescaped_text more))) e
 
-pub unescaped-cut : (xs : List ℕ) → length xs < 1 → unescaped (backslash ∷ xs) ≡ None
-unfolding unescaped
+pub unescaped-cut : (xs : List ℕ) → length xs < 1 → unescaped_text (backslash ∷ xs) ≡ None
+unfolding unescaped_text
 unescaped-cut [] h = refl
 unescaped-cut (c ∷ more) h = absurd (omega arith)
 
-pub unescaped-nil : unescaped [] ≡ Some []
-unfolding unescaped
+pub unescaped-nil : unescaped_text [] ≡ Some []
+unfolding unescaped_text
 unescaped-nil = refl
 
 -- the last run, a run before what spells nothing, and a run before an escape
-module _ (text word rest run : List ℕ) (so_far : option_map (λ (more : List ℕ). text ++ more) (unescaped rest) ≡ unescaped word) (plain : All (λ b. is_special b ≡ false) run) where
-  pub unescaped-end : rest ≡ run → unescaped word ≡ Some (text ++ run)
+module _ (text word rest run : List ℕ) (so_far : option_map (λ (more : List ℕ). text ++ more) (unescaped_text rest) ≡ unescaped_text word) (plain : All (λ b. is_special b ≡ false) run) where
+  pub unescaped-end : rest ≡ run → unescaped_text word ≡ Some (text ++ run)
   unescaped-end same =
-      sym so_far ∙ ap (λ xs. option_map (λ (more : List ℕ). text ++ more) (unescaped xs)) (same ∙ sym (append-nil run))
+      sym so_far ∙ ap (λ xs. option_map (λ (more : List ℕ). text ++ more) (unescaped_text xs)) (same ∙ sym (append-nil run))
       ∙ ap (option_map (λ (more : List ℕ). text ++ more)) (unescaped-plain run [] plain ∙ ap (option_map (λ (more : List ℕ). run ++ more)) unescaped-nil)
       ∙ ap (λ xs. Some (text ++ xs)) (append-nil run)
 
-  pub unescaped-bad : (tail : List ℕ) → rest ≡ run ++ tail → unescaped tail ≡ None → unescaped word ≡ None
+  pub unescaped-bad : (tail : List ℕ) → rest ≡ run ++ tail → unescaped_text tail ≡ None → unescaped_text word ≡ None
   unescaped-bad tail cut bad =
-      sym so_far ∙ ap (λ xs. option_map (λ (more : List ℕ). text ++ more) (unescaped xs)) cut
+      sym so_far ∙ ap (λ xs. option_map (λ (more : List ℕ). text ++ more) (unescaped_text xs)) cut
       ∙ ap (option_map (λ (more : List ℕ). text ++ more)) (unescaped-plain run tail plain ∙ ap (option_map (λ (more : List ℕ). run ++ more)) bad)
 
-  pub unescaped-step : (tail left : List ℕ) (meant : ℕ) → rest ≡ run ++ tail → unescaped tail ≡ option_map (λ (more : List ℕ). meant ∷ more) (unescaped left)
-      → option_map (λ (more : List ℕ). ((text ++ run) ++ meant ∷ []) ++ more) (unescaped left) ≡ unescaped word
+  pub unescaped-step : (tail left : List ℕ) (meant : ℕ) → rest ≡ run ++ tail → unescaped_text tail ≡ option_map (λ (more : List ℕ). meant ∷ more) (unescaped_text left)
+      → option_map (λ (more : List ℕ). ((text ++ run) ++ meant ∷ []) ++ more) (unescaped_text left) ≡ unescaped_text word
   unescaped-step tail left meant cut good =
-      regroup (unescaped left)
+      regroup (unescaped_text left)
       ∙ ap (option_map (λ (more : List ℕ). text ++ more)) (ap (option_map (λ (more : List ℕ). run ++ more)) (sym good) ∙ sym (unescaped-plain run tail plain))
-      ∙ ap (λ xs. option_map (λ (more : List ℕ). text ++ more) (unescaped xs)) (sym cut) ∙ so_far
+      ∙ ap (λ xs. option_map (λ (more : List ℕ). text ++ more) (unescaped_text xs)) (sym cut) ∙ so_far
     where
       regroup : (o : Option (List ℕ)) → option_map (λ (more : List ℕ). ((text ++ run) ++ meant ∷ []) ++ more) o
           ≡ option_map (λ (more : List ℕ). text ++ more) (option_map (λ (more : List ℕ). run ++ more) (option_map (λ (more : List ℕ). meant ∷ more) o))

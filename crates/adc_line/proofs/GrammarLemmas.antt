@@ -7,14 +7,15 @@ use Rattle.std.proofs.lemmas.Bool.{cases_Bool, cond-true, cond-false, eqb-true, 
 use Rattle.std.proofs.lemmas.Bool.Decides.{nat_tests}
 use Rattle.std.proofs.lemmas.List.Elements.{All-nil, All-cons, All-head, All-tail}
 use Rattle.std.proofs.lemmas.List.Sums.{AllPass-from_list_all, list_all-from_AllPass}
-use Rattle.adc_line.specs.declared.kind.Kind.{Kind}
-use Rattle.adc_line.specs.declared.kind.Kind.TheVariants.{Broadcast, Client, Direct, Echo, Feature, Hub, Info, Udp}
+use Rattle.adc_line.specs.declared.header.Kind.{Kind}
+use Rattle.adc_line.specs.declared.header.Kind.TheVariants.{Broadcast, Client, Direct, Echo, Feature, Hub, Info, Udp}
 use Rattle.adc_line.specs.declared.header.Head.{Head}
 use Rattle.adc_base32.specs.Digits.{digit_of, value_at}
+use Rattle.adc_base32.specs.Spelled.{is_digit}
 use Rattle.adc_base32.proofs.Spelling.{value_at-digit_of, digit_of-value_at}
-use Rattle.adc_line.specs.Escapes.{escaped, is_special, is_escaped, ends_escape, backslash, escape_means, unescaped}
-use Rattle.adc_line.specs.Grammar.{letter, IsCommand, IsCid, Part, part_text, IsPart, IsFeatureWord, IsParameter}
-use Rattle.adc_line.specs.Header.{is_letter, is_letter_or_digit, kind_at, head_at, is_base32_digit, is_cid, is_sign, is_named, is_feature, are_features, is_feature_word}
+use Rattle.adc_line.specs.Escapes.{escaped_text, is_special, is_escaped, ends_escape, backslash, escape_means, unescaped_text}
+use Rattle.adc_line.specs.Grammar.{IsCommand, IsCid, Part, part_text, IsPart, IsFeatureWord, IsParameter}
+use Rattle.adc_line.specs.Header.{letter, is_letter, is_letter_or_digit, kind_at, head_at, is_cid, is_sign, is_named, is_feature, are_features, is_feature_word}
 use Rattle.adc_line.proofs.EscapeLemmas.{plain_is_no_backslash, escaped-nil}
 use Rattle.adc_line.proofs.FrameLemmas.{not_true}
 use Rattle.adc_line.proofs.EscapeLaws.{unescaped-escaped, escaped-unescaped, parts_of, byte_of}
@@ -101,8 +102,8 @@ ends_means c e = by_tests (cases_Bool (c == 115)) (cases_Bool (c == 110)) (cases
     by_tests (inr x) (inr y) (inl z) = (92, cond-false _ _ _ x ∙ cond-false _ _ _ y ∙ cond-true _ _ _ z)
     by_tests (inr x) (inr y) (inr z) = absurd (no_test (c == 115) (c == 110) (c == 92) x y z e)
 
-pub spelt_is_escaped : (word text : List ℕ) → unescaped word ≡ Some text → (is_escaped word ≡ true) × All (λ b. is_gap b ≡ false) word
-unfolding unescaped is_escaped
+pub spelt_is_escaped : (word text : List ℕ) → unescaped_text word ≡ Some text → (is_escaped word ≡ true) × All (λ b. is_gap b ≡ false) word
+unfolding unescaped_text is_escaped
 spelt_is_escaped [] text e = (refl, All-nil (λ b. is_gap b ≡ false))
 spelt_is_escaped (b ∷ []) text e =
     elim (cases_Bool (is_special b)) [
@@ -112,7 +113,7 @@ spelt_is_escaped (b ∷ []) text e =
 spelt_is_escaped (b ∷ c ∷ more) text e =
     elim (cases_Bool (b == backslash)) [
       | inl slash ↦
-          let parts = parts_of (escape_means c) (unescaped more) text (sym (cond-true _ _ _ slash) ∙ e) in
+          let parts = parts_of (escape_means c) (unescaped_text more) text (sym (cond-true _ _ _ slash) ∙ e) in
           let rest = spelt_is_escaped more parts.1 parts.3 in
           let ends = means_ends c parts.0 parts.2 in (
             cond-true _ _ _ slash ∙ ap₂ ◌&&◌ ends.0 rest.0,
@@ -123,14 +124,14 @@ spelt_is_escaped (b ∷ c ∷ more) text e =
           elim (cases_Bool (is_special b)) [
             | inl special ↦ let bad : None ≡ Some text = sym (cond-true _ _ _ special) ∙ left in absurd cc
             | inr plain ↦
-                let parts = byte_of b (unescaped (c ∷ more)) text (sym (cond-false _ _ _ plain) ∙ left) in
+                let parts = byte_of b (unescaped_text (c ∷ more)) text (sym (cond-false _ _ _ plain) ∙ left) in
                 let rest = spelt_is_escaped (c ∷ more) parts.0 parts.1 in
                 (cond-false _ _ _ other ∙ rest.0, All-cons (λ x. is_gap x ≡ false) b (c ∷ more) (plain_is_no_gap b plain) rest.1)
           ]
     ]
 
-pub escaped_is_spelt : (word : List ℕ) → is_escaped word ≡ true → All (λ b. is_gap b ≡ false) word → (text : List ℕ) × (unescaped word ≡ Some text)
-unfolding unescaped is_escaped
+pub escaped_is_spelt : (word : List ℕ) → is_escaped word ≡ true → All (λ b. is_gap b ≡ false) word → (text : List ℕ) × (unescaped_text word ≡ Some text)
+unfolding unescaped_text is_escaped
 escaped_is_spelt [] e none = ([], refl)
 escaped_is_spelt (b ∷ []) e none = (b ∷ [], cond-false _ _ _ (plain_of b (All-head (λ x. is_gap x ≡ false) b [] none) (not_true (b == backslash) e)))
 escaped_is_spelt (b ∷ c ∷ more) e none =
@@ -142,7 +143,7 @@ escaped_is_spelt (b ∷ c ∷ more) e none =
           let meant = ends_means c tests.0 in
           let text = escaped_is_spelt more tests.1 (All-tail (λ x. is_gap x ≡ false) c more rest) in (
             meant.0 ∷ text.0,
-            cond-true _ _ _ slash ∙ ap (option_and_then (λ (x : ℕ). option_map (λ (xs : List ℕ). x ∷ xs) (unescaped more))) meant.1 ∙ ap (option_map (λ (xs : List ℕ). meant.0 ∷ xs)) text.1,
+            cond-true _ _ _ slash ∙ ap (option_and_then (λ (x : ℕ). option_map (λ (xs : List ℕ). x ∷ xs) (unescaped_text more))) meant.1 ∙ ap (option_map (λ (xs : List ℕ). meant.0 ∷ xs)) text.1,
           )
       | inr other ↦
           let text = escaped_is_spelt (c ∷ more) (sym (cond-false _ _ _ other) ∙ e) rest in
@@ -154,37 +155,37 @@ escaped_is_spelt (b ∷ c ∷ more) e none =
 pub IsParameter-of : (word : List ℕ) → not (length word == 0) ≡ true → is_escaped word ≡ true → All (λ b. is_gap b ≡ false) word → IsParameter word
 IsParameter-of word some e none =
     let text = escaped_is_spelt word e none in
-    let spelt : escaped text.0 ≡ word = escaped-unescaped word text.0 text.1 in
-    (text.0, λ is. false≢true (sym (ap not (ap (λ (xs : List ℕ). length xs == 0) (sym spelt ∙ ap escaped is ∙ escaped-nil))) ∙ some), sym spelt)
+    let spelt : escaped_text text.0 ≡ word = escaped-unescaped word text.0 text.1 in
+    (text.0, λ is. false≢true (sym (ap not (ap (λ (xs : List ℕ). length xs == 0) (sym spelt ∙ ap escaped_text is ∙ escaped-nil))) ∙ some), sym spelt)
 
-some_byte : (word text : List ℕ) → text ≢ [] → unescaped word ≡ Some text → not (length word == 0) ≡ true
-unfolding unescaped
+some_byte : (word text : List ℕ) → text ≢ [] → unescaped_text word ≡ Some text → not (length word == 0) ≡ true
+unfolding unescaped_text
 some_byte [] text some e = let is : text ≡ [] = cc in absurd (some is)
 some_byte (b ∷ word) text some e = ap not (ne_eqb (length (b ∷ word)) 0 (λ none. omega arith))
 
 pub parameter_tests : (word : List ℕ) → IsParameter word → (not (length word == 0) ≡ true) × (is_escaped word ≡ true) × All (λ b. is_gap b ≡ false) word
 parameter_tests word h =
-    let read : unescaped word ≡ Some h.0 = ap unescaped h.2 ∙ unescaped-escaped h.0 in
+    let read : unescaped_text word ≡ Some h.0 = ap unescaped_text h.2 ∙ unescaped-escaped h.0 in
     let tests = spelt_is_escaped word h.0 read in
     (some_byte word h.0 h.1 read, tests.0, tests.1)
 
 -- ---- the first word
 
-pub mapped : {A B : Type 0} (f : A → B) (o : Option A) (x : B) → option_map f o ≡ Some x → (y : A) × (o ≡ Some y) × (x ≡ f y)
-mapped f None x e = cc
-mapped f (Some y) x e = let is : f y ≡ x = cc in (y, refl, sym is)
+pub map-some : {A B : Type 0} (f : A → B) (o : Option A) (x : B) → option_map f o ≡ Some x → (y : A) × (o ≡ Some y) × (x ≡ f y)
+map-some f None x e = cc
+map-some f (Some y) x e = let is : f y ≡ x = cc in (y, refl, sym is)
 
-pub guarded : {B : Type 0} (test : Bool) (o : Option B) (x : B) → (if test then o else None) ≡ Some x → (test ≡ true) × (o ≡ Some x)
-guarded true o x e = (refl, e)
-guarded false o x e = cc
+pub guard-holds : {B : Type 0} (test : Bool) (o : Option B) (x : B) → (if test then o else None) ≡ Some x → (test ≡ true) × (o ≡ Some x)
+guard-holds true o x e = (refl, e)
+guard-holds false o x e = cc
 
 first_word : (l a b c : ℕ) (head : Head) → (if is_letter a && is_letter_or_digit b && is_letter_or_digit c then option_map (λ (kind : Kind). record { kind = kind; command = a ∷ b ∷ c ∷ [] }) (kind_at l) else None) ≡ Some head
     → (l ∷ a ∷ b ∷ c ∷ [] ≡ letter head.kind ∷ head.command) × IsCommand head.command
 first_word l a b c head e =
-    let tests = guarded (is_letter a && is_letter_or_digit b && is_letter_or_digit c) _ head e in
+    let tests = guard-holds (is_letter a && is_letter_or_digit b && is_letter_or_digit c) _ head e in
     let last = both (is_letter a && is_letter_or_digit b) (is_letter_or_digit c) tests.0 in
     let firsts = both (is_letter a) (is_letter_or_digit b) last.0 in
-    let found = mapped (λ (kind : Kind). record { kind = kind; command = a ∷ b ∷ c ∷ [] }) (kind_at l) head tests.1 in
+    let found = map-some (λ (kind : Kind). record { kind = kind; command = a ∷ b ∷ c ∷ [] }) (kind_at l) head tests.1 in
     let same_kind : head.kind ≡ found.0 = ap (λ (h : Head). h.kind) found.2 in
     let same_command : head.command ≡ a ∷ b ∷ c ∷ [] = ap (λ (h : Head). h.command) found.2 in
     (ap₂ ◌∷◌ (letter_of l found.0 found.1 ∙ ap letter (sym same_kind)) (sym same_command), (a, b, c, same_command, firsts.0, firsts.1, last.1))
@@ -230,7 +231,7 @@ IsCommand-of (_ ∷ _ ∷ _ ∷ []) head e = cc
 IsCommand-of (l ∷ a ∷ b ∷ c ∷ []) head e = first_word l a b c head e
 IsCommand-of (l ∷ a ∷ b ∷ c ∷ d ∷ more) head e =
     let word : List ℕ = l ∷ a ∷ b ∷ c ∷ d ∷ more in
-    let tests = guarded (length word == 4 && is_letter a && is_letter_or_digit b && is_letter_or_digit c) _ head e in
+    let tests = guard-holds (length word == 4 && is_letter a && is_letter_or_digit b && is_letter_or_digit c) _ head e in
     let first = both (length word == 4) (is_letter a) (both (length word == 4 && is_letter a) (is_letter_or_digit b) (both (length word == 4 && is_letter a && is_letter_or_digit b) (is_letter_or_digit c) tests.0).0).0 in
     let four : length word ≡ 4 = eqb-true (length word) 4 first.0 in
     absurd (omega arith)
@@ -247,7 +248,7 @@ head_at-spelt kind command h =
 
 -- ---- a client's identifier
 
-digit_value : (c : ℕ) → is_base32_digit c ≡ true → (value : ℕ) × (value < 32) × (c ≡ digit_of value)
+digit_value : (c : ℕ) → is_digit c ≡ true → (value : ℕ) × (value < 32) × (c ≡ digit_of value)
 digit_value c e = by_value (value_at c) refl e
   where
     by_value : (o : Option ℕ) → value_at c ≡ o → is_some o ≡ true → (value : ℕ) × (value < 32) × (c ≡ digit_of value)
@@ -257,12 +258,12 @@ digit_value c e = by_value (value_at c) refl e
 pub IsCid-of : (word : List ℕ) → is_cid word ≡ true → IsCid word
 unfolding is_cid
 IsCid-of word e =
-    let tests = both (not (length word == 0)) (list_all is_base32_digit word) e in
-    (not_empty word tests.0, λ k d lt. digit_value _ (AllPass-from_list_all is_base32_digit word tests.1 k d lt))
+    let tests = both (not (length word == 0)) (list_all is_digit word) e in
+    (not_empty word tests.0, λ k d lt. digit_value _ (AllPass-from_list_all is_digit word tests.1 k d lt))
 
 pub is_cid-from : (word : List ℕ) → IsCid word → is_cid word ≡ true
 unfolding is_cid
-is_cid-from word h = ap₂ ◌&&◌ (some_length word h.0) (list_all-from_AllPass is_base32_digit word (λ k d lt. let digit = h.1 k d lt in ap is_base32_digit digit.2 ∙ ap is_some (value_at-digit_of digit.0 digit.1)))
+is_cid-from word h = ap₂ ◌&&◌ (some_length word h.0) (list_all-from_AllPass is_digit word (λ k d lt. let digit = h.1 k d lt in ap is_digit digit.2 ∙ ap is_some (value_at-digit_of digit.0 digit.1)))
 
 -- ---- a feature word
 

@@ -1,4 +1,4 @@
--- What is read is what the grammar says, and all of it.
+-- The reading is what the grammar says, and all of it.
 use Rattle.std.proofs.Common.{◌≡◌, ◌≢◌, ℕ, ◌+◌, ◌*◌, ◌<◌, ◌≤◌, Bool, true, false, not, ◌&&◌, cond, List, [], ◌∷◌, ◌++◌, length, drop, All, ◌⊎◌, inl, inr, refl, sym, ap, ap₂, subst, ◌∙◌, arith}
 use Rattle.std.specs.Prelude.{◌==◌, Option, Some, None, Result, Ok, Err, IfOk, MatchResult, nat_lt, if◌then◌else◌}
 use Rattle.std.specs.Option.{option_map, option_and_then}
@@ -11,24 +11,25 @@ use Rattle.std.proofs.lemmas.List.Elements.{All-nil, All-cons, All-append, All-d
 use Rattle.std.proofs.lemmas.List.Splits.{join_with_byte-slice_split}
 use Rattle.std.proofs.lemmas.List.Sums.{AllPass-from_list_all, list_all-from_AllPass}
 use Rattle.adc_base32.specs.Digits.{value_at}
-use Rattle.adc_base32.specs.Sids.{sid_count, sid_text, sid_at, four_digits}
-use Rattle.adc_base32.proofs.Spelling.{digit_of-value_at, sid_at-sid_text, sid_text-sid_at}
+use Rattle.adc_base32.specs.FourDigits.{four_digits, read_digits}
+use Rattle.adc_base32.specs.Sids.{sid_count, sid_text, sid_at}
+use Rattle.adc_base32.proofs.Spelling.{digit_of-value_at, sid_at-is, sid_at-sid_text, sid_text-sid_at}
 use Rattle.adc_line.specs.declared.fault.LineFault.{LineFault}
 use Rattle.adc_line.specs.declared.fault.LineFault.TheVariants as faults
 use Rattle.adc_line.specs.declared.header.Head.{Head}
 use Rattle.adc_line.specs.declared.header.Header.{Header}
-use Rattle.adc_line.specs.declared.kind.Kind.{Kind}
-use Rattle.adc_line.specs.declared.kind.Kind.TheVariants.{Broadcast, Client, Direct, Echo, Feature, Hub, Info, Udp}
+use Rattle.adc_line.specs.declared.header.Kind.{Kind}
+use Rattle.adc_line.specs.declared.header.Kind.TheVariants.{Broadcast, Client, Direct, Echo, Feature, Hub, Info, Udp}
 use Rattle.adc_line.specs.Frames.{max_line, is_lf}
 use Rattle.adc_line.specs.Gives.{Gives}
-use Rattle.adc_line.specs.Grammar.{letter, IsCommand, IsFeatureWord, IsParameter, IsAddressed, Reads}
-use Rattle.adc_line.specs.Header.{head_at, header, from_own, from_own_to, from_own_to_having, header_of, header_at, header_words, addressed, addressed_as, is_cid, is_feature_word}
+use Rattle.adc_line.specs.Grammar.{IsCommand, IsFeatureWord, IsParameter, IsAddressed, Reads}
+use Rattle.adc_line.specs.Header.{letter, head_at, header, from_own, from_own_to, from_own_to_having, header_of, header_at, header_words, with_addresses, addressed_as, is_cid, is_feature_word}
 use Rattle.adc_line.specs.Lines.{Reading, reading, text_checked, with_text, with_header, unless_faulty, message, features_of, params_of}
 use Rattle.adc_line.specs.Parameters.{is_parameter, params_fault}
 use Rattle.adc_line.specs.Escapes.{is_escaped}
 use Rattle.adc_line.specs.Words.{blank, is_blank, words, word_at}
 use Rattle.adc_line.proofs.BlankLemmas.{HasNoBlank, words-joined, words-HasNoBlank, first_word-no_blank, sid_text-no_blank, cid-no_blank, feature_word-no_blank}
-use Rattle.adc_line.proofs.GrammarLemmas.{both, mapped, guarded, is_gap, IsParameter-of, parameter_tests, IsCommand-of, head_at-spelt, IsCid-of, is_cid-from, IsFeatureWord-of, is_feature_word-from}
+use Rattle.adc_line.proofs.GrammarLemmas.{both, map-some, guard-holds, is_gap, IsParameter-of, parameter_tests, IsCommand-of, head_at-spelt, IsCid-of, is_cid-from, IsFeatureWord-of, is_feature_word-from}
 use Rattle.adc_line.proofs.LineLemmas.{text_checked-text, reading-passes}
 
 -- ---- the five tests, one after another
@@ -114,18 +115,20 @@ four_below a b c d n e =
     let is : ((first.0 * 32 + second.0) * 32 + third.0) * 32 + fourth.0 ≡ n = cc in
     omega arith
 
-sid_below : (text : List ℕ) (n : ℕ) → sid_at text ≡ Some n → n < sid_count
-unfolding sid_at
-sid_below [] n e = cc
-sid_below (a ∷ []) n e = cc
-sid_below (a ∷ b ∷ []) n e = cc
-sid_below (a ∷ b ∷ c ∷ []) n e = cc
-sid_below (a ∷ b ∷ c ∷ d ∷ []) n e = four_below a b c d n e
-sid_below (a ∷ b ∷ c ∷ d ∷ f ∷ more) n e =
+read_below : (text : List ℕ) (n : ℕ) → read_digits text ≡ Some n → n < sid_count
+read_below [] n e = cc
+read_below (a ∷ []) n e = cc
+read_below (a ∷ b ∷ []) n e = cc
+read_below (a ∷ b ∷ c ∷ []) n e = cc
+read_below (a ∷ b ∷ c ∷ d ∷ []) n e = four_below a b c d n e
+read_below (a ∷ b ∷ c ∷ d ∷ f ∷ more) n e =
     let text : List ℕ = a ∷ b ∷ c ∷ d ∷ f ∷ more in
-    let tests = guarded (length text == 4) _ n e in
+    let tests = guard-holds (length text == 4) _ n e in
     let four : length text ≡ 4 = eqb-true (length text) 4 tests.0 in
     omega arith
+
+sid_below : (text : List ℕ) (n : ℕ) → sid_at text ≡ Some n → n < sid_count
+sid_below text n e = read_below text n (sym (sid_at-is text) ∙ e)
 
 -- a word that is a session identifier, by the identifier
 record IsSid (word : List ℕ) (n : ℕ) : Type 0 where
@@ -152,7 +155,7 @@ module _ (head : Head) (ws : List (List ℕ)) (made : Header) where
 
   sound_own : from_own head (word_at ws 1) ≡ Some made → Sound Broadcast head ws made
   sound_own e =
-      let own = mapped (λ (sid : ℕ). header head (Some sid) None) (sid_at (word_at ws 1)) made e in
+      let own = map-some (λ (sid : ℕ). header head (Some sid) None) (sid_at (word_at ws 1)) made e in
       let sid = sid_of (word_at ws 1) own.0 own.1 in
       record {
         same = ap (λ (h : Header). h.head) own.2;
@@ -164,7 +167,7 @@ module _ (head : Head) (ws : List (List ℕ)) (made : Header) where
   sound_own_to : from_own_to head (word_at ws 1) (word_at ws 2) ≡ Some made → Sound Direct head ws made
   sound_own_to e =
       let own = then_parts _ (sid_at (word_at ws 1)) made e in
-      let to = mapped (λ (sid : ℕ). header head (Some own.0) (Some sid)) (sid_at (word_at ws 2)) made own.2 in
+      let to = map-some (λ (sid : ℕ). header head (Some own.0) (Some sid)) (sid_at (word_at ws 2)) made own.2 in
       let from_sid = sid_of (word_at ws 1) own.0 own.1 in
       let to_sid = sid_of (word_at ws 2) to.0 to.1 in
       record {
@@ -177,7 +180,7 @@ module _ (head : Head) (ws : List (List ℕ)) (made : Header) where
   sound_having : from_own_to_having head (word_at ws 1) (word_at ws 2) ≡ Some made → Sound Feature head ws made
   sound_having e =
       let own = then_parts _ (sid_at (word_at ws 1)) made e in
-      let tests = guarded (is_feature_word (word_at ws 2)) _ made own.2 in
+      let tests = guard-holds (is_feature_word (word_at ws 2)) _ made own.2 in
       let is : header head (Some own.0) None ≡ made = cc in
       let sid = sid_of (word_at ws 1) own.0 own.1 in
       let word = IsFeatureWord-of (word_at ws 2) tests.0 in
@@ -190,7 +193,7 @@ module _ (head : Head) (ws : List (List ℕ)) (made : Header) where
 
   sound_cid : (if is_cid (word_at ws 1) then Some (header head None None) else None) ≡ Some made → Sound Udp head ws made
   sound_cid e =
-      let tests = guarded (is_cid (word_at ws 1)) _ made e in
+      let tests = guard-holds (is_cid (word_at ws 1)) _ made e in
       let is = bare tests.1 in
       let cid = IsCid-of (word_at ws 1) tests.0 in
       record { same = is.0; addresses = word_at ws 1 ∷ []; addressed = (word_at ws 1, cid, refl, is.1, is.2, refl); rest = at_1 ws cid.0 }
@@ -231,7 +234,7 @@ record Headed (bytes : List ℕ) (made : Header) : Type 0 where
   sound : Sound made.head.kind made.head (words bytes) made
 
 headed : (bytes : List ℕ) (made : Header) → header_at (words bytes) ≡ Some made → Headed bytes made
-unfolding header_of addressed
+unfolding header_of with_addresses
 headed bytes made e =
     let ws = words bytes in
     let head = then_parts (λ (h : Head). addressed_as h.kind h (word_at ws 1) (word_at ws 2)) (head_at (word_at ws 0)) made e in
@@ -352,7 +355,7 @@ spelt_words bytes line h =
     ap words h.spelt ∙ words-joined first (h.addresses ++ line.params) (All-cons HasNoBlank first (h.addresses ++ line.params) (first_word-no_blank line.kind line.command h.command) blanks)
 
 pub reading-of : (bytes : List ℕ) (line : Reading) → Reads bytes line → reading bytes ≡ Ok line
-unfolding header_of addressed
+unfolding header_of with_addresses
 reading-of bytes line h =
     let head : Head = record { kind = line.kind; command = line.command } in
     let first = letter line.kind ∷ line.command in
@@ -360,7 +363,7 @@ reading-of bytes line h =
     let c = complete line.kind head first line.params h.addresses line.from line.target line.features h.addressed in
     let ws = first ∷ (h.addresses ++ line.params) in
     let found : header_at (words bytes) ≡ Some (header head line.from line.target) =
-    ap header_at split ∙ ap (option_and_then (λ (x : Head). addressed x (word_at ws 1) (word_at ws 2))) (head_at-spelt line.kind line.command h.command) ∙ c.made in
+    ap header_at split ∙ ap (option_and_then (λ (x : Head). with_addresses x (word_at ws 1) (word_at ws 2))) (head_at-spelt line.kind line.command h.command) ∙ c.made in
     let params : params_fault (params_of line.kind (words bytes)) ≡ None = ap (λ xs. params_fault (params_of line.kind xs)) split ∙ ap params_fault c.rest ∙ params_pass line.params h.params in
     let whole = reading-passes bytes bytes bytes (header head line.from line.target) (text_checked-text bytes bytes h.short refl h.utf8) found params refl in
     let made : List ℕ → Option (List ℕ) → List (List ℕ) → Reading = λ t f p. record line { text = t; features = f; params = p } in

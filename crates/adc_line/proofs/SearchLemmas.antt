@@ -1,4 +1,4 @@
--- What a search for a byte says of the bytes before it.
+-- A search for a byte, and the bytes before it.
 use Rattle.std.proofs.Common.{◌≡◌, ℕ, ◌+◌, ◌<◌, Bool, false, List, ◌++◌, length, take, drop, All, sym, subst, ◌∙◌, ap, length-take, take-append-drop, arith}
 use Rattle.std.proofs.Math.Seq.{take-add}
 use Rattle.std.proofs.lemmas.Bool.{false_from_ne_true}

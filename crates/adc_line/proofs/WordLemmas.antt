@@ -1,4 +1,4 @@
--- How the tests of a word go on from its front.
+-- Tests of a word, from its front on.
 use Rattle.std.proofs.Common.{◌≡◌, ◌≢◌, ℕ, ◌<◌, ◌≤◌, true, false, ◌&&◌, eq-eqb, not, List, [], ◌∷◌, length, get_or, drop, refl, sym, ◌∙◌, ap, ap₂, arith}
 use Rattle.std.specs.Prelude.{◌==◌}
 use Rattle.std.proofs.lemmas.Bool.{cond-true, cond-false, ne_eqb}

@@ -1,4 +1,4 @@
--- What a framer's buffer has unread.
+-- The bytes of a framer's buffer that are unread.
 use Rattle.std.specs.Prelude.{ℕ, ◌+◌, ◌≤◌, List, length, take, drop}
 use Rattle.adc_line.specs.Frames.{HasNoLf}
 use Rattle.adc_line.specs.declared.framer.Framer.TheInside.{Inside}

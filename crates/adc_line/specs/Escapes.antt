@@ -1,4 +1,4 @@
--- How a text is spelt within one word (ADC 1.0, "Message syntax"): blank as `\s`, line feed as `\n`, backslash as `\\`.
+-- The spelling of a text within one word (ADC 1.0, "Message syntax"): blank as `\s`, line feed as `\n`, backslash as `\\`.
 use Rattle.std.specs.Prelude.{ℕ, ◌==◌, ◌&&◌, ◌||◌, Bool, true, not, List, [], ◌∷◌, Option, Some, None, if◌then◌else◌}
 use Rattle.std.specs.Option.{option_map, option_and_then}
 use Rattle.std.specs.List.{flat_map}
@@ -19,8 +19,8 @@ abbrev pub is_special : ℕ → Bool
 is_special b = b == 32 || b == 10 || b == backslash
 
 -- the one spelling of a text
-unfoldable pub escaped : List ℕ → List ℕ
-escaped text = flat_map escaped_byte text
+unfoldable pub escaped_text : List ℕ → List ℕ
+escaped_text text = flat_map escaped_byte text
 
 -- what may follow a backslash: `s`, `n` or a backslash
 abbrev pub ends_escape : ℕ → Bool
@@ -41,10 +41,10 @@ escape_means b =
     else None
 
 -- the text that a word spells, where it spells one
-unfoldable pub unescaped : List ℕ → Option (List ℕ)
-unescaped [] = Some []
-unescaped (b ∷ []) = if is_special b then None else Some (b ∷ [])
-unescaped (b ∷ c ∷ more) =
-    if b == backslash then option_and_then (λ (meant : ℕ). option_map (λ (text : List ℕ). meant ∷ text) (unescaped more)) (escape_means c)
+unfoldable pub unescaped_text : List ℕ → Option (List ℕ)
+unescaped_text [] = Some []
+unescaped_text (b ∷ []) = if is_special b then None else Some (b ∷ [])
+unescaped_text (b ∷ c ∷ more) =
+    if b == backslash then option_and_then (λ (meant : ℕ). option_map (λ (text : List ℕ). meant ∷ text) (unescaped_text more)) (escape_means c)
     else if is_special b then None
-    else option_map (λ (text : List ℕ). b ∷ text) (unescaped (c ∷ more))
+    else option_map (λ (text : List ℕ). b ∷ text) (unescaped_text (c ∷ more))

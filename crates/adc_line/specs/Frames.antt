@@ -1,4 +1,4 @@
--- How long a line may be, and the byte that ends it (ADC 1.0, "Message syntax").
+-- The length of a line at most, and the byte that ends it (ADC 1.0, "Message syntax").
 use Rattle.std.specs.Prelude.{◌≡◌, ℕ, Bool, false, List, ◌==◌}
 use Rattle.std.specs.List.{All}
 

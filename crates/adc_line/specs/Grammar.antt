@@ -1,28 +1,17 @@
--- What a message is (ADC 1.0, "Message syntax" and "Message types"), as a reader of the protocol would say it:
+-- The grammar of a message (ADC 1.0, "Message syntax" and "Message types"), as a reader of the protocol would say it:
 -- words with one blank between each two, of which the first ones are the header and the others parameters.
 use Rattle.std.specs.Prelude.{◌≡◌, ◌≢◌, ℕ, ◌<◌, ◌≤◌, IsTrue, List, [], ◌∷◌, ◌++◌, length, Option, Some, None}
 use Rattle.std.specs.List.{All, flat_map, join_with_byte}
 use Rattle.std.specs.Str.{IsUtf8}
 use Rattle.adc_base32.specs.Digits.{digit_of}
 use Rattle.adc_base32.specs.Sids.{sid_count, sid_text}
-use Rattle.adc_line.specs.declared.kind.Kind.{Kind}
-use Rattle.adc_line.specs.declared.kind.Kind.TheVariants.{Broadcast, Client, Direct, Echo, Feature, Hub, Info, Udp}
-use Rattle.adc_line.specs.Escapes.{escaped}
+use Rattle.adc_line.specs.declared.header.Kind.{Kind}
+use Rattle.adc_line.specs.declared.header.Kind.TheVariants.{Broadcast, Client, Direct, Echo, Feature, Hub, Info, Udp}
+use Rattle.adc_line.specs.Escapes.{escaped_text}
 use Rattle.adc_line.specs.Frames.{max_line}
-use Rattle.adc_line.specs.Header.{is_letter, is_letter_or_digit, is_sign}
+use Rattle.adc_line.specs.Header.{is_letter, is_letter_or_digit, is_sign, letter}
 use Rattle.adc_line.specs.Lines.{Reading}
 use Rattle.adc_line.specs.Words.{blank}
-
--- the letter of a type
-abbrev pub letter : Kind → ℕ
-letter Broadcast = 66
-letter Client = 67
-letter Direct = 68
-letter Echo = 69
-letter Feature = 70
-letter Hub = 72
-letter Info = 73
-letter Udp = 85
 
 -- a command's name: a letter, and two letters or digits
 abbrev pub IsCommand : List ℕ → Type 0
@@ -53,7 +42,7 @@ IsFeatureWord word = (word ≢ []) × ((parts : List Part) × (word ≡ flat_map
 
 -- the spelling of a text that is not empty
 abbrev pub IsParameter : List ℕ → Type 0
-IsParameter word = (text : List ℕ) × (text ≢ []) × (word ≡ escaped text)
+IsParameter word = (text : List ℕ) × (text ≢ []) × (word ≡ escaped_text text)
 
 -- the words of the header behind the first, and what they say of the sender, the target and the features
 abbrev pub IsAddressed : Kind → List (List ℕ) → Option ℕ → Option ℕ → Option (List ℕ) → Type 0

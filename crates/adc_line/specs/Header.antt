@@ -1,11 +1,11 @@
 -- The header of a message: its type, its command and whom it is from and for (ADC 1.0, "Message types").
-use Rattle.std.specs.Prelude.{ℕ, ◌==◌, ◌&&◌, ◌||◌, Bool, true, false, not, nat_le, List, [], ◌∷◌, length, slice_index, Option, Some, None, is_some, if◌then◌else◌}
+use Rattle.std.specs.Prelude.{ℕ, ◌==◌, ◌&&◌, ◌||◌, Bool, true, false, not, nat_le, List, [], ◌∷◌, length, slice_index, Option, Some, None, if◌then◌else◌}
 use Rattle.std.specs.Option.{option_map, option_and_then}
-use Rattle.std.specs.List.{list_all}
-use Rattle.adc_base32.specs.Digits.{value_at}
+use Rattle.std.specs.List.{find, list_all}
 use Rattle.adc_base32.specs.Sids.{sid_at}
-use Rattle.adc_line.specs.declared.kind.Kind.{Kind}
-use Rattle.adc_line.specs.declared.kind.Kind.TheVariants.{Broadcast, Client, Direct, Echo, Feature, Hub, Info, Udp}
+use Rattle.adc_base32.specs.Spelled.{is_digit}
+use Rattle.adc_line.specs.declared.header.Kind.{Kind}
+use Rattle.adc_line.specs.declared.header.Kind.TheVariants.{Broadcast, Client, Direct, Echo, Feature, Hub, Info, Udp}
 use Rattle.adc_line.specs.declared.header.Head.{Head}
 use Rattle.adc_line.specs.declared.header.Header.{Header}
 use Rattle.adc_line.specs.Words.{word_at}
@@ -18,18 +18,23 @@ is_letter c = nat_le 65 c && nat_le c 90
 abbrev pub is_letter_or_digit : ℕ → Bool
 is_letter_or_digit c = is_letter c || (nat_le 48 c && nat_le c 57)
 
+-- the letter of a type
+abbrev pub letter : Kind → ℕ
+letter Broadcast = 66
+letter Client = 67
+letter Direct = 68
+letter Echo = 69
+letter Feature = 70
+letter Hub = 72
+letter Info = 73
+letter Udp = 85
+
+abbrev pub kinds : List Kind
+kinds = Broadcast ∷ Client ∷ Direct ∷ Echo ∷ Feature ∷ Hub ∷ Info ∷ Udp ∷ []
+
 -- the type with a letter
 unfoldable pub kind_at : ℕ → Option Kind
-kind_at letter =
-    if letter == 66 then Some Broadcast
-    else if letter == 67 then Some Client
-    else if letter == 68 then Some Direct
-    else if letter == 69 then Some Echo
-    else if letter == 70 then Some Feature
-    else if letter == 72 then Some Hub
-    else if letter == 73 then Some Info
-    else if letter == 85 then Some Udp
-    else None
+kind_at c = find (λ (kind : Kind). c == letter kind) kinds
 
 -- a command's name: a letter, and two letters or digits
 abbrev pub is_command : List ℕ → Bool
@@ -43,12 +48,9 @@ head_at word =
     then option_map (λ (kind : Kind). record { kind = kind; command = slice_index word 1 ∷ slice_index word 2 ∷ slice_index word 3 ∷ [] }) (kind_at (slice_index word 0))
     else None
 
-abbrev pub is_base32_digit : ℕ → Bool
-is_base32_digit c = is_some (value_at c)
-
 -- a client's own identifier in a message over UDP: one or more base32 digits
 unfoldable pub is_cid : List ℕ → Bool
-is_cid word = not (length word == 0) && list_all is_base32_digit word
+is_cid word = not (length word == 0) && list_all is_digit word
 
 -- `+` wants a feature, `-` wants that it is absent
 abbrev pub is_sign : ℕ → Bool
@@ -70,11 +72,8 @@ is_feature sign a b c d = is_sign sign && is_named a b c d
 -- such parts and nothing else
 unfoldable pub are_features : List ℕ → Bool
 are_features [] = true
-are_features (_ ∷ []) = false
-are_features (_ ∷ _ ∷ []) = false
-are_features (_ ∷ _ ∷ _ ∷ []) = false
-are_features (_ ∷ _ ∷ _ ∷ _ ∷ []) = false
 are_features (sign ∷ a ∷ b ∷ c ∷ d ∷ more) = is_feature sign a b c d && are_features more
+are_features rest = false
 
 -- a feature word has one or more of them
 unfoldable pub is_feature_word : List ℕ → Bool
@@ -100,20 +99,18 @@ from_own_to_having head own features =
 -- the header whose first word says `head`, by its type, with the two words that may follow in it
 abbrev pub addressed_as : Kind → Head → List ℕ → List ℕ → Option Header
 addressed_as Broadcast head second third = from_own head second
-addressed_as Client head second third = Some (header head None None)
 addressed_as Direct head second third = from_own_to head second third
 addressed_as Echo head second third = from_own_to head second third
 addressed_as Feature head second third = from_own_to_having head second third
-addressed_as Hub head second third = Some (header head None None)
-addressed_as Info head second third = Some (header head None None)
 addressed_as Udp head second third = if is_cid second then Some (header head None None) else None
+addressed_as kind head second third = Some (header head None None)
 
-unfoldable pub addressed : Head → List ℕ → List ℕ → Option Header
-addressed head second third = addressed_as head.kind head second third
+unfoldable pub with_addresses : Head → List ℕ → List ℕ → Option Header
+with_addresses head second third = addressed_as head.kind head second third
 
 -- the header that three words make, of which the absent are empty
 unfoldable pub header_of : List ℕ → List ℕ → List ℕ → Option Header
-header_of first second third = option_and_then (λ (head : Head). addressed head second third) (head_at first)
+header_of first second third = option_and_then (λ (head : Head). with_addresses head second third) (head_at first)
 
 -- the header with which words begin, where they begin with one
 abbrev pub header_at : List (List ℕ) → Option Header
@@ -122,10 +119,8 @@ header_at ws = header_of (word_at ws 0) (word_at ws 1) (word_at ws 2)
 -- how many words the header of a type has
 abbrev pub header_words : Kind → ℕ
 header_words Broadcast = 2
-header_words Client = 1
 header_words Direct = 3
 header_words Echo = 3
 header_words Feature = 3
-header_words Hub = 1
-header_words Info = 1
 header_words Udp = 2
+header_words kind = 1

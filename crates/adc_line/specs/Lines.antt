@@ -1,11 +1,11 @@
--- What bytes say as a message (ADC 1.0, "Message syntax"), and the first fault of those that are none.
+-- The message that bytes say (ADC 1.0, "Message syntax"), and the first fault of those that say none.
 use Rattle.std.specs.Prelude.{ℕ, not, nat_lt, List, drop, length, Option, Some, None, Result, Ok, Err, if◌then◌else◌}
 use Rattle.std.specs.Str.{is_utf8}
 use Rattle.adc_line.specs.declared.fault.LineFault.{LineFault}
 use Rattle.adc_line.specs.declared.fault.LineFault.TheVariants as faults
 use Rattle.adc_line.specs.declared.header.Header.{Header}
-use Rattle.adc_line.specs.declared.kind.Kind.{Kind}
-use Rattle.adc_line.specs.declared.kind.Kind.TheVariants as kinds
+use Rattle.adc_line.specs.declared.header.Kind.{Kind}
+use Rattle.adc_line.specs.declared.header.Kind.TheVariants as kinds
 use Rattle.adc_line.specs.Frames.{max_line}
 use Rattle.adc_line.specs.Header.{header_at, header_words}
 use Rattle.adc_line.specs.Parameters.{params_fault}
@@ -23,14 +23,8 @@ pub record Reading : Type 0 where
 
 -- a message to those with certain features names them in its third word
 abbrev pub features_of : Kind → List (List ℕ) → Option (List ℕ)
-features_of kinds.Broadcast ws = None
-features_of kinds.Client ws = None
-features_of kinds.Direct ws = None
-features_of kinds.Echo ws = None
 features_of kinds.Feature ws = Some (word_at ws 2)
-features_of kinds.Hub ws = None
-features_of kinds.Info ws = None
-features_of kinds.Udp ws = None
+features_of kind ws = None
 
 -- the parameters are the words after the header
 abbrev pub params_of : Kind → List (List ℕ) → List (List ℕ)

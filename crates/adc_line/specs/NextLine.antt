@@ -1,4 +1,4 @@
--- What a framer says of the bytes that it has unread.
+-- The next line of a framer, by the bytes that it has unread.
 use Rattle.std.specs.Prelude.{◌≡◌, ℕ, ◌+◌, ◌<◌, ◌≤◌, List, ◌∷◌, ◌++◌, [], length, take}
 use Rattle.adc_line.specs.Frames.{lf, max_line, HasNoLf}
 use Rattle.adc_line.specs.Stream.{lines}

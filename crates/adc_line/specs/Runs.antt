@@ -1,4 +1,4 @@
--- What the calls of one framer did, one after another.
+-- The calls of one framer, one after another.
 use Rattle.std.specs.Prelude.{◌≡◌, ℕ, List, [], ◌∷◌, ◌++◌}
 use Rattle.adc_line.specs.declared.framer.Next.{Next}
 use Rattle.adc_line.specs.declared.framer.Next.TheVariants.{Line, More, TooLong}

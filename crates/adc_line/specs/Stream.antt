@@ -25,5 +25,5 @@ abbrev pub IsLine : List ℕ → Type 0
 IsLine line = HasNoLf line × (length line ≤ max_line)
 
 -- lines as a stream has them, each ended by a line feed
-abbrev pub joined : List (List ℕ) → List ℕ
-joined ended = flat_map (λ line. line ++ lf ∷ []) ended
+abbrev pub joined_lines : List (List ℕ) → List ℕ
+joined_lines ended = flat_map (λ line. line ++ lf ∷ []) ended

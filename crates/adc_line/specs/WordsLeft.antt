@@ -1,4 +1,4 @@
--- What the iterator over the words of a text has left.
+-- The words that the iterator over a text has left.
 use Rattle.std.specs.Prelude.{ℕ, List, []}
 use Rattle.std.specs.Option.{option_map_or}
 use Rattle.adc_line.specs.declared.words.Words.{Words as WordIterator}

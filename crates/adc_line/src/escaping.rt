@@ -3,7 +3,7 @@ ghost use Rattle.std.specs.String.{string_bytes};
 ghost use Rattle.std.specs.List.{All};
 ghost use Rattle.std.specs.Option.{option_map};
 ghost use Rattle.std.specs.Str.{IsUtf8};
-ghost use Rattle.adc_line.specs.Escapes.{backslash, escaped, escaped_byte, escape_means, is_special, unescaped};
+ghost use Rattle.adc_line.specs.Escapes.{backslash, escaped_text, escaped_byte, escape_means, is_special, unescaped_text};
 
 use crate::fault::UnescapeFault;
 use memchr::memchr3;
@@ -12,14 +12,14 @@ use std::alloc::{AllocError, Global};
 /// Writes the spelling of a text within one word: blank as `\s`, line feed as `\n`, backslash as `\\`, and every other
 /// character as itself (ADC 1.0, "Message syntax"). Refused only where memory runs out.
 pub fn escape(alloc: Global, text: &str) -> Result<String, AllocError>
-    ensures spelling { IfOk result (λ word. string_bytes word ≡ escaped text.now) }
-    ensures back { IfOk result (λ word. unescaped (string_bytes word) ≡ Some text.now) }
+    ensures spelling { IfOk result (λ word. string_bytes word ≡ escaped_text text.now) }
+    ensures back { IfOk result (λ word. unescaped_text (string_bytes word) ≡ Some text.now) }
 {
     escape_runs(alloc, text)
 }
 
 fn escape_runs(alloc: Global, text: &str) -> Result<String, AllocError>
-    ensures { IfOk result (λ word. string_bytes word ≡ escaped text.now) }
+    ensures { IfOk result (λ word. string_bytes word ≡ escaped_text text.now) }
 {
     let mut word = String::with_capacity(alloc, text.len())?;
     let mut rest = text;
@@ -39,18 +39,18 @@ fn escape_runs(alloc: Global, text: &str) -> Result<String, AllocError>
 /// Refused with `Escape` where no text has this spelling: a backslash begins no escape, or a blank or
 /// a line feed stands for itself; with `Memory` where memory ran out before that was seen.
 pub fn unescape(alloc: Global, word: &str) -> Result<String, UnescapeFault>
-    ensures exact { IfOk result (λ text. unescaped word.now ≡ Some (string_bytes text)) }
-    ensures spelling { IfOk result (λ text. escaped (string_bytes text) ≡ word.now) }
-    ensures one { IfOk result (λ text. (other : List ℕ) → escaped other ≡ word.now → other ≡ string_bytes text) }
-    ensures fault { IfErr result (λ fault. fault ≡ UnescapeFault.Escape → unescaped word.now ≡ None) }
-    ensures no_text { IfErr result (λ fault. fault ≡ UnescapeFault.Escape → (text : List ℕ) → escaped text ≡ word.now → ⊥) }
+    ensures exact { IfOk result (λ text. unescaped_text word.now ≡ Some (string_bytes text)) }
+    ensures spelling { IfOk result (λ text. escaped_text (string_bytes text) ≡ word.now) }
+    ensures one { IfOk result (λ text. (other : List ℕ) → escaped_text other ≡ word.now → other ≡ string_bytes text) }
+    ensures fault { IfErr result (λ fault. fault ≡ UnescapeFault.Escape → unescaped_text word.now ≡ None) }
+    ensures no_text { IfErr result (λ fault. fault ≡ UnescapeFault.Escape → (text : List ℕ) → escaped_text text ≡ word.now → ⊥) }
 {
     unescape_runs(alloc, word)
 }
 
 fn unescape_runs(alloc: Global, word: &str) -> Result<String, UnescapeFault>
-    ensures exact { IfOk result (λ text. unescaped word.now ≡ Some (string_bytes text)) }
-    ensures fault { IfErr result (λ fault. fault ≡ UnescapeFault.Escape → unescaped word.now ≡ None) }
+    ensures exact { IfOk result (λ text. unescaped_text word.now ≡ Some (string_bytes text)) }
+    ensures fault { IfErr result (λ fault. fault ≡ UnescapeFault.Escape → unescaped_text word.now ≡ None) }
 {
     let mut text = String::with_capacity(alloc, word.len())?;
     let mut rest = word;
@@ -73,11 +73,11 @@ fn unescape_runs(alloc: Global, word: &str) -> Result<String, UnescapeFault>
 
 /// Reads the escape whose backslash is before the text; gives what it stands for, and what follows it.
 fn first_meant(text: &str) -> Option<(char, &str)>
-    ensures some { IfSome result (λ x. unescaped (backslash ∷ text.now) ≡ option_map (λ rest. x.0 ∷ rest) (unescaped x.1.now)) }
+    ensures some { IfSome result (λ x. unescaped_text (backslash ∷ text.now) ≡ option_map (λ rest. x.0 ∷ rest) (unescaped_text x.1.now)) }
     ensures ascii { IfSome result (λ x. x.0 < 128) }
     ensures shorter { IfSome result (λ x. length x.1.now < length text.now) }
     ensures utf8 { IfSome result (λ x. IsUtf8 x.1.now) }
-    ensures none { IfNone result (unescaped (backslash ∷ text.now) ≡ None) }
+    ensures none { IfNone result (unescaped_text (backslash ∷ text.now) ≡ None) }
 {
     let [letter, ..] = text.as_bytes() else {
         return None;

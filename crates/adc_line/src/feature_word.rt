@@ -1,17 +1,7 @@
 ghost use Rattle.std.specs.Prelude.{◌≡◌};
-ghost use Rattle.adc_line.specs.Header.{is_letter, is_letter_or_digit, is_sign, is_feature, is_named, is_feature_name, are_features, is_feature_word};
+ghost use Rattle.adc_line.specs.Header.{is_sign, is_feature, is_named, is_feature_name, are_features, is_feature_word};
 
-pub(crate) fn is_letter(byte: u8) -> bool
-    ensures { result ≡ is_letter byte }
-{
-    matches!(byte, b'A'..=b'Z')
-}
-
-pub(crate) fn is_letter_or_digit(byte: u8) -> bool
-    ensures { result ≡ is_letter_or_digit byte }
-{
-    matches!(byte, b'A'..=b'Z' | b'0'..=b'9')
-}
+use crate::header::{is_letter, is_letter_or_digit};
 
 fn is_sign(byte: u8) -> bool
     ensures { result ≡ is_sign byte }

@@ -1,12 +1,71 @@
-ghost use Rattle.std.specs.Prelude.{◌≡◌, ◌&&◌};
+ghost use Rattle.std.specs.Prelude.{◌≡◌, ◌&&◌, Some};
 ghost use Rattle.std.specs.List.{list_all};
-ghost use Rattle.adc_line.specs.Header.{is_base32_digit, head_at, is_cid, addressed, header_of, header_at, header_words};
+ghost use Rattle.adc_base32.specs.Spelled.{is_digit};
+ghost use Rattle.adc_line.specs.Header.{is_letter, is_letter_or_digit, head_at, is_cid, with_addresses, header_of, header_at, header_words, kind_at, letter};
 ghost use Rattle.adc_line.specs.Words.{words};
 
-use crate::feature_word::{is_feature_word, is_letter, is_letter_or_digit};
-use crate::kind::Kind;
+use crate::feature_word::is_feature_word;
 use crate::words::Words;
 use adc_base32::Sid;
+
+/// The type of a message: whom it is for (ADC 1.0, "Message types").
+#[derive(Clone, Copy, Debug, PartialEq, Eq)]
+pub enum Kind {
+    /// B: to all users.
+    Broadcast,
+    /// C: from client to client.
+    Client,
+    /// D: to one user.
+    Direct,
+    /// E: to one user and back to the sender.
+    Echo,
+    /// F: to the users who have certain features.
+    Feature,
+    /// H: to the hub.
+    Hub,
+    /// I: from the hub.
+    Info,
+    /// U: from client to client over UDP.
+    Udp,
+}
+
+impl Kind {
+    /// Gives the type with this letter.
+    #[tactic(auto, unfolding(crate::specs::Header::kind_at))]
+    pub(crate) fn of(letter: u8) -> Option<Kind>
+        ensures { result ≡ kind_at letter }
+    {
+        match letter {
+            b'B' => Some(Kind::Broadcast),
+            b'C' => Some(Kind::Client),
+            b'D' => Some(Kind::Direct),
+            b'E' => Some(Kind::Echo),
+            b'F' => Some(Kind::Feature),
+            b'H' => Some(Kind::Hub),
+            b'I' => Some(Kind::Info),
+            b'U' => Some(Kind::Udp),
+            _ => None,
+        }
+    }
+
+    /// Gives the letter that a message of this type begins with.
+    #[tactic(auto, unfolding(crate::specs::Header::kind_at))]
+    pub fn letter(self) -> u8
+        ensures exact { result ≡ letter self }
+        ensures back { kind_at result ≡ Some self }
+    {
+        match self {
+            Kind::Broadcast => b'B',
+            Kind::Client => b'C',
+            Kind::Direct => b'D',
+            Kind::Echo => b'E',
+            Kind::Feature => b'F',
+            Kind::Hub => b'H',
+            Kind::Info => b'I',
+            Kind::Udp => b'U',
+        }
+    }
+}
 
 /// The first word of a line, read.
 #[derive(Clone, Copy, Debug)]
@@ -64,7 +123,7 @@ fn header_of(first: &[u8], second: &[u8], third: &[u8]) -> Option<Header>
     ensures { result ≡ header_of first.now second.now third.now }
 {
     let head = head_at(first)?;
-    addressed(head, second, third)
+    with_addresses(head, second, third)
 }
 
 #[tactic(auto, unfolding(crate::specs::Header::head_at))]
@@ -84,9 +143,9 @@ fn head_at(word: &[u8]) -> Option<Head>
     })
 }
 
-#[tactic(auto, unfolding(crate::specs::Header::addressed))]
-fn addressed(head: Head, second: &[u8], third: &[u8]) -> Option<Header>
-    ensures { result ≡ addressed head second.now third.now }
+#[tactic(auto, unfolding(crate::specs::Header::with_addresses))]
+fn with_addresses(head: Head, second: &[u8], third: &[u8]) -> Option<Header>
+    ensures { result ≡ with_addresses head second.now third.now }
 {
     match head.kind {
         Kind::Client | Kind::Hub | Kind::Info => Some(head.header(None, None)),
@@ -115,15 +174,29 @@ fn addressed(head: Head, second: &[u8], third: &[u8]) -> Option<Header>
     }
 }
 
+/// Tests whether a byte is a letter A to Z.
+pub(crate) fn is_letter(byte: u8) -> bool
+    ensures { result ≡ is_letter byte }
+{
+    matches!(byte, b'A'..=b'Z')
+}
+
+/// Tests whether a byte is a letter A to Z or a digit.
+pub(crate) fn is_letter_or_digit(byte: u8) -> bool
+    ensures { result ≡ is_letter_or_digit byte }
+{
+    matches!(byte, b'A'..=b'Z' | b'0'..=b'9')
+}
+
 #[tactic(auto, unfolding(adc_base32::specs::Digits::value_at))]
 fn is_base32_digit(byte: u8) -> bool
-    ensures { result ≡ is_base32_digit byte }
+    ensures { result ≡ is_digit byte }
 {
     matches!(byte, b'A'..=b'Z' | b'2'..=b'7')
 }
 
 fn are_base32_digits(word: &[u8]) -> bool
-    ensures { result ≡ list_all is_base32_digit word.now }
+    ensures { result ≡ list_all is_digit word.now }
 {
     word.iter().all(|c| is_base32_digit(*c))
 }

@@ -6,9 +6,7 @@ mod fault;
 mod feature_word;
 mod framer;
 mod header;
-mod kind;
 mod line;
-mod parameters;
 mod stream;
 mod words;
 
@@ -16,7 +14,7 @@ pub use escaping::{escape, unescape};
 pub use fault::{FrameFault, LineFault, UnescapeFault};
 pub use feature_word::{is_feature_name, is_feature_word};
 pub use framer::{Framer, Next};
-pub use kind::Kind;
+pub use header::Kind;
 pub use line::Line;
 pub use stream::stream_laws;
 pub use words::Words;

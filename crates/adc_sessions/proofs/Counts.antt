@@ -102,10 +102,10 @@ cause_of Stopped stop_after arrivals later left faults over = all_came stop_afte
 cause_of AcceptFailed stop_after arrivals later left faults over = ends_in_faults arrivals (sym faults ∙ over)
 
 -- what comes of accepting that has not begun
-pub accepted : {I T : Type 0} (brings : I → Arrival → I → Type 0) (starts : T → ℕ → T → Type 0) (incoming : I) (starter : T) (stop_after : Option ℕ) (end : AcceptEnd)
+pub accepts-begins : {I T : Type 0} (brings : I → Arrival → I → Type 0) (starts : T → ℕ → T → Type 0) (incoming : I) (starter : T) (stop_after : Option ℕ) (end : AcceptEnd)
     → (most : ℕ) × (later : Accept I T) × PartsIn brings starts most incoming starter stop_after 0 later.incoming later.starter later.left later.faults × OverBy end later
     → Accepted brings starts incoming starter stop_after end
-accepted brings starts incoming starter stop_after end gives =
+accepts-begins brings starts incoming starter stop_after end gives =
     let all = gives.2 in
     record {
       arrivals = all.0;

@@ -8,7 +8,7 @@ use Rattle.adc_line.specs.Stream.{IsLine}
 use Rattle.adc_sessions.specs.declared.ending.End.{End}
 use Rattle.adc_sessions.specs.declared.ending.End.TheVariants as ends
 use Rattle.adc_sessions.specs.Events.{StreamCall, PortCall, Event, read, met_end, read_failed, wrote, write_failed, handed, took, refused, on_stream, on_port, over_by, fresh_by, after, IsFault, HasNoFault, StopsAtFault, EndsWith}
-use Rattle.adc_sessions.specs.Machine.{State, begun, Step, Moves, MovesIn, MovesBy, EndsAs, FinishesIn, GivesIn, Gives}
+use Rattle.adc_sessions.specs.Machine.{State, at_poll, Step, Moves, MovesIn, MovesBy, EndsAs, FinishesIn, GivesIn, Gives}
 
 pub HasNoFault-append : (before events : List Event) → HasNoFault before → HasNoFault events → HasNoFault (before ++ events)
 HasNoFault-append [] events first second = second
@@ -246,11 +246,11 @@ module _ {S P : Type 0} (told : S → StreamCall → S → Type 0) (calls : P �
       (record next { fresh = fresh_by f event }, Step-forget x next event f less moves.1, Moves-forget events next y (fresh_by f event) (λ is. moves.1.fresh_kept ∙ still_not f x.fresh event less is) moves.2)
 
   -- what may come out where a poll begins may come out
-  pub Gives-forget : {Left : Type 0} (leaves : P → Left → Type 0) (x : State S P) (end : End) (stream : S) (left : Left) → Gives told calls leaves (begun x) end stream left → Gives told calls leaves x end stream left
+  pub Gives-forget : {Left : Type 0} (leaves : P → Left → Type 0) (x : State S P) (end : End) (stream : S) (left : Left) → Gives told calls leaves (at_poll x) end stream left → Gives told calls leaves x end stream left
   Gives-forget leaves x end stream left gives =
       let finish = gives.1.1 in
       let f : Bool = after fresh_by x.fresh finish.0 in
-      (gives.0, (gives.1.0, (finish.0, record finish.1 { fresh = f }, Moves-forget finish.0 (begun x) finish.1 x.fresh (λ is. refl) finish.2, EndsAs-forget end finish.0 finish.1 f finish.3, finish.4, finish.5, finish.6, finish.7), gives.1.2))
+      (gives.0, (gives.1.0, (finish.0, record finish.1 { fresh = f }, Moves-forget finish.0 (at_poll x) finish.1 x.fresh (λ is. refl) finish.2, EndsAs-forget end finish.0 finish.1 f finish.3, finish.4, finish.5, finish.6, finish.7), gives.1.2))
 
 -- a write of the first bytes of what waits leaves the rest
 pub written_front : (xs ys : List ℕ) (start n : ℕ) → ys ≡ xs → drop start xs ≡ take n (take (length ys - start) (drop start ys)) ++ drop (start + n) xs

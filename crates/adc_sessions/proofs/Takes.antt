@@ -76,8 +76,8 @@ after-split : {A : Type 0} (by : A → Event → A) (value : A) (events before l
 after-split by value events before later event is = ap (λ (es : List Event). after by value es) is ∙ after-append by value before (event ∷ later)
 
 -- no take has to follow, the end was met, and the last take gave no line
-pub drained : (events : List Event) → after owes_by true events ≡ false → after met_by false events ≡ true → IsSomeAnd (after told_by None events) (λ taken. taken.lines ≡ 0) → IsDrained events
-drained events none met gave =
+pub drains-last : (events : List Event) → after owes_by true events ≡ false → after met_by false events ≡ true → IsSomeAnd (after told_by None events) (λ taken. taken.lines ≡ 0) → IsDrained events
+drains-last events none met gave =
     ⊎_elim (λ last.
     let event : Event = on_port (took last.2 last.3 last.4) in
     let told_now : after told_by None events ≡ Some last.4 = after-split told_by None events last.0 last.1 event last.5 ∙ after-still told_by told-still last.1 (Some last.4) last.7 in

@@ -1,11 +1,11 @@
--- What the calls of a session, one after another, keep of the bytes, and what holds at its end.
+-- Facts of the bytes that the calls of a session keep, one after another, and that hold at its end.
 use Rattle.std.proofs.Common.{◌≡◌, ◌++◌, ℕ, Bool, true, false, List, [], ◌∷◌, length, Option, None, IsSomeAnd, refl, sym, ap, subst, ◌∙◌, append_assoc, append-nil, length-append, arith}
 use Rattle.std.specs.List.{All, flat_map}
 use Rattle.std.proofs.lemmas.Grind.{flat_map-append}
 use Rattle.std.proofs.lemmas.List.Elements.{All-nil, All-append}
 use Rattle.outboxes.specs.declared.taken.Taken.{Taken}
 use Rattle.adc_line.specs.Frames.{lf}
-use Rattle.adc_line.specs.Stream.{lines, joined, IsLine}
+use Rattle.adc_line.specs.Stream.{lines, joined_lines, IsLine}
 use Rattle.adc_line.proofs.FrameLemmas.{lines-more, lines-too_long}
 use Rattle.adc_line.proofs.StreamLemmas.{lines-joined}
 use Rattle.adc_sessions.specs.declared.ending.End.{End}
@@ -14,12 +14,12 @@ use Rattle.adc_sessions.specs.Events.{StreamCall, PortCall, Event, Happen, bytes
 use Rattle.adc_sessions.specs.Machine.{State, Step, Moves, EndsAs, Gives}
 use Rattle.adc_sessions.specs.State.{fresh}
 use Rattle.adc_sessions.specs.Served.{handed_all, wrote_all, Cause, Served}
-use Rattle.adc_sessions.proofs.Takes.{drained}
+use Rattle.adc_sessions.proofs.Takes.{drains-last}
 
-joined-all : (events : List Event) → joined (all_handed events) ≡ flat_map (λ event. joined (lines_handed event)) events
+joined-all : (events : List Event) → joined_lines (all_handed events) ≡ flat_map (λ event. joined_lines (lines_handed event)) events
 joined-all [] = refl
 joined-all (event ∷ events) =
-    flat_map-append (λ line. line ++ lf ∷ []) (lines_handed event) (all_handed events) ∙ ap (λ rest. joined (lines_handed event) ++ rest) (joined-all events)
+    flat_map-append (λ line. line ++ lf ∷ []) (lines_handed event) (all_handed events) ∙ ap (λ rest. joined_lines (lines_handed event) ++ rest) (joined-all events)
 
 module _ {S P : Type 0} (told : S → StreamCall → S → Type 0) (calls : P → PortCall → P → Type 0) where
   -- where each call moves bytes from what comes in to what is left or goes out, all calls do
@@ -31,9 +31,9 @@ module _ {S P : Type 0} (told : S → StreamCall → S → Type 0) (calls : P �
       sym (append_assoc (left x) (into event) (flat_map into events)) ∙ ap (λ front. front ++ flat_map into events) (each x next event moves.1) ∙ append_assoc (out event) (left next) (flat_map into events)
       ∙ ap (λ rest. out event ++ rest) (conserved into out left each events next y moves.2) ∙ sym (append_assoc (out event) (flat_map out events) (left y))
 
-  all_lines_kept : (events : List Event) (x y : State S P) → Moves told calls x events y → x.unread ++ all_read events ≡ joined (all_handed events) ++ y.unread
+  all_lines_kept : (events : List Event) (x y : State S P) → Moves told calls x events y → x.unread ++ all_read events ≡ joined_lines (all_handed events) ++ y.unread
   all_lines_kept events x y moves =
-      conserved bytes_read (λ event. joined (lines_handed event)) (λ (z : State S P). z.unread) (λ a b event step. step.lines_kept) events x y moves ∙ ap (λ front. front ++ y.unread) (sym (joined-all events))
+      conserved bytes_read (λ event. joined_lines (lines_handed event)) (λ (z : State S P). z.unread) (λ a b event step. step.lines_kept) events x y moves ∙ ap (λ front. front ++ y.unread) (sym (joined-all events))
 
   all_bytes_kept : (events : List Event) (x y : State S P) → Moves told calls x events y → x.pending ++ all_taken events ≡ all_written events ++ y.pending
   all_bytes_kept events x y moves = conserved bytes_taken bytes_written (λ (z : State S P). z.pending) (λ a b event step. step.bytes_kept) events x y moves
@@ -85,9 +85,9 @@ nothing_waits ends.WriteFailed events y is all = cc
 nothing_waits ends.TooLong events y is all = cc
 nothing_waits ends.Memory events y is all = cc
 
-cause_of : (end : End) (events : List Event) {S P : Type 0} (y : State S P) → EndsAs end events y → y.met ≡ after met_by false events → y.told ≡ after told_by None events → y.owes ≡ after owes_by true events → all_read events ≡ joined (all_handed events) ++ y.unread → Cause end events
+cause_of : (end : End) (events : List Event) {S P : Type 0} (y : State S P) → EndsAs end events y → y.met ≡ after met_by false events → y.told ≡ after told_by None events → y.owes ≡ after owes_by true events → all_read events ≡ joined_lines (all_handed events) ++ y.unread → Cause end events
 cause_of ends.Closed events y is met last owes kept =
-    drained events (sym owes ∙ is.4) (sym met ∙ is.0) (subst (λ (t : Option Taken). IsSomeAnd t (λ taken. taken.lines ≡ 0)) last is.3)
+    drains-last events (sym owes ∙ is.4) (sym met ∙ is.0) (subst (λ (t : Option Taken). IsSomeAnd t (λ taken. taken.lines ≡ 0)) last is.3)
 cause_of ends.Ended events y is met last owes kept = subst (λ (t : Option Taken). IsSomeAnd t (λ taken. taken.ended ≡ true)) last is.1
 cause_of ends.ReadFailed events y is met last owes kept = is.1
 cause_of ends.WriteFailed events y is met last owes kept = is
@@ -103,7 +103,7 @@ module _ {S P Left : Type 0} (told : S → StreamCall → S → Type 0) (calls :
       let finish = gives.1.1 in
       let events = finish.0 in
       let y = finish.1 in
-      let kept : all_read events ≡ joined (all_handed events) ++ y.unread = all_lines_kept told calls events x y finish.2 in
+      let kept : all_read events ≡ joined_lines (all_handed events) ++ y.unread = all_lines_kept told calls events x y finish.2 in
       let written : all_taken events ≡ all_written events ++ y.pending = all_bytes_kept told calls events x y finish.2 in
       let handed : lines (all_read events) ≡ all_handed events ++ lines y.unread = ap lines kept ∙ lines-joined (all_handed events) y.unread (all_are_lines told calls events x y finish.2) in
       let met_now : y.met ≡ after met_by false events = followed told calls met_by (λ (z : State S P). z.met) (λ a b event step. step.met_kept) events x y finish.2 in

@@ -1,4 +1,4 @@
--- What holds of accepting as a whole, from its beginning to its end.
+-- Facts of accepting as a whole, from its beginning to its end.
 use Rattle.std.specs.Prelude.{◌≡◌, ◌≤◌, ℕ, List, Option, Some, IfSome}
 use Rattle.adc_sessions.specs.declared.accept.AcceptEnd.{AcceptEnd}
 use Rattle.adc_sessions.specs.declared.accept.AcceptEnd.TheVariants.{Stopped, AcceptFailed}

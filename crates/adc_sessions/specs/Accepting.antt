@@ -1,4 +1,4 @@
--- How many streams were accepted, and why no more are.
+-- The count of accepted streams, and the reasons for which no more are accepted.
 use Rattle.std.specs.Prelude.{◌≡◌, ◌+◌, ◌≤◌, ℕ, List, length, fold, Option, Some, None}
 use Rattle.adc_sessions.specs.declared.accept.Accept.{Accept}
 use Rattle.adc_sessions.specs.declared.accept.AcceptEnd.{AcceptEnd}

@@ -1,4 +1,4 @@
--- What passes between the one that accepts streams and the source that brings them, one call after another.
+-- The calls between the one that accepts streams and the source that brings them, one after another.
 use Rattle.std.specs.Prelude.{◌≡◌, ◌++◌, ◌+◌, ℕ, List, [], ◌∷◌, replicate, sum_by, flat_map, Result, Ok, Err}
 use Rattle.futures.specs.declared.task.Poll.{Poll}
 use Rattle.futures.specs.declared.task.Poll.TheVariants.{Ready, Pending}

@@ -1,4 +1,4 @@
--- What passes between a session, its stream and its port, one call after another.
+-- The calls between a session, its stream and its port, one after another.
 use Rattle.std.specs.Prelude.{◌≡◌, ◌⊎◌, ◌<◌, ◌++◌, ◌+◌, ◌-◌, length, ℕ, leb, Bool, true, false, List, [], ◌∷◌, Option, Some, ⊤}
 use Rattle.std.specs.List.{All, flat_map}
 use Rattle.std.specs.declared.io.Error.{Error}
@@ -170,7 +170,7 @@ all_taken = flat_map bytes_taken
 abbrev pub EndsWith : Event → List Event → Type 0
 EndsWith event events = (before : List Event) × (events ≡ before ++ event ∷ [])
 
--- Whether a take has to follow, as something may wait of which nobody tells, once this happened too: behind a line, behind the end of the
+-- Tells whether a take has to follow, as something may wait of which nobody tells, once this happened too: behind a line, behind the end of the
 -- input, and behind a take that gave as many lines as it asked for.
 abbrev pub owes_by : Bool → Event → Bool
 owes_by owes (on_stream (read bytes)) = owes

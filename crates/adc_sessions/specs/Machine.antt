@@ -3,7 +3,7 @@ use Rattle.std.specs.Prelude.{◌≡◌, ◌≢◌, ◌⊎◌, ◌≤◌, ◌<�
 use Rattle.std.specs.List.{All}
 use Rattle.outboxes.specs.declared.taken.Taken.{Taken}
 use Rattle.adc_line.specs.Frames.{max_line, HasNoLf}
-use Rattle.adc_line.specs.Stream.{joined, IsLine}
+use Rattle.adc_line.specs.Stream.{joined_lines, IsLine}
 use Rattle.adc_sessions.specs.declared.ending.End.{End}
 use Rattle.adc_sessions.specs.declared.ending.End.TheVariants as ends
 use Rattle.adc_sessions.specs.Events.{StreamCall, PortCall, Event, on_stream, read_failed, wrote, write_failed, Happens, bytes_read, bytes_written, lines_handed, bytes_taken, met_by, told_by, over_by, owes_by, fresh_by, HearsNothing, IsOfPort, GoesFirst, TakesFirst, IsCaughtUp, HasNoFault, StopsAtFault, EndsWith}
@@ -26,7 +26,7 @@ module _ {S P : Type 0} (told : S → StreamCall → S → Type 0) (calls : P �
   -- one call: no byte is lost or made up between what comes in and what goes out
   pub record Step (a : State S P) (event : Event) (b : State S P) : Type 0 where
     pub happened : Happens told calls a.stream a.port event b.stream b.port
-    pub lines_kept : a.unread ++ bytes_read event ≡ joined (lines_handed event) ++ b.unread
+    pub lines_kept : a.unread ++ bytes_read event ≡ joined_lines (lines_handed event) ++ b.unread
     pub bytes_kept : a.pending ++ bytes_taken event ≡ bytes_written event ++ b.pending
     pub are_lines : All IsLine (lines_handed event)
     pub met_kept : b.met ≡ met_by a.met event
@@ -54,7 +54,7 @@ module _ {S P : Type 0} (told : S → StreamCall → S → Type 0) (calls : P �
   abbrev pub Stalls : State S P → State S P → Type 0
   Stalls a b = Step a (on_stream (wrote [])) b × (b.pending ≢ [])
 
--- Why a poll ends that made these calls, at most so many, and left bytes to write: it made them all, and the task is woken; or the stream
+-- The reason for which a poll ends that made these calls, at most so many, and left bytes to write: it made them all, and the task is woken; or the stream
 -- would not take what waits to be written; or the port has no more to give, and the bell was not rung.
 abbrev pub Pauses : Type 0 → Type 0 → ℕ → List Event → List ℕ → Type 0
 Pauses is_woken listens most events pending =
@@ -74,14 +74,14 @@ EndsAs ends.TooLong events state = (max_line < length state.unread) × HasNoLf (
 EndsAs ends.Memory events state = ⊤
 
 -- a state in which a poll begins
-abbrev pub begun : {S P : Type 0} → State S P → State S P
-begun state = record state { fresh = true }
+abbrev pub at_poll : {S P : Type 0} → State S P → State S P
+at_poll state = record state { fresh = true }
 
 module _ {S P : Type 0} (told : S → StreamCall → S → Type 0) (calls : P → PortCall → P → Type 0) where
   -- a poll that is pending, which began in one state and left another
   abbrev pub PausesIn : Type 0 → Type 0 → ℕ → State S P → State S P → Type 0
   PausesIn is_woken listens most a b =
-      (events : List Event) × Moves told calls (begun a) events b × (length events ≤ most) × HasNoFault events × TakesFirst true events × Pauses is_woken listens most events b.pending
+      (events : List Event) × Moves told calls (at_poll a) events b × (length events ≤ most) × HasNoFault events × TakesFirst true events × Pauses is_woken listens most events b.pending
 
   -- from a state on, an end is come to with this stream and this port, by at most so many calls
   abbrev pub FinishesIn : ℕ → State S P → End → S → P → Type 0

@@ -1,7 +1,7 @@
--- What holds of a session as a whole, from its making to its end.
+-- Facts of a session as a whole, from its making to its end.
 use Rattle.std.specs.Prelude.{◌≡◌, ◌<◌, ◌++◌, ◌+◌, ℕ, Bool, true, false, List, length, take, None, IsSomeAnd, ⊤}
 use Rattle.adc_line.specs.Frames.{max_line, HasNoLf}
-use Rattle.adc_line.specs.Stream.{lines, joined}
+use Rattle.adc_line.specs.Stream.{lines, joined_lines}
 use Rattle.adc_sessions.specs.declared.ending.End.{End}
 use Rattle.adc_sessions.specs.declared.ending.End.TheVariants as ends
 use Rattle.adc_sessions.specs.Events.{StreamCall, PortCall, Event, on_stream, read_failed, write_failed, Happen, all_read, all_written, all_handed, all_taken, after, told_by, FallsSilent, CallsWhenWritten, IsDrained, StopsAtFault, EndsWith}
@@ -26,7 +26,7 @@ wrote_all ends.Memory = false
 
 -- behind the lines that were handed over, the first 65,537 bytes hold no line feed
 abbrev pub IsTooLong : List Event → Type 0
-IsTooLong events = (rest : List ℕ) × (all_read events ≡ joined (all_handed events) ++ rest) × (max_line < length rest) × HasNoLf (take (max_line + 1) rest)
+IsTooLong events = (rest : List ℕ) × (all_read events ≡ joined_lines (all_handed events) ++ rest) × (max_line < length rest) × HasNoLf (take (max_line + 1) rest)
 
 -- why a session ended
 abbrev pub Cause : End → List Event → Type 0

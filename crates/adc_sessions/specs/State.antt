@@ -8,7 +8,7 @@ use Rattle.adc_sessions.specs.declared.live.Turn.{Turn}
 use Rattle.adc_sessions.specs.declared.live.Turn.TheVariants.{Again, Rest, Over}
 use Rattle.adc_line.specs.Frames.{lf}
 use Rattle.adc_sessions.specs.Events.{StreamCall, PortCall}
-use Rattle.adc_sessions.specs.Machine.{State, begun, MovesIn, MovesBy, Stalls, PausesIn, FinishesIn}
+use Rattle.adc_sessions.specs.Machine.{State, at_poll, MovesIn, MovesBy, Stalls, PausesIn, FinishesIn}
 
 abbrev pub state_of : {S P B : Type 0} → Live S P B → State S P
 state_of live = record {
@@ -52,4 +52,4 @@ module _ {S P : Type 0} (told : S → StreamCall → S → Type 0) (calls : P �
   -- one poll makes at most so many calls
   abbrev pub Polled : ℕ → State S P → Poll End → State S P → Type 0 → Type 0 → Type 0
   Polled most a Pending b is_woken listens = PausesIn told calls is_woken listens most a b
-  Polled most a (Ready end) b is_woken listens = FinishesIn told calls most (begun a) end b.stream b.port
+  Polled most a (Ready end) b is_woken listens = FinishesIn told calls most (at_poll a) end b.stream b.port

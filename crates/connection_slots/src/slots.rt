@@ -2,8 +2,7 @@ ghost use Rattle.std.specs.Prelude.{◌≡◌, false};
 ghost use Rattle.futures.specs.Task.{IsArmed, Keeps};
 
 use crate::accept_waker::AcceptWaker;
-use crate::backlog::Backlog;
-use crate::throttle::Throttle;
+use crate::backlog::{Backlog, Throttle};
 use adc_base32::Sid;
 use futures::task::{Context, Poll, Source, Waker};
 use std::alloc::{AllocError, Global};
@@ -16,6 +15,7 @@ struct Slot {
     // The number of wakes of everybody that it has heard.
     heard: u64,
     is_called: bool,
+    // Where it is dropped, the task is woken: so it is set to `None` to wake.
     waker: Option<Waker>,
     // It is among those that wait.
     waits: bool,

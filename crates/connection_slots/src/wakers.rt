@@ -1,9 +1,8 @@
 ghost use Rattle.std.specs.Prelude.{◌≡◌, false};
 ghost use Rattle.futures.specs.Task.{IsArmed, Keeps};
 
-use crate::backlog::Backlog;
+use crate::backlog::{BURST, Backlog, Throttle};
 use crate::slots::Slots;
-use crate::throttle::{BURST, Throttle};
 use adc_base32::Sid;
 use futures::spin::lock;
 use futures::task::{Context, Poll, Source};
@@ -42,7 +41,7 @@ impl Wakers {
     /// Gives the slot to a session.
     pub fn occupy(&self, slot: usize) {
         if let Some(mut slots) = lock(&self.slots) {
-            slots.clear(slot, Some(Backlog::new(self.said())));
+            slots.clear(slot, Some(Backlog::new(self.broadcasts())));
         }
     }
 
@@ -121,7 +120,7 @@ impl Wakers {
     }
 
     /// Gives the number of lines that were said to everybody so far.
-    pub fn said(&self) -> u64 {
+    pub fn broadcasts(&self) -> u64 {
         self.said.load(Ordering::SeqCst)
     }
 
@@ -131,7 +130,7 @@ impl Wakers {
     pub fn take(&self, slot: usize, said: u64, lines: u64, has_more: bool) {
         if let Some(mut slots) = lock(&self.slots) {
             slots.take(slot, said, lines, has_more);
-            if !has_more && slots.is_slot_behind(slot, self.said()) {
+            if !has_more && slots.is_slot_behind(slot, self.broadcasts()) {
                 slots.wake_slot(slot);
             }
         }

@@ -87,7 +87,7 @@ fn act(
 }
 
 /// Tells the outcome in words. Refused only where memory runs out.
-fn told(alloc: Global, memory: &mut Memory<'_>, deed: Deed) -> Result<String, ClientFault> {
+fn outcome_text(alloc: Global, memory: &mut Memory<'_>, deed: Deed) -> Result<String, ClientFault> {
     match outcome(alloc, memory, deed) {
         Err(ClientFault::Memory) => Err(ClientFault::Memory),
         Err(ClientFault::Refused(status)) => {
@@ -111,7 +111,7 @@ fn converse(
         lines.push_str(part)?;
     }
     let mut memory = Memory::new(alloc, &lines, rest)?;
-    let told = told(alloc, &mut memory, deed)?;
+    let told = outcome_text(alloc, &mut memory, deed)?;
     let Ok(said) = str::from_utf8(&memory.said) else {
         return Err(ClientFault::NotAdc);
     };
@@ -259,7 +259,7 @@ fn connections_fail(rt: HostRuntime) {
 }
 
 /// Gives a pinger's lines, and then the answers to them.
-fn pinged(alloc: Global) -> Result<String, ClientFault> {
+fn ping_transcript(alloc: Global) -> Result<String, ClientFault> {
     let hub = "ISUP ADBASE\nISID AAAB\nIINF CT32 NIThe\\sHub UC3 SS36893488147419103230\n";
     let mut memory = Memory::new(alloc, hub, Rest::Waits)?;
     let facts = Client::new(alloc, &mut memory).hello(true)?.hub;
@@ -277,7 +277,7 @@ fn pinged(alloc: Global) -> Result<String, ClientFault> {
 
 #[test]
 fn pingers_are_told(rt: HostRuntime) {
-    let text = again!(&rt; pinged(rt.alloc()));
+    let text = again!(&rt; ping_transcript(rt.alloc()));
     assert_eq!(rt;
         text.as_str(),
         "The Hub|3|36893488147419103230||HSUP ADBASE ADTIGR ADPING\n"

@@ -1,4 +1,4 @@
-use crate::wrong_settings::{play, said};
+use crate::wrong_settings::{play, report_on};
 use second_try::again;
 use std::alloc::{AllocError, Global};
 
@@ -69,7 +69,7 @@ fn nicks_are_wrong(rt: HostRuntime) {
             "3:1: account 1, nick: found \"\"",
         ),
     ] {
-        let got = again!(&rt; said(rt.alloc(), text));
+        let got = again!(&rt; report_on(rt.alloc(), text));
         let wanted = again!(&rt; format!(in rt.alloc(); "{place}; allowed: {NICK}"));
         assert_eq!(rt; got.as_str(), wanted.as_str(), "{text}");
     }
@@ -158,7 +158,7 @@ fn lists_are_too_long(rt: HostRuntime) {
         ),
     ] {
         let text = again!(&rt; entries(rt.alloc(), count, key));
-        let got = again!(&rt; said(rt.alloc(), &text));
+        let got = again!(&rt; report_on(rt.alloc(), &text));
         assert_eq!(rt; got.as_str(), wanted, "{count} {key}");
     }
 }

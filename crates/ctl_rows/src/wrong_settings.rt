@@ -4,7 +4,7 @@ use std::alloc::{AllocError, AllocGlobal, Global};
 use std::process::Abort;
 
 /// Reports on settings, in which `;` stands for the end of a line.
-pub(crate) fn said(alloc: Global, text: &str) -> Result<String, AllocError> {
+pub(crate) fn report_on(alloc: Global, text: &str) -> Result<String, AllocError> {
     let mut lines = String::with_capacity(alloc, text.len())?;
     for c in text.chars() {
         lines.push(if c == ';' { '\n' } else { c })?;
@@ -29,7 +29,7 @@ fn said_of_bytes(alloc: Global, bytes: &[u8]) -> Result<String, AllocError> {
 /// Compares what is said of each text with what is wanted.
 pub(crate) fn play(rt: &(impl Abort + AllocGlobal), rows: &[(&str, &str)]) {
     for (text, wanted) in rows {
-        let got = again!(rt; said(rt.alloc(), text));
+        let got = again!(rt; report_on(rt.alloc(), text));
         assert_eq!(rt; got.as_str(), *wanted, "{text}");
     }
 }

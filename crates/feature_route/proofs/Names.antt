@@ -1,5 +1,5 @@
 -- A name is among the words of four characters in order where it is among the words as they came.
-use Rattle.std.proofs.Common.{◌≡◌, ◌∙◌, sym, ap, refl, ℕ, Bool, true, false, ◌||◌, nat_eq, List, [], ◌∷◌, length, arith}
+use Rattle.std.proofs.Common.{◌≡◌, ◌∙◌, sym, ap, refl, ℕ, Bool, true, false, ◌||◌, nat_eq, List, [], ◌∷◌, length, arith, cond}
 use Rattle.std.specs.Prelude.{bytes_eq, fold, ◌==◌}
 use Rattle.std.specs.List.{list_any}
 use Rattle.std.specs.Ordering.{nat_cmp, is_eq, match_ordering}
@@ -13,7 +13,7 @@ use Rattle.std.proofs.lemmas.Bool.{false≢true, eq-eqb}
 use Rattle.std.proofs.lemmas.Bool.Decides.{nat_tests}
 use Rattle.std.proofs.lemmas.Cmp.{same_from_slice_cmp}
 use Rattle.std.proofs.lemmas.Map.Lookups.{exact_bytes}
-use Rattle.feature_route.specs.Matching.{has, su_words, feature_set, with_name, with_name_if}
+use Rattle.feature_route.specs.Matching.{has, su_words, feature_set, with_name}
 
 -- `==` and the order agree
 pub equal-bytes : (x y : List ℕ) → is_eq (slice_cmp nat_cmp x y) ≡ bytes_eq x y
@@ -66,7 +66,7 @@ apart name word long other = unequal nat_eq name word (λ same. false≢true (sy
 
 has-with_name : (names : List (List ℕ)) (word name : List ℕ) → length name ≡ 4 → has (with_name names word) name ≡ (has names name || bytes_eq name word)
 has-with_name names word name long =
-    let go : (m : Bool) → (length word == 4) ≡ m → has (with_name_if m names word) name ≡ (has names name || bytes_eq name word) =
+    let go : (m : Bool) → (length word == 4) ≡ m → has (cond m (insert_key (slice_cmp nat_cmp) names word) names) name ≡ (has names name || bytes_eq name word) =
     elim [
       | true ↦ λ is. has-insert names word name ∙ or-flip (bytes_eq name word) (has names name)
       | false ↦ λ is. or-false (has names name) ∙ ap (λ b. has names name || b) (sym (apart name word long is))

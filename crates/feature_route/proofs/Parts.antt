@@ -1,9 +1,9 @@
--- How the parts of a feature word are met, one after another.
-use Rattle.std.proofs.Common.{◌≡◌, ◌∙◌, sym, ap, ap₂, refl, ℕ, ◌<◌, ◌≤◌, Bool, true, false, ◌&&◌, ◌||◌, not, List, [], ◌∷◌, length, get_or, drop, arith}
+-- The parts of a feature word, met one after another.
+use Rattle.std.proofs.Common.{◌≡◌, ◌∙◌, sym, ap, ap₂, refl, ℕ, ◌<◌, ◌≤◌, Bool, true, false, ◌&&◌, ◌||◌, not, List, [], ◌∷◌, length, get_or, drop, arith, cond}
 use Rattle.std.specs.Prelude.{◌==◌}
 use Rattle.std.specs.List.{list_any, list_all}
 use Rattle.std.proofs.lemmas.Bool.Decides.{Decides-eqb}
-use Rattle.feature_route.specs.Wants.{names_after, named_if, wants_of}
+use Rattle.feature_route.specs.Wants.{names_after, wants_of}
 use Rattle.feature_route.specs.Matching.{has, meets, suits, suits_by, su_words, feature_set, matches}
 use Rattle.feature_route.proofs.Names.{has-feature_set}
 
@@ -17,7 +17,7 @@ all-same p q same sign (_ ∷ _ ∷ _ ∷ []) = refl
 all-same p q same sign (_ ∷ _ ∷ _ ∷ _ ∷ []) = refl
 all-same p q same sign (s ∷ a ∷ b ∷ c ∷ d ∷ more) =
     let rest = all-same p q same sign more in
-    let go : (m : Bool) → list_all p (named_if m (a ∷ b ∷ c ∷ d ∷ []) (names_after sign more)) ≡ list_all q (named_if m (a ∷ b ∷ c ∷ d ∷ []) (names_after sign more)) =
+    let go : (m : Bool) → list_all p (cond m ((a ∷ b ∷ c ∷ d ∷ []) ∷ (names_after sign more)) (names_after sign more)) ≡ list_all q (cond m ((a ∷ b ∷ c ∷ d ∷ []) ∷ (names_after sign more)) (names_after sign more)) =
     elim [
       | true ↦ ap₂ (λ x y. x && y) (same (a ∷ b ∷ c ∷ d ∷ []) refl) rest
       | false ↦ rest
@@ -33,7 +33,7 @@ any-same p q same sign (_ ∷ _ ∷ _ ∷ []) = refl
 any-same p q same sign (_ ∷ _ ∷ _ ∷ _ ∷ []) = refl
 any-same p q same sign (s ∷ a ∷ b ∷ c ∷ d ∷ more) =
     let rest = any-same p q same sign more in
-    let go : (m : Bool) → list_any p (named_if m (a ∷ b ∷ c ∷ d ∷ []) (names_after sign more)) ≡ list_any q (named_if m (a ∷ b ∷ c ∷ d ∷ []) (names_after sign more)) =
+    let go : (m : Bool) → list_any p (cond m ((a ∷ b ∷ c ∷ d ∷ []) ∷ (names_after sign more)) (names_after sign more)) ≡ list_any q (cond m ((a ∷ b ∷ c ∷ d ∷ []) ∷ (names_after sign more)) (names_after sign more)) =
     elim [
       | true ↦ ap₂ (λ x y. x || y) (same (a ∷ b ∷ c ∷ d ∷ []) refl) rest
       | false ↦ rest
@@ -59,7 +59,7 @@ and-not true false r = refl
 and-not false a r = refl
 
 first-by : (plus minus : Bool) → (plus ≡ true → minus ≡ true → ⊥) → (name : List ℕ) (words wanted unwanted : List (List ℕ))
-    → (list_all (has words) (named_if plus name wanted) && not (list_any (has words) (named_if minus name unwanted)))
+    → (list_all (has words) (cond plus (name ∷ wanted) wanted) && not (list_any (has words) (cond minus (name ∷ unwanted) unwanted)))
     ≡ (suits_by plus minus (has words name) && (list_all (has words) wanted && not (list_any (has words) unwanted)))
 first-by true true apart name words wanted unwanted = absurd (apart refl refl)
 first-by true false apart name words wanted unwanted = and-group (has words name) (list_all (has words) wanted) (not (list_any (has words) unwanted))

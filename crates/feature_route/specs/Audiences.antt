@@ -1,48 +1,39 @@
--- Who hears a message, by its type (ADC 1.0, "Message types").
-use Rattle.std.specs.Prelude.{ℕ, ◌==◌, ◌||◌, Bool, true, false, List, Option, Some, None}
+-- The audience of a message, by its type (ADC 1.0, "Message types").
+use Rattle.std.specs.Prelude.{ℕ, ◌==◌, ◌||◌, Bool, true, false, List, Option, Some, None, if◌then◌else◌}
 use Rattle.adc_line.specs.Lines.{Reading}
-use Rattle.adc_line.specs.declared.kind.Kind.{Kind}
-use Rattle.adc_line.specs.declared.kind.Kind.TheVariants as kinds
+use Rattle.adc_line.specs.declared.header.Kind.{Kind}
+use Rattle.adc_line.specs.declared.header.Kind.TheVariants as kinds
 use Rattle.feature_route.specs.declared.hearers.Audience.{Audience}
 use Rattle.feature_route.specs.declared.hearers.Audience.TheVariants.{All, One, Two, Having, Nobody}
 use Rattle.feature_route.specs.Wants.{wants_of}
 use Rattle.feature_route.specs.Matching.{meets, su_words}
 
 -- a direct message is for its target, where that user is present
-abbrev pub direct : Bool → Option ℕ → Audience
-direct true (Some target) = One target
-direct true None = Nobody
-direct false target = Nobody
+abbrev pub direct_audience : Bool → Option ℕ → Audience
+direct_audience true (Some target) = One target
+direct_audience present target = Nobody
 
 -- the target and the sender, once each
-abbrev pub both_if : Bool → ℕ → ℕ → Audience
-both_if true target own = One target
-both_if false target own = Two target own
-
 abbrev pub both : Option ℕ → Option ℕ → Audience
-both (Some target) (Some own) = both_if (target == own) target own
-both (Some target) None = Nobody
-both None own = Nobody
+both (Some target) (Some own) = if target == own then One target else Two target own
+both target own = Nobody
 
 -- an echoed message is for both, and for nobody where the target is away
-abbrev pub echoed : Bool → Option ℕ → Option ℕ → Audience
-echoed true target own = both target own
-echoed false target own = Nobody
+abbrev pub echo_audience : Bool → Option ℕ → Option ℕ → Audience
+echo_audience true target own = both target own
+echo_audience false target own = Nobody
 
 -- a feature message is for those who have what its feature word wants
-abbrev pub featured : Option (List ℕ) → Audience
-featured (Some word) = Having (wants_of word)
-featured None = Nobody
+abbrev pub feature_audience : Option (List ℕ) → Audience
+feature_audience (Some word) = Having (wants_of word)
+feature_audience None = Nobody
 
 abbrev pub by_kind : Kind → Reading → Bool → Audience
 by_kind kinds.Broadcast line present = All
-by_kind kinds.Client line present = Nobody
-by_kind kinds.Direct line present = direct present line.target
-by_kind kinds.Echo line present = echoed present line.target line.from
-by_kind kinds.Feature line present = featured line.features
-by_kind kinds.Hub line present = Nobody
-by_kind kinds.Info line present = Nobody
-by_kind kinds.Udp line present = Nobody
+by_kind kinds.Direct line present = direct_audience present line.target
+by_kind kinds.Echo line present = echo_audience present line.target line.from
+by_kind kinds.Feature line present = feature_audience line.features
+by_kind kind line present = Nobody
 
 -- for whom a message is among the users who are present, by whether its target is one of them
 unfoldable pub audience : Reading → Bool → Audience

@@ -1,6 +1,6 @@
 -- Which users have what a feature word wants. A user's features are the words of the INF field SU, between its commas
 -- (ADC 1.0, "INF"); a user without that field has the empty text.
-use Rattle.std.specs.Prelude.{ℕ, ◌==◌, ◌&&◌, not, bytes_eq, Bool, true, false, List, [], length, fold}
+use Rattle.std.specs.Prelude.{ℕ, ◌==◌, ◌&&◌, not, bytes_eq, Bool, true, false, List, [], length, fold, if◌then◌else◌}
 use Rattle.std.specs.List.{slice_split, list_any, list_all}
 use Rattle.std.specs.Ordering.{nat_cmp}
 use Rattle.std.specs.Cmp.Lexicographic.{slice_cmp}
@@ -36,13 +36,9 @@ suits sign had = suits_by (sign == 43) (sign == 45) had
 abbrev pub matches : Wants → List ℕ → Bool
 matches wants su = meets wants (su_words su)
 
-abbrev pub with_name_if : Bool → List (List ℕ) → List ℕ → List (List ℕ)
-with_name_if true names word = insert_key (slice_cmp nat_cmp) names word
-with_name_if false names word = names
-
 -- a word of four characters joins the others at its place in their order, where it is not there yet
 abbrev pub with_name : List (List ℕ) → List ℕ → List (List ℕ)
-with_name names word = with_name_if (length word == 4) names word
+with_name names word = if length word == 4 then insert_key (slice_cmp nat_cmp) names word else names
 
 -- a user's features as a set: the words of four characters in order, each once
 unfoldable pub feature_set : List ℕ → List (List ℕ)

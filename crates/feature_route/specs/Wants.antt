@@ -1,5 +1,5 @@
 -- Which features a feature word wants and does not want (ADC 1.0, "Message types").
-use Rattle.std.specs.Prelude.{ℕ, ◌==◌, Bool, true, false, List, [], ◌∷◌, Option, Some, None}
+use Rattle.std.specs.Prelude.{ℕ, ◌==◌, Bool, true, false, List, [], ◌∷◌, Option, Some, None, if◌then◌else◌}
 use Rattle.adc_line.specs.Header.{is_feature_word}
 
 -- the names of features
@@ -7,18 +7,11 @@ pub record Wants : Type 0 where
   pub wanted : List (List ℕ)
   pub unwanted : List (List ℕ)
 
-abbrev pub named_if : Bool → List ℕ → List (List ℕ) → List (List ℕ)
-named_if true name names = name ∷ names
-named_if false name names = names
-
 -- the four characters after each such sign
 unfoldable pub names_after : ℕ → List ℕ → List (List ℕ)
-names_after wanted [] = []
-names_after wanted (_ ∷ []) = []
-names_after wanted (_ ∷ _ ∷ []) = []
-names_after wanted (_ ∷ _ ∷ _ ∷ []) = []
-names_after wanted (_ ∷ _ ∷ _ ∷ _ ∷ []) = []
-names_after wanted (sign ∷ a ∷ b ∷ c ∷ d ∷ more) = named_if (sign == wanted) (a ∷ b ∷ c ∷ d ∷ []) (names_after wanted more)
+names_after wanted (sign ∷ a ∷ b ∷ c ∷ d ∷ more) =
+    if sign == wanted then (a ∷ b ∷ c ∷ d ∷ []) ∷ names_after wanted more else names_after wanted more
+names_after wanted rest = []
 
 -- those after `+` are wanted, and those after `-` are not
 unfoldable pub wants_of : List ℕ → Wants

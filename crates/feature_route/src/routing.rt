@@ -1,6 +1,6 @@
 ghost use Rattle.std.specs.Prelude.{◌≡◌};
 ghost use Rattle.std.specs.Option.{option_copied};
-ghost use Rattle.feature_route.specs.Audiences.{audience, direct, echoed, featured};
+ghost use Rattle.feature_route.specs.Audiences.{audience, direct_audience, echo_audience, feature_audience};
 
 use crate::hearers::Audience;
 use crate::want::Want;
@@ -20,15 +20,15 @@ pub fn audience(line: &Line, target_present: bool) -> Audience<'_>
 {
     match line.kind() {
         Kind::Broadcast => Audience::All,
-        Kind::Direct => direct(line.target(), target_present),
-        Kind::Echo => echoed(line.target(), line.from(), target_present),
-        Kind::Feature => featured(line.features()),
+        Kind::Direct => direct_audience(line.target(), target_present),
+        Kind::Echo => echo_audience(line.target(), line.from(), target_present),
+        Kind::Feature => feature_audience(line.features()),
         Kind::Client | Kind::Hub | Kind::Info | Kind::Udp => Audience::Nobody,
     }
 }
 
-fn direct<'a>(target: Option<Sid>, target_present: bool) -> Audience<'a>
-    ensures { result ≡ direct target_present target }
+fn direct_audience<'a>(target: Option<Sid>, target_present: bool) -> Audience<'a>
+    ensures { result ≡ direct_audience target_present target }
 {
     match target {
         Some(target) if target_present => Audience::One(target),
@@ -36,8 +36,8 @@ fn direct<'a>(target: Option<Sid>, target_present: bool) -> Audience<'a>
     }
 }
 
-fn echoed<'a>(target: Option<Sid>, own: Option<Sid>, target_present: bool) -> Audience<'a>
-    ensures { result ≡ echoed target_present target own }
+fn echo_audience<'a>(target: Option<Sid>, own: Option<Sid>, target_present: bool) -> Audience<'a>
+    ensures { result ≡ echo_audience target_present target own }
 {
     let Some(target) = target else {
         return Audience::Nobody;
@@ -54,8 +54,8 @@ fn echoed<'a>(target: Option<Sid>, own: Option<Sid>, target_present: bool) -> Au
     Audience::Two(target, own)
 }
 
-fn featured(word: Option<&str>) -> Audience<'_>
-    ensures { result ≡ featured (option_copied word.entry) }
+fn feature_audience(word: Option<&str>) -> Audience<'_>
+    ensures { result ≡ feature_audience (option_copied word.entry) }
 {
     match word {
         Some(word) => Audience::Having(Want::of(word)),

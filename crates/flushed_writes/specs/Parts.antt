@@ -1,4 +1,4 @@
--- What a write that fails leaves written.
+-- The bytes that a failing write leaves written.
 use Rattle.std.specs.Prelude.{◌≡◌, ℕ, List, ◌++◌, Option}
 use Rattle.std.specs.Io.KnownBytes.{Appends}
 

@@ -1,5 +1,5 @@
 -- A join is kept: its caller and its challenge stand behind those of the joins before it.
-use Rattle.std.proofs.Common.{◌≡◌, ◌∙◌, refl, ap, ap₂, sym, subst, ℕ, ◌+◌, ◌-◌, ◌<◌, ◌≤◌, Bool, true, false, not, ◌&&◌, ◌||◌, ◌==◌, List, [], ◌∷◌, ◌++◌, get_or, length, arith}
+use Rattle.std.proofs.Common.{◌≡◌, ◌∙◌, refl, ap, ap₂, sym, subst, ℕ, ◌+◌, ◌-◌, ◌<◌, ◌≤◌, Bool, true, false, not, ◌&&◌, ◌||◌, ◌==◌, List, [], ◌∷◌, ◌++◌, get_or, length, arith, cond}
 use Rattle.std.proofs.lemmas.Bool.{eqb-true, eq-eqb, false≢true}
 use Rattle.std.proofs.lemmas.List.{get_or_append_left, length-append}
 use Rattle.std.proofs.Math.Seq.{get_or-append_seam}
@@ -14,9 +14,9 @@ use Rattle.hub_rules.specs.declared.history.Entry.{Entry}
 use Rattle.hub_rules.specs.declared.history.Reply.{Reply}
 use Rattle.hub_rules.specs.declared.history.Reply.TheVariants as replies
 use Rattle.hub_rules.specs.Configured.{Configured}
-use Rattle.hub_rules.specs.Facts.{Facts, after, facts, has_joins, has_place, joined, newcomer, next_sid, with_one}
+use Rattle.hub_rules.specs.Facts.{Facts, after, facts, has_joins, has_place, with_connection, newcomer, next_sid, with_one}
 use Rattle.hub_rules.specs.Legal.{Legal, join_reply, reply}
-use Rattle.hub_rules.specs.Shares.{About, chosen}
+use Rattle.hub_rules.specs.Shares.{About}
 
 -- ---- a join that is accepted
 
@@ -47,22 +47,22 @@ accepted setup hash h caller peer challenge now c legal =
     record { place = parts.0; counted = parts.1; number = parts.2 }
 
 after-accepted : (setup : Configured) (hash : List ℕ → List ℕ) (f : Facts) (caller : ℕ) (peer challenge : List ℕ) (now : ℕ) → has_place setup f ≡ true → has_joins f ≡ true
-    → after setup hash f caller (Join peer challenge now) ≡ joined f caller peer challenge
+    → after setup hash f caller (Join peer challenge now) ≡ with_connection f caller peer challenge
 unfolding after
-after-accepted setup hash f caller peer challenge now place counted = ap₂ (λ a b. chosen (a && b) (joined f caller peer challenge) f) place counted
+after-accepted setup hash f caller peer challenge now place counted = ap₂ (λ a b. cond (a && b) (with_connection f caller peer challenge) f) place counted
 
-joins-after : (f : Facts) (caller : ℕ) (peer challenge : List ℕ) → (joined f caller peer challenge).joins ≡ f.joins + 1
-unfolding joined
+joins-after : (f : Facts) (caller : ℕ) (peer challenge : List ℕ) → (with_connection f caller peer challenge).joins ≡ f.joins + 1
+unfolding with_connection
 joins-after f caller peer challenge = refl
 
-about-other : (f : Facts) (caller : ℕ) (peer challenge : List ℕ) (d : ℕ) → (d == (f.joins + 1)) ≡ false → (joined f caller peer challenge).about d ≡ f.about d
-unfolding joined
-about-other f caller peer challenge d is = ap (λ b. chosen b (newcomer caller (next_sid f) peer challenge) (f.about d)) is
+about-other : (f : Facts) (caller : ℕ) (peer challenge : List ℕ) (d : ℕ) → (d == (f.joins + 1)) ≡ false → (with_connection f caller peer challenge).about d ≡ f.about d
+unfolding with_connection
+about-other f caller peer challenge d is = ap (λ b. cond b (newcomer caller (next_sid f) peer challenge) (f.about d)) is
 
-about-new : (f : Facts) (caller : ℕ) (peer challenge : List ℕ) → (joined f caller peer challenge).about (f.joins + 1) ≡ newcomer caller (next_sid f) peer challenge
-unfolding joined
+about-new : (f : Facts) (caller : ℕ) (peer challenge : List ℕ) → (with_connection f caller peer challenge).about (f.joins + 1) ≡ newcomer caller (next_sid f) peer challenge
+unfolding with_connection
 about-new f caller peer challenge =
-    ap (λ b. chosen b (newcomer caller (next_sid f) peer challenge) (f.about (f.joins + 1))) (eq-eqb (f.joins + 1) (f.joins + 1) refl)
+    ap (λ b. cond b (newcomer caller (next_sid f) peer challenge) (f.about (f.joins + 1))) (eq-eqb (f.joins + 1) (f.joins + 1) refl)
 
 differs : (d n : ℕ) (same : Bool) → (d == n) ≡ same → d < n → same ≡ false
 differs d n true is less = absurd (omega (arith, eqb-true d n is, less))
@@ -73,9 +73,9 @@ reaches d n same is other less =
     let apart : d ≡ n → ⊥ = λ e. false≢true (sym (is ∙ other) ∙ eq-eqb d n e) in omega (arith, apart, less)
 
 -- those before it are as they were
-known-before : (f : Facts) (caller : ℕ) (peer challenge : List ℕ) (i : ℕ) (j : Joined) → i < f.joins → IsJoined f (i + 1) j → IsJoined (joined f caller peer challenge) (i + 1) j
+known-before : (f : Facts) (caller : ℕ) (peer challenge : List ℕ) (i : ℕ) (j : Joined) → i < f.joins → IsJoined f (i + 1) j → IsJoined (with_connection f caller peer challenge) (i + 1) j
 known-before f caller peer challenge i j less is =
-    let same : (joined f caller peer challenge).about (i + 1) ≡ f.about (i + 1) =
+    let same : (with_connection f caller peer challenge).about (i + 1) ≡ f.about (i + 1) =
     about-other f caller peer challenge (i + 1) (differs (i + 1) (f.joins + 1) ((i + 1) == (f.joins + 1)) refl (omega (arith, less))) in
     record {
       number = is.number;
@@ -85,9 +85,9 @@ known-before f caller peer challenge i j less is =
 
 -- and so is it
 known-new : (f : Facts) (caller : ℕ) (peer challenge : List ℕ) (i : ℕ) (j : Joined) → i ≡ f.joins → j.connection ≡ f.joins + 1 → j.caller ≡ caller → j.challenge ≡ challenge
-    → IsJoined (joined f caller peer challenge) (i + 1) j
+    → IsJoined (with_connection f caller peer challenge) (i + 1) j
 known-new f caller peer challenge i j is number owner given =
-    subst (λ n. IsJoined (joined f caller peer challenge) (n + 1) j) (sym is)
+    subst (λ n. IsJoined (with_connection f caller peer challenge) (n + 1) j) (sym is)
     (record {
       number = number;
       owner = ap (λ (a : About). a.owner) (about-new f caller peer challenge) ∙ sym owner;
@@ -98,11 +98,11 @@ known-all : (f : Facts) (caller : ℕ) (peer challenge : List ℕ) (js : List Jo
     → ((i : ℕ) (x : Joined) → i < length js → x ≡ get_or js i x → IsJoined f (i + 1) x)
     → j.connection ≡ f.joins + 1 → j.caller ≡ caller → j.challenge ≡ challenge
     → (i : ℕ) (x : Joined) → i < length js + 1 → x ≡ get_or (js ++ j ∷ []) i x → (same : Bool) → (i == length js) ≡ same
-    → IsJoined (joined f caller peer challenge) (i + 1) x
+    → IsJoined (with_connection f caller peer challenge) (i + 1) x
 known-all f caller peer challenge js j counted known number owner given i x within is true e =
     let at : i ≡ length js = eqb-true i (length js) e in
     let it : x ≡ j = is ∙ ap (λ n. get_or (js ++ j ∷ []) n x) at ∙ get_or-append_seam js j [] x in
-    subst (λ (y : Joined). IsJoined (joined f caller peer challenge) (i + 1) y) (sym it) (known-new f caller peer challenge i j (at ∙ counted) number owner given)
+    subst (λ (y : Joined). IsJoined (with_connection f caller peer challenge) (i + 1) y) (sym it) (known-new f caller peer challenge i j (at ∙ counted) number owner given)
 known-all f caller peer challenge js j counted known number owner given i x within is false e =
     let less : i < length js = reaches i (length js) false e refl within in
     known-before f caller peer challenge i x (subst (λ n. i < n) counted less) (known i x less (is ∙ get_or_append_left js (j ∷ []) x i less))
@@ -115,7 +115,7 @@ pub follows-join : (setup : Configured) (hash : List ℕ → List ℕ) (h : List
 follows-join setup hash h old new js now_joined j caller peer challenge now told follows owner given is_joined_now stands is_told =
     let f : Facts = facts setup hash h in
     let yes : IsAccepted setup f j.connection = accepted setup hash h caller peer challenge now j.connection stands.legal in
-    let same : (r : Reply) → facts setup hash (entry caller (Join peer challenge now) r ∷ h) ≡ joined f caller peer challenge =
+    let same : (r : Reply) → facts setup hash (entry caller (Join peer challenge now) r ∷ h) ≡ with_connection f caller peer challenge =
     λ r. facts-after setup hash h caller (Join peer challenge now) r ∙ after-accepted setup hash f caller peer challenge now yes.place yes.counted in
     let number : told ≡ j.connection =
     is_told ∙ ap (λ (g : Facts). g.joins) (same (replies.Joined j.connection)) ∙ joins-after f caller peer challenge ∙ sym yes.number in
@@ -140,7 +140,7 @@ refused-after : (setup : Configured) (hash : List ℕ → List ℕ) (h : List En
 unfolding Legal reply after
 refused-after setup hash h caller peer challenge now r none legal =
     let f : Facts = facts setup hash h in
-    ap (λ b. chosen b (joined f caller peer challenge) f) (not-joined (has_place setup f) (has_joins f) f.joins r legal.2 none)
+    ap (λ b. cond b (with_connection f caller peer challenge) f) (not-joined (has_place setup f) (has_joins f) f.joins r legal.2 none)
 
 pub follows-refused : (setup : Configured) (hash : List ℕ → List ℕ) (h : List Entry) (old new : CoreState) (js : List Joined) (caller : ℕ) (peer challenge : List ℕ) (now : ℕ) (r : Reply)
     → is_joined r ≡ false → Follows setup hash h old js → StandsAt setup hash (entry caller (Join peer challenge now) r ∷ h) new

@@ -1,5 +1,5 @@
 -- No call but the join of a connection changes who joined it, or its challenge.
-use Rattle.std.proofs.Common.{◌≡◌, ◌∙◌, refl, ap, sym, subst, ℕ, ◌+◌, ◌<◌, Bool, true, false, ◌&&◌, ◌==◌, List, [], ◌∷◌, get_or, length}
+use Rattle.std.proofs.Common.{◌≡◌, ◌∙◌, refl, ap, sym, subst, ℕ, ◌+◌, ◌<◌, Bool, true, false, ◌&&◌, ◌==◌, List, [], ◌∷◌, get_or, length, cond}
 use Rattle.history_check.specs.declared.check.Joined.{Joined}
 use Rattle.history_check.specs.Following.{Follows, IsJoined}
 use Rattle.hub_core.specs.CoreState.{CoreState}
@@ -9,15 +9,15 @@ use Rattle.hub_rules.specs.declared.history.Call.TheVariants.{Join, Line, Quit, 
 use Rattle.hub_rules.specs.declared.history.Entry.{Entry}
 use Rattle.hub_rules.specs.declared.history.Reply.{Reply}
 use Rattle.hub_rules.specs.Configured.{Configured}
-use Rattle.hub_rules.specs.Facts.{Facts, after, closed, facts, given, happens, with_one}
-use Rattle.hub_rules.specs.Shares.{About, chosen}
+use Rattle.hub_rules.specs.Facts.{Facts, after, without_connection, facts, with_lines_taken, happens, with_one}
+use Rattle.hub_rules.specs.Shares.{About}
 
 -- who joined a connection, and with which challenge
 pub record Alike (a b : About) : Type 0 where
   pub owner : a.owner ≡ b.owner
   pub challenge : a.challenge ≡ b.challenge
 
-taken-alike : (count : ℕ) (a : About) (same : Bool) → Alike (chosen same (given count a) a) a
+taken-alike : (count : ℕ) (a : About) (same : Bool) → Alike (cond same (with_lines_taken count a) a) a
 taken-alike count a true = record { owner = refl; challenge = refl }
 taken-alike count a false = record { owner = refl; challenge = refl }
 
@@ -32,7 +32,7 @@ unfolding after happens
 line-kept setup hash f caller c bytes now = record { joins = refl; alike = λ d. record { owner = refl; challenge = refl } }
 
 pub quit-kept : (setup : Configured) (hash : List ℕ → List ℕ) (f : Facts) (caller c : ℕ) → Kept (after setup hash f caller (Quit c)) f
-unfolding after closed happens
+unfolding after without_connection happens
 quit-kept setup hash f caller c = record { joins = refl; alike = λ d. record { owner = refl; challenge = refl } }
 
 pub take-kept : (setup : Configured) (hash : List ℕ → List ℕ) (f : Facts) (caller c count : ℕ) → Kept (after setup hash f caller (Take c count)) f

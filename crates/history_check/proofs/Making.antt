@@ -20,21 +20,21 @@ use Rattle.hub_rules.specs.declared.history.Verdict.{Verdict}
 use Rattle.hub_rules.specs.Configured.{Configured}
 use Rattle.hub_rules.specs.Facts.{facts}
 use Rattle.hub_rules.specs.Legal.{IsOpenFor, Legal, MayCall, reply}
-use Rattle.hub_rules.specs.Prepared.{prepared}
+use Rattle.hub_rules.specs.Prepared.{prepared_line}
 use Rattle.hub_rules.specs.Sights.{PreparedLine}
 
-prepared-bytes : (setup : Configured) (hash : List ℕ → List ℕ) (challenge bytes : List ℕ) → (prepared setup hash challenge bytes).bytes ≡ bytes
-unfolding prepared
+prepared-bytes : (setup : Configured) (hash : List ℕ → List ℕ) (challenge bytes : List ℕ) → (prepared_line setup hash challenge bytes).bytes ≡ bytes
+unfolding prepared_line
 prepared-bytes setup hash challenge bytes = refl
 
 pub line-said : (setup : Configured) (hash : List ℕ → List ℕ) (old new : CoreState) (c : ℕ) (line : PreparedLine) (challenge bytes : List ℕ) (now : ℕ) (verdict : Verdict)
-    → LineMoves old c line now verdict new → line ≡ prepared setup hash challenge bytes → (h : List Entry) (caller : ℕ) → StandsAt setup hash h old
+    → LineMoves old c line now verdict new → line ≡ prepared_line setup hash challenge bytes → (h : List Entry) (caller : ℕ) → StandsAt setup hash h old
     → MayCall (facts setup hash h) caller (Line c bytes now) → challenge ≡ ((facts setup hash h).about c).challenge
     → StandsAt setup hash (entry caller (Line c bytes now) (Said verdict) ∷ h) new
 line-said setup hash old new c line challenge bytes now verdict moves is h caller at may given =
     let same : line.bytes ≡ bytes = ap (λ (l : PreparedLine). l.bytes) is ∙ prepared-bytes setup hash challenge bytes in
     subst (λ b. StandsAt setup hash (entry caller (Line c b now) (Said verdict) ∷ h) new) same
-    (moves setup hash h caller at may (is ∙ ap₂ (prepared setup hash) given (sym same)))
+    (moves setup hash h caller at may (is ∙ ap₂ (prepared_line setup hash) given (sym same)))
 
 pub made-line : (setup : Configured) (hash : List ℕ → List ℕ) (h : List Entry) (old new : CoreState) (joined : List Joined) (caller c : ℕ) (bytes : List ℕ) (now : ℕ) (found : Joined) (said : written_reply.Reply)
     → Follows setup hash h old joined → FoundAs (facts setup hash h) caller c (Some found) → IsSaid setup hash found.connection found.challenge bytes now said old new

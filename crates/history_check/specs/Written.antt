@@ -1,4 +1,4 @@
--- What is written, as the rules have it.
+-- A written history, as the rules have it.
 use Rattle.std.specs.Prelude.{List, [], ◌∷◌}
 use Rattle.history_check.specs.declared.written.Call as written_call
 use Rattle.history_check.specs.declared.written.Call.TheVariants as calls

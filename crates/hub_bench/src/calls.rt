@@ -18,7 +18,7 @@ pub trait Measured {
     type Line: Drop;
 
     /// Makes a line ready.
-    fn ready(&self, line: &[u8]) -> io::Result<Self::Line>;
+    fn prepare_line(&self, line: &[u8]) -> io::Result<Self::Line>;
 
     /// Counts the users who are present.
     fn count(&self) -> usize;
@@ -44,7 +44,7 @@ pub trait Measured {
 
 /// Gives how many nanoseconds a line takes that nobody else hears.
 pub fn own_nanos<R: Clock, M: Measured>(rt: &R, hub: &mut M) -> io::Result<u128> {
-    let line = hub.ready(b"HMSG hello")?;
+    let line = hub.prepare_line(b"HMSG hello")?;
     let start = Instant::now(rt)?;
     for round in 0..ROUNDS {
         let user = speaker(hub, round)?;
@@ -55,7 +55,9 @@ pub fn own_nanos<R: Clock, M: Measured>(rt: &R, hub: &mut M) -> io::Result<u128>
 
 /// Gives how many nanoseconds a line takes that all hear.
 pub fn chat_nanos<R: Clock, M: Measured>(rt: &R, hub: &mut M) -> io::Result<u128> {
-    let line = hub.ready(b"BMSG AAAB what\\sa\\sfine\\sday\\sto\\sshare\\sa\\sfile\\sor\\stwo")?;
+    let line = hub.prepare_line(
+        b"BMSG AAAB what\\sa\\sfine\\sday\\sto\\sshare\\sa\\sfile\\sor\\stwo",
+    )?;
     let user = hub.user(0)?;
     let mut spent: u128 = 0;
     for _ in 0..ROUNDS {
@@ -69,7 +71,9 @@ pub fn chat_nanos<R: Clock, M: Measured>(rt: &R, hub: &mut M) -> io::Result<u128
 
 /// Gives how many nanoseconds it takes to take 256 lines.
 pub fn take_nanos<R: Clock, M: Measured>(rt: &R, hub: &mut M) -> io::Result<u128> {
-    let line = hub.ready(b"BMSG AAAB what\\sa\\sfine\\sday\\sto\\sshare\\sa\\sfile\\sor\\stwo")?;
+    let line = hub.prepare_line(
+        b"BMSG AAAB what\\sa\\sfine\\sday\\sto\\sshare\\sa\\sfile\\sor\\stwo",
+    )?;
     let user = hub.user(0)?;
     for _ in 0..256 {
         hub.say(user, &line)?;

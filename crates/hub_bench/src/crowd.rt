@@ -44,7 +44,7 @@ impl<'a> Crowd<'a> {
     }
 
     /// Gives how many lines its users took.
-    pub fn delivered(&self) -> u64 {
+    pub fn lines_delivered(&self) -> u64 {
         self.delivered
     }
 
@@ -92,7 +92,7 @@ impl<'a> Crowd<'a> {
     /// Takes for all what waits for them, up to 1,024 lines each.
     pub fn take_all<R: Wait>(&mut self, rt: &R) -> Result<(), AllocError> {
         for user in self.users.iter_mut() {
-            let heard = drained(rt, user, &mut self.unread)?;
+            let heard = take_waiting(rt, user, &mut self.unread)?;
             self.delivered = self.delivered.wrapping_add(heard);
         }
         Ok(())
@@ -100,7 +100,11 @@ impl<'a> Crowd<'a> {
 }
 
 /// Takes all that waits for a user, up to 1,024 lines, and tells how many they were.
-fn drained<R: Wait>(rt: &R, user: &mut User<'_>, unread: &mut Vec<u8>) -> Result<u64, AllocError> {
+fn take_waiting<R: Wait>(
+    rt: &R,
+    user: &mut User<'_>,
+    unread: &mut Vec<u8>,
+) -> Result<u64, AllocError> {
     let mut heard: u64 = 0;
     for _ in 0..4 {
         let lines = user.take(rt, unread)?;

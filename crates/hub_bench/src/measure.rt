@@ -1,6 +1,6 @@
 use crate::crowd::Crowd;
 use crate::door::Door;
-use crate::shared_hub::opened;
+use crate::shared_hub::open_hub;
 use std::alloc::{AllocError, Global};
 use std::io;
 use std::sync::Wait;
@@ -50,7 +50,7 @@ pub fn deliveries<R: Threads + Wait + Clock + Sync>(
     alloc: Global,
     threads: u32,
 ) -> io::Result<Figures> {
-    let (shared, host) = opened(alloc)?;
+    let (shared, host) = open_hub(alloc)?;
     let mut door = Door::new(&shared, host);
     let users = USERS.checked_div(threads).ok_or(AllocError)?;
     let mut crowds = Vec::with_capacity(alloc, threads as usize)?;
@@ -88,7 +88,7 @@ fn added_up(crowds: &[Crowd<'_>], nanos: u128) -> io::Result<Figures> {
         if crowd.has_failed() {
             return Err(AllocError.into());
         }
-        delivered = delivered.wrapping_add(crowd.delivered());
+        delivered = delivered.wrapping_add(crowd.lines_delivered());
         in_calls = in_calls.wrapping_add(crowd.in_calls());
     }
     if delivered != u64::from(USERS) * u64::from(LINES) * u64::from(STRETCHES) {

@@ -17,7 +17,7 @@ pub struct SharedHub {
 }
 
 /// Opens a hub, and gives it with its host, who has admitted nobody.
-pub fn opened(alloc: Global) -> io::Result<(SharedHub, Host<First24>)>
+pub fn open_hub(alloc: Global) -> io::Result<(SharedHub, Host<First24>)>
     ensures { IfOk result (λ r. r.1 ≡ record { home = r.0.hub.home; admitted = 0 }) }
 {
     let setup = setup(alloc)?;

@@ -1,5 +1,5 @@
 ghost use Rattle.std.specs.Prelude.{◌≡◌, IfOk};
-ghost use Rattle.hub_rules.specs.Prepared.{prepared};
+ghost use Rattle.hub_rules.specs.Prepared.{prepared_line};
 ghost use Rattle.session_hash.specs.First24.{first_24};
 
 use crate::shared_hub::SharedHub;
@@ -58,7 +58,7 @@ impl<'a> User<'a> {
     /// Makes a line ready and sends it.
     pub fn say<R: Wait>(&mut self, rt: &R, alloc: Global, line: &[u8]) -> Result<(), AllocError> {
         let shared = self.shared;
-        let Ok(line) = ready(alloc, &shared.setup, self.challenge, line) else {
+        let Ok(line) = prepare_line(alloc, &shared.setup, self.challenge, line) else {
             return Err(AllocError);
         };
         match shared.hub.line(rt, alloc, &mut self.pass, &line, 0) {
@@ -77,14 +77,14 @@ impl<'a> User<'a> {
     }
 }
 
-#[tactic(auto, unfolding(hub_rules::specs::Prepared::prepared))]
-fn ready(
+#[tactic(auto, unfolding(hub_rules::specs::Prepared::prepared_line))]
+fn prepare_line(
     alloc: Global,
     setup: &Setup,
     challenge: [u8; 24],
     line: &[u8],
 ) -> Result<Prepared, LineRefused>
-    ensures { IfOk result (λ line. line ≡ prepared setup.now first_24 challenge line.bytes) }
+    ensures { IfOk result (λ line. line ≡ prepared_line setup.now first_24 challenge line.bytes) }
 {
     prepare(alloc, setup, &First24, challenge, line)
 }

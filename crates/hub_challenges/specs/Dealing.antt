@@ -1,4 +1,4 @@
--- What connections are challenged with.
+-- The challenges of connections, in the order of their joins.
 use Rattle.std.specs.Prelude.{ℕ, zero, suc, List}
 use Rattle.rand_core.specs.Steps.{fill_via_u32}
 use Rattle.rand_chacha.specs.ChaCha.{ChaCha, next_word}

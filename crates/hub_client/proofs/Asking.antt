@@ -14,14 +14,14 @@ use Rattle.std.proofs.lemmas.List.{append-nil}
 use Rattle.std.proofs.lemmas.List.Elements.{All-cons, All-nil}
 use Rattle.std.proofs.lemmas.List.Splits.{slice_split_at, slice_split_none, join_with_byte-slice_split}
 use Rattle.std.proofs.lemmas.Str.Parse.{IsNumeralModel, numerals_by_value, tells_all_ascii_digits}
-use Rattle.adc_base32.specs.Spelled.{spelled}
+use Rattle.adc_base32.specs.Spelled.{spelled_bytes}
 use Rattle.adc_line.specs.declared.fault.LineFault.{LineFault}
 use Rattle.adc_line.specs.Lines.{Reading}
 use Rattle.adc_ids.specs.Nicks.{is_nick}
 use Rattle.operator_acts.specs.Acts.{is_blank, words, rest_of, act_at, act_of, act_in, kick_of, ban_of, unban_of, topic_of, kick_word, ban_word, unban_word, topic_word, is_seconds, seconds_at, where_it_is}
 use Rattle.operator_acts.specs.declared.act.Act.TheVariants as acts
-use Rattle.operator_acts.proofs.Forms.{kick-read, ban-read}
-use Rattle.hub_client.specs.Requests.{AsksFor, Says, SecondsFit, asked, behind, request_bytes, nick_bytes, cid_bytes}
+use Rattle.operator_acts.proofs.Forms.{kick-read, ban-read, unban-read}
+use Rattle.hub_client.specs.Requests.{AsksFor, Says, SecondsFit, act_asked, behind, request_bytes, nick_bytes, cid_bytes}
 use Rattle.hub_client.specs.declared.request.Request.{Request}
 use Rattle.hub_client.specs.declared.request.Request.TheVariants.{Kick, Ban, Unban, Topic}
 
@@ -98,11 +98,11 @@ act-ban nick reason seconds good word below =
     ∙ ban-read (nick ∷ decimal seconds ∷ words_behind reason) (decimal seconds ∷ words_behind reason) (words_behind reason) nick (decimal seconds) (chars nick) reason seconds
     refl refl (seconds-decimal seconds below) refl good (sym (rest-behind reason))
 
-act-unban : (cid bytes : List ℕ) → spelled 24 cid ≡ Some bytes → list_all (λ b. not (is_blank b)) cid ≡ true → act_at (unban_word ++ 32 ∷ cid) ≡ Some (acts.Unban bytes)
+act-unban : (cid bytes : List ℕ) → spelled_bytes 24 cid ≡ Some bytes → list_all (λ b. not (is_blank b)) cid ≡ true → act_at (unban_word ++ 32 ∷ cid) ≡ Some (acts.Unban bytes)
 unfolding act_at act_of
 act-unban cid bytes spelt word =
     ap act_in (words-first unban_word cid refl ∙ ap (λ ws. unban_word ∷ ws) (slice_split_none is_blank cid (blankless cid word)))
-    ∙ ap (λ o. option_map (λ (bs : List ℕ). acts.Unban bs) o) spelt
+    ∙ unban-read (cid ∷ []) cid bytes refl spelt
 
 act-topic : (text : List ℕ) → act_at (topic_word ++ behind text) ≡ Some (acts.Topic text)
 unfolding act_at act_of
@@ -117,13 +117,13 @@ request_bytes-some (Unban cid) e = cc
 request_bytes-some (Topic text) e = cc
 
 -- what is asked for is what was requested
-pub act_at-request_bytes : (request : Request) → SecondsFit request → act_at (request_bytes request) ≡ Some (asked request)
+pub act_at-request_bytes : (request : Request) → SecondsFit request → act_at (request_bytes request) ≡ Some (act_asked request)
 unfolding request_bytes
 act_at-request_bytes (Kick nick reason) fit = act-kick (nick_bytes nick) reason.now nick.nick nick.word
 act_at-request_bytes (Ban nick seconds reason) fit = act-ban (nick_bytes nick) reason.now seconds nick.nick nick.word fit
 act_at-request_bytes (Unban cid) fit = act-unban (cid_bytes cid) cid.cid cid.spelt cid.word
 act_at-request_bytes (Topic text) fit = act-topic text.now
 
-pub asks-for : (request : Request) (r : Result Reading LineFault) → SecondsFit request → IfOk r (λ line. Says line (request_bytes request)) → IfOk r (λ line. AsksFor line (asked request))
+pub asks-for : (request : Request) (r : Result Reading LineFault) → SecondsFit request → IfOk r (λ line. Says line (request_bytes request)) → IfOk r (λ line. AsksFor line (act_asked request))
 asks-for request (Ok line) fit says = (request_bytes request, says, act_at-request_bytes request fit)
 asks-for request (Err fault) fit says = tt

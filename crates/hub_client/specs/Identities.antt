@@ -1,4 +1,4 @@
--- Who a client is.
+-- The identity of a client.
 use Rattle.std.specs.Prelude.{◌≡◌, ℕ, List}
 use Rattle.hub_client.specs.declared.login.Identity.{Identity}
 

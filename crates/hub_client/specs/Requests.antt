@@ -1,12 +1,12 @@
--- What an operator asks of a hub, and the message that asks for it.
+-- The requests of an operator, and the message that makes each.
 use Rattle.std.specs.Prelude.{◌≡◌, ℕ, ◌<◌, List, [], ◌∷◌, ◌++◌, codes, chars, length, Some}
 use Rattle.std.specs.Fmt.{decimal}
-use Rattle.adc_line.specs.Escapes.{escaped}
+use Rattle.adc_line.specs.Escapes.{escaped_text}
 use Rattle.adc_line.specs.Frames.{max_line}
 use Rattle.adc_line.specs.Lines.{Reading}
 use Rattle.adc_line.specs.declared.fault.LineFault.{LineFault}
 use Rattle.adc_line.specs.declared.fault.LineFault.TheVariants as faults
-use Rattle.adc_line.specs.declared.kind.Kind.TheVariants as kinds
+use Rattle.adc_line.specs.declared.header.Kind.TheVariants as kinds
 use Rattle.operator_acts.specs.Acts.{act_at, kick_word, ban_word, unban_word, topic_word}
 use Rattle.operator_acts.specs.declared.act.Act.{Act}
 use Rattle.operator_acts.specs.declared.act.Act.TheVariants as acts
@@ -22,11 +22,11 @@ abbrev pub cid_bytes : CidText → List ℕ
 cid_bytes cid = cid.text.now
 
 -- the act that is asked for
-abbrev pub asked : Request → Act
-asked (Kick nick reason) = acts.Kick (chars (nick_bytes nick)) reason.now
-asked (Ban nick seconds reason) = acts.Ban (chars (nick_bytes nick)) seconds reason.now
-asked (Unban cid) = acts.Unban cid.cid
-asked (Topic text) = acts.Topic text.now
+abbrev pub act_asked : Request → Act
+act_asked (Kick nick reason) = acts.Kick (chars (nick_bytes nick)) reason.now
+act_asked (Ban nick seconds reason) = acts.Ban (chars (nick_bytes nick)) seconds reason.now
+act_asked (Unban cid) = acts.Unban cid.cid
+act_asked (Topic text) = acts.Topic text.now
 
 -- what stands behind the words of a text, with a blank before it where it is not empty
 abbrev pub behind : List ℕ → List ℕ
@@ -49,20 +49,20 @@ SecondsFit (Topic text) = Unit {0}
 
 -- the message is one to the hub, with this text
 abbrev pub Says : Reading → List ℕ → Type 0
-Says line text = (line.kind ≡ kinds.Hub) × (line.command ≡ codes "MSG") × (line.params ≡ escaped text ∷ [])
+Says line text = (line.kind ≡ kinds.Hub) × (line.command ≡ codes "MSG") × (line.params ≡ escaped_text text ∷ [])
 
 -- the message is one to the hub, whose text asks for this act
 abbrev pub AsksFor : Reading → Act → Type 0
 AsksFor line act = (text : List ℕ) × Says line text × (act_at text ≡ Some act)
 
 -- the message as it is written
-abbrev pub written : List ℕ → List ℕ
-written text = codes "HMSG " ++ escaped text
+abbrev pub message_bytes : List ℕ → List ℕ
+message_bytes text = codes "HMSG " ++ escaped_text text
 
 -- memory ran out, or the message with this text has too many bytes
 abbrev pub IsOverlong : LineFault → List ℕ → Type 0
 IsOverlong faults.Memory text = Unit {0}
-IsOverlong faults.TooLong text = max_line < length (written text)
+IsOverlong faults.TooLong text = max_line < length (message_bytes text)
 IsOverlong faults.NotUtf8 text = ⊥
 IsOverlong faults.Header text = ⊥
 IsOverlong faults.Parameter text = ⊥

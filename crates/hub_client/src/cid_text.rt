@@ -1,6 +1,6 @@
 ghost use Rattle.std.specs.Prelude.{◌≡◌, Some, true, not, IfSome};
 ghost use Rattle.std.specs.List.{list_all};
-ghost use Rattle.adc_base32.specs.Spelled.{spelled};
+ghost use Rattle.adc_base32.specs.Spelled.{spelled_bytes};
 ghost use Rattle.operator_acts.specs.Acts.{is_blank};
 
 use crate::nick_text::is_one_word;
@@ -11,7 +11,7 @@ use adc_ids::Cid;
 pub struct CidText<'a> {
     text: &'a str,
     cid: Cid,
-    ghost spelt: { spelled 24 text.now ≡ Some cid },
+    ghost spelt: { spelled_bytes 24 text.now ≡ Some cid },
     ghost word: { list_all (λ b. not (is_blank b)) text.now ≡ true },
 }
 
@@ -21,7 +21,7 @@ impl<'a> CidText<'a> {
     /// The client identifier that a text spells; `None` where it spells none.
     pub fn parse(text: &'a str) -> Option<CidText<'a>>
         ensures text { IfSome result (λ cid. cid_bytes cid ≡ text.now) }
-        ensures spelt { IfSome result (λ cid. spelled 24 text.now ≡ Some cid.cid) }
+        ensures spelt { IfSome result (λ cid. spelled_bytes 24 text.now ≡ Some cid.cid) }
     {
         let cid = Cid::parse(text.as_bytes())?;
         if !is_one_word(text) {

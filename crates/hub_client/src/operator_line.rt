@@ -1,6 +1,6 @@
 ghost use Rattle.std.specs.Prelude.{◌≡◌, ◌++◌, [], IfOk, IfErr, OnOk};
 ghost use Rattle.std.specs.String.{string_bytes};
-ghost use Rattle.hub_client.specs.Requests.{AsksFor, IsOverlong, Says, SecondsFit, asked, behind, request_bytes};
+ghost use Rattle.hub_client.specs.Requests.{AsksFor, IsOverlong, Says, SecondsFit, act_asked, behind, request_bytes};
 
 use crate::request::Request;
 use adc_line::{Line, LineFault, escape};
@@ -13,7 +13,7 @@ const MAX_LINE: usize = 65_536;
 ///
 /// Refused: `TooLong` where it has more than 65,536 bytes, else only `Memory`.
 pub fn act_line(alloc: Global, request: &Request<'_>) -> Result<Line, LineFault>
-    ensures asks { IfOk result (λ line. AsksFor line (asked request.now)) }
+    ensures asks { IfOk result (λ line. AsksFor line (act_asked request.now)) }
     ensures refused { IfErr result (λ fault. IsOverlong fault (request_bytes request.now)) }
 {
     let text = request_text(alloc, request)?;

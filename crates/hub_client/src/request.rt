@@ -18,13 +18,13 @@ pub enum Request<'a> {
 
 impl<'a> Request<'a> {
     ghost use Rattle.std.specs.Prelude.{◌≡◌, Some, IfOk, IfSome, chars, option_map};
-    ghost use Rattle.adc_base32.specs.Spelled.{spelled};
+    ghost use Rattle.adc_base32.specs.Spelled.{spelled_bytes};
     ghost use Rattle.operator_acts.specs.declared.act.Act.TheVariants as acts;
-    ghost use Rattle.hub_client.specs.Requests.{asked};
+    ghost use Rattle.hub_client.specs.Requests.{act_asked};
 
     /// Asks to kick the user of this nick. Refused: `Invalid` where the text is no nick; `Memory`.
     pub fn kick(alloc: Global, nick: &'a str, reason: &'a str) -> Result<Request<'a>, NickFault>
-        ensures { IfOk result (λ request. asked request ≡ acts.Kick (chars nick.entry.now) reason.entry.now) }
+        ensures { IfOk result (λ request. act_asked request ≡ acts.Kick (chars nick.entry.now) reason.entry.now) }
     {
         Ok(Request::Kick(NickText::parse(alloc, nick)?, reason))
     }
@@ -37,14 +37,14 @@ impl<'a> Request<'a> {
         seconds: u32,
         reason: &'a str,
     ) -> Result<Request<'a>, NickFault>
-        ensures { IfOk result (λ request. asked request ≡ acts.Ban (chars nick.entry.now) seconds reason.entry.now) }
+        ensures { IfOk result (λ request. act_asked request ≡ acts.Ban (chars nick.entry.now) seconds reason.entry.now) }
     {
         Ok(Request::Ban(NickText::parse(alloc, nick)?, seconds, reason))
     }
 
     /// Asks to take back the ban of a client identifier; `None` where the text is none.
     pub fn unban(cid: &'a str) -> Option<Request<'a>>
-        ensures { IfSome result (λ request. option_map acts.Unban (spelled 24 cid.entry.now) ≡ Some (asked request)) }
+        ensures { IfSome result (λ request. option_map acts.Unban (spelled_bytes 24 cid.entry.now) ≡ Some (act_asked request)) }
     {
         match CidText::parse(cid) {
             Some(cid) => Some(Request::Unban(cid)),
@@ -54,7 +54,7 @@ impl<'a> Request<'a> {
 
     /// Asks to set the topic.
     pub fn topic(text: &'a str) -> Request<'a>
-        ensures { asked result ≡ acts.Topic text.entry.now }
+        ensures { act_asked result ≡ acts.Topic text.entry.now }
     {
         Request::Topic(text)
     }

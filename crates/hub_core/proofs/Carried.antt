@@ -1,4 +1,5 @@
--- What was decided of a line, carried out, makes of a hub that stands at a history one that stands at the next.
+-- A decision that is carried out: a hub that stands at a history then stands at the next.
+use Rattle.std.specs.List.{find}
 use Rattle.std.proofs.Common.{◌≡◌, ◌∙◌, sym, ap, ap₂, refl, subst, ℕ, Bool, true, false, ◌||◌, ◌==◌, eqb, List, [], ◌∷◌, map, length, get_or, slice_set, Option, Some}
 use Rattle.std.specs.Prelude.{if◌then◌else◌}
 use Rattle.std.proofs.lemmas.Bool.{false≢true, eqb-true, eq-eqb}
@@ -7,7 +8,7 @@ use Rattle.login_state.specs.declared.stage.Stage.{Stage}
 use Rattle.login_state.specs.declared.stage.Stage.TheVariants as stages
 use Rattle.operator_acts.specs.declared.ban.Ban.{Ban}
 use Rattle.user_table.specs.Listed.{Listed}
-use Rattle.user_table.specs.Tables.{first_who, has_sid, user_by_sid}
+use Rattle.user_table.specs.Tables.{has_sid, user_by_sid}
 use Rattle.hub_core.specs.declared.seat.Phase.TheVariants as phases
 use Rattle.hub_core.specs.declared.seat.Seat.{Seat}
 use Rattle.hub_core.specs.CoreState.{CoreState}
@@ -18,9 +19,9 @@ use Rattle.hub_core.specs.State.{carried_out, core_of, users_after}
 use Rattle.hub_rules.specs.declared.effect.Effect.{Effect}
 use Rattle.hub_rules.specs.Configured.{Configured}
 use Rattle.adc_line.specs.Lines as lines
-use Rattle.hub_rules.specs.Effects.{entrant, heard, is_over, is_present, line_effect}
+use Rattle.hub_rules.specs.Effects.{entrant, effect_of_reading, is_over, is_present, line_effect}
 use Rattle.hub_rules.specs.Facts.{Facts, about_after, bans_after, happens, own_of, sight_of, topic_after, user_of}
-use Rattle.hub_rules.specs.Identities.{listed}
+use Rattle.hub_rules.specs.Identities.{listed_user}
 use Rattle.hub_rules.specs.Quiet.{nothing}
 use Rattle.hub_rules.specs.Shares.{About}
 use Rattle.hub_rules.specs.Sights.{Own, PreparedLine, Sight}
@@ -73,39 +74,38 @@ own-is a stage fields expected s fs e =
 
 quiet-by : (hub : Sight) (own : Own) (line : PreparedLine) (now : ℕ) → is_over own.stage ≡ true → line_effect hub own line now ≡ nothing
 unfolding line_effect
-quiet-by hub own line now over = ap (λ b. if b then nothing else (if length line.bytes == 0 then nothing else heard hub own line now (lines.reading line.bytes))) over
+quiet-by hub own line now over = ap (λ b. if b then nothing else (if length line.bytes == 0 then nothing else effect_of_reading hub own line now (lines.reading line.bytes))) over
 
-entrant-user : (sid : ℕ) (fields : List Field) → (entrant (listed sid fields)).user ≡ listed sid (entrant (listed sid fields)).user.fields
-unfolding listed
+entrant-user : (sid : ℕ) (fields : List Field) → (entrant (listed_user sid fields)).user ≡ listed_user sid (entrant (listed_user sid fields)).user.fields
+unfolding listed_user
 entrant-user sid fields = refl
 
-entrant-fields : (sid : ℕ) (fields : List Field) → (entrant (listed sid fields)).user.fields ≡ fields
-unfolding listed
+entrant-fields : (sid : ℕ) (fields : List Field) → (entrant (listed_user sid fields)).user.fields ≡ fields
+unfolding listed_user
 entrant-fields sid fields = refl
 
-fields-listed : (sid : ℕ) (fields : List Field) → (listed sid fields).fields ≡ fields
-unfolding listed
+fields-listed : (sid : ℕ) (fields : List Field) → (listed_user sid fields).fields ≡ fields
+unfolding listed_user
 fields-listed sid fields = refl
 
-itself-listed : (sid : ℕ) (fields : List Field) → listed sid fields ≡ listed sid (listed sid fields).fields
-unfolding listed
+itself-listed : (sid : ℕ) (fields : List Field) → listed_user sid fields ≡ listed_user sid (listed_user sid fields).fields
+unfolding listed_user
 itself-listed sid fields = refl
 
 -- the user of a connection is found by its session identifier
 found-one : (f : Facts) (c d : ℕ) (xs : List ℕ) (same : Bool) → (d == c) ≡ same → has_sid (f.about c).sid (user_of f.about d) ≡ same
-    → (same ≡ false → first_who (has_sid (f.about c).sid) (map (user_of f.about) xs) ≡ Some (user_of f.about c))
-    → (if has_sid (f.about c).sid (user_of f.about d) then Some (user_of f.about d) else first_who (has_sid (f.about c).sid) (map (user_of f.about) xs)) ≡ Some (user_of f.about c)
+    → (same ≡ false → find (has_sid (f.about c).sid) (map (user_of f.about) xs) ≡ Some (user_of f.about c))
+    → (if has_sid (f.about c).sid (user_of f.about d) then Some (user_of f.about d) else find (has_sid (f.about c).sid) (map (user_of f.about) xs)) ≡ Some (user_of f.about c)
 found-one f c d xs true is tell rest =
-    ap (λ b. if b then Some (user_of f.about d) else first_who (has_sid (f.about c).sid) (map (user_of f.about) xs)) tell ∙ ap (λ x. Some (user_of f.about x)) (eqb-true d c is)
+    ap (λ b. if b then Some (user_of f.about d) else find (has_sid (f.about c).sid) (map (user_of f.about) xs)) tell ∙ ap (λ x. Some (user_of f.about x)) (eqb-true d c is)
 found-one f c d xs false is tell rest =
-    ap (λ b. if b then Some (user_of f.about d) else first_who (has_sid (f.about c).sid) (map (user_of f.about) xs)) tell ∙ rest refl
+    ap (λ b. if b then Some (user_of f.about d) else find (has_sid (f.about c).sid) (map (user_of f.about) xs)) tell ∙ rest refl
 
 rest-has : (c d : ℕ) (xs : List ℕ) → (d == c) ≡ false → ((d == c) || has c xs) ≡ true → has c xs ≡ true
 rest-has c d xs other there = sym (ap (λ b. b || has c xs) other) ∙ there
 
 found-by : (f : Facts) (c : ℕ) (xs : List ℕ) → ((d : ℕ) → has d xs ≡ true → has_sid (f.about c).sid (user_of f.about d) ≡ (d == c)) → has c xs ≡ true
-    → first_who (has_sid (f.about c).sid) (map (user_of f.about) xs) ≡ Some (user_of f.about c)
-unfolding first_who
+    → find (has_sid (f.about c).sid) (map (user_of f.about) xs) ≡ Some (user_of f.about c)
 found-by f c [] tells there = absurd (false≢true there)
 found-by f c (d ∷ xs) tells there =
     found-one f c d xs (d == c) refl (tells d (ap (λ b. b || has d xs) (eq-eqb d d refl)))

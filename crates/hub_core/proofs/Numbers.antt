@@ -13,7 +13,7 @@ use Rattle.std.proofs.lemmas.List.Sorted.{IsNonDecreasingBy-from_default}
 use Rattle.std.proofs.lemmas.List.Sums.{position_or_len_is}
 use Rattle.hub_core.specs.declared.seat.Removal.{Removal}
 use Rattle.hub_core.specs.declared.seat.Seat.{Seat}
-use Rattle.hub_core.specs.Leaving.{others_of, told, told_all_if, told_if}
+use Rattle.hub_core.specs.Leaving.{others_of, seat_told, told_all_if, told_if}
 use Rattle.hub_core.specs.Numbers.{Above, Ordered, Rising, UpTo, numbers}
 use Rattle.hub_core.specs.Phases.{stage_in}
 use Rattle.hub_core.specs.Seats.{at_seat, changed_seat, given_seat, new_seat, removed_of, seat_share, settled_all}
@@ -76,7 +76,7 @@ number-told : (present : Bool) (sid : ℕ) (seat : Seat) → (told_if present si
 number-told true sid seat = refl
 number-told false sid seat = refl
 
-numbers-map : (sid : ℕ) (seats : List Seat) → numbers (map (told sid) seats) ≡ numbers seats
+numbers-map : (sid : ℕ) (seats : List Seat) → numbers (map (seat_told sid) seats) ≡ numbers seats
 numbers-map sid [] = refl
 numbers-map sid (seat ∷ seats) = ap₂ ◌∷◌ (number-told (is_present (stage_in seat.phase)) sid seat) (numbers-map sid seats)
 

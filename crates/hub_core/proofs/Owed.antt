@@ -1,9 +1,9 @@
 -- Shares of those that hear something, given seat by seat, are the shares of all.
 use Rattle.std.proofs.Common.{◌≡◌, ◌∙◌, sym, ap, ap₂, refl, subst, ℕ, zero, suc, ◌+◌, ◌<◌, ◌≤◌, Bool, true, false, ◌&&◌, List, [], ◌∷◌, ◌++◌, length, map, get_or, drop, set, arith}
-use Rattle.std.specs.Prelude.{◌==◌}
+use Rattle.std.specs.Prelude.{◌==◌, cond}
 use Rattle.std.proofs.lemmas.Bool.{eqb-true}
 use Rattle.std.proofs.lemmas.List.{append-nil, append_assoc, at_drop_more, at_drop_all}
-use Rattle.outboxes.specs.Backlogs.{given}
+use Rattle.outboxes.specs.Backlogs.{backlog_after}
 use Rattle.feature_route.specs.Audiences.{holds_words}
 use Rattle.feature_route.specs.declared.hearers.Audience.TheVariants as audiences
 use Rattle.hub_core.specs.declared.seat.Phase.{Phase}
@@ -15,11 +15,11 @@ use Rattle.hub_core.specs.declared.share.Share.{Share}
 use Rattle.hub_core.specs.Numbers.{Above, Rising, numbers}
 use Rattle.hub_core.specs.Owed.{HeardByNone, given_all, given_at, share_at, shares_from}
 use Rattle.hub_core.specs.Phases.{phase_hears, stage_in}
-use Rattle.hub_core.specs.Seats.{given_seat, gone_if, removed_seat, seat_share, settled, settled_all}
+use Rattle.hub_core.specs.Seats.{given_seat, gone_if, removed_seat, seat_share, settled_seat, settled_all}
 use Rattle.hub_core.proofs.Places.{StandsFirst, rest_first}
 use Rattle.hub_rules.specs.declared.effect.Effect.{Effect}
 use Rattle.hub_rules.specs.declared.effect.Hearers.TheVariants.{Those}
-use Rattle.hub_rules.specs.Effects.{given_if, is_present}
+use Rattle.hub_rules.specs.Effects.{is_present}
 
 abbrev Lines : Type 0
 Lines = List (List ℕ)
@@ -80,21 +80,21 @@ one-share c place owed (seat ∷ seats) (suc i) d quiet rising at =
     ∙ one-share c (place + 1) owed seats i d quiet rising.1 (rest_first c seat seats i at)
     ∙ ap (λ n. share_at n (owed (get_or seats i d))) (omega arith)
 
-pub alone : (c : ℕ) (owed : Seat → Lines) (seats : List Seat) (i : ℕ) (d : Seat) → Quiet c owed → Rising (numbers seats) → StandsFirst c seats i
+pub alone-owed : (c : ℕ) (owed : Seat → Lines) (seats : List Seat) (i : ℕ) (d : Seat) → Quiet c owed → Rising (numbers seats) → StandsFirst c seats i
     → shares_from 0 owed seats ≡ share_at i (owed (get_or seats i d))
-alone c owed seats i d quiet rising at = one-share c 0 owed seats i d quiet rising at ∙ ap (λ n. share_at n (owed (get_or seats i d))) (omega arith)
+alone-owed c owed seats i d quiet rising at = one-share c 0 owed seats i d quiet rising at ∙ ap (λ n. share_at n (owed (get_or seats i d))) (omega arith)
 
 -- where no user hears anything, only the sender of the line has a share
 pub quiet-others : (c : ℕ) (effect : Effect) → HeardByNone effect → (seat : Seat) → (seat.number == c) ≡ false → seat_share c effect seat ≡ []
-quiet-others c effect none seat other = ap₂ ◌++◌ (none seat (seat.number == c)) (ap (λ b. given_if b effect.own) other)
+quiet-others c effect none seat other = ap₂ ◌++◌ (none seat (seat.number == c)) (ap (λ b. cond b effect.own []) other)
 
-given-none : (hears : Bool) → given_if {A = List ℕ} hears [] ≡ []
+given-none : (hears : Bool) → cond {A = List (List ℕ)} hears [] [] ≡ []
 given-none true = refl
 given-none false = refl
 
 pub none-said : (effect : Effect) → effect.others ≡ [] → HeardByNone effect
 none-said effect is seat is_caller =
-    ap (given_if (phase_hears seat.phase is_caller effect.hearers seat.sid)) is ∙ given-none (phase_hears seat.phase is_caller effect.hearers seat.sid)
+    ap (λ xs. cond (phase_hears seat.phase is_caller effect.hearers seat.sid) xs []) is ∙ given-none (phase_hears seat.phase is_caller effect.hearers seat.sid)
 
 nobody-hears : (phase : Phase) (is_caller : Bool) (sid : ℕ) → phase_hears phase is_caller (Those audiences.Nobody) sid ≡ false
 unfolding holds_words
@@ -106,8 +106,8 @@ nobody-hears phases.Gone is_caller sid = refl
 
 pub none-hear : (effect : Effect) → effect.hearers ≡ Those audiences.Nobody → HeardByNone effect
 none-hear effect is seat is_caller =
-    ap (λ h. given_if (phase_hears seat.phase is_caller h seat.sid) effect.others) is
-    ∙ ap (λ b. given_if b effect.others) (nobody-hears seat.phase is_caller seat.sid)
+    ap (λ h. cond (phase_hears seat.phase is_caller h seat.sid) effect.others []) is
+    ∙ ap (λ b. cond b effect.others []) (nobody-hears seat.phase is_caller seat.sid)
 
 -- ---- a share is given
 
@@ -123,7 +123,7 @@ given-past i lines [] past = refl
 given-past zero lines (seat ∷ seats) past = absurd (omega (arith, past))
 given-past (suc i) lines (seat ∷ seats) past = ap (λ ss. seat ∷ ss) (given-past i lines seats (omega (arith, past)))
 
-pub given-some : (lines : Lines) (seat : Seat) → (lines ≡ [] → ⊥) → given_seat lines seat ≡ record seat { outbox = given seat.outbox lines }
+pub given-some : (lines : Lines) (seat : Seat) → (lines ≡ [] → ⊥) → given_seat lines seat ≡ record seat { outbox = backlog_after seat.outbox lines }
 given-some [] seat some = absurd (some refl)
 given-some (line ∷ lines) seat some = refl
 
@@ -177,7 +177,7 @@ later-given place owed (x ∷ xs) seat seats = later-by place owed (owed x) xs s
 
 first-settled : (removal : Removal) (owed : Seat → Lines) (lines : Lines) (xs : List Seat) (seat : Seat) (seats : List Seat)
     → map (removed_seat removal) (given_all (shares_from 0 owed xs) seats) ≡ settled_all removal seats (map owed xs)
-    → map (removed_seat removal) (given_all (share_at 0 lines ++ shares_from 1 owed xs) (seat ∷ seats)) ≡ settled removal seat lines ∷ settled_all removal seats (map owed xs)
+    → map (removed_seat removal) (given_all (share_at 0 lines ++ shares_from 1 owed xs) (seat ∷ seats)) ≡ settled_seat removal seat lines ∷ settled_all removal seats (map owed xs)
 unfolding given_all given_at
 first-settled removal owed [] xs seat seats rest =
     ap (map (removed_seat removal)) (later-given 0 owed xs seat seats) ∙ ap (λ (ss : List Seat). removed_seat removal seat ∷ ss) rest

@@ -68,17 +68,17 @@ passes_within p (seat ∷ seats) h = passes_first p seat seats (passes_within p 
 pub none_passes : (p : Seat → Bool) (seats : List Seat) → list_any p seats ≡ true → position p seats ≡ None → ⊥
 none_passes p seats some none =
     let below : nat_lt (position_or_len p seats) (length seats) ≡ true = lt-true (position_or_len p seats) (length seats) (passes_within p seats some) in
-    let found : position p seats ≡ Some (position_or_len p seats) = ap (λ b. cond b (Some (position_or_len p seats)) None) below in
-    let wrong : Some (position_or_len p seats) ≡ None = sym found ∙ none in
+    let found-alike : position p seats ≡ Some (position_or_len p seats) = ap (λ b. cond b (Some (position_or_len p seats)) None) below in
+    let wrong : Some (position_or_len p seats) ≡ None = sym found-alike ∙ none in
     cc
 
 -- what was found in one spelling of the seats is found in another
-pub found : (c : ℕ) (seats same : List Seat) (i : ℕ) → same ≡ seats → position (λ (seat : Seat). seat.number == c) same ≡ Some i → StandsFirst c seats i
-found c seats same i e place = stands_first c seats i (ap (position (λ (seat : Seat). seat.number == c)) (sym e) ∙ place)
+pub found-alike : (c : ℕ) (seats same : List Seat) (i : ℕ) → same ≡ seats → position (λ (seat : Seat). seat.number == c) same ≡ Some i → StandsFirst c seats i
+found-alike c seats same i e place = stands_first c seats i (ap (position (λ (seat : Seat). seat.number == c)) (sym e) ∙ place)
 
 -- the seat that was read has the number
-pub numbered : (c : ℕ) (seats : List Seat) (i : ℕ) (seat : Seat) → StandsFirst c seats i → seat ≡ get_or seats i seat → (seat.number == c) ≡ true
-numbered c seats i seat at e = ap (λ (s : Seat). s.number == c) e ∙ at.here seat
+pub read-has-number : (c : ℕ) (seats : List Seat) (i : ℕ) (seat : Seat) → StandsFirst c seats i → seat ≡ get_or seats i seat → (seat.number == c) ≡ true
+read-has-number c seats i seat at e = ap (λ (s : Seat). s.number == c) e ∙ at.here seat
 
 -- the seat that was read is that of the connection
 pub seat-at : (c : ℕ) (seats : List Seat) (i : ℕ) (seat : Seat) → StandsFirst c seats i → seat ≡ get_or seats i seat → seat ≡ in_seat c (λ s. s) seat seats
@@ -103,6 +103,6 @@ sid-at c seats i seat at e = in_seat-at c (λ (s : Seat). s.sid) _ seats i seat 
 pub at-core : (seats : List Seat) (c n : ℕ) (items same : List Seat) (i : ℕ) (seat : Seat) → same ≡ items → items ≡ seats → n ≡ c
     → position (λ (s : Seat). s.number == n) same ≡ Some i → seat ≡ get_or items i seat → StandsFirst c seats i × (seat ≡ get_or seats i seat)
 at-core seats c n items same i seat e is_seats is_number place is_seat = (
-  found c seats same i (e ∙ is_seats) (ap (λ m. position (λ (s : Seat). s.number == m) same) (sym is_number) ∙ place),
+  found-alike c seats same i (e ∙ is_seats) (ap (λ m. position (λ (s : Seat). s.number == m) same) (sym is_number) ∙ place),
   is_seat ∙ ap (λ (xs : List Seat). get_or xs i seat) is_seats,
 )

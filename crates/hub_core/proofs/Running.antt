@@ -9,7 +9,7 @@ use Rattle.hub_core.specs.Runs.{Answers, MayAsk, RunsTo, call_of, is_skipped, wi
 use Rattle.hub_core.specs.State.{IsSeated}
 use Rattle.hub_core.specs.declared.calls.Answer.TheVariants as answers
 use Rattle.hub_core.specs.declared.calls.Ask.{Ask}
-use Rattle.hub_core.proofs.Standing.{seated}
+use Rattle.hub_core.proofs.Standing.{open-has-seat}
 use Rattle.hub_rules.specs.Facts.{Facts, facts}
 use Rattle.hub_rules.specs.Legal.{MayCall, is_open}
 use Rattle.hub_core.specs.declared.calls.Answer.{Answer}
@@ -82,4 +82,4 @@ none-left (asked ∷ rest) e = absurd (no-more (length rest) e)
 pub not-skipped : (core : CoreState) (connection caller : ℕ) (ask : Ask) (seated_there : Bool) → seated_there ≡ false → (IsSeated connection core → seated_there ≡ true)
     → ((f : Facts) → MayCall f caller (call_of ask) → is_open connection f ≡ true) → Answers caller ask answers.Skipped core core
 not-skipped core connection caller ask seated_there none has_one names setup hash h at may =
-    absurd (false≢true (sym none ∙ has_one (seated setup hash h core connection at (names (facts setup hash h) may.0))))
+    absurd (false≢true (sym none ∙ has_one (open-has-seat setup hash h core connection at (names (facts setup hash h) may.0))))

@@ -5,13 +5,13 @@ use Rattle.std.specs.List.{list_any}
 use Rattle.std.proofs.lemmas.Bool.{false≢true, eqb-true, eq-eqb}
 use Rattle.hub_core.specs.declared.seat.Removal.{Removal}
 use Rattle.hub_core.specs.declared.seat.Seat.{Seat}
-use Rattle.hub_core.specs.Seats.{at_seat, in_seat, seat_of, settled, settled_all}
-use Rattle.hub_rules.specs.Shares.{About, chosen}
+use Rattle.hub_core.specs.Seats.{at_seat, in_seat, seat_of, settled_seat, settled_all}
+use Rattle.hub_rules.specs.Shares.{About}
 use Rattle.hub_invariants.proofs.Members.{apart, both, has, or-parts}
 
 -- a change of one connection
 abbrev pub seat_one : ℕ → (Seat → Seat) → (ℕ → About) → ℕ → Seat
-seat_one c change about d = chosen (d == c) (change (seat_of about d)) (seat_of about d)
+seat_one c change about d = cond (d == c) (change (seat_of about d)) (seat_of about d)
 
 flip : (c d : ℕ) (same : Bool) → (d == c) ≡ same → (c == d) ≡ false → same ≡ false
 flip c d true is other = absurd (false≢true (sym other ∙ eq-eqb c d (sym (eqb-true d c is))))
@@ -25,7 +25,7 @@ others-same : (c : ℕ) (change : Seat → Seat) (about : ℕ → About) (xs : L
 others-same c change about [] none = refl
 others-same c change about (d ∷ xs) none =
     let parts = or-parts (d == c) (has c xs) none in
-    ap₂ (λ (s : Seat) (ss : List Seat). s ∷ ss) (ap (λ b. chosen b (change (seat_of about d)) (seat_of about d)) (sym parts.0)) (others-same c change about xs parts.1)
+    ap₂ (λ (s : Seat) (ss : List Seat). s ∷ ss) (ap (λ b. cond b (change (seat_of about d)) (seat_of about d)) (sym parts.0)) (others-same c change about xs parts.1)
 
 has-self : (c d : ℕ) (xs : List ℕ) → (d == c) ≡ true → not (has d xs) ≡ true → (b : Bool) → has c xs ≡ b → b ≡ false
 has-self c d xs is fresh true there = absurd (false≢true (sym (ap (λ x. not (has x xs)) (eqb-true d c is) ∙ ap not there) ∙ fresh))
@@ -35,10 +35,10 @@ head-one : (c : ℕ) (change : Seat → Seat) (about : ℕ → About) (d : ℕ) 
     → at_seat c change (map (seat_of about) xs) ≡ map (seat_one c change about) xs
     → cond same (change (seat_of about d) ∷ map (seat_of about) xs) (seat_of about d ∷ at_seat c change (map (seat_of about) xs)) ≡ map (seat_one c change about) (d ∷ xs)
 head-one c change about d xs true is fresh rest =
-    ap₂ (λ (s : Seat) (ss : List Seat). s ∷ ss) (ap (λ b. chosen b (change (seat_of about d)) (seat_of about d)) (sym is))
+    ap₂ (λ (s : Seat) (ss : List Seat). s ∷ ss) (ap (λ b. cond b (change (seat_of about d)) (seat_of about d)) (sym is))
     (others-same c change about xs (has-self c d xs is fresh (has c xs) refl))
 head-one c change about d xs false is fresh rest =
-    ap₂ (λ (s : Seat) (ss : List Seat). s ∷ ss) (ap (λ b. chosen b (change (seat_of about d)) (seat_of about d)) (sym is)) rest
+    ap₂ (λ (s : Seat) (ss : List Seat). s ∷ ss) (ap (λ b. cond b (change (seat_of about d)) (seat_of about d)) (sym is)) rest
 
 -- a change at the seat of connection c changes that of no other
 pub at-one : (c : ℕ) (change : Seat → Seat) (about : ℕ → About) (xs : List ℕ) → apart xs ≡ true → at_seat c change (map (seat_of about) xs) ≡ map (seat_one c change about) xs
@@ -68,10 +68,10 @@ seated-open c about [] = refl
 seated-open c about (d ∷ xs) = ap (λ b. (d == c) || b) (seated-open c about xs)
 
 -- shares are given seat by seat
-pub settled-map : (removed : Removal) (seat : ℕ → Seat) (share : ℕ → List (List ℕ)) (xs : List ℕ) → settled_all removed (map seat xs) (map share xs) ≡ map (λ d. settled removed (seat d) (share d)) xs
+pub settled-map : (removed : Removal) (seat : ℕ → Seat) (share : ℕ → List (List ℕ)) (xs : List ℕ) → settled_all removed (map seat xs) (map share xs) ≡ map (λ d. settled_seat removed (seat d) (share d)) xs
 unfolding settled_all
 settled-map removed seat share [] = refl
-settled-map removed seat share (d ∷ xs) = ap (λ (ss : List Seat). settled removed (seat d) (share d) ∷ ss) (settled-map removed seat share xs)
+settled-map removed seat share (d ∷ xs) = ap (λ (ss : List Seat). settled_seat removed (seat d) (share d) ∷ ss) (settled-map removed seat share xs)
 
 pub map-seats : {A : Type 0} (f : Seat → A) (seat : ℕ → Seat) (xs : List ℕ) → map f (map seat xs) ≡ map (λ d. f (seat d)) xs
 map-seats f seat [] = refl

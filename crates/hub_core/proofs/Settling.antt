@@ -1,9 +1,9 @@
--- What stays of the seats where shares are given.
+-- The parts of the seats that stay where shares are given.
 use Rattle.std.proofs.Common.{◌≡◌, ap, refl, ℕ, suc, Bool, true, false, List, [], ◌∷◌, length}
 use Rattle.std.proofs.lemmas.List.{length-map}
 use Rattle.hub_core.specs.declared.seat.Removal.{Removal}
 use Rattle.hub_core.specs.declared.seat.Seat.{Seat}
-use Rattle.hub_core.specs.Leaving.{told, told_all_if}
+use Rattle.hub_core.specs.Leaving.{seat_told, told_all_if}
 use Rattle.hub_core.specs.Seats.{given_seat, gone_if, settled_all}
 
 -- ---- how many seats there are
@@ -15,7 +15,7 @@ length-settled removal (seat ∷ seats) [] = refl
 length-settled removal (seat ∷ seats) (share ∷ shares) = ap suc (length-settled removal seats shares)
 
 pub length-told : (was_present : Bool) (sid : ℕ) (seats : List Seat) → length (told_all_if was_present sid seats) ≡ length seats
-length-told true sid seats = length-map seats (told sid)
+length-told true sid seats = length-map seats (seat_told sid)
 length-told false sid seats = refl
 
 -- ---- each connection keeps its seat

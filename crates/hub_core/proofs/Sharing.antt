@@ -1,15 +1,15 @@
--- What an effect makes of the seat of one connection.
+-- The seat of one connection after an effect.
 use Rattle.std.proofs.Common.{◌≡◌, ◌∙◌, sym, ap, ap₂, refl, ℕ, ◌≤◌, Bool, true, false, not, ◌&&◌, ◌||◌, ◌+◌, List, [], ◌∷◌, ◌++◌, length, drop, arith, append-nil}
-use Rattle.std.specs.Prelude.{◌==◌}
+use Rattle.std.specs.Prelude.{◌==◌, cond}
 use Rattle.feature_route.specs.Matching.{feature_set}
 use Rattle.login_state.specs.declared.stage.Stage.{Stage}
 use Rattle.login_state.specs.declared.stage.Stage.TheVariants as stages
-use Rattle.outboxes.specs.Backlogs.{Backlog, fits, given as given_backlog, marked, size_of, with_lines}
+use Rattle.outboxes.specs.Backlogs.{Backlog, fits, backlog_after as given_backlog, marked_lagging, size_of, with_lines}
 use Rattle.hub_core.specs.declared.seat.Phase.{Phase}
 use Rattle.hub_core.specs.declared.seat.Phase.TheVariants as phases
 use Rattle.hub_core.specs.declared.seat.Seat.{Seat}
 use Rattle.hub_core.specs.Phases.{phase_after, phase_at, phase_hears, phase_of, stage_in}
-use Rattle.hub_core.specs.Seats.{changed_seat, given_seat, gone_if, is_named, removed_of, removed_seat, seat_share, seat_with, settled}
+use Rattle.hub_core.specs.Seats.{backlog_of, changed_seat, given_seat, gone_if, is_named, removed_of, removed_seat, seat_share, seat_with, settled_seat}
 use Rattle.hub_rules.specs.declared.effect.Change.{Change}
 use Rattle.hub_rules.specs.declared.effect.Change.TheVariants.{Hub, Nothing, Sender}
 use Rattle.hub_rules.specs.declared.effect.Effect.{Effect}
@@ -18,12 +18,12 @@ use Rattle.hub_rules.specs.declared.effect.Hearers.{Hearers}
 use Rattle.hub_rules.specs.declared.effect.Hearers.TheVariants.{Others, Those}
 use Rattle.hub_rules.specs.declared.effect.HubChange.TheVariants as shared
 use Rattle.hub_rules.specs.declared.effect.SenderChange.TheVariants as senders
-use Rattle.hub_rules.specs.Effects.{entrant, given_if, is_present}
+use Rattle.hub_rules.specs.Effects.{entrant, is_present}
 use Rattle.hub_rules.specs.Facts.{own_of}
-use Rattle.hub_rules.specs.Identities.{listed, su_in}
+use Rattle.hub_rules.specs.Identities.{listed_user, su_in}
 use Rattle.inf_fields.specs.Field.{Field}
 use Rattle.std.specs.Prelude.{if◌then◌else◌}
-use Rattle.hub_rules.specs.Shares.{About, affected, backlog_of, chosen, expected_after, fields_after, has_room, hears_those, is_removed, lags_with, max_bytes, max_lines, owed_with, owes, removed_by, stage_after, waiting}
+use Rattle.hub_rules.specs.Shares.{About, affected_connection, expected_after, fields_after, has_room, hears_those, is_removed, lags_with, max_bytes, max_lines, owed_with, owes, removed_by, stage_after, waiting}
 use Rattle.hub_invariants.proofs.Suits.{Routed, Suited, Suits}
 use Rattle.hub_invariants.proofs.Members.{and-false}
 use Rattle.hub_invariants.proofs.Tidy.{waiting-more}
@@ -47,7 +47,7 @@ hears-at stages.Gone is_caller hearers a routed is = refl
 
 pub share-same : (c d : ℕ) (effect : Effect) (a : About) → Routed effect.hearers → seat_share c effect (seat_with d a) ≡ owes (d == c) effect a
 share-same c d effect a routed =
-    ap (λ b. given_if b effect.others ++ given_if (d == c) effect.own) (hears-at a.stage (d == c) effect.hearers a routed refl)
+    ap (λ b. cond b effect.others [] ++ cond (d == c) effect.own []) (hears-at a.stage (d == c) effect.hearers a routed refl)
 
 -- ---- a share
 
@@ -56,10 +56,10 @@ abbrev backlog_with : About → List (List ℕ) → Backlog
 backlog_with a share = record { lines = drop a.taken (owed_with a share); lags = lags_with a share; cap = max_lines; bytes = max_bytes }
 
 abbrev backlog_if : Bool → About → List (List ℕ) → Backlog
-backlog_if room a share = record { lines = drop a.taken (chosen room (a.owed ++ share) a.owed); lags = not room || a.lags; cap = max_lines; bytes = max_bytes }
+backlog_if room a share = record { lines = drop a.taken (cond room (a.owed ++ share) a.owed); lags = not room || a.lags; cap = max_lines; bytes = max_bytes }
 
 given-by : (lags fit : Bool) (a : About) (share : List (List ℕ)) → a.lags ≡ lags → a.taken ≤ length a.owed
-    → (if lags then backlog_of a else (if fit then with_lines (backlog_of a) (waiting a ++ share) else marked (backlog_of a)))
+    → (if lags then backlog_of a else (if fit then with_lines (backlog_of a) (waiting a ++ share) else marked_lagging (backlog_of a)))
     ≡ backlog_if (not lags && fit) a share
 given-by true fit a share is few = ap (λ b. record (backlog_of a) { lags = b }) is
 given-by false true a share is few = ap (λ (ls : List (List ℕ)). record (backlog_of a) { lines = ls }) (sym (waiting-more a share few))
@@ -101,14 +101,14 @@ kept-phase : (stage : Stage) (a b : About) → b.sid ≡ a.sid → b.fields ≡ 
 kept-phase stages.Protocol a b sid fields expected = refl
 kept-phase stages.Identify a b sid fields expected = refl
 kept-phase stages.Verify a b sid fields expected =
-    ap (λ n. phases.Verify (entrant (listed n a.fields)) a.expected) (sym sid)
-    ∙ ap (λ fs. phases.Verify (entrant (listed b.sid fs)) a.expected) (sym fields)
-    ∙ ap (λ (x : List ℕ). phases.Verify (entrant (listed b.sid b.fields)) x) (sym expected)
+    ap (λ n. phases.Verify (entrant (listed_user n a.fields)) a.expected) (sym sid)
+    ∙ ap (λ fs. phases.Verify (entrant (listed_user b.sid fs)) a.expected) (sym fields)
+    ∙ ap (λ (x : List ℕ). phases.Verify (entrant (listed_user b.sid b.fields)) x) (sym expected)
 kept-phase stages.Normal a b sid fields expected = ap (λ fs. phases.Normal (feature_set (su_in fs))) (sym fields)
 kept-phase stages.Gone a b sid fields expected = refl
 
-entrant-support : (sid : ℕ) (fields : List Field) → (entrant (listed sid fields)).support ≡ feature_set (su_in fields)
-unfolding listed
+entrant-support : (sid : ℕ) (fields : List Field) → (entrant (listed_user sid fields)).support ≡ feature_set (su_in fields)
+unfolding listed_user
 entrant-support sid fields = refl
 
 -- what a change makes of what is known of a user
@@ -159,36 +159,36 @@ removed-self Nothing a = removed-other Nothing a
 removed-self (Sender change) a = and-false (is_present (stage_in (phase_after (Sender change) (phase_of a)))) ∙ sym (and-false (is_present a.stage))
 removed-self (Hub change) a = removed-other (Hub change) a
 
-gone-seat : (gone : Bool) (seat : Seat) (stage : Stage) (b : About) → seat.phase ≡ phase_at stage b → gone_if gone seat ≡ record seat { phase = phase_at (chosen gone stages.Gone stage) b }
+gone-seat : (gone : Bool) (seat : Seat) (stage : Stage) (b : About) → seat.phase ≡ phase_at stage b → gone_if gone seat ≡ record seat { phase = phase_at (cond gone stages.Gone stage) b }
 gone-seat true seat stage b is = refl
 gone-seat false seat stage b is = ap (λ (p : Phase). record seat { phase = p }) is
 
 -- a seat whose connection is at this stage, or is shut out
 removes : (removed : Bool) (change : Change) (seat : Seat) (stage : Stage) (b : About) → (is_present (stage_in seat.phase) && is_named (removed_of change) seat.sid) ≡ removed → seat.phase ≡ phase_at stage b
-    → removed_seat (removed_of change) seat ≡ record seat { phase = phase_at (chosen removed stages.Gone stage) b }
+    → removed_seat (removed_of change) seat ≡ record seat { phase = phase_at (cond removed stages.Gone stage) b }
 removes removed change seat stage b named is = ap (λ g. gone_if g seat) named ∙ gone-seat removed seat stage b is
 
 -- ---- one seat
 
 abbrev pub seat_next : ℕ → Effect → ℕ → About → Seat
-seat_next c effect d a = settled (removed_of effect.change) (chosen (d == c) (changed_seat effect.change (seat_with d a)) (seat_with d a)) (seat_share c effect (seat_with d a))
+seat_next c effect d a = settled_seat (removed_of effect.change) (cond (d == c) (changed_seat effect.change (seat_with d a)) (seat_with d a)) (seat_share c effect (seat_with d a))
 
 pub settles-by : (is_caller : Bool) (effect : Effect) (d : ℕ) (a : About) → a.taken ≤ length a.owed → length (waiting a) ≤ max_lines → size_of (waiting a) ≤ max_bytes → (is_caller ≡ true → Suits (own_of a) effect)
-    → settled (removed_of effect.change) (chosen is_caller (changed_seat effect.change (seat_with d a)) (seat_with d a)) (owes is_caller effect a) ≡ seat_with d (affected is_caller effect a)
+    → settled_seat (removed_of effect.change) (cond is_caller (changed_seat effect.change (seat_with d a)) (seat_with d a)) (owes is_caller effect a) ≡ seat_with d (affected_connection is_caller effect a)
 settles-by true effect d a few lines bytes suits =
     let seat : Seat = changed_seat effect.change (seat_with d a) in
-    let after : About = affected true effect a in
+    let after : About = affected_connection true effect a in
     ap (removed_seat (removed_of effect.change)) (gives a (owes true effect a) few lines bytes seat refl)
     ∙ removes (removed_by effect a) effect.change (record seat { outbox = backlog_with a (owes true effect a) }) (stage_after effect.change a.stage) after (removed-self effect.change a)
     (changed-phase effect.change a (suits refl).change ∙ kept-phase (stage_after effect.change a.stage) (known_after effect.change a) after refl refl refl)
 settles-by false effect d a few lines bytes suits =
-    let after : About = affected false effect a in
+    let after : About = affected_connection false effect a in
     ap (removed_seat (removed_of effect.change)) (gives a (owes false effect a) few lines bytes (seat_with d a) refl)
     ∙ removes (removed_by effect a) effect.change (record (seat_with d a) { outbox = backlog_with a (owes false effect a) }) a.stage after (removed-other effect.change a)
     (kept-phase a.stage a after refl refl refl)
 
 pub settles : (c : ℕ) (effect : Effect) (d : ℕ) (a : About) → Routed effect.hearers → a.taken ≤ length a.owed → length (waiting a) ≤ max_lines → size_of (waiting a) ≤ max_bytes → ((d == c) ≡ true → Suits (own_of a) effect)
-    → seat_next c effect d a ≡ seat_with d (affected (d == c) effect a)
+    → seat_next c effect d a ≡ seat_with d (affected_connection (d == c) effect a)
 settles c effect d a routed few lines bytes suits =
-    ap (settled (removed_of effect.change) (chosen (d == c) (changed_seat effect.change (seat_with d a)) (seat_with d a))) (share-same c d effect a routed)
+    ap (settled_seat (removed_of effect.change) (cond (d == c) (changed_seat effect.change (seat_with d a)) (seat_with d a))) (share-same c d effect a routed)
     ∙ settles-by (d == c) effect d a few lines bytes suits

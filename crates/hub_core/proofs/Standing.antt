@@ -1,6 +1,6 @@
 -- A hub that stands at a history stands at the next one after each call.
 use Rattle.std.proofs.Common.{◌≡◌, ◌∙◌, sym, ap, ap₂, refl, subst, ℕ, ◌+◌, ◌<◌, ◌≤◌, Bool, true, false, not, ◌&&◌, ◌||◌, ◌==◌, List, [], ◌∷◌, ◌++◌, length, map, take}
-use Rattle.std.specs.Prelude.{nat_le}
+use Rattle.std.specs.Prelude.{nat_le, cond}
 use Rattle.std.specs.List.{concat, list_any}
 use Rattle.std.proofs.lemmas.Bool.{false≢true, eqb-true, eq-eqb}
 use Rattle.std.proofs.lemmas.List.{map-append, length-map}
@@ -19,22 +19,22 @@ use Rattle.hub_core.specs.declared.seat.Phase.TheVariants as phases
 use Rattle.hub_core.specs.declared.seat.Seat.{Seat}
 use Rattle.hub_core.specs.CoreState.{CoreState}
 use Rattle.hub_core.specs.Decided.{Decided, sight_in}
-use Rattle.hub_core.specs.Leaving.{has_ended, left_core, lightened, lightened_core, lines_in, others_of, told, told_all_if, told_if}
+use Rattle.hub_core.specs.Leaving.{has_ended, left_core, seat_after_take, lightened_core, lines_in, others_of, seat_told, told_all_if, told_if}
 use Rattle.hub_core.specs.Moves.{LineMoves, Moves, StandsAt}
 use Rattle.hub_core.specs.Phases.{phase_at, stage_in}
-use Rattle.hub_core.specs.Seats.{at_seat, given_seat, gone_if, in_seat, new_seat, outbox_in, phase_in, seat_of, seat_with, sid_in}
+use Rattle.hub_core.specs.Seats.{backlog_of, at_seat, given_seat, gone_if, in_seat, new_seat, outbox_in, phase_in, seat_of, seat_with, sid_in}
 use Rattle.hub_core.specs.State.{HasSeat, IsSeated, Stands, carried_out, core_of}
 use Rattle.hub_rules.specs.declared.effect.Effect.{Effect}
 use Rattle.hub_rules.specs.declared.history.Call.TheVariants.{Join, Quit, Take}
 use Rattle.hub_rules.specs.declared.history.Entry.{Entry}
 use Rattle.hub_rules.specs.declared.history.Reply.TheVariants.{Joined, Full, JoinsSpent, Said, Left, Took}
 use Rattle.hub_rules.specs.declared.history.Verdict.{Verdict}
-use Rattle.hub_rules.specs.Configured.{Configured}
-use Rattle.hub_rules.specs.Effects.{departure, given_if, is_over, is_present, line_effect}
-use Rattle.hub_rules.specs.Facts.{Facts, about_after, after, closed, effect_of_line, facts, given, happens, has_joins, has_place, joined, max_joins, newcomer, next_sid, own_of, sight_of, user_of, with_one}
-use Rattle.hub_rules.specs.Identities.{listed}
+use Rattle.hub_rules.specs.Configured.{most_users, Configured}
+use Rattle.hub_rules.specs.Effects.{departure, is_over, is_present, line_effect}
+use Rattle.hub_rules.specs.Facts.{Facts, about_after, after, without_connection, effect_of_line, facts, with_lines_taken, happens, has_joins, has_place, with_connection, max_joins, newcomer, next_sid, own_of, sight_of, user_of, with_one}
+use Rattle.hub_rules.specs.Identities.{listed_user}
 use Rattle.hub_rules.specs.Legal.{Legal, is_open, join_reply, reply, take_reply, verdict_of}
-use Rattle.hub_rules.specs.Shares.{About, affected, backlog_of, chosen, max_bytes, max_lines, owes, waiting}
+use Rattle.hub_rules.specs.Shares.{About, affected_connection, max_bytes, max_lines, owes, waiting}
 use Rattle.hub_rules.specs.Sights.{PreparedLine}
 use Rattle.hub_invariants.proofs.Calls.{not-open, sound_of}
 use Rattle.hub_invariants.proofs.Members.{and-false, has}
@@ -58,7 +58,7 @@ phase-open setup c effect f open_c =
     ap stage_in (in-open c (λ seat. seat.phase) phases.Gone (about_after c effect f.about) f.opened open_c) ∙ stage-kept c (about_after c effect f.about c)
 
 pub line-moves : (old new : CoreState) (c : ℕ) (line : PreparedLine) (now : ℕ) (seat : Seat) (effect : Effect) (verdict : Verdict)
-    → old.setup.max_users ≤ 900
+    → old.setup.max_users ≤ most_users
     → seat ≡ in_seat c (λ s. s) seat old.seats
     → Decided (sight_in old) seat line now effect
     → new ≡ carried_out c effect old
@@ -68,7 +68,7 @@ unfolding Legal Stands facts after reply
 line-moves old new c line now seat effect verdict small is_seat decided is_new is_verdict setup hash h caller at may is_line =
     let f : Facts = facts setup hash h in
     let sound : Sound f = sound_of setup hash h in
-    let few : setup.max_users ≤ 900 = subst (λ (s : CoreState). s.setup.max_users ≤ 900) at.stands small in
+    let few : setup.max_users ≤ most_users = subst (λ (s : CoreState). s.setup.max_users ≤ most_users) at.stands small in
     let n : Numbered setup f = numbered_of setup hash h few in
     let mine : seat ≡ seat_of f.about c =
     is_seat ∙ ap (λ (s : CoreState). in_seat c (λ x. x) seat s.seats) at.stands ∙ in-open c (λ s. s) seat f.about f.opened may.0 in
@@ -85,21 +85,21 @@ line-moves old new c line now seat effect verdict small is_seat decided is_new i
 
 -- ---- takes
 
-given-phase : (stage : Stage) (count : ℕ) (a : About) → phase_at stage a ≡ phase_at stage (given count a)
+given-phase : (stage : Stage) (count : ℕ) (a : About) → phase_at stage a ≡ phase_at stage (with_lines_taken count a)
 given-phase stages.Protocol count a = refl
 given-phase stages.Identify count a = refl
 given-phase stages.Verify count a = refl
 given-phase stages.Normal count a = refl
 given-phase stages.Gone count a = refl
 
-lightens : (count c : ℕ) (a : About) → lightened count (seat_with c a) ≡ seat_with c (given count a)
+lightens : (count c : ℕ) (a : About) → seat_after_take count (seat_with c a) ≡ seat_with c (with_lines_taken count a)
 lightens count c a =
     ap (λ (ls : List (List ℕ)). record (seat_with c a) { outbox = with_lines (backlog_of a) ls }) (sym (waiting-given count a))
-    ∙ ap (λ p. record (seat_with c (given count a)) { phase = p }) (given-phase a.stage count a)
+    ∙ ap (λ p. record (seat_with c (with_lines_taken count a)) { phase = p }) (given-phase a.stage count a)
 
 -- a change of one connection
 chosen-seat : (c d : ℕ) (change : Seat → Seat) (turn : About → About) (about : ℕ → About) (same : Bool) → ((a : About) → change (seat_with d a) ≡ seat_with d (turn a))
-    → chosen same (change (seat_of about d)) (seat_of about d) ≡ seat_with d (chosen same (turn (about d)) (about d))
+    → cond same (change (seat_of about d)) (seat_of about d) ≡ seat_with d (cond same (turn (about d)) (about d))
 chosen-seat c d change turn about true each = each (about d)
 chosen-seat c d change turn about false each = refl
 
@@ -110,8 +110,8 @@ one-changes c change turn f sound each =
     ∙ seats-same (seat_one c change f.about) (seat_of (with_one c turn f.about)) f.opened (λ d. chosen-seat c d change turn f.about (d == c) (each d))
 
 user-one : (turn : About → About) (a : About) (same : Bool) → (turn a).sid ≡ a.sid → (turn a).fields ≡ a.fields
-    → listed a.sid a.fields ≡ listed (chosen same (turn a) a).sid (chosen same (turn a) a).fields
-user-one turn a true sid fields = sym (ap₂ listed sid fields)
+    → listed_user a.sid a.fields ≡ listed_user (cond same (turn a) a).sid (cond same (turn a) a).fields
+user-one turn a true sid fields = sym (ap₂ listed_user sid fields)
 user-one turn a false sid fields = refl
 
 -- a take changes no user
@@ -131,10 +131,10 @@ unfolding Legal Stands facts after reply
 take-moves old new c count lines bytes over is_new is_bytes is_lines is_ended setup hash h caller at may =
     let f : Facts = facts setup hash h in
     let sound : Sound f = sound_of setup hash h in
-    let stands : new ≡ core_of setup (record f { about = with_one c (given count) f.about }) =
+    let stands : new ≡ core_of setup (record f { about = with_one c (with_lines_taken count) f.about }) =
     is_new ∙ ap (lightened_core c count) at.stands
-    ∙ same-core setup f.joins f.last (one-changes c (lightened count) (given count) f sound (λ d a. lightens count d a))
-    (users-one c (given count) f (λ a. refl) (λ a. refl) f.present) in
+    ∙ same-core setup f.joins f.last (one-changes c (seat_after_take count) (with_lines_taken count) f sound (λ d a. lightens count d a))
+    (users-one c (with_lines_taken count) f (λ a. refl) (λ a. refl) f.present) in
     let outbox : outbox_in c old.seats ≡ backlog_of (f.about c) =
     ap (λ (s : CoreState). outbox_in c s.seats) at.stands ∙ in-open c (λ seat. seat.outbox) (empty_backlog max_lines max_bytes) f.about f.opened may.0 in
     let stage : stage_in (phase_in c old.seats) ≡ (f.about c).stage =
@@ -152,24 +152,24 @@ take-moves old new c count lines bytes over is_new is_bytes is_lines is_ended se
 abbrev leaves : About → Effect
 leaves a = departure a.stage a.sid
 
-told-one : (here there : Bool) (sid : ℕ) (seat : Seat) → chosen here (told_if there sid seat) seat ≡ given_seat (given_if (there && true) (given_if here (quit_line sid ∷ [])) ++ []) seat
+told-one : (here there : Bool) (sid : ℕ) (seat : Seat) → cond here (told_if there sid seat) seat ≡ given_seat (cond (there && true) (cond here (quit_line sid ∷ []) []) [] ++ []) seat
 told-one true true sid seat = refl
 told-one true false sid seat = refl
 told-one false true sid seat = refl
 told-one false false sid seat = refl
 
 abbrev told_seat : Bool → ℕ → Seat → Seat
-told_seat here sid seat = chosen here (told sid seat) seat
+told_seat here sid seat = cond here (seat_told sid seat) seat
 
 left-seat : (c d : ℕ) (a b : About) → (d == c) ≡ false → b.taken ≤ length b.owed → Tidy b
-    → told_seat (is_present a.stage) a.sid (seat_with d b) ≡ seat_with d (affected (d == c) (leaves a) b)
+    → told_seat (is_present a.stage) a.sid (seat_with d b) ≡ seat_with d (affected_connection (d == c) (leaves a) b)
 left-seat c d a b other few tidy =
     let seat : Seat = given_seat (owes false (leaves a) b) (seat_with d b) in
-    ap (λ s. chosen (is_present a.stage) (told_if (is_present s) a.sid (seat_with d b)) (seat_with d b)) (stage-kept d b)
+    ap (λ s. cond (is_present a.stage) (told_if (is_present s) a.sid (seat_with d b)) (seat_with d b)) (stage-kept d b)
     ∙ told-one (is_present a.stage) (is_present b.stage) a.sid (seat_with d b)
     ∙ ap (λ gone. gone_if gone seat) (sym (and-false (is_present (stage_in seat.phase))))
     ∙ settles-by false (leaves a) d b few tidy.lines tidy.bytes (λ is. absurd (false≢true is))
-    ∙ ap (λ same. seat_with d (affected same (leaves a) b)) (sym other)
+    ∙ ap (λ same. seat_with d (affected_connection same (leaves a) b)) (sym other)
 
 map-told : (here : Bool) (sid : ℕ) (seats : List Seat) → told_all_if here sid seats ≡ map (told_seat here sid) seats
 map-told true sid seats = refl
@@ -190,8 +190,8 @@ suits-leaves : (a : About) → Suits (own_of a) (leaves a)
 suits-leaves a = record { change = tt; routed = tt }
 
 left-stands : (setup : Configured) (c : ℕ) (f : Facts) → Sound f → Numbered setup f → ((d : ℕ) → Tidy (f.about d)) → has c f.opened ≡ true
-    → left_core c (core_of setup f) ≡ core_of setup (closed c (happens c (leaves (f.about c)) f))
-unfolding closed happens
+    → left_core c (core_of setup f) ≡ core_of setup (without_connection c (happens c (leaves (f.about c)) f))
+unfolding without_connection happens
 left-stands setup c f sound n tidy open_c =
     let sid : sid_in c (map (seat_of f.about) f.opened) ≡ (f.about c).sid = in-open c (λ seat. seat.sid) 0 f.about f.opened open_c in
     let stage : stage_in (phase_in c (map (seat_of f.about) f.opened)) ≡ (f.about c).stage =
@@ -200,11 +200,11 @@ left-stands setup c f sound n tidy open_c =
     (ap₂ (λ s i. told_all_if (is_present s) i (others_of c (map (seat_of f.about) f.opened))) stage sid ∙ seats-gone c f sound tidy)
     (ap (λ i. without_sid i (map (user_of f.about) f.present)) sid ∙ users-carried setup f c (leaves (f.about c)) sound n open_c (suits-leaves (f.about c)))
 
-pub quit-moves : (old new : CoreState) (c : ℕ) → old.setup.max_users ≤ 900 → new ≡ left_core c old → Moves old (Quit c) Left new
+pub quit-moves : (old new : CoreState) (c : ℕ) → old.setup.max_users ≤ most_users → new ≡ left_core c old → Moves old (Quit c) Left new
 unfolding Legal Stands facts after reply
 quit-moves old new c small is_new setup hash h caller at may =
     let f : Facts = facts setup hash h in
-    let few : setup.max_users ≤ 900 = subst (λ (s : CoreState). s.setup.max_users ≤ 900) at.stands small in
+    let few : setup.max_users ≤ most_users = subst (λ (s : CoreState). s.setup.max_users ≤ most_users) at.stands small in
     record {
       legal = (at.legal, may, refl);
       stands = is_new ∙ ap (left_core c) at.stands
@@ -229,7 +229,7 @@ full-moves old peer challenge now full setup hash h caller at may =
     let none : has_place setup f ≡ false = (places setup f old at.stands).0 ∙ ap not (true-le old.setup.max_users (length old.seats) full) in
     record {
       legal = (at.legal, may, sym (ap (λ b. join_reply b (has_joins f) f.joins) none));
-      stands = at.stands ∙ ap (core_of setup) (sym (ap (λ b. chosen (b && has_joins f) (joined f caller peer challenge) f) none));
+      stands = at.stands ∙ ap (core_of setup) (sym (ap (λ b. cond (b && has_joins f) (with_connection f caller peer challenge) f) none));
     }
 
 pub spent-moves : (old : CoreState) (peer challenge : List ℕ) (now : ℕ) → length old.seats < old.setup.max_users → max_joins ≤ old.joins → Moves old (Join peer challenge now) JoinsSpent old
@@ -240,7 +240,7 @@ spent-moves old peer challenge now room spent setup hash h caller at may =
     let none : has_joins f ≡ false = (places setup f old at.stands).1 ∙ ap not (true-le max_joins old.joins spent) in
     record {
       legal = (at.legal, may, sym (ap (λ b. join_reply b (has_joins f) f.joins) place ∙ ap (λ b. join_reply true b f.joins) none));
-      stands = at.stands ∙ ap (core_of setup) (sym (ap (λ b. chosen (b && has_joins f) (joined f caller peer challenge) f) place ∙ ap (λ b. chosen b (joined f caller peer challenge) f) none));
+      stands = at.stands ∙ ap (core_of setup) (sym (ap (λ b. cond (b && has_joins f) (with_connection f caller peer challenge) f) place ∙ ap (λ b. cond b (with_connection f caller peer challenge) f) none));
     }
 
 -- the identifiers that are taken
@@ -266,21 +266,21 @@ not-new f sound d there true is = absurd (false≢true (sym (not-open f sound) �
 not-new f sound d there false is = refl
 
 other-kept : (f : Facts) → Sound f → (mine : About) → (d : ℕ) → has d f.opened ≡ true → with_one (f.joins + 1) (λ a. mine) f.about d ≡ f.about d
-other-kept f sound mine d there = ap (λ b. chosen b mine (f.about d)) (not-new f sound d there (d == (f.joins + 1)) refl)
+other-kept f sound mine d there = ap (λ b. cond b mine (f.about d)) (not-new f sound d there (d == (f.joins + 1)) refl)
 
 joined-stands : (setup : Configured) (f : Facts) (caller : ℕ) (peer challenge : List ℕ) → Sound f
-    → joined_core (next_sid f) peer challenge (core_of setup f) ≡ core_of setup (joined f caller peer challenge)
-unfolding joined
+    → joined_core (next_sid f) peer challenge (core_of setup f) ≡ core_of setup (with_connection f caller peer challenge)
+unfolding with_connection
 joined-stands setup f caller peer challenge sound =
     let mine : About = newcomer caller (next_sid f) peer challenge in
     let now_about : ℕ → About = with_one (f.joins + 1) (λ a. mine) f.about in
     same-core setup (f.joins + 1) (next_sid f)
     (ap (λ (ss : List Seat). ss ++ new_seat (f.joins + 1) (next_sid f) peer challenge ∷ [])
     (same-on (seat_of f.about) (seat_of now_about) f.opened (λ d there. ap (seat_with d) (sym (other-kept f sound mine d there))))
-    ∙ ap (λ (s : Seat). map (seat_of now_about) f.opened ++ s ∷ []) (ap (seat_with (f.joins + 1)) (sym (ap (λ b. chosen b mine (f.about (f.joins + 1))) (eq-eqb (f.joins + 1) (f.joins + 1) refl))))
+    ∙ ap (λ (s : Seat). map (seat_of now_about) f.opened ++ s ∷ []) (ap (seat_with (f.joins + 1)) (sym (ap (λ b. cond b mine (f.about (f.joins + 1))) (eq-eqb (f.joins + 1) (f.joins + 1) refl))))
     ∙ sym (map-append (seat_of now_about) f.opened ((f.joins + 1) ∷ [])))
     (same-on (user_of f.about) (user_of now_about) f.present
-    (λ d there. ap (λ (a : About). listed a.sid a.fields)
+    (λ d there. ap (λ (a : About). listed_user a.sid a.fields)
     (sym (other-kept f sound mine d (sound.are_open d (not-over (f.about d).stage (sym (sound.entered d) ∙ there)))))))
 
 join-moves-at : (old new : CoreState) (peer challenge : List ℕ) (now sid : ℕ) → length old.seats < old.setup.max_users → old.joins < max_joins
@@ -295,11 +295,11 @@ join-moves-at old new peer challenge now sid room left is_sid is_new setup hash 
     let joins : old.joins ≡ f.joins = ap (λ (s : CoreState). s.joins) at.stands in
     let next : sid ≡ next_sid f =
     is_sid ∙ ap (λ (s : CoreState). next_free s.last (sids_in s.seats)) at.stands ∙ ap (next_free f.last) (map-sids f.about f.opened) in
-    let stands : new ≡ core_of setup (joined f caller peer challenge) =
+    let stands : new ≡ core_of setup (with_connection f caller peer challenge) =
     is_new ∙ ap₂ (λ i (s : CoreState). joined_core i peer challenge s) next at.stands ∙ joined-stands setup f caller peer challenge (sound_of setup hash h) in
     record {
       legal = (at.legal, may, ap (λ n. Joined (n + 1)) joins ∙ sym (ap (λ b. join_reply b (has_joins f) f.joins) place ∙ ap (λ b. join_reply true b f.joins) counted));
-      stands = stands ∙ ap (core_of setup) (sym (ap (λ b. chosen (b && has_joins f) (joined f caller peer challenge) f) place ∙ ap (λ b. chosen b (joined f caller peer challenge) f) counted));
+      stands = stands ∙ ap (core_of setup) (sym (ap (λ b. cond (b && has_joins f) (with_connection f caller peer challenge) f) place ∙ ap (λ b. cond b (with_connection f caller peer challenge) f) counted));
     }
 
 pub join-moves : (old new : CoreState) (peer challenge : List ℕ) (now sid n : ℕ) → n ≡ old.joins + 1 → length old.seats < old.setup.max_users → old.joins < max_joins
@@ -352,9 +352,9 @@ unfolding Stands
 totals-told core totals e setup hash h at = e ∙ ap (λ (s : CoreState). totals_of s.users) at.stands
 
 -- a connection that is open has a seat
-pub seated : (setup : Configured) (hash : List ℕ → List ℕ) (h : List Entry) (core : CoreState) (c : ℕ) → StandsAt setup hash h core → is_open c (facts setup hash h) ≡ true → IsSeated c core
+pub open-has-seat : (setup : Configured) (hash : List ℕ → List ℕ) (h : List Entry) (core : CoreState) (c : ℕ) → StandsAt setup hash h core → is_open c (facts setup hash h) ≡ true → IsSeated c core
 unfolding Stands
-seated setup hash h core c at opened =
+open-has-seat setup hash h core c at opened =
     ap (λ (s : CoreState). list_any (λ (seat : Seat). seat.number == c) s.seats) at.stands ∙ seated-open c (facts setup hash h).about (facts setup hash h).opened ∙ opened
 
 pub open-stands-as : (setup : Configured) (seats : List Seat) (users : List Listed) (bans : List (List ℕ × Ban)) (topic : List ℕ) → seats ≡ [] → users ≡ [] → bans ≡ [] → topic ≡ setup.topic

@@ -1,4 +1,4 @@
--- What an effect makes of the list of users who are present.
+-- The list of present users after an effect.
 use Rattle.std.proofs.Common.{◌≡◌, ◌∙◌, sym, ap, ap₂, refl, ℕ, Bool, true, false, cond, not, ◌&&◌, ◌||◌, ◌==◌, eqb, List, [], ◌∷◌, ◌++◌, map, filter, append-nil, Option}
 use Rattle.std.proofs.lemmas.Bool.{false≢true, eqb-true, eq-eqb}
 use Rattle.std.proofs.lemmas.List.{map-append}
@@ -6,8 +6,8 @@ use Rattle.inf_fields.specs.Field.{Field}
 use Rattle.login_state.specs.declared.stage.Stage.{Stage}
 use Rattle.user_table.specs.Changes.{given_key}
 use Rattle.user_table.specs.Listed.{Listed}
-use Rattle.user_table.specs.Tables.{has_sid, updated, updated_if, with_update, without_sid}
-use Rattle.hub_core.specs.Phases.{awaited, phase_at, phase_of}
+use Rattle.user_table.specs.Tables.{has_sid, updated_user, updated_if, with_update, without_sid}
+use Rattle.hub_core.specs.Phases.{users_awaited, phase_at, phase_of}
 use Rattle.hub_core.specs.State.{users_after}
 use Rattle.hub_rules.specs.declared.effect.Change.{Change}
 use Rattle.hub_rules.specs.declared.effect.Change.TheVariants.{Hub, Nothing, Sender}
@@ -18,9 +18,9 @@ use Rattle.hub_rules.specs.declared.effect.SenderChange.{SenderChange}
 use Rattle.hub_rules.specs.declared.effect.SenderChange.TheVariants as senders
 use Rattle.hub_rules.specs.Configured.{Configured}
 use Rattle.hub_rules.specs.Effects.{is_present}
-use Rattle.hub_rules.specs.Facts.{Facts, about_after, enters, newcomer_if, own_of, present_after, user_of}
-use Rattle.hub_rules.specs.Identities.{listed}
-use Rattle.hub_rules.specs.Shares.{About, chosen, fields_after, is_removed, removed_by, stage_after}
+use Rattle.hub_rules.specs.Facts.{Facts, about_after, enters, own_of, present_after, user_of}
+use Rattle.hub_rules.specs.Identities.{listed_user}
+use Rattle.hub_rules.specs.Shares.{About, fields_after, is_removed, removed_by, stage_after}
 use Rattle.hub_invariants.proofs.Kept.{differs-sid}
 use Rattle.hub_invariants.proofs.Members.{and-false, has}
 use Rattle.hub_invariants.proofs.Sids.{Numbered}
@@ -68,7 +68,7 @@ map-users : (f : Listed → Listed) (g : ℕ → Listed) (xs : List ℕ) → map
 map-users f g [] = refl
 map-users f g (d ∷ xs) = ap (λ (us : List Listed). f (g d) ∷ us) (map-users f g xs)
 
-chosen-same : {A : Type 0} (b : Bool) (x y : A) → x ≡ y → chosen b x y ≡ y
+chosen-same : {A : Type 0} (b : Bool) (x y : A) → x ≡ y → cond b x y ≡ y
 chosen-same true x y same = same
 chosen-same false x y same = refl
 
@@ -82,13 +82,13 @@ module _ (setup : Configured) (f : Facts) (c : ℕ) (effect : Effect) where
   stays d = is_present (next d).stage
 
   user-other : (d : ℕ) → (d == c) ≡ false → user_of next d ≡ user_of f.about d
-  user-other d other = ap (λ b. listed (f.about d).sid (chosen b (fields_after effect.change (f.about d).fields) (f.about d).fields)) other
+  user-other d other = ap (λ b. listed_user (f.about d).sid (cond b (fields_after effect.change (f.about d).fields) (f.about d).fields)) other
 
   user-kept : (d : ℕ) → fields_after effect.change (f.about d).fields ≡ (f.about d).fields → user_of next d ≡ user_of f.about d
-  user-kept d kept = ap (listed (f.about d).sid) (chosen-same (d == c) (fields_after effect.change (f.about d).fields) (f.about d).fields kept)
+  user-kept d kept = ap (listed_user (f.about d).sid) (chosen-same (d == c) (fields_after effect.change (f.about d).fields) (f.about d).fields kept)
 
-  user-self : user_of next c ≡ listed (f.about c).sid (fields_after effect.change (f.about c).fields)
-  user-self = ap (λ b. listed (f.about c).sid (chosen b (fields_after effect.change (f.about c).fields) (f.about c).fields)) (eq-eqb c c refl)
+  user-self : user_of next c ≡ listed_user (f.about c).sid (fields_after effect.change (f.about c).fields)
+  user-self = ap (λ b. listed_user (f.about c).sid (cond b (fields_after effect.change (f.about c).fields) (f.about c).fields)) (eq-eqb c c refl)
 
   abbrev Quiet : Type 0
   Quiet = (sid : ℕ) → is_removed effect.change sid ≡ false
@@ -147,15 +147,15 @@ module _ (setup : Configured) (f : Facts) (c : ℕ) (effect : Effect) where
 
   -- ---- an update
 
-  update-one : (update : List Field) (key : Option (List ℕ)) → listed (f.about c).sid (fields_after effect.change (f.about c).fields) ≡ updated update key (user_of f.about c)
+  update-one : (update : List Field) (key : Option (List ℕ)) → listed_user (f.about c).sid (fields_after effect.change (f.about c).fields) ≡ updated_user update key (user_of f.about c)
       → (d : ℕ) (same : Bool) → (d == c) ≡ same → user_of next d ≡ updated_if same update key (user_of f.about d)
   update-one update key is d true same =
       let e : d ≡ c = eqb-true d c same in
-      ap (user_of next) e ∙ user-self ∙ is ∙ ap (λ x. updated update key (user_of f.about x)) (sym e)
+      ap (user_of next) e ∙ user-self ∙ is ∙ ap (λ x. updated_user update key (user_of f.about x)) (sym e)
   update-one update key is d false same = user-other d same
 
   all-updated : Sound f → Numbered setup f → has c f.opened ≡ true → Quiet → ((s : Stage) → stage_after effect.change s ≡ s)
-      → (update : List Field) (key : Option (List ℕ)) → listed (f.about c).sid (fields_after effect.change (f.about c).fields) ≡ updated update key (user_of f.about c)
+      → (update : List Field) (key : Option (List ℕ)) → listed_user (f.about c).sid (fields_after effect.change (f.about c).fields) ≡ updated_user update key (user_of f.about c)
       → map (user_of next) (filter stays f.present) ≡ with_update (f.about c).sid update key (map (user_of f.about) f.present)
   all-updated sound n open_c quiet stages update key is =
       keep-all stays (user_of next) (λ d. updated_if (has_sid (f.about c).sid (user_of f.about d)) update key (user_of f.about d)) f.present
@@ -204,7 +204,7 @@ module _ (setup : Configured) (f : Facts) (c : ℕ) (effect : Effect) where
 
   abbrev Done : Change → Type 0
   Done change = users_after change (f.about c).sid (phase_of (f.about c)) (map (user_of f.about) f.present)
-      ≡ map (user_of next) (filter stays f.present) ++ map (user_of next) (newcomer_if (enters change) c)
+      ≡ map (user_of next) (filter stays f.present) ++ map (user_of next) (cond (enters change) (c ∷ []) [])
 
   nobody-new : (users : List Listed) → users ≡ users ++ []
   nobody-new users = sym (append-nil users)
@@ -228,16 +228,16 @@ module _ (setup : Configured) (f : Facts) (c : ℕ) (effect : Effect) where
   by-sender sound n open_c quiet (senders.Waits newcomer expected) is suited = sym (all-stay quiet sound.entered (ap is_present suited.0)) ∙ nobody-new _
   by-sender sound n open_c quiet senders.Enters is suited =
       ap₂ ◌++◌ (sym (all-stay quiet sound.entered (ap is_present suited)))
-      (ap (λ s. awaited (phase_at s (f.about c))) suited
-      ∙ ap (λ (u : Listed). u ∷ []) (sym (user-self ∙ ap (λ t. listed (f.about c).sid (fields_after t (f.about c).fields)) is)))
+      (ap (λ s. users_awaited (phase_at s (f.about c))) suited
+      ∙ ap (λ (u : Listed). u ∷ []) (sym (user-self ∙ ap (λ t. listed_user (f.about c).sid (fields_after t (f.about c).fields)) is)))
   by-sender sound n open_c quiet (senders.EntersAs newcomer) is suited =
       ap₂ ◌++◌ (sym (all-stay quiet sound.entered (ap is_present suited.0)))
       (ap (λ (e : Entrant). e.user ∷ []) suited.1
-      ∙ ap (λ (u : Listed). u ∷ []) (sym (user-self ∙ ap (λ t. listed (f.about c).sid (fields_after t (f.about c).fields)) is)))
+      ∙ ap (λ (u : Listed). u ∷ []) (sym (user-self ∙ ap (λ t. listed_user (f.about c).sid (fields_after t (f.about c).fields)) is)))
   by-sender sound n open_c quiet (senders.Learns features) is suited = done-kept sound (Sender (senders.Learns features)) is (λ sid. refl) (λ s. refl) (λ fs. refl)
   by-sender sound n open_c quiet (senders.Updates revision) is suited =
       sym (all-updated sound n open_c quiet (λ s. ap (λ t. stage_after t s) is) revision.update (given_key revision.nick)
-      (ap (λ t. listed (f.about c).sid (fields_after t (f.about c).fields)) is ∙ suited.2)) ∙ nobody-new _
+      (ap (λ t. listed_user (f.about c).sid (fields_after t (f.about c).fields)) is ∙ suited.2)) ∙ nobody-new _
   by-sender sound n open_c quiet (senders.Searches now) is suited = done-kept sound (Sender (senders.Searches now)) is (λ sid. refl) (λ s. refl) (λ fs. refl)
   by-sender sound n open_c quiet senders.Falls is suited = sym (all-fall sound n open_c quiet is) ∙ nobody-new _
 
@@ -254,4 +254,4 @@ module _ (setup : Configured) (f : Facts) (c : ℕ) (effect : Effect) where
       ≡ map (user_of next) (present_after c effect f.about f.present)
   users-carried sound n open_c suits =
       by-change sound n open_c effect.change refl suits.change
-      ∙ sym (map-append (user_of next) (filter stays f.present) (newcomer_if (enters effect.change) c))
+      ∙ sym (map-append (user_of next) (filter stays f.present) (cond (enters effect.change) (c ∷ []) []))

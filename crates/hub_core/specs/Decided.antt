@@ -1,4 +1,4 @@
--- What is decided of a line, by what is kept of the connection that sent it.
+-- The decision on a line, by the seat of the connection that sent it.
 use Rattle.std.specs.Prelude.{◌≡◌, ◌≤◌, ℕ, List, [], Option, Some, None}
 use Rattle.std.specs.Option.{option_map, unwrap_or}
 use Rattle.user_table.specs.Listed.{Listed}
@@ -14,6 +14,7 @@ use Rattle.hub_decisions.specs.Known.{IsKnown}
 use Rattle.hub_rules.specs.declared.effect.Effect.{Effect}
 use Rattle.hub_rules.specs.Effects.{line_effect}
 use Rattle.hub_rules.specs.Sights.{Own, PreparedLine, Sight}
+use Rattle.hub_rules.specs.Configured.{most_users}
 
 -- the hub
 abbrev pub sight_in : CoreState → Sight
@@ -61,4 +62,4 @@ pub record IsHeard (c : ℕ) (line : PreparedLine) (now : ℕ) (old new : CoreSt
   pub effect : Effect
   pub decided : IsDecided c line now old effect
   pub carried : new ≡ carried_out c effect old
-  pub few : old.setup.max_users ≤ 900
+  pub few : old.setup.max_users ≤ most_users

@@ -1,4 +1,4 @@
--- What a connection leaves behind, and what a take leaves.
+-- The seats after a connection left, and after a take.
 use Rattle.std.specs.Prelude.{ℕ, ◌==◌, ◌&&◌, ◌||◌, not, Bool, true, false, List, [], ◌∷◌, drop, filter, length, map, nat_le}
 use Rattle.outboxes.specs.Backlogs.{with_lines}
 use Rattle.outboxes.specs.Quits.{quit_line}
@@ -16,12 +16,12 @@ told_if true sid seat = given_seat (quit_line sid ∷ []) seat
 told_if false sid seat = seat
 
 -- a user who is present is told that another left
-abbrev pub told : ℕ → Seat → Seat
-told sid seat = told_if (is_present (stage_in seat.phase)) sid seat
+abbrev pub seat_told : ℕ → Seat → Seat
+seat_told sid seat = told_if (is_present (stage_in seat.phase)) sid seat
 
 -- those who stay are told where the one who left was present
 abbrev pub told_all_if : Bool → ℕ → List Seat → List Seat
-told_all_if true sid seats = map (told sid) seats
+told_all_if true sid seats = map (seat_told sid) seats
 told_all_if false sid seats = seats
 
 abbrev pub others_of : ℕ → List Seat → List Seat
@@ -37,11 +37,11 @@ left_core c core = record core {
 -- ---- takes
 
 -- so many lines are taken from a seat's outbox
-abbrev pub lightened : ℕ → Seat → Seat
-lightened count seat = record seat { outbox = with_lines seat.outbox (drop count seat.outbox.lines) }
+abbrev pub seat_after_take : ℕ → Seat → Seat
+seat_after_take count seat = record seat { outbox = with_lines seat.outbox (drop count seat.outbox.lines) }
 
 abbrev pub lightened_core : ℕ → ℕ → CoreState → CoreState
-lightened_core c count core = record core { seats = at_seat c (lightened count) core.seats }
+lightened_core c count core = record core { seats = at_seat c (seat_after_take count) core.seats }
 
 abbrev pub lines_in : ℕ → List Seat → List (List ℕ)
 lines_in c seats = (outbox_in c seats).lines

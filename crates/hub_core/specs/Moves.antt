@@ -1,4 +1,4 @@
--- What a call of the hub promises.
+-- The promise of each call of the hub.
 use Rattle.std.specs.Prelude.{◌≡◌, ℕ, List, ◌∷◌}
 use Rattle.hub_core.specs.CoreState.{CoreState}
 use Rattle.hub_core.specs.State.{Stands}
@@ -11,7 +11,7 @@ use Rattle.hub_rules.specs.declared.history.Verdict.{Verdict}
 use Rattle.hub_rules.specs.Configured.{Configured}
 use Rattle.hub_rules.specs.Facts.{facts}
 use Rattle.hub_rules.specs.Legal.{Legal, MayCall}
-use Rattle.hub_rules.specs.Prepared.{prepared}
+use Rattle.hub_rules.specs.Prepared.{prepared_line}
 use Rattle.hub_rules.specs.Sights.{PreparedLine}
 
 abbrev pub entry : ℕ → Call → Reply → Entry
@@ -34,5 +34,5 @@ abbrev pub LineMoves : CoreState → ℕ → PreparedLine → ℕ → Verdict �
 LineMoves old connection line now verdict new =
     (setup : Configured) (hash : List ℕ → List ℕ) (h : List Entry) (caller : ℕ) → StandsAt setup hash h old
     → MayCall (facts setup hash h) caller (Line connection line.bytes now)
-    → line ≡ prepared setup hash ((facts setup hash h).about connection).challenge line.bytes
+    → line ≡ prepared_line setup hash ((facts setup hash h).about connection).challenge line.bytes
     → StandsAt setup hash (entry caller (Line connection line.bytes now) (Said verdict) ∷ h) new

@@ -1,11 +1,10 @@
--- What an effect owes to the connections: only those that hear something have a share, kept with the place of its seat.
-use Rattle.std.specs.Prelude.{◌≡◌, ℕ, zero, suc, ◌+◌, Bool, List, [], ◌∷◌, ◌++◌}
+-- The shares of an effect: only those that hear something have one, kept with the place of its seat.
+use Rattle.std.specs.Prelude.{◌≡◌, ℕ, zero, suc, ◌+◌, Bool, List, [], ◌∷◌, ◌++◌, if◌then◌else◌}
 use Rattle.hub_core.specs.declared.seat.Seat.{Seat}
 use Rattle.hub_core.specs.declared.share.Share.{Share}
 use Rattle.hub_core.specs.Phases.{phase_hears}
 use Rattle.hub_core.specs.Seats.{given_seat}
 use Rattle.hub_rules.specs.declared.effect.Effect.{Effect}
-use Rattle.hub_rules.specs.Effects.{given_if}
 
 -- the share of the seat at a place, where it hears something
 abbrev pub share_at : ℕ → List (List ℕ) → List Share
@@ -30,4 +29,4 @@ given_all (share ∷ shares) seats = given_all shares (given_at share.place shar
 
 -- whatever users hear of an effect, no connection hears it
 abbrev pub HeardByNone : Effect → Type 0
-HeardByNone effect = (seat : Seat) (is_caller : Bool) → given_if (phase_hears seat.phase is_caller effect.hearers seat.sid) effect.others ≡ []
+HeardByNone effect = (seat : Seat) (is_caller : Bool) → (if phase_hears seat.phase is_caller effect.hearers seat.sid then effect.others else []) ≡ []

@@ -1,4 +1,4 @@
--- How far a connection has come, with what is kept of its user.
+-- The phase of a connection: how far it has come, with what is kept of its user.
 use Rattle.std.specs.Prelude.{ℕ, Bool, false, not, List, [], ◌∷◌}
 use Rattle.feature_route.specs.Audiences.{holds_words}
 use Rattle.feature_route.specs.Matching.{feature_set}
@@ -13,7 +13,7 @@ use Rattle.hub_rules.specs.declared.effect.Hearers.{Hearers}
 use Rattle.hub_rules.specs.declared.effect.Hearers.TheVariants.{Others, Those}
 use Rattle.hub_rules.specs.declared.effect.SenderChange.TheVariants as senders
 use Rattle.hub_rules.specs.Effects.{entrant}
-use Rattle.hub_rules.specs.Identities.{listed, su_in}
+use Rattle.hub_rules.specs.Identities.{listed_user, su_in}
 use Rattle.hub_rules.specs.Shares.{About}
 
 abbrev pub stage_in : Phase → Stage
@@ -27,7 +27,7 @@ stage_in phases.Gone = stages.Gone
 abbrev pub phase_at : Stage → About → Phase
 phase_at stages.Protocol a = phases.Protocol
 phase_at stages.Identify a = phases.Identify
-phase_at stages.Verify a = phases.Verify (entrant (listed a.sid a.fields)) a.expected
+phase_at stages.Verify a = phases.Verify (entrant (listed_user a.sid a.fields)) a.expected
 phase_at stages.Normal a = phases.Normal (feature_set (su_in a.fields))
 phase_at stages.Gone a = phases.Gone
 
@@ -35,9 +35,9 @@ abbrev pub phase_of : About → Phase
 phase_of a = phase_at a.stage a
 
 -- the user who may enter once its password is right
-abbrev pub awaited : Phase → List Listed
-awaited (phases.Verify newcomer expected) = newcomer.user ∷ []
-awaited phase = []
+abbrev pub users_awaited : Phase → List Listed
+users_awaited (phases.Verify newcomer expected) = newcomer.user ∷ []
+users_awaited phase = []
 
 abbrev pub entered_phase : Phase → Phase
 entered_phase (phases.Verify newcomer expected) = phases.Normal newcomer.support

@@ -1,4 +1,4 @@
--- What the answers of a hub promise, one by one.
+-- The promises of a hub's answers, one by one.
 use Rattle.std.specs.Prelude.{◌≡◌, ◌<◌, ℕ, List, ◌++◌, length, Result, Ok, Err}
 use Rattle.outboxes.specs.declared.taken.Taken.{Taken}
 use Rattle.user_table.specs.declared.totals.Totals.{Totals}

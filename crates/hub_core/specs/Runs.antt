@@ -15,7 +15,7 @@ use Rattle.hub_rules.specs.declared.history.Reply.TheVariants as replies
 use Rattle.hub_rules.specs.Configured.{Configured}
 use Rattle.hub_rules.specs.Facts.{facts}
 use Rattle.hub_rules.specs.Legal.{MayCall}
-use Rattle.hub_rules.specs.Prepared.{prepared}
+use Rattle.hub_rules.specs.Prepared.{prepared_line}
 
 -- what is asked, as the history has it
 abbrev pub call_of : Ask → Call
@@ -50,7 +50,7 @@ with_answer caller ask answer h = with_reply caller ask (reply_of answer) h
 -- a line was made ready for its connection, and a take asks for some lines and not for too many
 abbrev pub IsReady : Configured → (List ℕ → List ℕ) → List Entry → Ask → Type 0
 IsReady setup hash h (asks.Join peer challenge now) = Unit {0}
-IsReady setup hash h (asks.Line connection line now) = line.now ≡ prepared setup hash ((facts setup hash h).about connection).challenge line.now.bytes
+IsReady setup hash h (asks.Line connection line now) = line.now ≡ prepared_line setup hash ((facts setup hash h).about connection).challenge line.now.bytes
 IsReady setup hash h (asks.Quit connection) = Unit {0}
 IsReady setup hash h (asks.Take connection count) = (1 ≤ count) × (count ≤ 256)
 

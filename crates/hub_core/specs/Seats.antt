@@ -1,6 +1,6 @@
--- What is kept of the connections, and what an effect makes of it.
+-- The seats of the connections, before and after an effect.
 use Rattle.std.specs.Prelude.{ℕ, ◌==◌, ◌&&◌, Bool, true, false, List, [], ◌∷◌, ◌++◌, None, if◌then◌else◌}
-use Rattle.outboxes.specs.Backlogs.{Backlog, empty_backlog, given}
+use Rattle.outboxes.specs.Backlogs.{Backlog, empty_backlog, backlog_after}
 use Rattle.hub_core.specs.declared.seat.Phase.{Phase}
 use Rattle.hub_core.specs.declared.seat.Phase.TheVariants as phases
 use Rattle.hub_core.specs.declared.seat.Removal.{Removal}
@@ -11,8 +11,12 @@ use Rattle.hub_rules.specs.declared.effect.Change.{Change}
 use Rattle.hub_rules.specs.declared.effect.Change.TheVariants.{Hub}
 use Rattle.hub_rules.specs.declared.effect.Effect.{Effect}
 use Rattle.hub_rules.specs.declared.effect.HubChange.TheVariants as shared
-use Rattle.hub_rules.specs.Effects.{given_if, is_present}
-use Rattle.hub_rules.specs.Shares.{About, backlog_of, features_after, max_bytes, max_lines, searched_after}
+use Rattle.hub_rules.specs.Effects.{is_present}
+use Rattle.hub_rules.specs.Shares.{About, features_after, max_bytes, max_lines, searched_after, waiting}
+
+-- what waits for a connection
+abbrev pub backlog_of : About → Backlog
+backlog_of a = record { lines = waiting a; lags = a.lags; cap = max_lines; bytes = max_bytes }
 
 -- what is kept of a connection of which this is known
 abbrev pub seat_with : ℕ → About → Seat
@@ -48,12 +52,12 @@ new_seat number sid peer challenge = record {
 -- the messages that an effect of connection c owes to the connection of a seat
 abbrev pub seat_share : ℕ → Effect → Seat → List (List ℕ)
 seat_share c effect seat =
-    given_if (phase_hears seat.phase (seat.number == c) effect.hearers seat.sid) effect.others ++ given_if (seat.number == c) effect.own
+    (if phase_hears seat.phase (seat.number == c) effect.hearers seat.sid then effect.others else []) ++ (if seat.number == c then effect.own else [])
 
 -- a connection that hears nothing is as before
 abbrev pub given_seat : List (List ℕ) → Seat → Seat
 given_seat [] seat = seat
-given_seat (line ∷ lines) seat = record seat { outbox = given seat.outbox (line ∷ lines) }
+given_seat (line ∷ lines) seat = record seat { outbox = backlog_after seat.outbox (line ∷ lines) }
 
 -- the user whom an operator shuts out
 abbrev pub removed_of : Change → Removal
@@ -73,14 +77,14 @@ abbrev pub removed_seat : Removal → Seat → Seat
 removed_seat removed seat = gone_if (is_present (stage_in seat.phase) && is_named removed seat.sid) seat
 
 -- a share is given, and the user shut out where it is the one
-abbrev pub settled : Removal → Seat → List (List ℕ) → Seat
-settled removed seat share = removed_seat removed (given_seat share seat)
+abbrev pub settled_seat : Removal → Seat → List (List ℕ) → Seat
+settled_seat removed seat share = removed_seat removed (given_seat share seat)
 
 -- each seat has its share
 unfoldable pub settled_all : Removal → List Seat → List (List (List ℕ)) → List Seat
 settled_all removed [] shares = []
 settled_all removed (seat ∷ seats) [] = seat ∷ seats
-settled_all removed (seat ∷ seats) (share ∷ shares) = settled removed seat share ∷ settled_all removed seats shares
+settled_all removed (seat ∷ seats) (share ∷ shares) = settled_seat removed seat share ∷ settled_all removed seats shares
 
 -- ---- the connection that sent the line
 

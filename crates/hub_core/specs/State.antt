@@ -1,4 +1,4 @@
--- What a hub keeps, what an effect makes of it, and when it stands at a history.
+-- The state of a hub, the state after an effect, and when it stands at a history.
 use Rattle.std.specs.Prelude.{◌≡◌, ℕ, ◌==◌, Bool, true, List, [], ◌∷◌, ◌++◌, map, position, Some}
 use Rattle.std.specs.List.{list_any}
 use Rattle.user_table.specs.Changes.{given_key}
@@ -7,7 +7,7 @@ use Rattle.user_table.specs.Tables.{with_update, without_sid}
 use Rattle.hub_core.specs.declared.seat.Phase.{Phase}
 use Rattle.hub_core.specs.declared.seat.Seat.{Seat}
 use Rattle.hub_core.specs.CoreState.{CoreState}
-use Rattle.hub_core.specs.Phases.{awaited}
+use Rattle.hub_core.specs.Phases.{users_awaited}
 use Rattle.hub_core.specs.Seats.{at_seat, changed_seat, phase_in, removed_of, seat_of, seat_share, settled_all, sid_in}
 use Rattle.hub_rules.specs.declared.effect.Change.{Change}
 use Rattle.hub_rules.specs.declared.effect.Change.TheVariants.{Hub, Sender}
@@ -52,7 +52,7 @@ IsSeated c core = HasSeat c core.seats
 
 -- the line is of the connection with this session identifier, which has come this far
 abbrev pub users_after : Change → ℕ → Phase → List Listed → List Listed
-users_after (Sender senders.Enters) sid phase users = users ++ awaited phase
+users_after (Sender senders.Enters) sid phase users = users ++ users_awaited phase
 users_after (Sender (senders.EntersAs newcomer)) sid phase users = users ++ newcomer.user ∷ []
 users_after (Sender (senders.Updates revision)) sid phase users = with_update sid revision.update (given_key revision.nick) users
 users_after (Sender senders.Falls) sid phase users = without_sid sid users

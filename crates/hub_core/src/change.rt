@@ -2,7 +2,7 @@ ghost use Rattle.std.specs.Prelude.{◌≡◌, ◌++◌, ◌∷◌, [], IfErr, O
 ghost use Rattle.user_table.specs.Changes.{given_key};
 ghost use Rattle.operator_acts.specs.Bans.{with_ban};
 ghost use Rattle.user_table.specs.Tables.{with_update, without_sid};
-ghost use Rattle.hub_core.specs.Phases.{awaited, entered_phase};
+ghost use Rattle.hub_core.specs.Phases.{users_awaited, entered_phase};
 ghost use Rattle.hub_core.specs.declared.seat.Phase.TheVariants.{Normal};
 ghost use Rattle.hub_core.specs.Seats.{changed_seat};
 ghost use Rattle.hub_core.specs.State.{users_after};
@@ -59,10 +59,10 @@ impl Commons {
 /// was decided, so only memory can be wanting.
 fn ban(users: &mut IndexedUsers, bans: &mut Bans, banned: Banned) -> Result<(), AllocError>
     ensures users { OnOk result (users.new ≡ without_sid banned.sid users.old) }
-    ensures bans { OnOk result (bans.new ≡ with_ban bans.old banned.cid (record { seconds = banned.seconds; moment = banned.now })) }
+    ensures bans { OnOk result (bans.new ≡ with_ban bans.old banned.cid banned.ban) }
     ensures err { OnErr result ((users.new ≡ users.old) × (bans.new ≡ bans.old)) }
 {
-    if bans.add(banned.cid, banned.seconds, banned.now).is_err() {
+    if bans.put(banned.cid, banned.ban).is_err() {
         return Err(AllocError);
     }
     users.remove(banned.sid);
@@ -110,7 +110,7 @@ fn change_sender(
 
 /// Enters the user for whose password the hub waited.
 fn enter(users: &mut IndexedUsers, seat: &mut Seat) -> Result<(), AllocError>
-    ensures users { OnOk result (users.new ≡ users.old ++ awaited seat.old.phase) }
+    ensures users { OnOk result (users.new ≡ users.old ++ users_awaited seat.old.phase) }
     ensures seat { OnOk result (seat.new ≡ record seat.old { phase = entered_phase seat.old.phase }) }
     ensures err { OnErr result ((users.new ≡ users.old) × (seat.new ≡ seat.old)) }
 {

@@ -12,12 +12,9 @@ ghost use Rattle.hub_rules.specs.Legal.{verdict_of};
 
 use crate::change::Commons;
 use crate::connection::Connection;
-use crate::decision::decide_at;
 use crate::look::Look;
-use crate::seat::Seat;
-use crate::seats::{forget, has_seat, lighten, place, sids, tell_if};
-use crate::share::{removal, settle, shares};
-use crate::touched::{Touched, touched_by, touched_by_quit};
+use crate::seat::{Seat, decide_at, forget, has_seat, lighten, place, sids, tell_if};
+use crate::share::{Touched, removal, settle, shares, touched_by, touched_by_quit};
 use crate::{JoinRefused, OpenRefused};
 use adc_base32::Sid;
 use hub_decisions::Sight;

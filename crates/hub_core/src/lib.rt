@@ -4,14 +4,11 @@
 mod calls;
 mod change;
 mod connection;
-mod decision;
 mod hub;
 mod look;
 mod refused;
 mod seat;
-mod seats;
 mod share;
-mod touched;
 
 pub use calls::{Answer, Ask, Asked, run_calls};
 pub use connection::Connection as Conn;
@@ -24,5 +21,5 @@ pub use login_state::Stage;
 pub use look::Look;
 pub use outboxes::{TakeRefused, Taken};
 pub use refused::{JoinRefused, OpenRefused};
-pub use touched::Touched;
+pub use share::Touched;
 pub use user_table::Totals;

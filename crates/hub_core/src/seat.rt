@@ -1,19 +1,26 @@
-ghost use Rattle.std.specs.Prelude.{◌≡◌, []};
-ghost use Rattle.std.specs.Option.{unwrap_or};
-ghost use Rattle.hub_core.specs.Decided.{expected_at};
-ghost use Rattle.hub_core.specs.declared.seat.Removal.TheVariants.{User};
-ghost use Rattle.hub_core.specs.Leaving.{told};
+ghost use Rattle.std.specs.Prelude.{◌≡◌, [], IfOk, ◌≤◌, ◌==◌, ◌++◌, length, map, position, take, OnOk, OnErr};
+ghost use Rattle.std.specs.Option.{unwrap_or, option_copied};
+ghost use Rattle.hub_core.specs.Decided.{expected_at, Decided, user_at};
+ghost use Rattle.hub_core.specs.declared.seat.Removal.TheVariants as removals;
+ghost use Rattle.hub_core.specs.Leaving.{seat_told, has_ended, seat_after_take, lines_in, others_of, told_all_if};
 ghost use Rattle.hub_core.specs.Phases.{stage_in};
-ghost use Rattle.hub_core.specs.Seats.{given_seat, new_seat, removed_seat};
+ghost use Rattle.hub_core.specs.Seats.{given_seat, new_seat, removed_seat, at_seat};
 ghost use Rattle.hub_rules.specs.Effects.{is_over, is_present};
 ghost use Rattle.hub_rules.specs.Legal.{verdict_of};
+ghost use Rattle.std.specs.List.{concat};
+ghost use Rattle.hub_core.specs.declared.seat.Seat.{Seat};
+ghost use Rattle.hub_core.specs.Numbers.{Rising, numbers};
+ghost use Rattle.hub_core.specs.State.{has_seat, HasSeat, IsPlace};
 
 use adc_base32::Sid;
 use feature_route::FeatureSet;
-use hub_rules::{Entrant, Verdict};
+use hub_decisions::{Own, Sight, decide};
+use hub_rules::{Effect, Entrant, Verdict};
+use hub_setup::Prepared;
 use login_state::{Features, Stage};
-use outboxes::{Batch, Outbox};
-use std::alloc::Global;
+use outboxes::{Batch, Outbox, TakeRefused, Taken};
+use std::alloc::{AllocError, Global};
+use user_table::{IndexedUsers, User, Users};
 
 /// The phase of a connection: how far it has come, with what is kept of its user (ADC 1.0, "States").
 #[derive(Debug, Drop)]
@@ -90,7 +97,7 @@ impl Phase {
     }
 
     /// Gives the digest that its password must give, while it waits for one.
-    pub(crate) fn expected(&self) -> Option<[u8; 24]>
+    pub(crate) fn expected_digest(&self) -> Option<[u8; 24]>
         ensures { unwrap_or result [] ≡ expected_at self.now }
     {
         match self {
@@ -145,7 +152,7 @@ impl Seat {
 
     /// Shuts the user out where it is present and has this session identifier.
     pub(crate) fn leave_if_named(&mut self, sid: Sid)
-        ensures { self.new ≡ removed_seat (User sid) self.old }
+        ensures { self.new ≡ removed_seat (removals.User sid) self.old }
     {
         if self.phase.is_present() && self.sid == sid {
             self.phase = Phase::Gone;
@@ -154,10 +161,142 @@ impl Seat {
 
     /// Tells the user that another left, where it is present.
     pub(crate) fn hear_quit(&mut self, sid: Sid)
-        ensures { self.new ≡ told sid self.old }
+        ensures { self.new ≡ seat_told sid self.old }
     {
         if self.phase.is_present() {
             self.outbox.give_quit(sid);
         }
     }
+}
+
+/// Decides what a line of the connection of a seat leads to.
+pub(crate) fn decide_at<'a>(
+    alloc: Global,
+    hub: &Sight<'_>,
+    seat: &Seat,
+    line: &'a Prepared,
+    now: u64,
+) -> Result<Effect<'a>, AllocError>
+    ensures { IfOk result (λ effect. Decided hub.now seat.now line.now now effect) }
+{
+    let user = user_at(hub.users, seat);
+    let own = Own {
+        sid: seat.sid,
+        peer: seat.peer,
+        challenge: seat.challenge,
+        stage: seat.phase.stage(),
+        features: &seat.features,
+        fields: match user {
+            Some(user) => Some(user.fields()),
+            None => None,
+        },
+        expected: seat.phase.expected_digest(),
+        searched: seat.searched,
+    };
+    decide(alloc, hub, &own, user, line, now)
+}
+
+/// Gives the user of the connection of a seat, where it has one.
+fn user_at<'a>(users: &'a IndexedUsers, seat: &'a Seat) -> Option<&'a User>
+    ensures { option_copied result ≡ user_at seat.now.phase seat.now.sid users.now }
+{
+    match &seat.phase {
+        Phase::Verify(newcomer, _) => Some(&newcomer.user),
+        Phase::Normal(_) => users.by_sid(seat.sid),
+        Phase::Protocol | Phase::Identify | Phase::Gone => None,
+    }
+}
+
+/// Finds the place of a connection's seat. Seats stand in the order of their joins, so it is found without a walk.
+pub(crate) fn place(seats: &[Seat], number: u64) -> usize
+    requires seated { HasSeat number seats.now }
+    requires rising { Rising (numbers seats.now) }
+    ensures { IsPlace number result seats.now }
+{
+    match find(seats, number) {
+        Some(place) => place,
+        None => unreachable!(),
+    }
+}
+
+fn find(seats: &[Seat], number: u64) -> Option<usize>
+    requires { Rising (numbers seats.now) }
+    ensures { result ≡ position (λ (seat : Seat). seat.number == number) seats.now }
+{
+    match seats.binary_search_by_key(&number, |seat| seat.number) {
+        Ok(place) => Some(place),
+        Err(_) => None,
+    }
+}
+
+/// Answers whether a connection has a seat.
+pub(crate) fn has_seat(seats: &[Seat], number: u64) -> bool
+    requires { Rising (numbers seats.now) }
+    ensures { result ≡ has_seat number seats.now }
+{
+    find(seats, number).is_some()
+}
+
+/// Removes a connection's seat.
+pub(crate) fn forget(seats: &mut Vec<Seat>, number: u64)
+    ensures { seats.new.items ≡ others_of number seats.old.items }
+{
+    seats.retain(|seat| seat.number != number);
+}
+
+/// Tells every user who is present that another left, where that one was present.
+pub(crate) fn tell_if(seats: &mut [Seat], was_present: bool, sid: Sid)
+    ensures { seats.new ≡ told_all_if was_present sid seats.old }
+{
+    if was_present {
+        tell(seats, sid);
+    }
+}
+
+fn tell(seats: &mut [Seat], sid: Sid)
+    ensures { seats.new ≡ map (seat_told sid) seats.old }
+{
+    for seat in seats.iter_mut() {
+        seat.hear_quit(sid);
+    }
+}
+
+/// Gives the session identifiers that are taken.
+pub(crate) fn sids(alloc: Global, seats: &[Seat]) -> Result<Vec<Sid>, AllocError>
+    ensures { IfOk result (λ sids. sids.items ≡ map (λ (seat : Seat). seat.sid) seats.now) }
+{
+    let mut sids = Vec::with_capacity(alloc, seats.len())?;
+    for seat in seats {
+        sids.push(seat.sid)?;
+    }
+    Ok(sids)
+}
+
+/// Takes the first `count` lines that wait for a connection, or all if fewer wait.
+pub(crate) fn lighten(
+    seats: &mut Vec<Seat>,
+    number: u64,
+    count: usize,
+    out: &mut Vec<u8>,
+) -> Result<Taken, TakeRefused>
+    requires seated { HasSeat number seats.old.items }
+    requires rising { Rising (numbers seats.old.items) }
+    requires some { 1 ≤ count }
+    requires few { count ≤ 256 }
+    ensures ok { OnOk result (seats.new.items ≡ at_seat number (seat_after_take count) seats.old.items) }
+    ensures bytes { OnOk result (out.new.items ≡ out.old.items ++ concat (take count (lines_in number seats.old.items))) }
+    ensures lines { IfOk result (λ taken. taken.lines ≡ length (take count (lines_in number seats.old.items))) }
+    ensures ended { IfOk result (λ taken. taken.ended ≡ has_ended number count seats.old.items) }
+    ensures err { OnErr result ((seats.new.items ≡ seats.old.items) × (out.new.items ≡ out.old.items)) }
+{
+    let place = place(seats, number);
+    let seat = &mut seats[place];
+    let taken = seat.outbox.take(count, out)?;
+    let nothing_left = seat.outbox.waiting() == 0;
+    let is_over = seat.phase.is_over();
+    let lags = seat.outbox.lagging();
+    Ok(Taken {
+        lines: taken.lines,
+        ended: nothing_left & (is_over | lags),
+    })
 }

@@ -73,7 +73,7 @@ fn own_share(
     requires none { HeardByNone effect.now }
     ensures { IfOk result (λ shares. shares.items ≡ shares_from 0 (seat_share number effect.now) seats.now) }
 {
-    let lines = owed(alloc, &seats[place], number, effect)?;
+    let lines = lines_owed(alloc, &seats[place], number, effect)?;
     let mut shares = Vec::new(alloc);
     push_share(&mut shares, place, lines)?;
     Ok(shares)
@@ -87,7 +87,7 @@ fn all_shares(
 ) -> Result<Vec<Share>, AllocError>
     ensures { IfOk result (λ shares. shares.items ≡ shares_from 0 (seat_share number effect.now) seats.now) }
 {
-    let mut shares = Vec::with_capacity(alloc, expected(seats, &effect.hearers))?;
+    let mut shares = Vec::with_capacity(alloc, expected_shares(seats, &effect.hearers))?;
     for (place, seat) in seats.iter().enumerate() {
         push_owed(alloc, &mut shares, place, seat, number, effect)?;
     }
@@ -109,12 +109,12 @@ fn push_owed(
     if !is_caller && !hears(&seat.phase, is_caller, &effect.hearers, seat.sid) {
         return Ok(());
     }
-    let lines = owed(alloc, seat, number, effect)?;
+    let lines = lines_owed(alloc, seat, number, effect)?;
     push_share(shares, place, lines)
 }
 
 /// Gives about how many shares there will be.
-fn expected(seats: &[Seat], hearers: &Hearers<'_>) -> usize {
+fn expected_shares(seats: &[Seat], hearers: &Hearers<'_>) -> usize {
     match hearers {
         Hearers::Others | Hearers::Those(Audience::All) => seats.len(),
         Hearers::Those(_) => 0,
@@ -131,7 +131,12 @@ fn push_share(shares: &mut Vec<Share>, place: usize, lines: Batch) -> Result<(),
     Ok(())
 }
 
-fn owed(alloc: Global, seat: &Seat, number: u64, effect: &Effect<'_>) -> Result<Batch, AllocError>
+fn lines_owed(
+    alloc: Global,
+    seat: &Seat,
+    number: u64,
+    effect: &Effect<'_>,
+) -> Result<Batch, AllocError>
     ensures { IfOk result (λ share. share ≡ seat_share number effect.now seat.now) }
 {
     let is_caller = seat.number == number;
@@ -204,5 +209,61 @@ pub(crate) fn removal(change: &Change) -> Removal
         Change::Hub(HubChange::Ban(banned)) => Removal::User(banned.sid),
         Change::Hub(HubChange::Unban(_) | HubChange::Topic(_)) => Removal::Nobody,
         Change::Nothing | Change::Sender(_) => Removal::Nobody,
+    }
+}
+
+/// The users whom a call concerned: to whose connections it gave lines, or whom it shut out. It is a hint for those who
+/// wake what waits for lines: it may name somebody too many, and no promise rests on it.
+#[derive(Clone, Copy, Debug, PartialEq, Eq)]
+pub enum Touched {
+    /// No user.
+    Nobody,
+    /// The connection with this session identifier.
+    One(Sid),
+    /// The connections with these.
+    Two(Sid, Sid),
+    /// All users.
+    Everybody,
+}
+
+/// Names whom the effect of a line of the connection with this identifier concerns.
+pub(crate) fn touched_by(sid: Sid, effect: &Effect<'_>) -> Touched {
+    let hearing = if effect.others.is_empty() {
+        Touched::Nobody
+    } else {
+        hearing(&effect.hearers)
+    };
+    if effect.own.is_empty() {
+        return hearing;
+    }
+    match hearing {
+        Touched::Nobody => Touched::One(sid),
+        Touched::One(one) => Touched::Two(one, sid),
+        Touched::Two(_, _) | Touched::Everybody => Touched::Everybody,
+    }
+}
+
+/// Names whom it concerns that a connection leaves which has come this far.
+pub(crate) fn touched_by_quit(phase: &Phase) -> Touched {
+    if phase.is_present() {
+        Touched::Everybody
+    } else {
+        Touched::Nobody
+    }
+}
+
+fn hearing(hearers: &Hearers<'_>) -> Touched {
+    match hearers {
+        Hearers::Others => Touched::Everybody,
+        Hearers::Those(audience) => among(audience),
+    }
+}
+
+fn among(audience: &Audience<'_>) -> Touched {
+    match audience {
+        Audience::All | Audience::Having(_) => Touched::Everybody,
+        Audience::One(sid) => Touched::One(*sid),
+        Audience::Two(one, other) => Touched::Two(*one, *other),
+        Audience::Nobody => Touched::Nobody,
     }
 }

@@ -1,4 +1,4 @@
--- What is known of a user, and of an answer.
+-- The fields of a user, and those of an answer.
 use Rattle.std.proofs.Common.{◌≡◌, ◌∙◌, sym, ap, refl, List, Option, None, Bor, unwrap_or}
 use Rattle.std.specs.Option.{option_copied}
 use Rattle.std.specs.Prelude.{Some, IfOk, Result, Ok, Err, is_some}
@@ -8,27 +8,27 @@ use Rattle.inf_fields.specs.Field.{Field}
 use Rattle.inf_fields.specs.Merging.{merged_with}
 use Rattle.user_table.specs.Listed.{Listed}
 use Rattle.hub_decisions.specs.Known.{IsUser}
-use Rattle.hub_rules.specs.Identities.{key_in, listed}
+use Rattle.hub_rules.specs.Identities.{key_in, listed_user}
 use Rattle.hub_rules.specs.Sights.{Own, user_after}
 
 pub user-key : (own : Own) (user : Listed) → IsUser own user → user.key ≡ key_in own.fields
-unfolding listed
+unfolding listed_user
 user-key own user is = ap (λ u. u.key) is
 
 pub user-fields : (own : Own) (user : Listed) → IsUser own user → user.fields ≡ own.fields
-unfolding listed
+unfolding listed_user
 user-fields own user is = ap (λ u. u.fields) is
 
 -- the key of the user that an INF makes
 pub after-key : (own : Own) (u : List Field) → key_in (merged_with own.fields (clean u own.peer)) ≡ (user_after own u).key
-unfolding listed
+unfolding listed_user
 after-key own u = refl
 
 -- the user that is passed is that of the connection
-pub has-user : (own : Own) (user : Option (Bor Listed)) (one : Bor Listed) → option_copied user ≡ Some (listed own.sid own.fields) → user ≡ Some one → IsUser own one.now
+pub has-user : (own : Own) (user : Option (Bor Listed)) (one : Bor Listed) → option_copied user ≡ Some (listed_user own.sid own.fields) → user ≡ Some one → IsUser own one.now
 has-user own user one is found = ap (λ o. unwrap_or o one.now) (sym (ap option_copied found) ∙ is)
 
-pub no-user : (own : Own) (user : Option (Bor Listed)) → option_copied user ≡ Some (listed own.sid own.fields) → user ≡ None → ⊥
+pub no-user : (own : Own) (user : Option (Bor Listed)) → option_copied user ≡ Some (listed_user own.sid own.fields) → user ≡ None → ⊥
 no-user own user is none = false≢true (ap is_some (sym (ap option_copied none) ∙ is))
 
 -- what is said of an answer follows from what else is said of it

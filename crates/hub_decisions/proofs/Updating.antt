@@ -1,4 +1,5 @@
--- What is found of an update decides about it as the rules want.
+-- The findings of an update decide about it as the rules want.
+use Rattle.std.specs.Result.{result_ok}
 use Rattle.std.proofs.Common.{◌≡◌, ◌∙◌, sym, ap, ap₂, refl, ℕ, true, not, ◌&&◌, cond, List, [], ◌∷◌, ◌++◌, Option, Some, None, unwrap_or}
 use Rattle.std.specs.Option.{option_map, option_or}
 use Rattle.std.specs.Prelude.{is_some, Result, Ok, Err}
@@ -19,19 +20,17 @@ use Rattle.login_state.specs.declared.findings.Validity.{Validity}
 use Rattle.login_state.specs.declared.findings.Validity.TheVariants.{Good}
 use Rattle.hub_rules.specs.Denied.{update_denied}
 use Rattle.hub_rules.specs.Effects.{unless_denied, updates_user}
-use Rattle.hub_rules.specs.Identities.{given, key_in, key_of, meaning, su_in}
-use Rattle.hub_rules.specs.Prepared.{update_in}
+use Rattle.hub_rules.specs.Identities.{value_or_empty, key_in, key_of, meaning, su_in}
 use Rattle.hub_rules.specs.Sights.{Own, Sight}
 use Rattle.hub_decisions.specs.Requested.{effect_of_update}
 
 -- ---- findings, all together
 
-abbrev findings : Identity → Validity → Validity → Validity → Account → Address → Size → Claim → UpdateAsk
-findings d s f n t a z m = record {
+abbrev findings : Identity → Option (List ℕ) → Validity → Account → Address → Size → Claim → UpdateAsk
+findings d b n t a z m = record {
   words = Good;
   identity = d;
-  share_size = s;
-  shared_files = f;
+  bad_number = b;
   nick = n;
   account = t;
   address = a;
@@ -39,13 +38,13 @@ findings d s f n t a z m = record {
   nick_claim = m;
 }
 
-pub same-findings : {d d' : Identity} {s s' f f' n n' : Validity} {t t' : Account} {a a' : Address} {z z' : Size} {m m' : Claim}
-    → d ≡ d' → s ≡ s' → f ≡ f' → n ≡ n' → t ≡ t' → a ≡ a' → z ≡ z' → m ≡ m' → findings d s f n t a z m ≡ findings d' s' f' n' t' a' z' m'
-same-findings {d} {d'} {s} {s'} {f} {f'} {n} {n'} {t} {t'} {a} {a'} {z} {z'} {m} {m'} ed es ef en et ea ez em =
-    ap₂ (λ x y. findings x y f n t a z m) ed es
-    ∙ ap₂ (λ x y. findings d' s' x y t a z m) ef en
-    ∙ ap₂ (λ x y. findings d' s' f' n' x y z m) et ea
-    ∙ ap₂ (λ x y. findings d' s' f' n' t' a' x y) ez em
+pub same-findings : {d d' : Identity} {b b' : Option (List ℕ)} {n n' : Validity} {t t' : Account} {a a' : Address} {z z' : Size} {m m' : Claim}
+    → d ≡ d' → b ≡ b' → n ≡ n' → t ≡ t' → a ≡ a' → z ≡ z' → m ≡ m' → findings d b n t a z m ≡ findings d' b' n' t' a' z' m'
+same-findings {d} {d'} {b} {b'} {n} {n'} {t} {t'} {a} {a'} {z} {z'} {m} {m'} ed eb en et ea ez em =
+    ap₂ (λ x y. findings x y n t a z m) ed eb
+    ∙ ap₂ (λ x y. findings d' b' x y a z m) en et
+    ∙ ap₂ (λ x y. findings d' b' n' t' x y m) ea ez
+    ∙ ap (findings d' b' n' t' a' z') em
 
 -- ---- one field after an update
 
@@ -60,7 +59,7 @@ value-renewed None (Some (b ∷ more)) = refl
 value-renewed (Some x) (Some (b ∷ more)) = refl
 
 -- a field has the value that the update gives it, and else the one before
-given-renewed : (name : List ℕ) (fields u : List Field) → given name (merged_with fields u) ≡ unwrap_or (value_of name u) (given name fields)
+given-renewed : (name : List ℕ) (fields u : List Field) → value_or_empty name (merged_with fields u) ≡ unwrap_or (value_of name u) (value_or_empty name fields)
 unfolding merged_with
 given-renewed name fields u =
     ap (λ o. unwrap_or o [])
@@ -71,12 +70,12 @@ given-renewed name fields u =
 
 -- of the user's nick the key is that of the nick given, and else the one before
 pub key-renewed : (before : List ℕ) (fields u : List Field) → before ≡ key_in fields → value_of nick_name u ≡ None → before ≡ key_in (merged_with fields u)
-key-renewed before fields u is none = is ∙ ap (λ w. key_of (meaning w)) (sym (given-renewed nick_name fields u ∙ ap (λ o. unwrap_or o (given nick_name fields)) none))
+key-renewed before fields u is none = is ∙ ap (λ w. key_of (meaning w)) (sym (given-renewed nick_name fields u ∙ ap (λ o. unwrap_or o (value_or_empty nick_name fields)) none))
 
 pub key-new : (fields u : List Field) (word : List ℕ) → Some word ≡ value_of nick_name u → key_of (meaning word) ≡ key_in (merged_with fields u)
-key-new fields u word is = ap (λ w. key_of (meaning w)) (sym (given-renewed nick_name fields u ∙ ap (λ o. unwrap_or o (given nick_name fields)) (sym is)))
+key-new fields u word is = ap (λ w. key_of (meaning w)) (sym (given-renewed nick_name fields u ∙ ap (λ o. unwrap_or o (value_or_empty nick_name fields)) (sym is)))
 
-pub support-renewed : (fields u : List Field) (text : List ℕ) → text ≡ unwrap_or (value_of support_name u) (given support_name fields)
+pub support-renewed : (fields u : List Field) (text : List ℕ) → text ≡ unwrap_or (value_of support_name u) (value_or_empty support_name fields)
     → feature_set text ≡ feature_set (su_in (merged_with fields u))
 support-renewed fields u text is = ap feature_set (is ∙ sym (given-renewed support_name fields u))
 
@@ -84,6 +83,6 @@ support-renewed fields u text is = ap feature_set (is ∙ sym (given-renewed sup
 
 -- the rules go by what the words say
 pub update-said : (hub : Sight) (own : Own) (said : Result (List Field) InfFault)
-    → effect_of_update hub own (update_in said) ≡ unless_denied own (update_denied hub own said) (updates_user own said)
+    → effect_of_update hub own (result_ok said) ≡ unless_denied own (update_denied hub own said) (updates_user own said)
 update-said hub own (Ok u) = refl
 update-said hub own (Err fault) = refl

@@ -1,12 +1,12 @@
--- What the checks of a login, of an update and of a password are asked, by what the rules look at (ADC 1.0, "INF", "PAS").
+-- The questions of the checks of a login, of an update and of a password, by what the rules look at (ADC 1.0, "INF", "PAS").
 use Rattle.std.specs.Prelude.{ℕ, ◌==◌, ◌&&◌, ◌||◌, not, Bool, true, false, List, [], ◌∷◌, length, chars, Option, Some, None, is_some, if◌then◌else◌}
 use Rattle.std.specs.Str.{bytes_eq}
-use Rattle.adc_base32.specs.Spelled.{spelled}
+use Rattle.adc_base32.specs.Spelled.{spelled_bytes}
 use Rattle.adc_ids.specs.Nicks.{is_nick}
-use Rattle.inf_fields.specs.Amounts.{number_at}
-use Rattle.inf_fields.specs.Cleaning.{any_address, clean, dotted}
+use Rattle.inf_fields.specs.Amounts.{bad_number}
+use Rattle.inf_fields.specs.Cleaning.{any_address, clean, dotted_decimal}
 use Rattle.inf_fields.specs.Field.{Field, value_of}
-use Rattle.inf_fields.specs.FieldNames.{id_name, private_id_name, nick_name, share_size_name, shared_files_name, address_name}
+use Rattle.inf_fields.specs.FieldNames.{id_name, private_id_name, nick_name, address_name}
 use Rattle.inf_fields.specs.Merging.{fits}
 use Rattle.login_state.specs.declared.asks.EntryAsk.{EntryAsk}
 use Rattle.login_state.specs.declared.asks.InfAsk.{InfAsk}
@@ -31,10 +31,10 @@ use Rattle.login_state.specs.declared.findings.Required.TheVariants as required
 use Rattle.login_state.specs.declared.findings.Size.TheVariants.{Fits, TooMany}
 use Rattle.login_state.specs.declared.findings.Validity.{Validity}
 use Rattle.login_state.specs.declared.findings.Validity.TheVariants.{Bad, Good}
-use Rattle.operator_acts.specs.Bans.{left}
+use Rattle.operator_acts.specs.Bans.{left_of_bans}
 use Rattle.operator_acts.specs.declared.left.Left.{Left}
 use Rattle.operator_acts.specs.declared.left.Left.TheVariants as lefts
-use Rattle.hub_rules.specs.Identities.{given, meaning, nick_in, key_in}
+use Rattle.hub_rules.specs.Identities.{value_or_empty, meaning, nick_in, key_in}
 use Rattle.hub_rules.specs.Sights as sights
 use Rattle.hub_rules.specs.Sights.{Sight, is_account, is_here, another_has_key}
 use Rattle.user_table.specs.Listed.{Listed}
@@ -59,11 +59,6 @@ required_found valid [] = required.Missing
 required_found true (b ∷ more) = required.Good
 required_found false (b ∷ more) = required.Bad
 
--- a number that need not be there
-abbrev pub amount_found : List ℕ → Validity
-amount_found [] = Good
-amount_found (b ∷ more) = good_if (is_some (number_at (b ∷ more)))
-
 -- the client's identifier is the hash of the private one
 abbrev pub identity_found : Option (List ℕ) → Option (List ℕ) → Identity
 identity_found (Some cid) (Some digest) = if bytes_eq cid digest then Own else Foreign
@@ -73,7 +68,7 @@ identity_found None digest = Foreign
 -- an address: none, one that the hub is to fill in, or the one that it sees
 abbrev pub address_found : List ℕ → List ℕ → Address
 address_found peer address =
-    if length address == 0 || bytes_eq address any_address || bytes_eq address (dotted peer) then Right else Wrong peer
+    if length address == 0 || bytes_eq address any_address || bytes_eq address (dotted_decimal peer) then Right else Wrong peer
 
 abbrev pub ban_found : Left → Ban
 ban_found lefts.Free = found_bans.Free
@@ -86,7 +81,7 @@ admission_found hub key = if hub.setup.registered_only && not (is_account hub ke
 -- of a user who is to enter: what may have changed since its login, once its password is right
 unfoldable pub entry_ask : Sight → ℕ → Listed → EntryAsk
 entry_ask hub now user = record {
-  ban = ban_found (left hub.bans user.cid now);
+  ban = ban_found (left_of_bans hub.bans user.cid now);
   nick_claim = taken_if (is_here (has_key user.key) hub);
   cid_claim = taken_if (is_here (has_cid user.cid) hub);
 }
@@ -95,13 +90,12 @@ entry_ask hub now user = record {
 unfoldable pub login_ask : Sight → ℕ → List ℕ → Option (List ℕ) → List Field → Listed → InfAsk
 login_ask hub now peer digest u user = record {
   words = Good;
-  id = required_found (is_some (spelled 24 (given id_name u))) (given id_name u);
-  pid = required_found (is_some digest) (given private_id_name u);
-  nick = required_found (is_nick (chars (nick_in u))) (given nick_name u);
-  share_size = amount_found (given share_size_name u);
-  shared_files = amount_found (given shared_files_name u);
-  identity = identity_found (spelled 24 (given id_name u)) digest;
-  address = address_found peer (given address_name u);
+  id = required_found (is_some (spelled_bytes 24 (value_or_empty id_name u))) (value_or_empty id_name u);
+  pid = required_found (is_some digest) (value_or_empty private_id_name u);
+  nick = required_found (is_nick (chars (nick_in u))) (value_or_empty nick_name u);
+  bad_number = bad_number u;
+  identity = identity_found (spelled_bytes 24 (value_or_empty id_name u)) digest;
+  address = address_found peer (value_or_empty address_name u);
   admission = admission_found hub user.key;
   entry = entry_ask hub now user;
 }
@@ -109,7 +103,7 @@ login_ask hub now peer digest u user = record {
 -- an identifier that is given must be the user's own
 abbrev pub own_if_given : List Field → Option (List ℕ) → Identity
 own_if_given fields None = Own
-own_if_given fields (Some id) = if bytes_eq id (given id_name fields) then Own else Foreign
+own_if_given fields (Some id) = if bytes_eq id (value_or_empty id_name fields) then Own else Foreign
 
 -- a nick that is given must be one
 abbrev pub nick_found : Option (List ℕ) → Validity
@@ -126,11 +120,10 @@ unfoldable pub update_ask : Sight → sights.Own → List Field → Listed → U
 update_ask hub own u user = record {
   words = Good;
   identity = own_if_given own.fields (value_of id_name u);
-  share_size = amount_found (given share_size_name u);
-  shared_files = amount_found (given shared_files_name u);
+  bad_number = bad_number u;
   nick = nick_found (value_of nick_name u);
   account = account_found hub (key_in own.fields) user.key;
-  address = address_found own.peer (given address_name u);
+  address = address_found own.peer (value_or_empty address_name u);
   size = if fits own.fields (clean u own.peer) then Fits else TooMany;
   nick_claim = taken_if (another_has_key hub own.sid user.key);
 }

@@ -1,22 +1,22 @@
--- What a line leads to that asks for one thing, by the rules of that.
-use Rattle.std.specs.Prelude.{◌≡◌, ℕ, List, MatchResult, Ok, Option, None, Result, Some}
+-- The effect of a line that asks for one thing, by the rules of that.
+use Rattle.std.specs.Prelude.{◌≡◌, ℕ, List, MatchResult, Ok, Err, Option, None, Result, Some}
 use Rattle.inf_fields.specs.Field.{Field}
 use Rattle.adc_line.specs.Lines as lines
 use Rattle.adc_line.specs.Lines.{Reading}
 use Rattle.login_state.specs.declared.deny.Deny.{Deny}
 use Rattle.login_state.specs.declared.deny.Deny.TheVariants.{Protocol}
 use Rattle.login_state.specs.declared.fault.SupFault.{SupFault}
-use Rattle.login_state.specs.SupportAnswers.{applied}
+use Rattle.login_state.specs.Requests.{request_at}
+use Rattle.login_state.specs.SupportAnswers.{support_after}
 use Rattle.hub_rules.specs.declared.effect.Change.TheVariants.{Sender}
 use Rattle.hub_rules.specs.declared.effect.Effect.{Effect}
 use Rattle.hub_rules.specs.declared.effect.SenderChange.TheVariants.{Enters, Searches}
-use Rattle.hub_rules.specs.declared.request.Request.{Request}
+use Rattle.login_state.specs.declared.request.Request.{Request}
 use Rattle.hub_rules.specs.Acts.{act_denied, act_effect}
 use Rattle.hub_rules.specs.Denied.{login_denied, password_denied, request_denied, search_denied, sup_denied, update_denied}
-use Rattle.hub_rules.specs.Effects.{accepted, denial, enters, greets, learns, logs_in, passes_on, unless_denied, updates_user}
-use Rattle.hub_rules.specs.Identities.{listed}
+use Rattle.hub_rules.specs.Effects.{accepted_effect, denial, enters, greets, learns, logs_in, passes_on, unless_denied, updates_user}
+use Rattle.hub_rules.specs.Identities.{listed_user}
 use Rattle.hub_rules.specs.Prepared.{update_of}
-use Rattle.hub_rules.specs.Requests.{request_of}
 use Rattle.hub_rules.specs.Sights.{Own, PreparedLine, Sight}
 
 -- what a SUP leaves supported, where nothing denies it, and else the denial
@@ -24,10 +24,10 @@ abbrev pub Supports : Result (List (List ℕ)) Deny → Result (List (List ℕ))
 Supports answer after = MatchResult answer (λ features. (after ≡ Ok features) × (sup_denied after ≡ None)) (λ deny. sup_denied after ≡ Some deny)
 
 abbrev pub effect_of_greeting : Sight → Own → ℕ → List (List ℕ) → Effect
-effect_of_greeting hub own now params = unless_denied own (sup_denied (applied own.features params)) (greets hub own now (applied own.features params))
+effect_of_greeting hub own now params = unless_denied own (sup_denied (support_after own.features params)) (greets hub own now (support_after own.features params))
 
 abbrev pub effect_of_support : Own → List (List ℕ) → Effect
-effect_of_support own params = unless_denied own (sup_denied (applied own.features params)) (learns (applied own.features params))
+effect_of_support own params = unless_denied own (sup_denied (support_after own.features params)) (learns (support_after own.features params))
 
 -- what the INF says that the line is, if it is one whose words make an update
 abbrev pub inf_in : PreparedLine → Option (List Field)
@@ -43,17 +43,22 @@ effect_of_update hub own None = denial own Protocol
 effect_of_update hub own (Some u) = unless_denied own (update_denied hub own (Ok u)) (updates_user own (Ok u))
 
 abbrev pub effect_of_password : Sight → Own → ℕ → List (List ℕ) → Effect
-effect_of_password hub own now params = unless_denied own (password_denied hub own now params) (enters hub own (listed own.sid own.fields) (Sender Enters))
+effect_of_password hub own now params = unless_denied own (password_denied hub own now params) (enters hub own (listed_user own.sid own.fields) (Sender Enters))
 
 abbrev pub effect_of_act : Sight → Own → ℕ → List (List ℕ) → Effect
-effect_of_act hub own now params = unless_denied own (act_denied hub own params) (act_effect hub own now params)
+effect_of_act hub own now params = unless_denied own (act_denied hub own now params) (act_effect hub own now params)
 
 abbrev pub effect_of_search : Sight → Own → ℕ → Reading → Effect
 effect_of_search hub own now line = unless_denied own (search_denied hub own now) (passes_on hub line (Sender (Searches now)))
 
 abbrev pub effect_of_request : Sight → Own → PreparedLine → ℕ → Reading → Request → Effect
-effect_of_request hub own prepared now line request = unless_denied own (request_denied hub own prepared now line request) (accepted hub own prepared now line request)
+effect_of_request hub own prepared now line request = unless_denied own (request_denied hub own prepared now line request) (accepted_effect hub own prepared now line request)
 
--- of a line that its connection may send
+-- by what it asks for, or why that is denied
+abbrev pub effect_of_asked : Sight → Own → PreparedLine → ℕ → Reading → Result Request Deny → Effect
+effect_of_asked hub own prepared now line (Ok request) = effect_of_request hub own prepared now line request
+effect_of_asked hub own prepared now line (Err deny) = denial own deny
+
+-- of a line in the name of its own connection
 abbrev pub effect_of_message : Sight → Own → PreparedLine → ℕ → Reading → Effect
-effect_of_message hub own prepared now line = effect_of_request hub own prepared now line (request_of own.stage line.kind line.command)
+effect_of_message hub own prepared now line = effect_of_asked hub own prepared now line (request_at own.stage line.kind line.command)

@@ -1,10 +1,8 @@
-ghost use Rattle.std.specs.Prelude.{◌≡◌, [], ◌∷◌, IfOk, Some, is_some};
+ghost use Rattle.std.specs.Prelude.{◌≡◌, IfOk, Some, is_some};
 ghost use Rattle.adc_line.specs.WordsLeft.{words_left};
-ghost use Rattle.hub_decisions.specs.Commands.{effect_of_asked, effect_of_ban, effect_of_command, effect_of_kick};
-ghost use Rattle.hub_rules.specs.Acts.{carried, is_command, unban_denied};
-ghost use Rattle.hub_rules.specs.Effects.{unless_denied};
-ghost use Rattle.hub_rules.specs.Texts as texts;
-ghost use Rattle.hub_rules.specs.declared.effect.HubChange.TheVariants as shared;
+ghost use Rattle.hub_decisions.specs.Commands.{answer_for, effect_of_asked, effect_of_command};
+ghost use Rattle.hub_rules.specs.Acts.{effect_for_all, if_present, is_command, kick, topic, unban, user_called};
+ghost use Rattle.operator_acts.specs.declared.act.Act.TheVariants as acts;
 ghost use Rattle.hub_decisions.specs.Known.{IsUser};
 ghost use Rattle.hub_decisions.specs.Requested.{effect_of_act};
 ghost use Rattle.hub_rules.specs.Accounts.{operates};
@@ -13,8 +11,7 @@ ghost use Rattle.operator_acts.specs.Acts.{act_at};
 ghost use Rattle.operator_acts.specs.Bans.{ban_on, is_full};
 
 use crate::denial::denial;
-use crate::effect::nothing;
-use crate::lines::one;
+use crate::effect::{nothing, one};
 use crate::own::Own;
 use crate::sight::Sight;
 use crate::words::text_in;
@@ -24,7 +21,7 @@ use feature_route::Audience;
 use hub_rules::{Banned, Change, Effect, Hearers, HubChange, Topic};
 use hub_setup::{done_line, removal_line, topic_line};
 use login_state::Deny;
-use operator_acts::{Act, ActFault, Bans, FreeText, Left};
+use operator_acts::{Act, ActFault, Ban, Bans, FreeText, Left};
 use outboxes::Batch;
 use std::alloc::{AllocError, Global};
 use user_table::{User, Users};
@@ -83,7 +80,7 @@ fn command<'a>(
         return denial(alloc, own, Deny::Access(*b"HMSG"));
     }
     match Act::parse(alloc, text) {
-        Ok(act) => asked(alloc, hub, own, &act, now),
+        Ok(act) => decide_act(alloc, hub, own, &act, now),
         Err(ActFault::Bad) => denial(alloc, own, Deny::BadCommand),
         Err(ActFault::Memory) => Err(AllocError),
     }
@@ -100,7 +97,7 @@ fn is_operator(hub: &Sight<'_>, user: &User) -> bool
 }
 
 /// Decides what an act leads to that an operator asks for.
-fn asked<'a>(
+fn decide_act<'a>(
     alloc: Global,
     hub: &Sight<'_>,
     own: &Own<'_>,
@@ -128,14 +125,14 @@ fn kick<'a>(
     nick: &Nick,
     reason: &FreeText<'_>,
 ) -> Result<Effect<'a>, AllocError>
-    ensures { IfOk result (λ effect. effect ≡ effect_of_kick hub.now own.now nick.now reason.now) }
+    ensures { IfOk result (λ effect. effect ≡ answer_for own.now (if_present (user_called hub.now.users nick.now) (kick own.now.sid reason.now))) }
 {
     let key = nick.key(alloc)?;
     let Some(target) = hub.users.by_nick(&key) else {
         return denial(alloc, own, Deny::NoUser);
     };
     let line = removal_line(alloc, target.sid(), own.sid, None, reason.as_str())?;
-    carried(alloc, one(alloc, line)?, HubChange::Kick(target.sid()))
+    effect_for_all(alloc, one(alloc, line)?, HubChange::Kick(target.sid()))
 }
 
 fn ban<'a>(
@@ -147,7 +144,7 @@ fn ban<'a>(
     reason: &FreeText<'_>,
     now: u64,
 ) -> Result<Effect<'a>, AllocError>
-    ensures { IfOk result (λ effect. effect ≡ effect_of_ban hub.now own.now now nick.now seconds reason.now) }
+    ensures { IfOk result (λ effect. effect ≡ effect_of_asked hub.now own.now now (Some (acts.Ban nick.now seconds reason.now))) }
 {
     let key = nick.key(alloc)?;
     let Some(target) = hub.users.by_nick(&key) else {
@@ -160,10 +157,12 @@ fn ban<'a>(
     let banned = Banned {
         sid: target.sid(),
         cid: target.cid(),
-        seconds,
-        now,
+        ban: Ban {
+            seconds,
+            moment: now,
+        },
     };
-    carried(alloc, one(alloc, line)?, HubChange::Ban(banned))
+    effect_for_all(alloc, one(alloc, line)?, HubChange::Ban(banned))
 }
 
 fn unban<'a>(
@@ -172,25 +171,29 @@ fn unban<'a>(
     own: &Own<'_>,
     cid: Cid,
 ) -> Result<Effect<'a>, AllocError>
-    ensures { IfOk result (λ effect. effect ≡ unless_denied own.now (unban_denied hub.now cid) (carried [] (shared.Unban cid))) }
+    ensures { IfOk result (λ effect. effect ≡ answer_for own.now (unban hub.now.bans cid)) }
 {
     if !is_banned(hub.bans, cid) {
         return denial(alloc, own, Deny::NoBan);
     }
-    carried(alloc, Batch::new(alloc), HubChange::Unban(cid))
+    effect_for_all(alloc, Batch::new(alloc), HubChange::Unban(cid))
 }
 
 fn topic<'a>(alloc: Global, text: &FreeText<'_>) -> Result<Effect<'a>, AllocError>
-    ensures { IfOk result (λ effect. effect ≡ carried (texts.topic_line text.now ∷ []) (shared.Topic text.now)) }
+    ensures { IfOk result (λ effect. effect ≡ effect_for_all (topic text.now)) }
 {
     let line = topic_line(alloc, text.as_str())?;
     let topic = Topic::new(alloc, text.as_str())?;
-    carried(alloc, one(alloc, line)?, HubChange::Topic(topic))
+    effect_for_all(alloc, one(alloc, line)?, HubChange::Topic(topic))
 }
 
 /// Makes the effect that all users who are present are told, and then the operator that it is done.
-fn carried<'a>(alloc: Global, others: Batch, change: HubChange) -> Result<Effect<'a>, AllocError>
-    ensures { IfOk result (λ effect. effect ≡ carried others change) }
+fn effect_for_all<'a>(
+    alloc: Global,
+    others: Batch,
+    change: HubChange,
+) -> Result<Effect<'a>, AllocError>
+    ensures { IfOk result (λ effect. effect ≡ effect_for_all (record { others = others; change = change })) }
 {
     Ok(Effect {
         own: one(alloc, done_line(alloc)?)?,
@@ -208,7 +211,7 @@ fn is_full(bans: &Bans, cid: Cid) -> bool
 }
 
 /// Answers whether a ban is held on an identifier. Of every ban something is left at the moment 0.
-#[tactic(auto, unfolding(operator_acts::specs::Bans::left), using(crate::proofs::Held::held_at_first))]
+#[tactic(auto, unfolding(operator_acts::specs::Bans::left_of_bans), using(crate::proofs::Held::held_at_first))]
 fn is_banned(bans: &Bans, cid: Cid) -> bool
     ensures { result ≡ is_some (ban_on bans.now cid) }
 {

@@ -1,14 +1,14 @@
 //! The findings of which the checks of a login, of an update and of a password are asked (ADC 1.0, "INF", "PAS").
 
 ghost use Rattle.std.specs.Prelude.{◌≡◌, IfOk};
-ghost use Rattle.hub_decisions.specs.Asks.{address_found, admission_found, amount_found, ban_found, entry_ask, good_if, identity_found, required_found, taken_if};
+ghost use Rattle.hub_decisions.specs.Asks.{address_found, admission_found, ban_found, entry_ask, good_if, identity_found, required_found, taken_if};
 ghost use Rattle.hub_rules.specs.Sights.{is_account};
 ghost use Rattle.user_table.specs.Listed.{Listed};
 
 use crate::present::{has_cid, has_key};
 use crate::sight::Sight;
 use adc_ids::Cid;
-use inf_fields::{dotted, shared_amount};
+use inf_fields::dotted_decimal;
 use login_state::{Address, Admission, Ban, Claim, EntryAsk, Identity, Required, Validity};
 use operator_acts::Left;
 use std::alloc::{AllocError, Global};
@@ -33,16 +33,6 @@ pub(crate) fn required_found(valid: bool, value: &str) -> Required
     match value.as_bytes() {
         [] => Required::Missing,
         [_, ..] => { if valid { Required::Good } else { Required::Bad } }
-    }
-}
-
-/// Tells whether a number is valid that need not be there.
-pub(crate) fn amount_found(value: &str) -> Validity
-    ensures { result ≡ amount_found value.now }
-{
-    match value.as_bytes() {
-        [] => Validity::Good,
-        [_, ..] => good_if(shared_amount(value).is_some()),
     }
 }
 
@@ -75,7 +65,7 @@ pub(crate) fn address_found(
     if address.is_empty() || address == "0.0.0.0" {
         return Ok(Address::Right);
     }
-    let seen = dotted(alloc, peer)?;
+    let seen = dotted_decimal(alloc, peer)?;
     if address == seen.as_str() {
         Ok(Address::Right)
     } else {

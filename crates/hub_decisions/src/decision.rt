@@ -3,18 +3,19 @@ ghost use Rattle.std.specs.Option.{option_copied};
 ghost use Rattle.adc_line.specs.Lines as lines;
 ghost use Rattle.hub_decisions.specs.Known.{IsKnown};
 ghost use Rattle.hub_decisions.specs.Requested.{effect_of_message};
-ghost use Rattle.hub_rules.specs.Effects.{heard, line_effect};
+ghost use Rattle.hub_rules.specs.Effects.{effect_of_reading, line_effect};
+ghost use Rattle.hub_rules.specs.Requests.{names_another};
 
 use crate::denial::denial;
 use crate::effect::nothing;
 use crate::own::Own;
-use crate::request::{refused, request_of};
 use crate::sight::Sight;
 use crate::{act, login, message, password, sup, update};
+use adc_base32::Sid;
 use adc_line::Line;
-use hub_rules::{Change, Effect, Request};
+use hub_rules::{Change, Effect};
 use hub_setup::{Prepared, Says};
-use login_state::{Deny, Stage};
+use login_state::{Deny, Request, Stage};
 use std::alloc::{AllocError, Global};
 use user_table::User;
 
@@ -45,12 +46,12 @@ pub fn decide<'a>(
     match line.says() {
         Says::Nothing => Ok(nothing(alloc)),
         Says::NoMessage => denial(alloc, own, Deny::Protocol),
-        Says::Message(message) => heard(alloc, hub, own, user, line, message, now),
+        Says::Message(message) => decide_message(alloc, hub, own, user, line, message, now),
     }
 }
 
 /// Decides what a message leads to, which the prepared line says.
-fn heard<'a>(
+fn decide_message<'a>(
     alloc: Global,
     hub: &Sight<'_>,
     own: &Own<'_>,
@@ -60,17 +61,18 @@ fn heard<'a>(
     now: u64,
 ) -> Result<Effect<'a>, AllocError>
     requires { lines.reading line.now.bytes ≡ Ok message.now }
-    ensures { IfOk result (λ effect. IsKnown own.now (option_copied user.entry) → effect ≡ heard hub.now own.now line.now now (Ok message.now)) }
+    ensures { IfOk result (λ effect. IsKnown own.now (option_copied user.entry) → effect ≡ effect_of_reading hub.now own.now line.now now (Ok message.now)) }
 {
-    if let Some(deny) = refused(own.stage, own.sid, message) {
-        return denial(alloc, own, deny);
+    if names_another(own.sid, message.from()) {
+        return denial(alloc, own, Deny::WrongSid);
     }
-    requested(alloc, hub, own, user, line, message, now)
+    decide_request(alloc, hub, own, user, line, message, now)
 }
 
-/// Decides what a message leads to that its connection may send: the rules of what it asks for, and what that is.
-#[tactic(auto, unfolding(hub_rules::specs::Denied::request_denied, hub_rules::specs::Effects::accepted))]
-fn requested<'a>(
+/// Decides what a message leads to that is in its connection's own name: whether it may be sent, the rules of what it asks for,
+/// and what that is.
+#[tactic(auto, unfolding(hub_rules::specs::Denied::request_denied, hub_rules::specs::Effects::accepted_effect))]
+fn decide_request<'a>(
     alloc: Global,
     hub: &Sight<'_>,
     own: &Own<'_>,
@@ -82,25 +84,35 @@ fn requested<'a>(
     requires { lines.reading line.now.bytes ≡ Ok message.now }
     ensures { IfOk result (λ effect. IsKnown own.now (option_copied user.entry) → effect ≡ effect_of_message hub.now own.now line.now now message.now) }
 {
-    let request = request_of(own.stage, message.kind(), message.command());
-    match request {
-        Request::Greeting => sup::greets(alloc, hub, own, message.params(), now),
-        Request::Login => login::logs_in(alloc, hub, own, line, now),
-        Request::Password => match user {
+    match own.stage.request(message.kind(), message.command()) {
+        Err(deny) => denial(alloc, own, deny),
+        Ok(Request::Greeting) => sup::greets(alloc, hub, own, message.params(), now),
+        Ok(Request::Login) => login::logs_in(alloc, hub, own, line, now),
+        Ok(Request::Password) => match user {
             Some(user) => password::enters(alloc, hub, own, user, message.params(), now),
             None => Ok(nothing(alloc)),
         },
-        Request::Update => match user {
+        Ok(Request::Update) => match user {
             Some(user) => update::updates(alloc, hub, own, user, line),
             None => Ok(nothing(alloc)),
         },
-        Request::Act => match user {
+        Ok(Request::Act) => match user {
             Some(user) => act::acts(alloc, hub, own, user, message.params(), now),
             None => Ok(nothing(alloc)),
         },
-        Request::Support => sup::learns(alloc, own, message.params()),
-        Request::Search => message::searches(alloc, hub, own, message, now),
-        Request::Message => message::passes_on(alloc, hub, message, Change::Nothing),
-        Request::Nothing => Ok(nothing(alloc)),
+        Ok(Request::Support) => sup::learns(alloc, own, message.params()),
+        Ok(Request::Search) => message::searches(alloc, hub, own, message, now),
+        Ok(Request::Message) => message::passes_on(alloc, hub, message, Change::Nothing),
+        Ok(Request::Nothing) => Ok(nothing(alloc)),
+    }
+}
+
+/// Tells whether a line says that another connection sent it.
+fn names_another(sid: Sid, from: Option<Sid>) -> bool
+    ensures { result ≡ names_another sid from }
+{
+    match from {
+        Some(other) => other.number() != sid.number(),
+        None => false,
     }
 }

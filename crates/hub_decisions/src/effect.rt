@@ -1,12 +1,13 @@
-ghost use Rattle.std.specs.Prelude.{◌≡◌, []};
+ghost use Rattle.std.specs.Prelude.{◌≡◌, [], ◌∷◌, ◌++◌, IfOk, OnOk};
 ghost use Rattle.hub_rules.specs.Quiet.{nothing};
 ghost use Rattle.hub_rules.specs.declared.effect.Change.TheVariants as changes;
 ghost use Rattle.hub_rules.specs.declared.effect.Hearers.TheVariants as hearers;
 
+use bytes::Bytes;
 use feature_route::Audience;
 use hub_rules::{Change, Effect, Hearers, SenderChange};
 use outboxes::Batch;
-use std::alloc::Global;
+use std::alloc::{AllocError, Global};
 
 /// Makes the effect by which nothing happens. Takes no memory.
 pub(crate) fn nothing<'a>(alloc: Global) -> Effect<'a>
@@ -46,5 +47,24 @@ pub(crate) fn publish<'a>(
         others,
         hearers: Hearers::Those(audience),
         change,
+    }
+}
+
+/// Makes a batch of one line.
+pub(crate) fn one(alloc: Global, line: Bytes) -> Result<Batch, AllocError>
+    ensures { IfOk result (λ batch. batch ≡ line ∷ []) }
+{
+    let mut batch = Batch::new(alloc);
+    push(&mut batch, line)?;
+    Ok(batch)
+}
+
+/// Adds a line at the end of a batch.
+pub(crate) fn push(batch: &mut Batch, line: Bytes) -> Result<(), AllocError>
+    ensures { OnOk result (batch.new ≡ batch.old ++ line ∷ []) }
+{
+    match batch.push(line) {
+        Ok(()) => Ok(()),
+        Err(_) => Err(AllocError),
     }
 }

@@ -1,12 +1,12 @@
-ghost use Rattle.std.specs.Prelude.{◌≡◌, ◌++◌, map, IfOk};
-ghost use Rattle.hub_rules.specs.Effects.{enters, given_if, line_of, welcome};
+ghost use Rattle.std.specs.Prelude.{◌≡◌, ◌++◌, [], map, IfOk, cond};
+ghost use Rattle.hub_rules.specs.Effects.{enters, line_of, welcome};
 ghost use Rattle.hub_rules.specs.Texts.{menu_line};
 ghost use Rattle.hub_rules.specs.declared.effect.Change.TheVariants.{Sender};
 ghost use Rattle.hub_rules.specs.declared.effect.SenderChange.TheVariants.{Enters};
 ghost use Rattle.login_state.specs.Mentions.{ucmd};
 ghost use Rattle.login_state.specs.Support.{has_feature};
 
-use crate::lines::{one, push};
+use crate::effect::{one, push};
 use crate::own::Own;
 use crate::sight::Sight;
 use bytes::Bytes;
@@ -55,7 +55,7 @@ fn welcome(
 
 /// Gives the batch with the menu at its end, where the client has one.
 fn with_menu(setup: &Setup, features: &Features, batch: Batch) -> Result<Batch, AllocError>
-    ensures { IfOk result (λ all. all ≡ batch ++ given_if (has_feature ucmd features.now) (map menu_line setup.now.menu)) }
+    ensures { IfOk result (λ all. all ≡ batch ++ cond (has_feature ucmd features.now) (map menu_line setup.now.menu) []) }
 {
     if !features.has(Feature::ucmd()) {
         return Ok(batch);

@@ -1,20 +1,20 @@
 ghost use Rattle.std.specs.Prelude.{◌≡◌, IfOk};
-ghost use Rattle.hub_rules.specs.Identities.{given};
+ghost use Rattle.hub_rules.specs.Identities.{value_or_empty};
 ghost use Rattle.inf_fields.specs.Cleaning.{clean};
 
 use inf_fields::{FieldName, Fields, Update};
 use std::alloc::{AllocError, Global};
 
 /// Gives the value that an update gives a field, and the empty text where it gives none.
-pub(crate) fn given(update: &Update, name: FieldName) -> &str
-    ensures { result.now ≡ given name update.now }
+pub(crate) fn value_in_update(update: &Update, name: FieldName) -> &str
+    ensures { result.now ≡ value_or_empty name update.now }
 {
     update.get(name).unwrap_or("")
 }
 
 /// Gives the value of a field, and the empty text where there is none.
-pub(crate) fn known(fields: &Fields, name: FieldName) -> &str
-    ensures { result.now ≡ given name fields.now }
+pub(crate) fn value_in_fields(fields: &Fields, name: FieldName) -> &str
+    ensures { result.now ≡ value_or_empty name fields.now }
 {
     fields.get(name).unwrap_or("")
 }

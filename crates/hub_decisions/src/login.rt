@@ -4,7 +4,7 @@ ghost use Rattle.hub_decisions.specs.Findings.{HasFoundId, IsAdmission, entry_fo
 ghost use Rattle.hub_decisions.specs.Requested.{effect_of_login, inf_in};
 ghost use Rattle.hub_rules.specs.Denied.{login_denied};
 ghost use Rattle.hub_rules.specs.Effects.{admits, entrant};
-ghost use Rattle.hub_rules.specs.Identities.{cid_in, key_in, listed};
+ghost use Rattle.hub_rules.specs.Identities.{cid_in, key_in, listed_user};
 ghost use Rattle.hub_rules.specs.Sights.{is_account, user_after};
 ghost use Rattle.inf_fields.specs.Cleaning.{clean};
 ghost use Rattle.inf_fields.specs.Merging.{merged_with};
@@ -13,14 +13,12 @@ ghost use Rattle.login_state.specs.Orders.{inf_rules};
 ghost use Rattle.user_table.specs.Listed.{Listed};
 
 use crate::asks::{
-    address_found, admission_found, amount_found, entry_ask, identity_found, is_account,
-    required_found,
+    address_found, admission_found, entry_ask, identity_found, is_account, required_found,
 };
 use crate::denial::denial;
-use crate::effect::answer;
+use crate::effect::{answer, one};
 use crate::entering;
-use crate::given::{given, known, passed_on};
-use crate::lines::one;
+use crate::given::{passed_on, value_in_fields, value_in_update};
 use crate::own::Own;
 use crate::sight::Sight;
 use crate::words::{is_nick, key_of};
@@ -51,7 +49,7 @@ pub(crate) fn logs_in<'a>(
     let Some(update) = line.update() else {
         return denial(alloc, own, Deny::Protocol);
     };
-    match checked(alloc, hub, own, line.owner(), update, now)? {
+    match user_of_login(alloc, hub, own, line.owner(), update, now)? {
         Ok(entrant) => admits(alloc, hub, own, line, entrant),
         Err(deny) => denial(alloc, own, deny),
     }
@@ -81,7 +79,7 @@ fn admits<'a>(
 }
 
 /// Makes the user of a login, or tells why it is denied.
-fn checked(
+fn user_of_login(
     alloc: Global,
     hub: &Sight<'_>,
     own: &Own<'_>,
@@ -92,8 +90,8 @@ fn checked(
     ensures { IfOk result (λ answer. own.now.fields ≡ [] → IsAdmission answer (login_denied hub.now own.now owner now (Ok update.now)) (user_after own.now update.now)) }
 {
     let fields = made_known(alloc, own, update)?;
-    let key = key_of(alloc, known(&fields, FieldName::nick()))?;
-    let cid = Cid::parse(given(update, FieldName::id()).as_bytes());
+    let key = key_of(alloc, value_in_fields(&fields, FieldName::nick()))?;
+    let cid = Cid::parse(value_in_update(update, FieldName::id()).as_bytes());
     let ask = login_found(alloc, hub, own, owner, update, cid, &key, now)?;
     match verdict(&ask, cid) {
         Ok(cid) => Ok(Ok(entrant(alloc, own.sid, cid, key, fields)?)),
@@ -127,16 +125,22 @@ fn login_found(
 ) -> Result<InfAsk, AllocError>
     ensures { IfOk result (λ ask. ask ≡ login_found hub.now own.now now owner update.now cid key.now) }
 {
-    let nick = given(update, FieldName::nick());
+    let nick = value_in_update(update, FieldName::nick());
     let is_nick = is_nick(alloc, nick)?;
-    let address = address_found(alloc, own.peer, given(update, FieldName::address()))?;
+    let address = address_found(
+        alloc,
+        own.peer,
+        value_in_update(update, FieldName::address()),
+    )?;
     Ok(InfAsk {
         words: Validity::Good,
-        id: required_found(cid.is_some(), given(update, FieldName::id())),
-        pid: required_found(owner.is_some(), given(update, FieldName::private_id())),
+        id: required_found(cid.is_some(), value_in_update(update, FieldName::id())),
+        pid: required_found(
+            owner.is_some(),
+            value_in_update(update, FieldName::private_id()),
+        ),
         nick: required_found(is_nick, nick),
-        share_size: amount_found(given(update, FieldName::share_size())),
-        shared_files: amount_found(given(update, FieldName::shared_files())),
+        bad_number: update.bad_number(),
         identity: identity_found(cid, owner),
         address,
         admission: admission_found(hub, key),
@@ -181,9 +185,9 @@ fn entrant(
     key: String,
     fields: Fields,
 ) -> Result<Entrant, AllocError>
-    ensures { IfOk result (λ made. cid ≡ cid_in fields → string_bytes key ≡ key_in fields → made ≡ entrant (listed sid fields)) }
+    ensures { IfOk result (λ made. cid ≡ cid_in fields → string_bytes key ≡ key_in fields → made ≡ entrant (listed_user sid fields)) }
 {
-    let support = FeatureSet::read(alloc, known(&fields, FieldName::support()))?;
+    let support = FeatureSet::read(alloc, value_in_fields(&fields, FieldName::support()))?;
     Ok(Entrant {
         user: User::new(sid, cid, key, fields),
         support,

@@ -3,8 +3,7 @@ ghost use Rattle.hub_decisions.specs.Requested.{effect_of_search};
 ghost use Rattle.hub_rules.specs.Effects.{is_target_here, passes_on};
 
 use crate::denial::denial;
-use crate::effect::publish;
-use crate::lines::one;
+use crate::effect::{one, publish};
 use crate::own::Own;
 use crate::present::has_sid;
 use crate::sight::Sight;

@@ -34,14 +34,14 @@ pub(crate) fn enters<'a>(
 ) -> Result<Effect<'a>, AllocError>
     ensures { IfOk result (λ effect. IsUser own.now user.now → effect ≡ effect_of_password hub.now own.now now (words_left words.entry)) }
 {
-    match denied(hub, own, user, words, now) {
+    match password_denial(hub, own, user, words, now) {
         Check::Deny(deny) => denial(alloc, own, deny),
         Check::Go => entering::enters(alloc, hub, own, user),
     }
 }
 
 /// Tells whether the password is wrong, and then whether the user may still enter.
-fn denied(hub: &Sight<'_>, own: &Own<'_>, user: &User, words: Words<'_>, now: u64) -> Check
+fn password_denial(hub: &Sight<'_>, own: &Own<'_>, user: &User, words: Words<'_>, now: u64) -> Check
     ensures { IsUser own.now user.now → denial_of result ≡ password_denied hub.now own.now now (words_left words.entry) }
 {
     match check_digest(own, digest_given(words)) {

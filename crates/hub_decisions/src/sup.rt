@@ -3,11 +3,10 @@ ghost use Rattle.std.specs.String.{string_bytes};
 ghost use Rattle.adc_line.specs.WordsLeft.{words_left};
 ghost use Rattle.hub_decisions.specs.Requested.{Supports, effect_of_greeting, effect_of_support};
 ghost use Rattle.hub_rules.specs.Effects.{greeting, ping_of};
-ghost use Rattle.login_state.specs.SupportAnswers.{applied};
+ghost use Rattle.login_state.specs.SupportAnswers.{support_after};
 
 use crate::denial::denial;
-use crate::effect::answer;
-use crate::lines::{one, push};
+use crate::effect::{answer, one, push};
 use crate::own::Own;
 use crate::sight::Sight;
 use adc_line::Words;
@@ -32,7 +31,7 @@ pub(crate) fn greets<'a>(
 ) -> Result<Effect<'a>, AllocError>
     ensures { IfOk result (λ effect. effect ≡ effect_of_greeting hub.now own.now now (words_left words.entry)) }
 {
-    let features = match supported(alloc, own.features, words)? {
+    let features = match features_after(alloc, own.features, words)? {
         Ok(features) => features,
         Err(deny) => return denial(alloc, own, deny),
     };
@@ -52,7 +51,7 @@ pub(crate) fn learns<'a>(
 ) -> Result<Effect<'a>, AllocError>
     ensures { IfOk result (λ effect. effect ≡ effect_of_support own.now (words_left words.entry)) }
 {
-    let features = match supported(alloc, own.features, words)? {
+    let features = match features_after(alloc, own.features, words)? {
         Ok(features) => features,
         Err(deny) => return denial(alloc, own, deny),
     };
@@ -61,12 +60,12 @@ pub(crate) fn learns<'a>(
 }
 
 /// Gives what a client supports after a SUP, or why it is denied.
-fn supported(
+fn features_after(
     alloc: Global,
     before: &Features,
     words: Words<'_>,
 ) -> Result<Result<Features, Deny>, AllocError>
-    ensures { IfOk result (λ answer. Supports answer (applied before.now (words_left words.entry))) }
+    ensures { IfOk result (λ answer. Supports answer (support_after before.now (words_left words.entry))) }
 {
     let features = match before.apply(alloc, words) {
         Ok(features) => features,

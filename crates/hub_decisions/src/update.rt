@@ -1,12 +1,12 @@
-ghost use Rattle.std.specs.Prelude.{◌≡◌, not, IfOk, Some, if◌then◌else◌};
+ghost use Rattle.std.specs.Prelude.{◌≡◌, not, IfOk, Some, if◌then◌else◌, ℕ, List, chars};
 ghost use Rattle.std.specs.Option.{option_map, unwrap_or};
 ghost use Rattle.std.specs.String.{string_bytes};
 ghost use Rattle.feature_route.specs.Matching.{feature_set};
 ghost use Rattle.hub_decisions.specs.Known.{IsUser};
 ghost use Rattle.hub_decisions.specs.Requested.{effect_of_update, inf_in};
 ghost use Rattle.hub_decisions.specs.Asks.{account_found, nick_found, own_if_given, update_ask};
-ghost use Rattle.hub_rules.specs.Effects.{line_unless_empty, nick_points, update_effect};
-ghost use Rattle.hub_rules.specs.Identities.{given, key_in, su_in};
+ghost use Rattle.hub_rules.specs.Effects.{line_unless_empty, update_effect};
+ghost use Rattle.hub_rules.specs.Identities.{value_or_empty, key_in, meaning, su_in};
 ghost use Rattle.hub_rules.specs.Sights.{another_has_key, user_after};
 ghost use Rattle.inf_fields.specs.Cleaning.{clean};
 ghost use Rattle.inf_fields.specs.Field.{value_of};
@@ -15,11 +15,10 @@ ghost use Rattle.inf_fields.specs.Merging.{fits, merged_with};
 ghost use Rattle.login_state.specs.declared.findings.Size.TheVariants.{Fits, TooMany};
 ghost use Rattle.user_table.specs.Tables.{has_sid};
 
-use crate::asks::{address_found, amount_found, good_if, is_account, taken_if};
+use crate::asks::{address_found, good_if, is_account, taken_if};
 use crate::denial::denial;
-use crate::effect::publish;
-use crate::given::{given, known, passed_on};
-use crate::lines::one;
+use crate::effect::{one, publish};
+use crate::given::{passed_on, value_in_fields, value_in_update};
 use crate::own::Own;
 use crate::sight::Sight;
 use crate::words::{is_nick, key_of, meaning};
@@ -51,12 +50,12 @@ pub(crate) fn updates<'a>(
     let Some(update) = line.update() else {
         return denial(alloc, own, Deny::Protocol);
     };
-    changed(alloc, hub, own, user, update)
+    decide_change(alloc, hub, own, user, update)
 }
 
 /// Decides what an update leads to whose words say this.
-#[tactic(auto, unfolding(hub_rules::specs::Identities::listed))]
-fn changed<'a>(
+#[tactic(auto, unfolding(hub_rules::specs::Identities::listed_user))]
+fn decide_change<'a>(
     alloc: Global,
     hub: &Sight<'_>,
     own: &Own<'_>,
@@ -69,7 +68,7 @@ fn changed<'a>(
     let ask = update_found(alloc, hub, own, user, update, &cleaned)?;
     match check_update(&ask) {
         Check::Deny(deny) => denial(alloc, own, deny),
-        Check::Go => told(alloc, own, user, cleaned),
+        Check::Go => effect_of_update(alloc, own, user, cleaned),
     }
 }
 
@@ -86,13 +85,16 @@ fn update_found(
     ensures { IfOk result (λ ask. IsUser own.now user.now → ask ≡ update_ask hub.now own.now update.now (user_after own.now update.now)) }
 {
     let key = key_after(alloc, user, cleaned)?;
-    let address = address_found(alloc, own.peer, given(update, FieldName::address()))?;
+    let address = address_found(
+        alloc,
+        own.peer,
+        value_in_update(update, FieldName::address()),
+    )?;
     let nick = nick_found(alloc, update)?;
     Ok(UpdateAsk {
         words: Validity::Good,
         identity: own_if_given(user.fields(), update),
-        share_size: amount_found(given(update, FieldName::share_size())),
-        shared_files: amount_found(given(update, FieldName::shared_files())),
+        bad_number: update.bad_number(),
         nick,
         account: account_found(hub, user.key(), &key),
         address,
@@ -118,7 +120,7 @@ fn own_if_given(fields: &Fields, update: &Update) -> Identity
     let Some(id) = update.get(FieldName::id()) else {
         return Identity::Own;
     };
-    if id == known(fields, FieldName::id()) {
+    if id == value_in_fields(fields, FieldName::id()) {
         Identity::Own
     } else {
         Identity::Foreign
@@ -173,8 +175,8 @@ fn is_another(user: &User, sid: Sid) -> bool
 }
 
 /// Makes the effect by which all users who are present hear what changes.
-#[tactic(auto, unfolding(hub_rules::specs::Identities::listed))]
-fn told<'a>(
+#[tactic(auto, unfolding(hub_rules::specs::Identities::listed_user))]
+fn effect_of_update<'a>(
     alloc: Global,
     own: &Own<'_>,
     user: &User,
@@ -205,7 +207,7 @@ fn line_unless_empty(alloc: Global, sid: Sid, update: &Update) -> Result<Batch, 
 
 /// Reads the nick that an update gives. One that is none was denied, so it does not come here.
 fn nick_in(alloc: Global, update: &Update) -> Result<Option<Nick>, AllocError>
-    ensures { IfOk result (λ nick. nick ≡ option_map nick_points (value_of nick_name update.now)) }
+    ensures { IfOk result (λ nick. nick ≡ option_map (λ (word : List ℕ). chars (meaning word)) (value_of nick_name update.now)) }
 {
     let Some(word) = update.get(FieldName::nick()) else {
         return Ok(None);
@@ -226,10 +228,10 @@ fn support_after(alloc: Global, fields: &Fields, update: &Update) -> Result<Feat
 
 /// Gives the field SU after the update.
 fn support_text<'a>(fields: &'a Fields, update: &'a Update) -> &'a str
-    ensures { result.now ≡ unwrap_or (value_of support_name update.now) (given support_name fields.now) }
+    ensures { result.now ≡ unwrap_or (value_of support_name update.now) (value_or_empty support_name fields.now) }
 {
     match update.get(FieldName::support()) {
         Some(support) => support,
-        None => known(fields, FieldName::support()),
+        None => value_in_fields(fields, FieldName::support()),
     }
 }

@@ -1,47 +1,47 @@
 -- One view of what a call makes of a connection. Each law that every call keeps is a walk over these cases.
-use Rattle.std.proofs.Common.{◌≡◌, ap, ap₂, refl, subst, ℕ, ◌+◌, Bool, true, false, ◌&&◌, ◌==◌, List, length, take}
+use Rattle.std.proofs.Common.{◌≡◌, ap, ap₂, refl, subst, ℕ, ◌+◌, Bool, true, false, ◌&&◌, ◌==◌, List, length, take, cond}
 use Rattle.std.proofs.lemmas.Bool.{eqb-true}
 use Rattle.hub_rules.specs.declared.history.Call.{Call}
 use Rattle.hub_rules.specs.declared.history.Call.TheVariants.{Join, Line, Quit, Take}
 use Rattle.hub_rules.specs.Configured.{Configured}
 use Rattle.hub_rules.specs.Effects.{departure}
-use Rattle.hub_rules.specs.Facts.{Facts, after, closed, effect_of_line, given, happens, has_joins, has_place, joined, newcomer, next_sid, with_one}
-use Rattle.hub_rules.specs.Shares.{About, affected, chosen, waiting}
+use Rattle.hub_rules.specs.Facts.{Facts, after, without_connection, effect_of_line, with_lines_taken, happens, has_joins, has_place, with_connection, newcomer, next_sid, with_one}
+use Rattle.hub_rules.specs.Shares.{About, affected_connection, waiting}
 
 -- a connection of which so many lines are taken, where they are its own
 abbrev pub taken_by : Bool → ℕ → About → About
-taken_by same count a = record a { taken = chosen same (a.taken + length (take count (waiting a))) a.taken }
+taken_by same count a = record a { taken = cond same (a.taken + length (take count (waiting a))) a.taken }
 
 pub data Becomes (setup : Configured) (hash : List ℕ → List ℕ) (f : Facts) (caller d : ℕ) : Call → About → Type 0 where
   -- it is the one that joins, or another is, or none
   joins : (peer challenge : List ℕ) (now : ℕ) → (has_place setup f && has_joins f && (d == (f.joins + 1))) ≡ true → d ≡ f.joins + 1
       → Becomes setup hash f caller d (Join peer challenge now) (newcomer caller (next_sid f) peer challenge)
   misses : (peer challenge : List ℕ) (now : ℕ) → (has_place setup f && has_joins f && (d == (f.joins + 1))) ≡ false → Becomes setup hash f caller d (Join peer challenge now) (f.about d)
-  says : (c : ℕ) (bytes : List ℕ) (now : ℕ) → Becomes setup hash f caller d (Line c bytes now) (affected (d == c) (effect_of_line setup hash f c bytes now) (f.about d))
-  quits : (c : ℕ) → Becomes setup hash f caller d (Quit c) (affected (d == c) (departure (f.about c).stage (f.about c).sid) (f.about d))
+  says : (c : ℕ) (bytes : List ℕ) (now : ℕ) → Becomes setup hash f caller d (Line c bytes now) (affected_connection (d == c) (effect_of_line setup hash f c bytes now) (f.about d))
+  quits : (c : ℕ) → Becomes setup hash f caller d (Quit c) (affected_connection (d == c) (departure (f.about c).stage (f.about c).sid) (f.about d))
   takes : (c count : ℕ) → Becomes setup hash f caller d (Take c count) (taken_by (d == c) count (f.about d))
 
-take-one : (count : ℕ) (a : About) (same : Bool) → taken_by same count a ≡ chosen same (given count a) a
+take-one : (count : ℕ) (a : About) (same : Bool) → taken_by same count a ≡ cond same (with_lines_taken count a) a
 take-one count a true = refl
 take-one count a false = refl
 
-pub take-facts : (c count : ℕ) (f : Facts) → record f { about = λ d. taken_by (d == c) count (f.about d) } ≡ record f { about = with_one c (given count) f.about }
+pub take-facts : (c count : ℕ) (f : Facts) → record f { about = λ d. taken_by (d == c) count (f.about d) } ≡ record f { about = with_one c (with_lines_taken count) f.about }
 take-facts c count f = λ i. record f { about = λ d. take-one count (f.about d) (d == c) i }
 
 module _ (setup : Configured) (hash : List ℕ → List ℕ) (f : Facts) (caller d : ℕ) where
   by-number : (peer challenge : List ℕ) (now : ℕ) (same : Bool) → (d == (f.joins + 1)) ≡ same → (has_place setup f && has_joins f) ≡ true
-      → Becomes setup hash f caller d (Join peer challenge now) (chosen same (newcomer caller (next_sid f) peer challenge) (f.about d))
+      → Becomes setup hash f caller d (Join peer challenge now) (cond same (newcomer caller (next_sid f) peer challenge) (f.about d))
   by-number peer challenge now true is place = Becomes.joins peer challenge now (ap₂ ◌&&◌ place is) (eqb-true d (f.joins + 1) is)
   by-number peer challenge now false is place = Becomes.misses peer challenge now (ap₂ ◌&&◌ place is)
 
   by-place : (peer challenge : List ℕ) (now : ℕ) (accepted : Bool) → (has_place setup f && has_joins f) ≡ accepted
-      → Becomes setup hash f caller d (Join peer challenge now) ((chosen accepted (joined f caller peer challenge) f).about d)
-  unfolding joined
+      → Becomes setup hash f caller d (Join peer challenge now) ((cond accepted (with_connection f caller peer challenge) f).about d)
+  unfolding with_connection
   by-place peer challenge now true place = by-number peer challenge now (d == (f.joins + 1)) refl place
   by-place peer challenge now false place = Becomes.misses peer challenge now (ap (λ b. b && (d == (f.joins + 1))) place)
 
   pub becomes : (call : Call) → Becomes setup hash f caller d call ((after setup hash f caller call).about d)
-  unfolding after happens closed
+  unfolding after happens without_connection
   becomes (Join peer challenge now) = by-place peer challenge now (has_place setup f && has_joins f) refl
   becomes (Line c bytes now) = Becomes.says c bytes now
   becomes (Quit c) = Becomes.quits c

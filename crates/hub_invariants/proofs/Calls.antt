@@ -1,5 +1,5 @@
 -- After every history, legal or not, the facts are sound.
-use Rattle.std.proofs.Common.{◌≡◌, ◌∙◌, sym, ap, ap₂, refl, ℕ, ◌+◌, ◌<◌, ◌≤◌, Bool, true, false, not, ◌&&◌, ◌||◌, ◌==◌, eqb, List, [], ◌∷◌, ◌++◌, length, filter, arith, length-take, length-drop, subst}
+use Rattle.std.proofs.Common.{◌≡◌, ◌∙◌, sym, ap, ap₂, refl, ℕ, ◌+◌, ◌<◌, ◌≤◌, Bool, true, false, not, ◌&&◌, ◌||◌, ◌==◌, eqb, List, [], ◌∷◌, ◌++◌, length, filter, arith, length-take, length-drop, subst, cond}
 use Rattle.std.proofs.lemmas.Bool.{false≢true, eqb-true, eq-eqb, and_parts}
 use Rattle.login_state.specs.declared.stage.Stage.{Stage}
 use Rattle.login_state.specs.declared.stage.Stage.TheVariants as stages
@@ -8,8 +8,8 @@ use Rattle.hub_rules.specs.declared.history.Call.TheVariants.{Join, Line, Quit, 
 use Rattle.hub_rules.specs.declared.history.Entry.{Entry}
 use Rattle.hub_rules.specs.Configured.{Configured}
 use Rattle.hub_rules.specs.Effects.{is_over, is_present, departure}
-use Rattle.hub_rules.specs.Facts.{Facts, facts, after, joined, closed, happens, given, has_place, has_joins, newcomer, next_sid, with_one, effect_of_line}
-use Rattle.hub_rules.specs.Shares.{About, chosen, waiting}
+use Rattle.hub_rules.specs.Facts.{Facts, facts, after, with_connection, without_connection, happens, with_lines_taken, has_place, has_joins, newcomer, next_sid, with_one, effect_of_line}
+use Rattle.hub_rules.specs.Shares.{About, waiting}
 use Rattle.hub_invariants.proofs.Becoming.{take-facts, taken_by}
 use Rattle.hub_invariants.proofs.Fits.{fits-departure}
 use Rattle.hub_invariants.proofs.Lines.{fits-line}
@@ -38,7 +38,7 @@ absent-newcomer f sound =
     present-over (f.about (f.joins + 1)).stage (over-unless f sound (f.joins + 1) (not-open f sound) (is_over (f.about (f.joins + 1)).stage) refl)
 
 join-open : (f : Facts) (owner : ℕ) (peer challenge : List ℕ) → Sound f → (d : ℕ) (same : Bool) → (d == (f.joins + 1)) ≡ same
-    → is_over (chosen same (newcomer owner (next_sid f) peer challenge) (f.about d)).stage ≡ false → has d (f.opened ++ (f.joins + 1) ∷ []) ≡ true
+    → is_over (cond same (newcomer owner (next_sid f) peer challenge) (f.about d)).stage ≡ false → has d (f.opened ++ (f.joins + 1) ∷ []) ≡ true
 join-open f owner peer challenge sound d true is open_after =
     has-append d f.opened ((f.joins + 1) ∷ [])
     ∙ ap (λ b. has d f.opened || (b || false)) (eq-eqb (f.joins + 1) d (sym (eqb-true d (f.joins + 1) is)))
@@ -51,18 +51,18 @@ join-counted f sound d true is there = omega (arith, sound.counted d is)
 join-counted f sound d false is there = let same : f.joins + 1 ≡ d = eqb-true (f.joins + 1) d (sym (or-false (eqb (f.joins + 1) d)) ∙ there) in omega (arith, same)
 
 join-entered : (f : Facts) (owner : ℕ) (peer challenge : List ℕ) → Sound f → (d : ℕ) (same : Bool) → (d == (f.joins + 1)) ≡ same
-    → has d f.present ≡ is_present (chosen same (newcomer owner (next_sid f) peer challenge) (f.about d)).stage
+    → has d f.present ≡ is_present (cond same (newcomer owner (next_sid f) peer challenge) (f.about d)).stage
 join-entered f owner peer challenge sound d true is =
     ap (λ x. has x f.present) (eqb-true d (f.joins + 1) is) ∙ sound.entered (f.joins + 1) ∙ absent-newcomer f sound
 join-entered f owner peer challenge sound d false is = sound.entered d
 
 join-taken : (f : Facts) (owner : ℕ) (peer challenge : List ℕ) → Sound f → (d : ℕ) (same : Bool)
-    → (chosen same (newcomer owner (next_sid f) peer challenge) (f.about d)).taken ≤ length (chosen same (newcomer owner (next_sid f) peer challenge) (f.about d)).owed
+    → (cond same (newcomer owner (next_sid f) peer challenge) (f.about d)).taken ≤ length (cond same (newcomer owner (next_sid f) peer challenge) (f.about d)).owed
 join-taken f owner peer challenge sound d true = omega arith
 join-taken f owner peer challenge sound d false = sound.taken d
 
-joined-sound : (f : Facts) (owner : ℕ) (peer challenge : List ℕ) → Sound f → Sound (joined f owner peer challenge)
-unfolding joined
+joined-sound : (f : Facts) (owner : ℕ) (peer challenge : List ℕ) → Sound f → Sound (with_connection f owner peer challenge)
+unfolding with_connection
 joined-sound f owner peer challenge sound = record {
   open_once = apart-push (f.joins + 1) f.opened (not-open f sound) sound.open_once;
   counted = λ d there. join-counted f sound d (has d f.opened) refl (sym (has-append d f.opened ((f.joins + 1) ∷ [])) ∙ there);
@@ -78,8 +78,8 @@ left-open : (c d : ℕ) (xs : List ℕ) (same : Bool) → (d == c) ≡ same → 
 left-open c d xs true is there other = absurd (other refl)
 left-open c d xs false is there other = has-filter (λ x. not (x == c)) d xs ∙ ap₂ (λ a b. a && not b) there is
 
-closed-sound : (c : ℕ) (f : Facts) → is_over (f.about c).stage ≡ true → Sound f → Sound (closed c f)
-unfolding closed
+closed-sound : (c : ℕ) (f : Facts) → is_over (f.about c).stage ≡ true → Sound f → Sound (without_connection c f)
+unfolding without_connection
 closed-sound c f over sound = record {
   open_once = apart-filter (λ x. not (x == c)) f.opened sound.open_once;
   counted = λ d there. sound.counted d ((and_parts (has d f.opened) (not (d == c)) (sym (has-filter (λ x. not (x == c)) d f.opened) ∙ there)).0);
@@ -96,7 +96,7 @@ taken-few : (same : Bool) (count : ℕ) (a : About) → a.taken ≤ length a.owe
 taken-few true count a few = omega (arith, few, length-take count (waiting a), length-drop a.taken a.owed)
 taken-few false count a few = few
 
-taken-sound : (c count : ℕ) (f : Facts) → Sound f → Sound (record f { about = with_one c (given count) f.about })
+taken-sound : (c count : ℕ) (f : Facts) → Sound f → Sound (record f { about = with_one c (with_lines_taken count) f.about })
 taken-sound c count f sound = subst Sound (take-facts c count f) (record {
   open_once = sound.open_once;
   counted = sound.counted;
@@ -108,7 +108,7 @@ taken-sound c count f sound = subst Sound (take-facts c count f) (record {
 
 -- ---- every call
 
-join-sound : (f : Facts) (owner : ℕ) (peer challenge : List ℕ) (accepted : Bool) → Sound f → Sound (chosen accepted (joined f owner peer challenge) f)
+join-sound : (f : Facts) (owner : ℕ) (peer challenge : List ℕ) (accepted : Bool) → Sound f → Sound (cond accepted (with_connection f owner peer challenge) f)
 join-sound f owner peer challenge true sound = joined-sound f owner peer challenge sound
 join-sound f owner peer challenge false sound = sound
 

@@ -1,4 +1,4 @@
--- What the effects of lines have in common, that lets the facts stay sound.
+-- Effects of lines let the facts stay sound.
 use Rattle.std.proofs.Common.{◌≡◌, ◌∙◌, sym, refl, ℕ, true, false}
 use Rattle.std.proofs.lemmas.Bool.{false≢true}
 use Rattle.login_state.specs.declared.stage.Stage.{Stage}

@@ -1,5 +1,5 @@
--- What every history keeps, from what is sound of its facts.
-use Rattle.std.proofs.Common.{◌≡◌, ◌∙◌, sym, ap, ap₂, refl, ℕ, ◌+◌, ◌<◌, ◌≤◌, Bool, true, false, not, ◌&&◌, ◌||◌, ◌==◌, eqb, List, [], ◌∷◌, ◌++◌, length, take, map, arith, length-take}
+-- Every history keeps these, from what is sound of its facts.
+use Rattle.std.proofs.Common.{◌≡◌, ◌∙◌, sym, ap, ap₂, refl, ℕ, ◌+◌, ◌<◌, ◌≤◌, Bool, true, false, not, ◌&&◌, ◌||◌, ◌==◌, eqb, List, [], ◌∷◌, ◌++◌, length, take, map, arith, length-take, cond}
 use Rattle.std.specs.List.{concat}
 use Rattle.std.proofs.Math.Seq.{take-add}
 use Rattle.std.proofs.lemmas.List.{take_min}
@@ -13,10 +13,10 @@ use Rattle.hub_rules.specs.declared.history.Entry.{Entry}
 use Rattle.hub_rules.specs.declared.history.Reply.{Reply}
 use Rattle.hub_rules.specs.Configured.{Configured}
 use Rattle.hub_rules.specs.Effects.{is_over, is_present}
-use Rattle.hub_rules.specs.Facts.{Facts, facts, after, joined, closed, happens, given, has_place, has_joins}
+use Rattle.hub_rules.specs.Facts.{Facts, facts, after, with_connection, without_connection, happens, with_lines_taken, has_place, has_joins}
 use Rattle.hub_rules.specs.Legal.{Legal, MayCall, reply, take_reply}
 use Rattle.hub_rules.specs.Promises.{FewAreOpen, OthersAreOut, PresentAreUsers, SidsAreGiven, SidsDiffer, TakenIsTheSum, UsersAreOpen, lines_of_take, lines_taken, taken_in}
-use Rattle.hub_rules.specs.Shares.{About, chosen, waiting}
+use Rattle.hub_rules.specs.Shares.{About, waiting}
 use Rattle.hub_invariants.proofs.Becoming.{Becomes, becomes, taken_by}
 use Rattle.hub_invariants.proofs.Calls.{over-unless, sound_of}
 use Rattle.hub_invariants.proofs.Members.{apart, both, has}
@@ -102,7 +102,7 @@ take-of_taken : (count : ℕ) (xs : List (List ℕ)) → take (length (take coun
 take-of_taken count xs = rw length-take (take_min count xs)
 
 -- the bytes that were taken after a take: those that were taken before it, and what it gave
-pub given-bytes : (count : ℕ) (a : About) → concat (take (given count a).taken (given count a).owed) ≡ concat (take a.taken a.owed) ++ concat (take count (waiting a))
+pub given-bytes : (count : ℕ) (a : About) → concat (take (with_lines_taken count a).taken (with_lines_taken count a).owed) ≡ concat (take a.taken a.owed) ++ concat (take count (waiting a))
 given-bytes count a =
     ap concat (take-add a.taken (length (take count (waiting a))) a.owed ∙ ap (λ xs. take a.taken a.owed ++ xs) (take-of_taken count (waiting a)))
     ∙ concat-append (take a.taken a.owed) (take count (waiting a))
@@ -128,13 +128,13 @@ step-taken : (setup : Configured) (hash : List ℕ → List ℕ) (f : Facts) (ca
     → ((after setup hash f caller call).about d).taken ≡ (f.about d).taken + lines_taken d call (reply setup hash f caller call)
 step-taken setup hash f caller call d = taken-after (becomes setup hash f caller d call)
 
-joins-kept : (f : Facts) (owner : ℕ) (peer challenge : List ℕ) (accepted : Bool) → f.joins ≤ (chosen accepted (joined f owner peer challenge) f).joins
-unfolding joined
+joins-kept : (f : Facts) (owner : ℕ) (peer challenge : List ℕ) (accepted : Bool) → f.joins ≤ (cond accepted (with_connection f owner peer challenge) f).joins
+unfolding with_connection
 joins-kept f owner peer challenge true = omega arith
 joins-kept f owner peer challenge false = omega arith
 
 pub joins-grow : (setup : Configured) (hash : List ℕ → List ℕ) (f : Facts) (caller : ℕ) (call : Call) → f.joins ≤ (after setup hash f caller call).joins
-unfolding after happens closed
+unfolding after happens without_connection
 joins-grow setup hash f caller (Join peer challenge now) = joins-kept f caller peer challenge (has_place setup f && has_joins f)
 joins-grow setup hash f caller _ = omega arith
 

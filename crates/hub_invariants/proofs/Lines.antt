@@ -1,11 +1,11 @@
--- What a line leads to suits the stage of its connection.
+-- The effect of a line suits the stage of its connection.
 use Rattle.std.proofs.Common.{◌≡◌, ◌∙◌, sym, ap, refl, ℕ, false, List, Option}
 use Rattle.std.proofs.lemmas.Bool.{false≢true}
 use Rattle.adc_line.specs.Lines.{Reading}
 use Rattle.login_state.specs.declared.stage.Stage.{Stage}
 use Rattle.login_state.specs.declared.stage.Stage.TheVariants as stages
 use Rattle.hub_rules.specs.declared.effect.Effect.{Effect}
-use Rattle.hub_rules.specs.declared.request.Request.{Request}
+use Rattle.login_state.specs.declared.request.Request.{Request}
 use Rattle.hub_rules.specs.Configured.{Configured}
 use Rattle.hub_rules.specs.Effects.{is_over, is_present}
 use Rattle.hub_rules.specs.Facts.{Facts, effect_of_line}

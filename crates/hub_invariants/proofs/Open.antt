@@ -1,5 +1,5 @@
 -- Open are the connections that joined and did not quit.
-use Rattle.std.proofs.Common.{◌≡◌, ◌∙◌, sym, ap, ap₂, refl, ℕ, ◌+◌, ◌<◌, Bool, true, false, not, ◌&&◌, ◌||◌, ◌==◌, eqb, List, [], ◌∷◌, arith}
+use Rattle.std.proofs.Common.{◌≡◌, ◌∙◌, sym, ap, ap₂, refl, ℕ, ◌+◌, ◌<◌, Bool, true, false, not, ◌&&◌, ◌||◌, ◌==◌, eqb, List, [], ◌∷◌, arith, cond}
 use Rattle.std.proofs.Math.Bool.{and-true}
 use Rattle.std.proofs.lemmas.Bool.{eqb-true}
 use Rattle.hub_rules.specs.declared.effect.Effect.{Effect}
@@ -8,10 +8,9 @@ use Rattle.hub_rules.specs.declared.history.Call.TheVariants.{Join, Line, Quit, 
 use Rattle.hub_rules.specs.declared.history.Entry.{Entry}
 use Rattle.hub_rules.specs.Configured.{Configured}
 use Rattle.hub_rules.specs.Effects.{departure}
-use Rattle.hub_rules.specs.Facts.{Facts, facts, after, closed, effect_of_line, happens, has_joins, has_place, joined}
+use Rattle.hub_rules.specs.Facts.{Facts, facts, after, without_connection, effect_of_line, happens, has_joins, has_place, with_connection}
 use Rattle.hub_rules.specs.Legal.{Legal, MayCall, join_reply, reply}
 use Rattle.hub_rules.specs.Opening.{OpenAreThoseThatStayed, has_joined, has_quit, joins_as, quits}
-use Rattle.hub_rules.specs.Shares.{chosen}
 use Rattle.hub_invariants.proofs.Calls.{sound_of}
 use Rattle.hub_invariants.proofs.Kept.{joins-grow}
 use Rattle.hub_invariants.proofs.Members.{and-false, has, has-append, has-filter}
@@ -36,21 +35,21 @@ never-quit setup hash (e ∷ h) legal c beyond =
 
 -- ---- one call
 
-joined-opened : (f : Facts) (owner : ℕ) (peer challenge : List ℕ) (c : ℕ) → has c (joined f owner peer challenge).opened ≡ (has c f.opened || eqb (f.joins + 1) c)
-unfolding joined
+joined-opened : (f : Facts) (owner : ℕ) (peer challenge : List ℕ) (c : ℕ) → has c (with_connection f owner peer challenge).opened ≡ (has c f.opened || eqb (f.joins + 1) c)
+unfolding with_connection
 joined-opened f owner peer challenge c = has-append c f.opened ((f.joins + 1) ∷ []) ∙ ap (λ b. has c f.opened || b) (or-false (eqb (f.joins + 1) c))
 
 -- a join: the one that it makes has not quit
-join-stays : (new before joined quit : Bool) → (new ≡ true → quit ≡ false) → before ≡ (joined && not quit) → (before || new) ≡ ((new || joined) && not quit)
-join-stays true before joined quit fresh is = or-true before ∙ sym (ap not (fresh refl))
-join-stays false before joined quit fresh is = or-false before ∙ is
+join-stays : (new before with_connection quit : Bool) → (new ≡ true → quit ≡ false) → before ≡ (with_connection && not quit) → (before || new) ≡ ((new || with_connection) && not quit)
+join-stays true before with_connection quit fresh is = or-true before ∙ sym (ap not (fresh refl))
+join-stays false before with_connection quit fresh is = or-false before ∙ is
 
-quit-stays : (leaves before joined quit : Bool) → before ≡ (joined && not quit) → (before && not leaves) ≡ ((false || joined) && not (leaves || quit))
-quit-stays true before joined quit is = and-false before ∙ sym (and-false joined)
-quit-stays false before joined quit is = and-true before ∙ is
+quit-stays : (leaves before with_connection quit : Bool) → before ≡ (with_connection && not quit) → (before && not leaves) ≡ ((false || with_connection) && not (leaves || quit))
+quit-stays true before with_connection quit is = and-false before ∙ sym (and-false with_connection)
+quit-stays false before with_connection quit is = and-true before ∙ is
 
 join-accepted : (f : Facts) (owner : ℕ) (peer challenge : List ℕ) (c : ℕ) (place counted before quit : Bool) → (f.joins < c → quit ≡ false) → has c f.opened ≡ (before && not quit)
-    → has c (chosen (place && counted) (joined f owner peer challenge) f).opened ≡ ((joins_as c (join_reply place counted f.joins) || before) && not (false || quit))
+    → has c (cond (place && counted) (with_connection f owner peer challenge) f).opened ≡ ((joins_as c (join_reply place counted f.joins) || before) && not (false || quit))
 join-accepted f owner peer challenge c true true before quit fresh is =
     joined-opened f owner peer challenge c
     ∙ join-stays (eqb (f.joins + 1) c) (has c f.opened) before quit (λ new. let e : f.joins + 1 ≡ c = eqb-true (f.joins + 1) c new in fresh (omega (arith, e))) is
@@ -61,8 +60,8 @@ happens-opened : (c : ℕ) (effect : Effect) (f : Facts) → (happens c effect f
 unfolding happens
 happens-opened c effect f = refl
 
-closed-opened : (d : ℕ) (f : Facts) (c : ℕ) → has c (closed d f).opened ≡ (has c f.opened && not (c == d))
-unfolding closed
+closed-opened : (d : ℕ) (f : Facts) (c : ℕ) → has c (without_connection d f).opened ≡ (has c f.opened && not (c == d))
+unfolding without_connection
 closed-opened d f c = has-filter (λ x. not (x == d)) c f.opened
 
 open-after : (setup : Configured) (hash : List ℕ → List ℕ) (f : Facts) (caller : ℕ) (call : Call) (c : ℕ) (before quit : Bool) → (f.joins < c → quit ≡ false)

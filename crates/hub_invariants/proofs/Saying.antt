@@ -1,29 +1,29 @@
 -- Features and fields are what the accepted lines of a connection say, taken together.
 use Rattle.std.proofs.Common.{◌≡◌, ◌∙◌, sym, ap, refl, subst, ℕ, ◌<◌, Bool, true, false, ◌==◌, List, [], ◌∷◌, ◌++◌, length, append-nil, Option, Some, None, Ok, arith}
-use Rattle.std.specs.Prelude.{if◌then◌else◌}
+use Rattle.std.specs.Prelude.{if◌then◌else◌, cond}
 use Rattle.std.proofs.lemmas.Bool.{eqb-true}
 use Rattle.adc_line.specs.Lines as lines
 use Rattle.adc_line.specs.Lines.{Reading}
 use Rattle.inf_fields.specs.Cleaning.{clean}
 use Rattle.inf_fields.specs.Field.{Field}
-use Rattle.inf_fields.specs.Merging.{merged, merged_with}
+use Rattle.inf_fields.specs.Merging.{merged_fields, merged_with}
 use Rattle.inf_fields.specs.Updates as updates
 use Rattle.inf_fields.proofs.MergingLaws.{merged-more}
-use Rattle.login_state.specs.Support.{features_of, said, supported_after}
-use Rattle.login_state.specs.SupportAnswers.{applied}
+use Rattle.login_state.specs.Support.{features_of, mentions_in, supported_after}
+use Rattle.login_state.specs.SupportAnswers.{support_after}
 use Rattle.login_state.proofs.LineByLine.{applied-ok}
 use Rattle.login_state.proofs.Mentioned.{features_of-nil, features_of-push}
 use Rattle.hub_rules.specs.declared.effect.Effect.{Effect}
 use Rattle.hub_rules.specs.declared.history.Call.{Call}
 use Rattle.hub_rules.specs.declared.history.Entry.{Entry}
-use Rattle.hub_rules.specs.declared.request.Request.{Request}
+use Rattle.login_state.specs.declared.request.Request.{Request}
 use Rattle.hub_rules.specs.Configured.{Configured}
 use Rattle.hub_rules.specs.Effects.{is_over, line_effect}
 use Rattle.hub_rules.specs.Facts.{Facts, facts, effect_of_line, own_of, sight_of}
-use Rattle.hub_rules.specs.Identities.{listed}
-use Rattle.hub_rules.specs.Prepared.{prepared}
-use Rattle.hub_rules.specs.Said.{FeaturesAreLastAdded, InfoIsMerged, accepted_line, cleaned, inf_update, infs, listed_if, read_by, said_in, sup_words, sups, unless_refused, words_if}
-use Rattle.hub_rules.specs.Shares.{About, chosen, features_after, fields_after}
+use Rattle.hub_rules.specs.Identities.{listed_user}
+use Rattle.hub_rules.specs.Prepared.{prepared_line}
+use Rattle.hub_rules.specs.Said.{FeaturesAreLastAdded, InfoIsMerged, accepted_line, cleaned_update, inf_update, infs, listed_if, read_by, said_in, sup_words, sups, unless_refused, words_if}
+use Rattle.hub_rules.specs.Shares.{About, features_after, fields_after}
 use Rattle.hub_rules.specs.Sights.{Own, PreparedLine, Sight, user_after}
 use Rattle.hub_invariants.proofs.Becoming.{Becomes, becomes}
 use Rattle.hub_invariants.proofs.Calls.{above, over-unless, sound_of}
@@ -40,7 +40,7 @@ with_update before (Some u) = merged_with before u
 
 abbrev with_sup : List (List ℕ) → Option (List (List ℕ)) → List (List ℕ)
 with_sup before None = before
-with_sup before (Some words) = supported_after before (said words)
+with_sup before (Some words) = supported_after before (mentions_in words)
 
 -- an effect does to features and fields what is said
 pub record Says (own : Own) (effect : Effect) (sup : Option (List (List ℕ))) (inf : Option (List Field)) : Type 0 where
@@ -48,7 +48,7 @@ pub record Says (own : Own) (effect : Effect) (sup : Option (List (List ℕ))) (
   pub tells : fields_after effect.change own.fields ≡ with_update own.fields inf
 
 login-fields : (own : Own) (u : List Field) → (user_after own u).fields ≡ merged_with own.fields (clean u own.peer)
-unfolding listed
+unfolding listed_user
 login-fields own u = refl
 
 -- what was said, as it is read, by what it asks for
@@ -56,19 +56,19 @@ abbrev pub said_by : {A : Type 0} → (Own → Request → Reading → Option A)
 said_by read own None request = None
 said_by read own (Some reading) request = read own request reading
 
-pub said-read : {A : Type 0} (read : Own → Request → Reading → Option A) (own : Own) (said : Option Reading) → said_by read own said (request_in own said) ≡ read_by read own said
+pub said-read : {A : Type 0} (read : Own → Request → Reading → Option A) (own : Own) (mentions_in : Option Reading) → said_by read own mentions_in (request_in own mentions_in) ≡ read_by read own mentions_in
 said-read read own None = refl
 said-read read own (Some reading) = refl
 
-says-words : (own : Own) (words features : List (List ℕ)) → applied own.features words ≡ Ok features → features ≡ with_sup own.features (words_if (applied own.features words) words)
+says-words : (own : Own) (words features : List (List ℕ)) → support_after own.features words ≡ Ok features → features ≡ with_sup own.features (words_if (support_after own.features words) words)
 says-words own words features is = sym (applied-ok own.features words features is) ∙ ap (λ r. with_sup own.features (words_if r words)) (sym is)
 
 says-cleaned : (own : Own) (reading : Reading) (u : List Field) → updates.reading reading.params ≡ Ok u
-    → merged_with own.fields (clean u own.peer) ≡ with_update own.fields (cleaned own.peer (updates.reading reading.params))
-says-cleaned own reading u is = ap (λ r. with_update own.fields (cleaned own.peer r)) (sym is)
+    → merged_with own.fields (clean u own.peer) ≡ with_update own.fields (cleaned_update own.peer (updates.reading reading.params))
+says-cleaned own reading u is = ap (λ r. with_update own.fields (cleaned_update own.peer r)) (sym is)
 
 module _ {hub : Sight} {own : Own} {line : PreparedLine} {now : ℕ} where
-  says-outcome : {said : Option Reading} {request : Request} {effect : Effect} → Outcome hub own line now said request effect → Says own effect (said_by sup_words own said request) (said_by inf_update own said request)
+  says-outcome : {mentions_in : Option Reading} {request : Request} {effect : Effect} → Outcome hub own line now mentions_in request effect → Says own effect (said_by sup_words own mentions_in request) (said_by inf_update own mentions_in request)
   says-outcome (greets reading features at is) = record { supports = says-words own reading.params features is; tells = refl }
   says-outcome (learns reading features at is) = record { supports = says-words own reading.params features is; tells = refl }
   says-outcome (waits reading u logs account) = record { supports = refl; tells = login-fields own u ∙ says-cleaned own reading u logs.words }
@@ -79,14 +79,14 @@ module _ {hub : Sight} {own : Own} {line : PreparedLine} {now : ℕ} where
 says-line : (hub : Sight) (own : Own) (line : PreparedLine) (now : ℕ)
     → Says own (line_effect hub own line now) (read_by sup_words own (accepted_line hub own line now)) (read_by inf_update own (accepted_line hub own line now))
 says-line hub own line now =
-    let said = accepted_line hub own line now in
+    let mentions_in = accepted_line hub own line now in
     let says = says-outcome (outcome hub own line now) in record {
-      supports = says.supports ∙ ap (with_sup own.features) (said-read sup_words own said);
-      tells = says.tells ∙ ap (with_update own.fields) (said-read inf_update own said);
+      supports = says.supports ∙ ap (with_sup own.features) (said-read sup_words own mentions_in);
+      tells = says.tells ∙ ap (with_update own.fields) (said-read inf_update own mentions_in);
     }
 
-merged-none : merged [] ≡ []
-unfolding merged
+merged-none : merged_fields [] ≡ []
+unfolding merged_fields
 merged-none = refl
 
 -- ---- a list that is one longer where something was said
@@ -95,19 +95,19 @@ features-more : (sups : List (List (List ℕ))) (sup : Option (List (List ℕ)))
 features-more sups None = ap features_of (append-nil sups)
 features-more sups (Some words) = features_of-push sups words
 
-fields-more : (infs : List (List Field)) (inf : Option (List Field)) → merged (infs ++ listed_if true inf) ≡ with_update (merged infs) inf
-fields-more infs None = ap merged (append-nil infs)
+fields-more : (infs : List (List Field)) (inf : Option (List Field)) → merged_fields (infs ++ listed_if true inf) ≡ with_update (merged_fields infs) inf
+fields-more infs None = ap merged_fields (append-nil infs)
 fields-more infs (Some u) = merged-more infs u
 
 -- what is known of a connection is what was said
 pub record Told (a : About) (sups : List (List (List ℕ))) (infs : List (List Field)) : Type 0 where
   pub supports : a.features ≡ features_of sups
-  pub tells : a.fields ≡ merged infs
+  pub tells : a.fields ≡ merged_fields infs
 
 said-one : (f : Facts) (c d : ℕ) (effect : Effect) (sup : Option (List (List ℕ))) (inf : Option (List Field)) (same : Bool) → (c == d) ≡ same
     → Says (own_of (f.about d)) effect sup inf → (sups : List (List (List ℕ))) (infs : List (List Field)) → Told (f.about c) sups infs
-    → (chosen same (features_after effect.change (f.about c).features) (f.about c).features ≡ features_of (sups ++ listed_if same sup))
-    × (chosen same (fields_after effect.change (f.about c).fields) (f.about c).fields ≡ merged (infs ++ listed_if same inf))
+    → (cond same (features_after effect.change (f.about c).features) (f.about c).features ≡ features_of (sups ++ listed_if same sup))
+    × (cond same (fields_after effect.change (f.about c).fields) (f.about c).fields ≡ merged_fields (infs ++ listed_if same inf))
 said-one f c d effect sup inf true is says sups infs told =
     let e : c ≡ d = eqb-true c d is in (
       (subst (λ x. features_after effect.change (f.about x).features ≡ with_sup (f.about x).features sup) (sym e) says.supports
@@ -116,11 +116,11 @@ said-one f c d effect sup inf true is says sups infs told =
           ∙ ap (λ xs. with_update xs inf) told.tells ∙ sym (fields-more infs inf)),
     )
 said-one f c d effect sup inf false is says sups infs told =
-    (told.supports ∙ sym (ap features_of (append-nil sups)), told.tells ∙ sym (ap merged (append-nil infs)))
+    (told.supports ∙ sym (ap features_of (append-nil sups)), told.tells ∙ sym (ap merged_fields (append-nil infs)))
 
 -- ---- every call
 
-pub same-chosen : {A : Type 0} (b : Bool) (x : A) → chosen b x x ≡ x
+pub same-chosen : {A : Type 0} (b : Bool) (x : A) → cond b x x ≡ x
 same-chosen true x = refl
 same-chosen false x = refl
 
@@ -128,7 +128,7 @@ same-chosen false x = refl
 told-still : (a b : About) (sups : List (List (List ℕ))) (infs : List (List Field)) → b.features ≡ a.features → b.fields ≡ a.fields → Told a sups infs → Told b (sups ++ []) (infs ++ [])
 told-still a b sups infs same_features same_fields told = record {
   supports = same_features ∙ told.supports ∙ sym (ap features_of (append-nil sups));
-  tells = same_fields ∙ told.tells ∙ sym (ap merged (append-nil infs));
+  tells = same_fields ∙ told.tells ∙ sym (ap merged_fields (append-nil infs));
 }
 
 -- ---- a connection that has not joined yet
@@ -145,18 +145,18 @@ quiet-line : (hub : Sight) (own : Own) (line : PreparedLine) (now : ℕ) → is_
     → (features_after (line_effect hub own line now).change own.features ≡ own.features) × (fields_after (line_effect hub own line now).change own.fields ≡ own.fields)
 quiet-line hub own line now over =
     let says = says-line hub own line now in (
-      says.supports ∙ ap (λ said. with_sup own.features (read_by sup_words own said)) (unheard hub own line now over),
-      says.tells ∙ ap (λ said. with_update own.fields (read_by inf_update own said)) (unheard hub own line now over),
+      says.supports ∙ ap (λ mentions_in. with_sup own.features (read_by sup_words own mentions_in)) (unheard hub own line now over),
+      says.tells ∙ ap (λ mentions_in. with_update own.fields (read_by inf_update own mentions_in)) (unheard hub own line now over),
     )
 
 quiet-one : (setup : Configured) (hash : List ℕ → List ℕ) (f : Facts) (d c : ℕ) (bytes : List ℕ) (now : ℕ) (same : Bool) → (d == c) ≡ same → is_over (f.about d).stage ≡ true
-    → (chosen same (features_after (effect_of_line setup hash f c bytes now).change (f.about d).features) (f.about d).features ≡ (f.about d).features)
-    × (chosen same (fields_after (effect_of_line setup hash f c bytes now).change (f.about d).fields) (f.about d).fields ≡ (f.about d).fields)
+    → (cond same (features_after (effect_of_line setup hash f c bytes now).change (f.about d).features) (f.about d).features ≡ (f.about d).features)
+    × (cond same (fields_after (effect_of_line setup hash f c bytes now).change (f.about d).fields) (f.about d).fields ≡ (f.about d).fields)
 quiet-one setup hash f d c bytes now true is over =
     let e : c ≡ d = sym (eqb-true d c is) in
     subst (λ x. (features_after (effect_of_line setup hash f x bytes now).change (f.about d).features ≡ (f.about d).features)
     × (fields_after (effect_of_line setup hash f x bytes now).change (f.about d).fields ≡ (f.about d).fields)) (sym e)
-    (quiet-line (sight_of setup f) (own_of (f.about d)) (prepared setup hash (f.about d).challenge bytes) now over)
+    (quiet-line (sight_of setup f) (own_of (f.about d)) (prepared_line setup hash (f.about d).challenge bytes) now over)
 quiet-one setup hash f d c bytes now false is over = (refl, refl)
 
 pub over-beyond : (f : Facts) → Sound f → (d : ℕ) → f.joins < d → is_over (f.about d).stage ≡ true
@@ -189,7 +189,7 @@ module _ {setup : Configured} {hash : List ℕ → List ℕ} {f : Facts} {caller
   told-after (Becomes.joins peer challenge now place is) sups infs fresh told =
       let none = fresh (omega (arith, is)) in told-still (f.about c) _ sups infs (sym none.no_features) (sym none.no_fields) told
   told-after (Becomes.says d bytes now) sups infs fresh told =
-      let says = says-line (sight_of setup f) (own_of (f.about d)) (prepared setup hash (f.about d).challenge bytes) now in
+      let says = says-line (sight_of setup f) (own_of (f.about d)) (prepared_line setup hash (f.about d).challenge bytes) now in
       let both = said-one f c d (effect_of_line setup hash f d bytes now) _ _ (c == d) refl says sups infs told in record { supports = both.0; tells = both.1 }
   told-after (Becomes.quits d) sups infs fresh told =
       told-still (f.about c) _ sups infs (same-chosen (c == d) (f.about c).features) (same-chosen (c == d) (f.about c).fields) told

@@ -8,10 +8,9 @@ use Rattle.hub_rules.specs.declared.effect.Effect.{Effect}
 use Rattle.hub_rules.specs.declared.history.Call.{Call}
 use Rattle.hub_rules.specs.declared.history.Call.TheVariants.{Join, Line, Quit, Take}
 use Rattle.hub_rules.specs.declared.history.Entry.{Entry}
-use Rattle.hub_rules.specs.Configured.{Configured}
+use Rattle.hub_rules.specs.Configured.{most_users, Configured}
 use Rattle.hub_rules.specs.Effects.{departure}
-use Rattle.hub_rules.specs.Facts.{Facts, facts, after, joined, closed, happens, given, has_place, has_joins, newcomer, next_sid, with_one, effect_of_line}
-use Rattle.hub_rules.specs.Shares.{chosen}
+use Rattle.hub_rules.specs.Facts.{Facts, facts, after, with_connection, without_connection, happens, with_lines_taken, has_place, has_joins, newcomer, next_sid, with_one, effect_of_line}
 use Rattle.hub_invariants.proofs.Becoming.{take-facts}
 use Rattle.hub_invariants.proofs.Calls.{not-open, sound_of}
 use Rattle.hub_invariants.proofs.Members.{apart, apart-push, both, has, has-append, has-filter, or-parts}
@@ -85,8 +84,8 @@ happens-numbered : (setup : Configured) (c : ℕ) (effect : Effect) (f : Facts) 
 unfolding happens
 happens-numbered setup c effect f n = record { apart_sids = n.apart_sids; given_sids = n.given_sids; last_in = n.last_in; few = n.few }
 
-closed-numbered : (setup : Configured) (c : ℕ) (f : Facts) → Numbered setup f → Numbered setup (closed c f)
-unfolding closed
+closed-numbered : (setup : Configured) (c : ℕ) (f : Facts) → Numbered setup f → Numbered setup (without_connection c f)
+unfolding without_connection
 closed-numbered setup c f n = record {
   apart_sids = apart-map-filter (λ d. (f.about d).sid) (λ x. not (x == c)) f.opened n.apart_sids;
   given_sids = λ d there. n.given_sids d ((and_parts (has d f.opened) (not (d == c)) (sym (has-filter (λ x. not (x == c)) d f.opened) ∙ there)).0);
@@ -94,7 +93,7 @@ closed-numbered setup c f n = record {
   few = omega (arith, n.few, fewer (λ x. not (x == c)) f.opened);
 }
 
-taken-numbered : (setup : Configured) (c count : ℕ) (f : Facts) → Numbered setup f → Numbered setup (record f { about = with_one c (given count) f.about })
+taken-numbered : (setup : Configured) (c count : ℕ) (f : Facts) → Numbered setup f → Numbered setup (record f { about = with_one c (with_lines_taken count) f.about })
 taken-numbered setup c count f n =
     subst (Numbered setup) (take-facts c count f) (record { apart_sids = n.apart_sids; given_sids = n.given_sids; last_in = n.last_in; few = n.few })
 
@@ -114,13 +113,13 @@ room-by most count has_room =
 joined-sid : (f : Facts) (owner : ℕ) (peer challenge : List ℕ) → Sound f → (d : ℕ) → has d f.opened ≡ true
     → (with_one (f.joins + 1) (λ a. newcomer owner (next_sid f) peer challenge) f.about d).sid ≡ (f.about d).sid
 joined-sid f owner peer challenge sound d there =
-    ap (λ b. (chosen b (newcomer owner (next_sid f) peer challenge) (f.about d)).sid) (differs f sound d (d == (f.joins + 1)) refl there)
+    ap (λ b. (cond b (newcomer owner (next_sid f) peer challenge) (f.about d)).sid) (differs f sound d (d == (f.joins + 1)) refl there)
 
 new-sid : (f : Facts) (owner : ℕ) (peer challenge : List ℕ)
     → (with_one (f.joins + 1) (λ a. newcomer owner (next_sid f) peer challenge) f.about (f.joins + 1)).sid ≡ next_sid f
-new-sid f owner peer challenge = ap (λ b. (chosen b (newcomer owner (next_sid f) peer challenge) (f.about (f.joins + 1))).sid) (eq-eqb (f.joins + 1) (f.joins + 1) refl)
+new-sid f owner peer challenge = ap (λ b. (cond b (newcomer owner (next_sid f) peer challenge) (f.about (f.joins + 1))).sid) (eq-eqb (f.joins + 1) (f.joins + 1) refl)
 
-fresh-sid : (setup : Configured) (f : Facts) → setup.max_users ≤ 900 → Numbered setup f → has_place setup f ≡ true → has (next_sid f) (sids f) ≡ false
+fresh-sid : (setup : Configured) (f : Facts) → setup.max_users ≤ most_users → Numbered setup f → has_place setup f ≡ true → has (next_sid f) (sids f) ≡ false
 fresh-sid setup f few n place =
     let room = room-by setup.max_users (length f.opened) place in
     has-is_taken (next_sid f) (sids f)
@@ -138,9 +137,9 @@ joined-given f owner peer challenge sound setup n d false is there =
     × ((with_one (f.joins + 1) (λ a. newcomer owner (next_sid f) peer challenge) f.about x).sid < 1_048_576)) same
     (subst (λ sid. (0 < sid) × (sid < 1_048_576)) (sym (new-sid f owner peer challenge)) (next_free-range f.last (sids f)))
 
-joined-numbered : (setup : Configured) (f : Facts) (owner : ℕ) (peer challenge : List ℕ) → setup.max_users ≤ 900 → has_place setup f ≡ true → Sound f
-    → Numbered setup f → Numbered setup (joined f owner peer challenge)
-unfolding joined
+joined-numbered : (setup : Configured) (f : Facts) (owner : ℕ) (peer challenge : List ℕ) → setup.max_users ≤ most_users → has_place setup f ≡ true → Sound f
+    → Numbered setup f → Numbered setup (with_connection f owner peer challenge)
+unfolding with_connection
 joined-numbered setup f owner peer challenge small place sound n = record {
   apart_sids =
       ap apart (map-end (λ d. (with_one (f.joins + 1) (λ a. newcomer owner (next_sid f) peer challenge) f.about d).sid) f.opened (f.joins + 1)
@@ -156,13 +155,13 @@ joined-numbered setup f owner peer challenge small place sound n = record {
 
 -- ---- every call
 
-join-numbered : (setup : Configured) (f : Facts) (owner : ℕ) (peer challenge : List ℕ) (place counted : Bool) → has_place setup f ≡ place → setup.max_users ≤ 900
-    → Sound f → Numbered setup f → Numbered setup (chosen (place && counted) (joined f owner peer challenge) f)
+join-numbered : (setup : Configured) (f : Facts) (owner : ℕ) (peer challenge : List ℕ) (place counted : Bool) → has_place setup f ≡ place → setup.max_users ≤ most_users
+    → Sound f → Numbered setup f → Numbered setup (cond (place && counted) (with_connection f owner peer challenge) f)
 join-numbered setup f owner peer challenge true true is small sound n = joined-numbered setup f owner peer challenge small is sound n
 join-numbered setup f owner peer challenge true false is small sound n = n
 join-numbered setup f owner peer challenge false counted is small sound n = n
 
-after-numbered : (setup : Configured) (hash : List ℕ → List ℕ) (f : Facts) (caller : ℕ) (call : Call) → setup.max_users ≤ 900 → Sound f
+after-numbered : (setup : Configured) (hash : List ℕ → List ℕ) (f : Facts) (caller : ℕ) (call : Call) → setup.max_users ≤ most_users → Sound f
     → Numbered setup f → Numbered setup (after setup hash f caller call)
 unfolding after
 after-numbered setup hash f caller (Join peer challenge now) small sound n =
@@ -172,7 +171,7 @@ after-numbered setup hash f caller (Quit c) small sound n =
     closed-numbered setup c _ (happens-numbered setup c (departure (f.about c).stage (f.about c).sid) f n)
 after-numbered setup hash f caller (Take c count) small sound n = taken-numbered setup c count f n
 
-pub numbered_of : (setup : Configured) (hash : List ℕ → List ℕ) (h : List Entry) → setup.max_users ≤ 900 → Numbered setup (facts setup hash h)
+pub numbered_of : (setup : Configured) (hash : List ℕ → List ℕ) (h : List Entry) → setup.max_users ≤ most_users → Numbered setup (facts setup hash h)
 unfolding facts
 numbered_of setup hash [] small = record {
   apart_sids = refl;

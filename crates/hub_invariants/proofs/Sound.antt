@@ -1,5 +1,5 @@
--- What holds after every history, legal or not.
-use Rattle.std.proofs.Common.{◌≡◌, ◌∙◌, sym, ap, ap₂, refl, ℕ, ◌≤◌, Bool, true, false, ◌&&◌, ◌||◌, ◌==◌, eqb, List, ◌++◌, length, filter, subst, append-nil, arith, length-append}
+-- Facts that hold after every history, legal or not.
+use Rattle.std.proofs.Common.{◌≡◌, ◌∙◌, sym, ap, ap₂, refl, ℕ, ◌≤◌, Bool, true, false, ◌&&◌, ◌||◌, ◌==◌, eqb, List, ◌++◌, length, filter, subst, append-nil, arith, length-append, cond, ◌∷◌, []}
 use Rattle.std.proofs.Math.Bool.{and_comm}
 use Rattle.std.proofs.lemmas.Bool.{false≢true, eqb-true, eq-eqb, and_parts}
 use Rattle.login_state.specs.declared.stage.Stage.{Stage}
@@ -9,8 +9,8 @@ use Rattle.hub_rules.specs.declared.effect.Change.TheVariants.{Sender}
 use Rattle.hub_rules.specs.declared.effect.Effect.{Effect}
 use Rattle.hub_rules.specs.declared.effect.SenderChange.TheVariants as senders
 use Rattle.hub_rules.specs.Effects.{departure, is_over, is_present}
-use Rattle.hub_rules.specs.Facts.{Facts, enters, newcomer_if, about_after, present_after, happens}
-use Rattle.hub_rules.specs.Shares.{About, chosen, has_room, is_removed, owed_with, owes, removed_by, stage_after}
+use Rattle.hub_rules.specs.Facts.{Facts, enters, about_after, present_after, happens}
+use Rattle.hub_rules.specs.Shares.{About, has_room, is_removed, owed_with, owes, removed_by, stage_after}
 use Rattle.hub_invariants.proofs.Fits.{Fits}
 use Rattle.hub_invariants.proofs.Members.{apart, apart-filter, apart-push, has, has-append, has-filter}
 
@@ -30,9 +30,9 @@ pub record Sound (f : Facts) : Type 0 where
 
 -- the stage that a connection has after an effect
 abbrev pub stage_next : Bool → Bool → Change → Stage → Stage
-stage_next removed is_caller change stage = chosen removed stages.Gone (chosen is_caller (stage_after change stage) stage)
+stage_next removed is_caller change stage = cond removed stages.Gone (cond is_caller (stage_after change stage) stage)
 
-owed-more : (room : Bool) (owed share : List (List ℕ)) → length owed ≤ length (chosen room (owed ++ share) owed)
+owed-more : (room : Bool) (owed share : List (List ℕ)) → length owed ≤ length (cond room (owed ++ share) owed)
 owed-more true owed share = omega (arith, length-append owed share)
 owed-more false owed share = omega arith
 
@@ -93,7 +93,7 @@ pub or-true : (b : Bool) → (b || true) ≡ true
 or-true true = refl
 or-true false = refl
 
-pub newcomer-has : (enter : Bool) (c d : ℕ) → has d (newcomer_if enter c) ≡ (enter && eqb c d)
+pub newcomer-has : (enter : Bool) (c d : ℕ) → has d (cond enter (c ∷ []) []) ≡ (enter && eqb c d)
 newcomer-has true c d = or-false (eqb c d)
 newcomer-has false c d = refl
 
@@ -140,14 +140,14 @@ alone-at c effect f suits d here =
 happens-entered : (c : ℕ) (effect : Effect) (f : Facts) → Sound f → Fits (f.about c).stage effect → (d : ℕ)
     → has d (present_after c effect f.about f.present) ≡ is_present (about_after c effect f.about d).stage
 happens-entered c effect f sound suits d =
-    has-append d (filter (λ x. is_present (about_after c effect f.about x).stage) f.present) (newcomer_if (enters effect.change) c)
+    has-append d (filter (λ x. is_present (about_after c effect f.about x).stage) f.present) (cond (enters effect.change) (c ∷ []) [])
     ∙ ap₂ ◌||◌
     (has-filter (λ x. is_present (about_after c effect f.about x).stage) d f.present
     ∙ ap (λ b. b && is_present (about_after c effect f.about d).stage) (sound.entered d))
     (newcomer-has (enters effect.change) c d ∙ and_comm (enters effect.change) (eqb c d) ∙ ap (λ b. b && enters effect.change) (eqb-sym c d (eqb c d) (eqb d c) refl refl))
     ∙ entered-by (enters effect.change) (d == c) (removed_by effect (f.about d)) effect.change (f.about d).stage refl (alone-at c effect f suits d)
 
-newcomer-apart : (enter : Bool) (c : ℕ) (xs : List ℕ) → (enter ≡ true → has c xs ≡ false) → apart xs ≡ true → apart (xs ++ newcomer_if enter c) ≡ true
+newcomer-apart : (enter : Bool) (c : ℕ) (xs : List ℕ) → (enter ≡ true → has c xs ≡ false) → apart xs ≡ true → apart (xs ++ cond enter (c ∷ []) []) ≡ true
 newcomer-apart true c xs fresh once = apart-push c xs (fresh refl) once
 newcomer-apart false c xs fresh once = ap apart (append-nil xs) ∙ once
 

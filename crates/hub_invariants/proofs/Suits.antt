@@ -1,50 +1,51 @@
--- What a line leads to is of a kind that a hub can carry out: a change that suits its connection's stage, with users as they are listed.
-use Rattle.std.proofs.Common.{◌≡◌, ◌∙◌, sym, ap, ap₂, refl, ℕ, Bool, true, false, ◌==◌, List, Option, Some, None, Ok, unwrap_or}
+-- A hub can carry out the effect of a line: its change suits the stage of the connection, with users as they are listed.
+use Rattle.std.specs.Prelude.{chars}
+use Rattle.std.proofs.Common.{◌≡◌, ◌∙◌, sym, ap, ap₂, refl, ℕ, Bool, true, false, ◌==◌, List, Option, Some, None, Ok, unwrap_or, cond}
 use Rattle.std.specs.Option.{option_map}
-use Rattle.adc_line.specs.declared.kind.Kind.{Kind}
-use Rattle.adc_line.specs.declared.kind.Kind.TheVariants as kinds
+use Rattle.adc_line.specs.declared.header.Kind.{Kind}
+use Rattle.adc_line.specs.declared.header.Kind.TheVariants as kinds
 use Rattle.adc_line.specs.Lines.{Reading}
-use Rattle.feature_route.specs.Audiences.{audience, both, both_if, by_kind, direct, echoed, featured, holds, holds_words}
+use Rattle.feature_route.specs.Audiences.{audience, both, by_kind, direct_audience, echo_audience, feature_audience, holds, holds_words}
 use Rattle.feature_route.specs.Matching.{feature_set}
 use Rattle.feature_route.specs.declared.hearers.Audience.TheVariants as audiences
 use Rattle.feature_route.proofs.Parts.{meets-feature_set}
 use Rattle.inf_fields.specs.Cleaning.{clean}
 use Rattle.inf_fields.specs.Field.{Field, value_of}
 use Rattle.inf_fields.specs.FieldNames.{nick_name}
-use Rattle.inf_fields.specs.Merging.{merged, merged_with}
+use Rattle.inf_fields.specs.Merging.{merged_fields, merged_with}
 use Rattle.login_state.specs.declared.stage.Stage.TheVariants as stages
 use Rattle.user_table.specs.Changes.{given_key}
 use Rattle.user_table.specs.Listed.{Listed}
-use Rattle.user_table.specs.Tables.{changed_key, updated}
+use Rattle.user_table.specs.Tables.{changed_key, updated_user}
 use Rattle.hub_rules.specs.declared.effect.Change.{Change}
 use Rattle.hub_rules.specs.declared.effect.Change.TheVariants.{Sender}
 use Rattle.hub_rules.specs.declared.effect.Effect.{Effect}
 use Rattle.hub_rules.specs.declared.effect.Hearers.{Hearers}
 use Rattle.hub_rules.specs.declared.effect.Hearers.TheVariants.{Others, Those}
 use Rattle.hub_rules.specs.declared.effect.SenderChange.TheVariants as senders
-use Rattle.hub_rules.specs.declared.request.Request.{Request}
+use Rattle.login_state.specs.declared.request.Request.{Request}
 use Rattle.hub_rules.specs.Denied.{update_denied}
-use Rattle.hub_rules.specs.Effects.{entrant, is_target_here, line_effect, nick_points}
-use Rattle.hub_rules.specs.Identities.{cid_in, given, key_in, key_of, listed, meaning, su_in}
+use Rattle.hub_rules.specs.Effects.{entrant, is_target_here, line_effect}
+use Rattle.hub_rules.specs.Identities.{cid_in, value_or_empty, key_in, key_of, listed_user, meaning, su_in}
 use Rattle.hub_rules.specs.Sights.{Own, PreparedLine, Sight, user_after}
 use Rattle.hub_invariants.proofs.Claims.{same-cid, update-free}
 use Rattle.hub_rules.proofs.Merges.{given-after}
 use Rattle.hub_invariants.proofs.Outcomes.{Outcome, acts, greets, lets_in, outcome, passes, proves, revises, searches, waits}
 
-pub listed-sid : (sid : ℕ) (fields : List Field) → (listed sid fields).sid ≡ sid
-unfolding listed
+pub listed-sid : (sid : ℕ) (fields : List Field) → (listed_user sid fields).sid ≡ sid
+unfolding listed_user
 listed-sid sid fields = refl
 
 -- a change that the connection which sent the line can take
 abbrev pub Suited : Own → Change → Type 0
 Suited own (Sender (senders.Greets features)) = own.stage ≡ stages.Protocol
-Suited own (Sender (senders.Waits newcomer expected)) = (own.stage ≡ stages.Identify) × (newcomer ≡ entrant (listed own.sid newcomer.user.fields))
+Suited own (Sender (senders.Waits newcomer expected)) = (own.stage ≡ stages.Identify) × (newcomer ≡ entrant (listed_user own.sid newcomer.user.fields))
 Suited own (Sender senders.Enters) = own.stage ≡ stages.Verify
-Suited own (Sender (senders.EntersAs newcomer)) = (own.stage ≡ stages.Identify) × (newcomer ≡ entrant (listed own.sid newcomer.user.fields))
+Suited own (Sender (senders.EntersAs newcomer)) = (own.stage ≡ stages.Identify) × (newcomer ≡ entrant (listed_user own.sid newcomer.user.fields))
 Suited own (Sender (senders.Updates revision)) =
     (own.stage ≡ stages.Normal)
     × (revision.support ≡ feature_set (su_in (merged_with own.fields revision.update)))
-    × (listed own.sid (merged_with own.fields revision.update) ≡ updated revision.update (given_key revision.nick) (listed own.sid own.fields))
+    × (listed_user own.sid (merged_with own.fields revision.update) ≡ updated_user revision.update (given_key revision.nick) (listed_user own.sid own.fields))
 Suited own change = Unit {0}
 
 -- a set made of an SU tells who hears
@@ -58,7 +59,7 @@ pub record Suits (own : Own) (effect : Effect) : Type 0 where
 
 -- ---- who hears
 
-routed-two : (same : Bool) (target own : ℕ) → Routed (Those (both_if same target own))
+routed-two : (same : Bool) (target own : ℕ) → Routed (Those (cond same (audiences.One target) (audiences.Two target own)))
 unfolding holds_words
 routed-two true target own sid su = refl
 routed-two false target own sid su = refl
@@ -69,18 +70,18 @@ routed-both None own sid su = refl
 routed-both (Some target) None sid su = refl
 routed-both (Some target) (Some own) sid su = routed-two (target == own) target own sid su
 
-routed-direct : (here : Bool) (target : Option ℕ) → Routed (Those (direct here target))
+routed-direct : (here : Bool) (target : Option ℕ) → Routed (Those (direct_audience here target))
 unfolding holds_words
 routed-direct true None sid su = refl
 routed-direct true (Some target) sid su = refl
 routed-direct false target sid su = refl
 
-routed-echoed : (here : Bool) (target own : Option ℕ) → Routed (Those (echoed here target own))
+routed-echoed : (here : Bool) (target own : Option ℕ) → Routed (Those (echo_audience here target own))
 unfolding holds_words
 routed-echoed true target own sid su = routed-both target own sid su
 routed-echoed false target own sid su = refl
 
-routed-featured : (word : Option (List ℕ)) → Routed (Those (featured word))
+routed-featured : (word : Option (List ℕ)) → Routed (Those (feature_audience word))
 unfolding holds_words
 routed-featured None sid su = refl
 routed-featured (Some word) sid su = meets-feature_set word su
@@ -102,12 +103,12 @@ routed-all sid su = refl
 
 -- ---- what each request leads to
 
-listed-fields : (sid : ℕ) (fields : List Field) → listed sid (listed sid fields).fields ≡ listed sid fields
-unfolding listed
+listed-fields : (sid : ℕ) (fields : List Field) → listed_user sid (listed_user sid fields).fields ≡ listed_user sid fields
+unfolding listed_user
 listed-fields sid fields = refl
 
 -- the nick that is given is that of the user afterwards
-key-by : (fields : List Field) (nick : Option (List ℕ)) → key_of (meaning (unwrap_or nick (given nick_name fields))) ≡ changed_key (given_key (option_map nick_points nick)) (key_in fields)
+key-by : (fields : List Field) (nick : Option (List ℕ)) → key_of (meaning (unwrap_or nick (value_or_empty nick_name fields))) ≡ changed_key (given_key (option_map (λ (word : List ℕ). chars (meaning word)) nick)) (key_in fields)
 key-by fields None = refl
 key-by fields (Some nick) = refl
 
@@ -115,23 +116,23 @@ abbrev with_names : ℕ → List Field → List ℕ → List ℕ → Listed
 with_names sid fields cid key = record { sid = sid; cid = cid; key = key; fields = fields }
 
 listed-same : (sid : ℕ) (before : List Field) (u : List Field) (key : Option (List ℕ)) → cid_in (merged_with before u) ≡ cid_in before
-    → key_in (merged_with before u) ≡ changed_key key (key_in before) → listed sid (merged_with before u) ≡ updated u key (listed sid before)
-unfolding listed
+    → key_in (merged_with before u) ≡ changed_key key (key_in before) → listed_user sid (merged_with before u) ≡ updated_user u key (listed_user sid before)
+unfolding listed_user
 listed-same sid before u key cid nick =
     ap₂ (with_names sid (merged_with before u)) cid nick
 
-suits-revised : (hub : Sight) (own : Own) (infs : List (List Field)) (u : List Field) → own.fields ≡ merged infs → update_denied hub own (Ok u) ≡ None
-    → listed own.sid (merged_with own.fields (clean u own.peer))
-    ≡ updated (clean u own.peer) (given_key (option_map nick_points (value_of nick_name (clean u own.peer)))) (listed own.sid own.fields)
+suits-revised : (hub : Sight) (own : Own) (infs : List (List Field)) (u : List Field) → own.fields ≡ merged_fields infs → update_denied hub own (Ok u) ≡ None
+    → listed_user own.sid (merged_with own.fields (clean u own.peer))
+    ≡ updated_user (clean u own.peer) (given_key (option_map (λ (word : List ℕ). chars (meaning word)) (value_of nick_name (clean u own.peer)))) (listed_user own.sid own.fields)
 suits-revised hub own infs u known none =
     let free = update-free hub own u (user_after own u) none in
-    listed-same own.sid own.fields (clean u own.peer) (given_key (option_map nick_points (value_of nick_name (clean u own.peer))))
+    listed-same own.sid own.fields (clean u own.peer) (given_key (option_map (λ (word : List ℕ). chars (meaning word)) (value_of nick_name (clean u own.peer))))
     (same-cid own u infs known free.1)
     (ap (λ (n : List ℕ). key_of (meaning n)) (given-after nick_name own.fields infs (clean u own.peer) known)
     ∙ key-by own.fields (value_of nick_name (clean u own.peer)))
 
 module _ {hub : Sight} {own : Own} {line : PreparedLine} {now : ℕ} where
-  suits-outcome : {said : Option Reading} {request : Request} {effect : Effect} → Outcome hub own line now said request effect → (infs : List (List Field)) → own.fields ≡ merged infs → Suits own effect
+  suits-outcome : {said : Option Reading} {request : Request} {effect : Effect} → Outcome hub own line now said request effect → (infs : List (List Field)) → own.fields ≡ merged_fields infs → Suits own effect
   suits-outcome (greets reading features at is) infs known = record { change = at; routed = tt }
   suits-outcome (waits reading u logs account) infs known =
       record { change = (logs.at, ap entrant (sym (listed-fields own.sid (merged_with own.fields (clean u own.peer))))); routed = tt }
@@ -139,10 +140,10 @@ module _ {hub : Sight} {own : Own} {line : PreparedLine} {now : ℕ} where
       record { change = (logs.at, ap entrant (sym (listed-fields own.sid (merged_with own.fields (clean u own.peer))))); routed = tt }
   suits-outcome (proves reading at asks none) infs known = record { change = at; routed = tt }
   suits-outcome (revises reading u at words none) infs known = record { change = (at, refl, suits-revised hub own infs u known none); routed = routed-all }
-  suits-outcome (acts reading others change at operator act) infs known = record { change = tt; routed = routed-all }
+  suits-outcome (acts reading done at operator does) infs known = record { change = tt; routed = routed-all }
   suits-outcome (searches reading at) infs known = record { change = tt; routed = routed-audience reading (is_target_here hub reading.target) }
   suits-outcome (passes reading at) infs known = record { change = tt; routed = routed-audience reading (is_target_here hub reading.target) }
   suits-outcome _ infs known = record { change = tt; routed = tt }
 
-pub suits-line : (hub : Sight) (own : Own) (line : PreparedLine) (now : ℕ) (infs : List (List Field)) → own.fields ≡ merged infs → Suits own (line_effect hub own line now)
+pub suits-line : (hub : Sight) (own : Own) (line : PreparedLine) (now : ℕ) (infs : List (List Field)) → own.fields ≡ merged_fields infs → Suits own (line_effect hub own line now)
 suits-line hub own line now infs known = suits-outcome (outcome hub own line now) infs known

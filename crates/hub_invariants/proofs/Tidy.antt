@@ -1,11 +1,11 @@
--- What is known of a connection by its stage, and that what waits for it is within its limits, after every history.
-use Rattle.std.proofs.Common.{◌≡◌, ◌∙◌, sym, ap, refl, subst, ℕ, ◌+◌, ◌≤◌, Bool, true, false, ◌==◌, List, [], ◌∷◌, ◌++◌, length, take, drop, arith, length-append, length-take, length-drop}
+-- A connection by its stage, and the limits of what waits for it, after every history.
+use Rattle.std.proofs.Common.{◌≡◌, ◌∙◌, sym, ap, refl, subst, ℕ, ◌+◌, ◌≤◌, Bool, true, false, ◌==◌, List, [], ◌∷◌, ◌++◌, length, take, drop, arith, length-append, length-take, length-drop, cond}
 use Rattle.std.proofs.lemmas.Bool.{false≢true, eqb-true, leb-true, and_parts}
 use Rattle.std.proofs.lemmas.List.{drop-append-le, drop-drop, drop_min}
 use Rattle.std.proofs.lemmas.List.Sums.{sum_by-append, sum_by-take-drop}
 use Rattle.login_state.specs.declared.stage.Stage.{Stage}
 use Rattle.login_state.specs.declared.stage.Stage.TheVariants as stages
-use Rattle.outboxes.specs.Backlogs.{Backlog, fits, size_of}
+use Rattle.outboxes.specs.Backlogs.{size_of}
 use Rattle.hub_rules.specs.declared.effect.Change.{Change}
 use Rattle.hub_rules.specs.declared.effect.Change.TheVariants.{Sender}
 use Rattle.hub_rules.specs.declared.effect.Effect.{Effect}
@@ -14,10 +14,10 @@ use Rattle.hub_rules.specs.declared.history.Call.{Call}
 use Rattle.hub_rules.specs.declared.history.Entry.{Entry}
 use Rattle.hub_rules.specs.Configured.{Configured}
 use Rattle.hub_rules.specs.Effects.{departure}
-use Rattle.hub_rules.specs.Facts.{Facts, facts, effect_of_line, given, newcomer, next_sid, nobody, own_of, sight_of}
-use Rattle.hub_rules.specs.Prepared.{prepared}
+use Rattle.hub_rules.specs.Facts.{Facts, facts, effect_of_line, with_lines_taken, newcomer, next_sid, nobody, own_of, sight_of}
+use Rattle.hub_rules.specs.Prepared.{prepared_line}
 use Rattle.hub_rules.specs.Said.{infs}
-use Rattle.hub_rules.specs.Shares.{About, affected, backlog_of, chosen, expected_after, fields_after, has_room, max_bytes, max_lines, owed_with, owes, removed_by, stage_after, waiting}
+use Rattle.hub_rules.specs.Shares.{About, has_room_for, affected_connection, expected_after, fields_after, has_room, max_bytes, max_lines, owed_with, owes, removed_by, stage_after, waiting}
 use Rattle.hub_invariants.proofs.Becoming.{Becomes, becomes, taken_by}
 use Rattle.hub_invariants.proofs.Calls.{sound_of}
 use Rattle.hub_invariants.proofs.Saying.{told_of}
@@ -51,11 +51,11 @@ tidy-newcomer owner sid peer challenge = record { unnamed = λ is. refl; unasked
 
 -- ---- shares
 
-fits-lines : (o : Backlog) (share : List (List ℕ)) → fits o share ≡ true → length o.lines + length share ≤ o.cap
-fits-lines o share e = leb-true (length o.lines + length share) o.cap ((and_parts _ _ e).0)
+fits-lines : (before share : List (List ℕ)) → has_room_for before share ≡ true → length before + length share ≤ max_lines
+fits-lines before share e = leb-true (length before + length share) max_lines ((and_parts _ _ e).0)
 
-fits-bytes : (o : Backlog) (share : List (List ℕ)) → fits o share ≡ true → size_of o.lines + size_of share ≤ o.bytes
-fits-bytes o share e = leb-true (size_of o.lines + size_of share) o.bytes ((and_parts _ _ e).1)
+fits-bytes : (before share : List (List ℕ)) → has_room_for before share ≡ true → size_of before + size_of share ≤ max_bytes
+fits-bytes before share e = leb-true (size_of before + size_of share) max_bytes ((and_parts _ _ e).1)
 
 size-append : (xs ys : List (List ℕ)) → size_of (xs ++ ys) ≡ size_of xs + size_of ys
 size-append xs ys = sum_by-append length xs ys
@@ -65,15 +65,15 @@ pub waiting-more : (a : About) (share : List (List ℕ)) → a.taken ≤ length 
 waiting-more a share few = drop-append-le a.taken a.owed share few
 
 lines-with : (room : Bool) (a : About) (share : List (List ℕ)) → has_room a share ≡ room → a.taken ≤ length a.owed → Tidy a
-    → length (drop a.taken (chosen room (a.owed ++ share) a.owed)) ≤ max_lines
+    → length (drop a.taken (cond room (a.owed ++ share) a.owed)) ≤ max_lines
 lines-with true a share is few tidy =
-    omega (arith, ap length (waiting-more a share few), length-append (waiting a) share, fits-lines (backlog_of a) share ((and_parts _ _ is).1))
+    omega (arith, ap length (waiting-more a share few), length-append (waiting a) share, fits-lines (waiting a) share ((and_parts _ _ is).1))
 lines-with false a share is few tidy = tidy.lines
 
 bytes-with : (room : Bool) (a : About) (share : List (List ℕ)) → has_room a share ≡ room → a.taken ≤ length a.owed → Tidy a
-    → size_of (drop a.taken (chosen room (a.owed ++ share) a.owed)) ≤ max_bytes
+    → size_of (drop a.taken (cond room (a.owed ++ share) a.owed)) ≤ max_bytes
 bytes-with true a share is few tidy =
-    omega (arith, ap size_of (waiting-more a share few), size-append (waiting a) share, fits-bytes (backlog_of a) share ((and_parts _ _ is).1))
+    omega (arith, ap size_of (waiting-more a share few), size-append (waiting a) share, fits-bytes (waiting a) share ((and_parts _ _ is).1))
 bytes-with false a share is few tidy = tidy.bytes
 
 -- ---- what becomes of a connection
@@ -96,19 +96,19 @@ change-unasked (Sender senders.Falls) a suits tidy is = absurd (false≢true is)
 change-unasked change a suits tidy is = tidy.unasked is
 
 next-unnamed : (removed is_caller : Bool) (change : Change) (a : About) → (is_caller ≡ true → Suited (own_of a) change) → Tidy a
-    → is_unnamed (stage_next removed is_caller change a.stage) ≡ true → chosen is_caller (fields_after change a.fields) a.fields ≡ []
+    → is_unnamed (stage_next removed is_caller change a.stage) ≡ true → cond is_caller (fields_after change a.fields) a.fields ≡ []
 next-unnamed true is_caller change a suits tidy is = absurd (false≢true is)
 next-unnamed false true change a suits tidy is = change-unnamed change a (suits refl) tidy is
 next-unnamed false false change a suits tidy is = tidy.unnamed is
 
 next-unasked : (removed is_caller : Bool) (change : Change) (a : About) → (is_caller ≡ true → Suited (own_of a) change) → Tidy a
-    → is_unasked (stage_next removed is_caller change a.stage) ≡ true → chosen is_caller (expected_after change a.expected) a.expected ≡ []
+    → is_unasked (stage_next removed is_caller change a.stage) ≡ true → cond is_caller (expected_after change a.expected) a.expected ≡ []
 next-unasked true is_caller change a suits tidy is = absurd (false≢true is)
 next-unasked false true change a suits tidy is = change-unasked change a (suits refl) tidy is
 next-unasked false false change a suits tidy is = tidy.unasked is
 
 pub tidy-affected : (is_caller : Bool) (effect : Effect) (a : About) → a.taken ≤ length a.owed → (is_caller ≡ true → Suited (own_of a) effect.change) → Tidy a
-    → Tidy (affected is_caller effect a)
+    → Tidy (affected_connection is_caller effect a)
 unfolding owed_with
 tidy-affected is_caller effect a few suits tidy = record {
   unnamed = next-unnamed (removed_by effect a) is_caller effect.change a suits tidy;
@@ -120,13 +120,13 @@ tidy-affected is_caller effect a few suits tidy = record {
 -- ---- every call
 
 -- what is left after a take
-pub waiting-given : (count : ℕ) (a : About) → waiting (given count a) ≡ drop count (waiting a)
+pub waiting-given : (count : ℕ) (a : About) → waiting (with_lines_taken count a) ≡ drop count (waiting a)
 waiting-given count a =
     sym (sym (drop_min count (waiting a))
     ∙ ap (λ n. drop n (waiting a)) (sym (length-take count (waiting a)))
     ∙ drop-drop (length (take count (waiting a))) a.taken a.owed)
 
-tidy-given : (count : ℕ) (a : About) → Tidy a → Tidy (given count a)
+tidy-given : (count : ℕ) (a : About) → Tidy a → Tidy (with_lines_taken count a)
 tidy-given count a tidy = record {
   unnamed = tidy.unnamed;
   unasked = tidy.unasked;
@@ -153,7 +153,7 @@ module _ {setup : Configured} {hash : List ℕ → List ℕ} {f : Facts} {caller
 pub suits_of : (setup : Configured) (hash : List ℕ → List ℕ) (h : List Entry) (c : ℕ) (bytes : List ℕ) (now : ℕ)
     → Suits (own_of ((facts setup hash h).about c)) (effect_of_line setup hash (facts setup hash h) c bytes now)
 suits_of setup hash h c bytes now =
-    suits-line (sight_of setup (facts setup hash h)) (own_of ((facts setup hash h).about c)) (prepared setup hash ((facts setup hash h).about c).challenge bytes) now
+    suits-line (sight_of setup (facts setup hash h)) (own_of ((facts setup hash h).about c)) (prepared_line setup hash ((facts setup hash h).about c).challenge bytes) now
     (infs setup hash h c) (told_of setup hash h c).tells
 
 pub tidy_of : (setup : Configured) (hash : List ℕ → List ℕ) (h : List Entry) (c : ℕ) → Tidy ((facts setup hash h).about c)

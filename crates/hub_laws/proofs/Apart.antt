@@ -1,5 +1,5 @@
 -- After every history, no two users who are present have the same nick or the same client identifier.
-use Rattle.std.proofs.Common.{◌≡◌, ◌∙◌, sym, ap, ap₂, refl, ℕ, ◌+◌, ◌≤◌, Bool, true, false, not, ◌&&◌, ◌||◌, ◌==◌, inl, inr, eqb, List, [], ◌∷◌, map, subst}
+use Rattle.std.proofs.Common.{◌≡◌, ◌∙◌, sym, ap, ap₂, refl, ℕ, ◌+◌, ◌≤◌, Bool, true, false, not, ◌&&◌, ◌||◌, ◌==◌, inl, inr, eqb, List, [], ◌∷◌, map, subst, cond}
 use Rattle.std.specs.List.{list_any}
 use Rattle.std.specs.Str.{bytes_eq}
 use Rattle.std.proofs.lemmas.Bool.{false≢true, eqb-true, eq-eqb}
@@ -13,14 +13,14 @@ use Rattle.hub_rules.specs.declared.effect.Effect.{Effect}
 use Rattle.hub_rules.specs.declared.history.Call.{Call}
 use Rattle.hub_rules.specs.declared.history.Call.TheVariants.{Join, Line, Quit, Take}
 use Rattle.hub_rules.specs.declared.history.Entry.{Entry}
-use Rattle.hub_rules.specs.Configured.{Configured}
+use Rattle.hub_rules.specs.Configured.{most_users, Configured}
 use Rattle.hub_rules.specs.Differing.{CidsDiffer, NicksDiffer}
 use Rattle.hub_rules.specs.Effects.{departure, is_present}
-use Rattle.hub_rules.specs.Facts.{Facts, facts, about_after, after, closed, effect_of_line, happens, has_joins, has_place, joined, newcomer, next_sid, own_of, sight_of, user_of}
-use Rattle.hub_rules.specs.Identities.{cid_in, key_in, listed}
-use Rattle.hub_rules.specs.Prepared.{prepared}
+use Rattle.hub_rules.specs.Facts.{Facts, facts, about_after, after, without_connection, effect_of_line, happens, has_joins, has_place, with_connection, newcomer, next_sid, own_of, sight_of, user_of}
+use Rattle.hub_rules.specs.Identities.{cid_in, key_in, listed_user}
+use Rattle.hub_rules.specs.Prepared.{prepared_line}
 use Rattle.hub_rules.specs.Said.{infs}
-use Rattle.hub_rules.specs.Shares.{chosen, fields_after, removed_by, stage_after}
+use Rattle.hub_rules.specs.Shares.{fields_after, removed_by, stage_after}
 use Rattle.hub_invariants.proofs.Becoming.{take-facts}
 use Rattle.hub_invariants.proofs.Calls.{absent-newcomer, sound_of}
 use Rattle.hub_laws.proofs.Clearing.{IsClear, clear-line, listed-cid, listed-key}
@@ -36,7 +36,7 @@ use Rattle.hub_invariants.proofs.Suits.{listed-sid}
 
 -- a user has what it is known by
 abbrev Knows : (List Field → List ℕ) → (List ℕ → Listed → Bool) → Type 0
-Knows of test = (sid : ℕ) (fields : List Field) → test (of fields) (listed sid fields) ≡ true
+Knows of test = (sid : ℕ) (fields : List Field) → test (of fields) (listed_user sid fields) ≡ true
 
 knows-key : Knows key_in has_key
 knows-key sid fields = ap (λ k. bytes_eq k (key_in fields)) (listed-key sid fields) ∙ (bytes_eq-Decides (key_in fields) (key_in fields)).1 refl
@@ -78,8 +78,8 @@ clears-from of test knows setup f c effect sound n suits differ (inr (inr none))
 
 -- ---- every call
 
-closed-differ : (of : List Field → List ℕ) (c : ℕ) (f : Facts) → Differ of f → Differ of (closed c f)
-unfolding closed
+closed-differ : (of : List Field → List ℕ) (c : ℕ) (f : Facts) → Differ of f → Differ of (without_connection c f)
+unfolding without_connection
 closed-differ of c f differ = differ
 
 falls-away : (c : ℕ) (f : Facts) (stage : Stage) (sid : ℕ) (of : List Field → List ℕ) → Clears of f c (departure stage sid)
@@ -98,14 +98,14 @@ newcomer-away f sound d true is there =
     absurd (false≢true (sym (absent-newcomer f sound) ∙ ap (λ x. is_present (f.about x).stage) (sym (eqb-true d (f.joins + 1) is)) ∙ sym (sound.entered d) ∙ there))
 newcomer-away f sound d false is there = refl
 
-joined-differ : (of : List Field → List ℕ) (f : Facts) (owner : ℕ) (peer challenge : List ℕ) → Sound f → Differ of f → Differ of (joined f owner peer challenge)
-unfolding joined
+joined-differ : (of : List Field → List ℕ) (f : Facts) (owner : ℕ) (peer challenge : List ℕ) → Sound f → Differ of f → Differ of (with_connection f owner peer challenge)
+unfolding with_connection
 joined-differ of f owner peer challenge sound differ =
-    differ-same of f (joined f owner peer challenge) refl
-    (λ d there. ap (λ b. (chosen b (newcomer owner (next_sid f) peer challenge) (f.about d)).fields) (newcomer-away f sound d (d == (f.joins + 1)) refl there)) differ
+    differ-same of f (with_connection f owner peer challenge) refl
+    (λ d there. ap (λ b. (cond b (newcomer owner (next_sid f) peer challenge) (f.about d)).fields) (newcomer-away f sound d (d == (f.joins + 1)) refl there)) differ
 
 join-differ : (of : List Field → List ℕ) (f : Facts) (owner : ℕ) (peer challenge : List ℕ) (accepted : Bool) → Sound f → Differ of f
-    → Differ of (chosen accepted (joined f owner peer challenge) f)
+    → Differ of (cond accepted (with_connection f owner peer challenge) f)
 join-differ of f owner peer challenge true sound differ = joined-differ of f owner peer challenge sound differ
 join-differ of f owner peer challenge false sound differ = differ
 
@@ -125,24 +125,24 @@ after-differ of setup hash f caller (Take c count) sound differ clears = subst (
 
 -- ---- every history
 
-pub nicks_differ_in : (setup : Configured) (hash : List ℕ → List ℕ) (h : List Entry) → setup.max_users ≤ 900 → Differ key_in (facts setup hash h)
+pub nicks_differ_in : (setup : Configured) (hash : List ℕ → List ℕ) (h : List Entry) → setup.max_users ≤ most_users → Differ key_in (facts setup hash h)
 unfolding facts
 nicks_differ_in setup hash [] small = λ c d there-c there-d same. absurd (false≢true there-c)
 nicks_differ_in setup hash (e ∷ h) small =
     after-differ key_in setup hash (facts setup hash h) e.caller e.call (sound_of setup hash h) (nicks_differ_in setup hash h small)
     (λ c bytes now. clears-from key_in has_key knows-key setup (facts setup hash h) c (effect_of_line setup hash (facts setup hash h) c bytes now)
     (sound_of setup hash h) (numbered_of setup hash h small) (fits-line setup hash (facts setup hash h) c bytes now) (nicks_differ_in setup hash h small)
-    (clear-line (sight_of setup (facts setup hash h)) (own_of ((facts setup hash h).about c)) (prepared setup hash ((facts setup hash h).about c).challenge bytes) now
+    (clear-line (sight_of setup (facts setup hash h)) (own_of ((facts setup hash h).about c)) (prepared_line setup hash ((facts setup hash h).about c).challenge bytes) now
     (infs setup hash h c) (told_of setup hash h c).tells).nick)
 
-pub cids_differ_in : (setup : Configured) (hash : List ℕ → List ℕ) (h : List Entry) → setup.max_users ≤ 900 → Differ cid_in (facts setup hash h)
+pub cids_differ_in : (setup : Configured) (hash : List ℕ → List ℕ) (h : List Entry) → setup.max_users ≤ most_users → Differ cid_in (facts setup hash h)
 unfolding facts
 cids_differ_in setup hash [] small = λ c d there-c there-d same. absurd (false≢true there-c)
 cids_differ_in setup hash (e ∷ h) small =
     after-differ cid_in setup hash (facts setup hash h) e.caller e.call (sound_of setup hash h) (cids_differ_in setup hash h small)
     (λ c bytes now. clears-from cid_in has_cid knows-cid setup (facts setup hash h) c (effect_of_line setup hash (facts setup hash h) c bytes now)
     (sound_of setup hash h) (numbered_of setup hash h small) (fits-line setup hash (facts setup hash h) c bytes now) (cids_differ_in setup hash h small)
-    (clear-line (sight_of setup (facts setup hash h)) (own_of ((facts setup hash h).about c)) (prepared setup hash ((facts setup hash h).about c).challenge bytes) now
+    (clear-line (sight_of setup (facts setup hash h)) (own_of ((facts setup hash h).about c)) (prepared_line setup hash ((facts setup hash h).about c).challenge bytes) now
     (infs setup hash h c) (told_of setup hash h c).tells).cid)
 
 pub nicks_differ : NicksDiffer

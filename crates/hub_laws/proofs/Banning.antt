@@ -3,6 +3,7 @@ use Rattle.std.proofs.Common.{◌≡◌, sym, subst, ℕ, false, ◌&&◌, List,
 use Rattle.adc_line.specs.Lines.{Reading}
 use Rattle.operator_acts.specs.Bans.{is_full}
 use Rattle.operator_acts.specs.declared.ban.Ban.{Ban}
+use Rattle.user_table.specs.Listed.{Listed}
 use Rattle.hub_rules.specs.declared.effect.Change.{Change}
 use Rattle.hub_rules.specs.declared.effect.Change.TheVariants.{Hub}
 use Rattle.hub_rules.specs.declared.effect.Effect.{Effect}
@@ -11,12 +12,12 @@ use Rattle.hub_rules.specs.declared.effect.HubChange.TheVariants as shared
 use Rattle.hub_rules.specs.declared.history.Call.{Call}
 use Rattle.hub_rules.specs.declared.history.Call.TheVariants.{Join, Line, Quit, Take}
 use Rattle.hub_rules.specs.declared.history.Entry.{Entry}
-use Rattle.hub_rules.specs.declared.request.Request.{Request}
+use Rattle.login_state.specs.declared.request.Request.{Request}
 use Rattle.hub_rules.specs.Configured.{Configured}
-use Rattle.hub_rules.specs.Facts.{Facts, facts, after, bans_after, closed, effect_of_line, happens, has_joins, has_place}
+use Rattle.hub_rules.specs.Facts.{Facts, facts, after, bans_after, without_connection, effect_of_line, happens, has_joins, has_place}
 use Rattle.hub_rules.specs.Sights.{Own, PreparedLine, Sight}
 use Rattle.hub_laws.specs.Holding.{BansAreApart, BansAreFew}
-use Rattle.hub_invariants.proofs.Outcomes.{Acts, Outcome, acts, line-outcome}
+use Rattle.hub_invariants.proofs.Outcomes.{Does, Outcome, acts, bans_user, line-outcome}
 use Rattle.hub_laws.proofs.Holding.{AreHeld, held-none, held-with, held-without}
 use Rattle.hub_laws.proofs.Worlds.{join-bans}
 
@@ -25,24 +26,25 @@ abbrev HasRoom : List (List ℕ × Ban) → Change → Type 0
 HasRoom bans (Hub (shared.Ban banned)) = is_full bans banned.cid ≡ false
 HasRoom bans change = Unit {0}
 
-room-act : {hub : Sight} {own : Own} {now : ℕ} {others : List (List ℕ)} {change : HubChange} → Acts hub own now others change → HasRoom hub.bans (Hub change)
-room-act (Acts.bans nick seconds reason target called room) = room
+room-act : {users : List Listed} {bans : List (List ℕ × Ban)} {operator : ℕ} {others : List (List ℕ)} {change : HubChange} → Does users bans operator others change
+    → HasRoom bans (Hub change)
+room-act (bans_user nick reason target banned called same room) = room
 room-act _ = tt
 
 module _ {hub : Sight} {own : Own} {line : PreparedLine} {now : ℕ} where
   room : {said : Option Reading} {request : Request} {effect : Effect} → Outcome hub own line now said request effect → HasRoom hub.bans effect.change
-  room (acts reading others change at operator act) = room-act act
+  room (acts reading done at operator does) = room-act does
   room _ = tt
 
 -- ---- every call
 
 held-change : (change : Change) (bans : List (List ℕ × Ban)) → HasRoom bans change → AreHeld bans → AreHeld (bans_after change bans)
-held-change (Hub (shared.Ban banned)) bans room held = held-with bans banned.cid (record { seconds = banned.seconds; moment = banned.now }) room held
+held-change (Hub (shared.Ban banned)) bans room held = held-with bans banned.cid banned.ban room held
 held-change (Hub (shared.Unban cid)) bans room held = held-without bans cid held
 held-change change bans room held = held
 
 held-call : (setup : Configured) (hash : List ℕ → List ℕ) (f : Facts) (caller : ℕ) (call : Call) → AreHeld f.bans → AreHeld (after setup hash f caller call).bans
-unfolding after happens closed
+unfolding after happens without_connection
 held-call setup hash f caller (Join peer challenge now) held = subst AreHeld (sym (join-bans f caller peer challenge (has_place setup f && has_joins f))) held
 held-call setup hash f caller (Line c bytes now) held =
     held-change (effect_of_line setup hash f c bytes now).change f.bans

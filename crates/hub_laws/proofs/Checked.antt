@@ -1,28 +1,50 @@
--- What a line has passed that brings its user in, that makes it wait for a password, or that changes a nick.
-use Rattle.std.proofs.Common.{◌≡◌, sym, ap, refl, ℕ, Bool, true, false, not, ◌&&◌, ◌||◌, ◌⊎◌, inl, inr, List, [], ◌∷◌, zero, suc, Option, Some, None}
+-- The checks that were passed by a line that brings its user in, makes it wait for a password, or changes a nick.
+use Rattle.std.specs.Option.{option_or}
+use Rattle.std.proofs.Common.{◌≡◌, sym, ap, refl, ℕ, Bool, true, false, not, ◌&&◌, ◌||◌, ◌⊎◌, inl, inr, List, [], ◌∷◌, Option, Some, None}
+use Rattle.std.specs.Prelude.{if◌then◌else◌}
 use Rattle.std.specs.Str.{bytes_eq}
 use Rattle.std.proofs.lemmas.Bool.{false≢true}
 use Rattle.std.proofs.lemmas.Slice.Eq.{bytes_eq-Decides}
 use Rattle.inf_fields.specs.Field.{Field}
 use Rattle.login_state.specs.declared.deny.Deny.{Deny}
-use Rattle.operator_acts.specs.Bans.{left}
+use Rattle.login_state.specs.declared.deny.Deny.TheVariants as denials
+use Rattle.operator_acts.specs.Bans.{left_of_bans}
 use Rattle.operator_acts.specs.declared.left.Left.{Left}
 use Rattle.operator_acts.specs.declared.left.Left.TheVariants as lefts
 use Rattle.user_table.specs.Listed.{Listed}
-use Rattle.hub_rules.specs.Denied.{or_else}
 use Rattle.hub_rules.specs.Grounds.{entry_grounds, first_ground, is_digest, is_ever, is_timed, login_grounds, password_grounds, update_grounds}
 use Rattle.hub_rules.specs.Identities.{key_in}
 use Rattle.hub_rules.specs.Sights.{Own, Sight, is_account}
-use Rattle.hub_invariants.proofs.Claims.{AllFalse, all-false, some-none}
+use Rattle.hub_invariants.proofs.Claims.{AllFalse, grounds_of, none-of, some-none}
 use Rattle.hub_invariants.proofs.Members.{or-parts}
 
 -- ---- what the grounds say that deny nothing
 
--- grounds of which one is looked for otherwise
-abbrev pub with_test : ℕ → Bool → List (Bool × Deny) → List (Bool × Deny)
-with_test place test [] = []
-with_test zero test ((old, deny) ∷ more) = (test, deny) ∷ more
-with_test (suc place) test (ground ∷ more) = ground ∷ with_test place test more
+abbrev pub is_bad_nick : Deny → Bool
+is_bad_nick (denials.BadNick severity) = true
+is_bad_nick deny = false
+
+abbrev pub is_for_accounts : Deny → Bool
+is_for_accounts denials.Registered = true
+is_for_accounts deny = false
+
+abbrev pub is_access : Deny → Bool
+is_access (denials.Access word) = true
+is_access deny = false
+
+abbrev is_ban : Deny → Bool
+is_ban denials.BannedEver = true
+is_ban (denials.BannedFor seconds) = true
+is_ban deny = false
+
+abbrev is_password : Deny → Bool
+is_password denials.Password = true
+is_password deny = false
+
+-- grounds of which those that deny so are looked for otherwise
+abbrev pub with_test : (Deny → Bool) → Bool → List (Bool × Deny) → List (Bool × Deny)
+with_test is_so test [] = []
+with_test is_so test ((old, deny) ∷ more) = (if is_so deny then test else old, deny) ∷ with_test is_so test more
 
 free-ban : (l : Left) → is_ever l ≡ false → is_timed l ≡ false → l ≡ lefts.Free
 free-ban lefts.Free ever timed = refl
@@ -33,17 +55,18 @@ free-ban lefts.Ever ever timed = absurd (false≢true (sym ever))
 abbrev pub is_barred : Sight → List ℕ → Bool
 is_barred hub key = hub.setup.registered_only && not (is_account hub key)
 
-pub entry-unbanned : (hub : Sight) (now : ℕ) (user : Listed) → first_ground (entry_grounds hub now user) ≡ None → left hub.bans user.cid now ≡ lefts.Free
+pub entry-unbanned : (hub : Sight) (now : ℕ) (user : Listed) → first_ground (entry_grounds hub now user) ≡ None → left_of_bans hub.bans user.cid now ≡ lefts.Free
 unfolding entry_grounds
 entry-unbanned hub now user none =
-    let tests : AllFalse (entry_grounds hub now user) = all-false (entry_grounds hub now user) none in free-ban (left hub.bans user.cid now) tests.0 tests.1.0
+    let bans : AllFalse (grounds_of is_ban (entry_grounds hub now user)) = none-of is_ban (entry_grounds hub now user) none in free-ban (left_of_bans hub.bans user.cid now) bans.0 bans.1.0
 
 pub login-rules : (hub : Sight) (own : Own) (now : ℕ) (digest : Option (List ℕ)) (u : List Field) (user : Listed) → first_ground (login_grounds hub own now digest u user) ≡ None
-    → (left hub.bans user.cid now ≡ lefts.Free) × (is_barred hub user.key ≡ false)
+    → (left_of_bans hub.bans user.cid now ≡ lefts.Free) × (is_barred hub user.key ≡ false)
 unfolding login_grounds
 login-rules hub own now digest u user none =
-    let tests : AllFalse (login_grounds hub own now digest u user) = all-false (login_grounds hub own now digest u user) none in
-    (free-ban (left hub.bans user.cid now) tests.1.1.1.1.1.1.1.1.1.0 tests.1.1.1.1.1.1.1.1.1.1.0, tests.1.1.1.1.1.1.1.1.1.1.1.1.0)
+    let bans : AllFalse (grounds_of is_ban (login_grounds hub own now digest u user)) = none-of is_ban (login_grounds hub own now digest u user) none in
+    let accounts : AllFalse (grounds_of is_for_accounts (login_grounds hub own now digest u user)) = none-of is_for_accounts (login_grounds hub own now digest u user) none in
+    (free-ban (left_of_bans hub.bans user.cid now) bans.0 bans.1.0, accounts.0)
 
 -- an update leaves the nick, or neither the one before nor the one afterwards is an account's
 abbrev pub KeepsNick : Sight → List ℕ → List ℕ → Type 0
@@ -58,8 +81,8 @@ untouched hub before afterwards false false is-same is-either none = inr (or-par
 pub update-keeps : (hub : Sight) (own : Own) (u : List Field) (user : Listed) → first_ground (update_grounds hub own u user) ≡ None → KeepsNick hub (key_in own.fields) user.key
 unfolding update_grounds
 update-keeps hub own u user none =
-    let tests : AllFalse (update_grounds hub own u user) = all-false (update_grounds hub own u user) none in
-    untouched hub (key_in own.fields) user.key (bytes_eq user.key (key_in own.fields)) (is_account hub (key_in own.fields) || is_account hub user.key) refl refl tests.1.1.1.1.0
+    let access : AllFalse (grounds_of is_access (update_grounds hub own u user)) = none-of is_access (update_grounds hub own u user) none in
+    untouched hub (key_in own.fields) user.key (bytes_eq user.key (key_in own.fields)) (is_account hub (key_in own.fields) || is_account hub user.key) refl refl access.0
 
 -- the digest that is given is the one that is waited for
 right-digest : (expected digest : List ℕ) (same : Bool) → bytes_eq digest expected ≡ same → not same ≡ false → digest ≡ expected
@@ -72,9 +95,11 @@ right-password expected (Some digest) none = ap Some (right-digest expected dige
 
 pub password-right : (hub : Sight) (own : Own) (now : ℕ) (given : Option (List ℕ)) (user : Listed) → first_ground (password_grounds hub own now given user) ≡ None
     → given ≡ Some own.expected
+unfolding entry_grounds
 password-right hub own now given user none =
-    let tests : AllFalse (password_grounds hub own now given user) = all-false (password_grounds hub own now given user) none in right-password own.expected given tests.0
+    let right : AllFalse (grounds_of is_password (password_grounds hub own now given user)) = none-of is_password (password_grounds hub own now given user) none in
+    right-password own.expected given right.0
 
-pub first-none : (first later : Option Deny) → or_else first later ≡ None → first ≡ None
+pub first-none : (first later : Option Deny) → option_or first later ≡ None → first ≡ None
 first-none None later none = refl
 first-none (Some deny) later none = absurd (some-none none)

@@ -1,18 +1,18 @@
--- What a line leaves of its connection is no other present user's nick or identifier.
+-- A line leaves its connection no nick and no identifier of another present user.
 use Rattle.std.proofs.Common.{◌≡◌, ◌∙◌, sym, ap, ap₂, refl, ℕ, Bool, true, false, not, ◌&&◌, ◌||◌, ◌⊎◌, inl, inr, List, [], ◌∷◌, Option, None, Ok}
 use Rattle.std.specs.List.{list_any}
 use Rattle.std.proofs.lemmas.Bool.{false≢true}
 use Rattle.adc_line.specs.Lines.{Reading}
 use Rattle.inf_fields.specs.Cleaning.{clean}
 use Rattle.inf_fields.specs.Field.{Field}
-use Rattle.inf_fields.specs.Merging.{merged, merged_with}
+use Rattle.inf_fields.specs.Merging.{merged_fields, merged_with}
 use Rattle.user_table.specs.Listed.{Listed}
 use Rattle.user_table.specs.Tables.{has_cid, has_key, has_sid}
 use Rattle.hub_rules.specs.declared.effect.Effect.{Effect}
-use Rattle.hub_rules.specs.declared.request.Request.{Request}
+use Rattle.login_state.specs.declared.request.Request.{Request}
 use Rattle.hub_rules.specs.Denied.{digest_given, update_denied}
 use Rattle.hub_rules.specs.Effects.{is_present, line_effect, update_effect}
-use Rattle.hub_rules.specs.Identities.{cid_in, key_in, listed}
+use Rattle.hub_rules.specs.Identities.{cid_in, key_in, listed_user}
 use Rattle.hub_rules.specs.Shares.{fields_after, stage_after}
 use Rattle.hub_rules.specs.Sights.{Own, PreparedLine, Sight, is_here, user_after}
 use Rattle.hub_invariants.proofs.Claims.{login-free, password-free, same-cid, update-free}
@@ -65,21 +65,21 @@ nobody-else test sid (user ∷ users) none =
     let parts = or-parts (test user) (list_any test users) none in
     ap₂ ◌||◌ (weaker (test user) (not (has_sid sid user)) parts.0) (nobody-else test sid users parts.1)
 
-pub listed-fields : (sid : ℕ) (fields : List Field) → (listed sid fields).fields ≡ fields
-unfolding listed
+pub listed-fields : (sid : ℕ) (fields : List Field) → (listed_user sid fields).fields ≡ fields
+unfolding listed_user
 listed-fields sid fields = refl
 
-pub listed-key : (sid : ℕ) (fields : List Field) → (listed sid fields).key ≡ key_in fields
-unfolding listed
+pub listed-key : (sid : ℕ) (fields : List Field) → (listed_user sid fields).key ≡ key_in fields
+unfolding listed_user
 listed-key sid fields = refl
 
-pub listed-cid : (sid : ℕ) (fields : List Field) → (listed sid fields).cid ≡ cid_in fields
-unfolding listed
+pub listed-cid : (sid : ℕ) (fields : List Field) → (listed_user sid fields).cid ≡ cid_in fields
+unfolding listed_user
 listed-cid sid fields = refl
 
 -- a user with these fields enters, whom nobody is like
 clear-entering : (hub : Sight) (own : Own) (effect : Effect) (fields : List Field) → fields_after effect.change own.fields ≡ fields
-    → (is_here (has_key (listed own.sid fields).key) hub ≡ false) × (is_here (has_cid (listed own.sid fields).cid) hub ≡ false) → Clear hub own effect
+    → (is_here (has_key (listed_user own.sid fields).key) hub ≡ false) × (is_here (has_cid (listed_user own.sid fields).cid) hub ≡ false) → Clear hub own effect
 clear-entering hub own effect fields is free = record {
   nick = inr (inr (ap (λ fs. another (has_key (key_in fs)) hub own.sid) is
       ∙ nobody-else (has_key (key_in fields)) own.sid hub.users (ap (λ k. is_here (has_key k) hub) (sym (listed-key own.sid fields)) ∙ free.0)));
@@ -89,7 +89,7 @@ clear-entering hub own effect fields is free = record {
 
 -- ---- updates
 
-clear-update : (hub : Sight) (own : Own) (infs : List (List Field)) (u : List Field) → own.fields ≡ merged infs → update_denied hub own (Ok u) ≡ None
+clear-update : (hub : Sight) (own : Own) (infs : List (List Field)) (u : List Field) → own.fields ≡ merged_fields infs → update_denied hub own (Ok u) ≡ None
     → Clear hub own (update_effect own (clean u own.peer))
 clear-update hub own infs u known none =
     let free = update-free hub own u (user_after own u) none in
@@ -102,14 +102,14 @@ clear-update hub own infs u known none =
 -- ---- every line
 
 module _ {hub : Sight} {own : Own} {line : PreparedLine} {now : ℕ} where
-  clear : {said : Option Reading} {request : Request} {effect : Effect} → Outcome hub own line now said request effect → (infs : List (List Field)) → own.fields ≡ merged infs → Clear hub own effect
+  clear : {said : Option Reading} {request : Request} {effect : Effect} → Outcome hub own line now said request effect → (infs : List (List Field)) → own.fields ≡ merged_fields infs → Clear hub own effect
   clear (shuts_out deny) infs known = clear-absent hub own _ refl
   clear (greets reading features at applies) infs known = clear-absent hub own _ refl
   clear (waits reading u logs account) infs known = clear-absent hub own _ refl
   clear (lets_in reading u logs account) infs known = clear-entering hub own _ _ (listed-fields own.sid _) (login-free hub own now line.owner u (user_after own u) logs.allowed)
-  clear (proves reading at asks none) infs known = clear-entering hub own _ own.fields refl (password-free hub own now (digest_given reading.params) (listed own.sid own.fields) none)
+  clear (proves reading at asks none) infs known = clear-entering hub own _ own.fields refl (password-free hub own now (digest_given reading.params) (listed_user own.sid own.fields) none)
   clear (revises reading u at words none) infs known = clear-update hub own infs u known none
   clear _ infs known = clear-kept hub own _ refl (λ here. here)
 
-pub clear-line : (hub : Sight) (own : Own) (line : PreparedLine) (now : ℕ) (infs : List (List Field)) → own.fields ≡ merged infs → Clear hub own (line_effect hub own line now)
+pub clear-line : (hub : Sight) (own : Own) (line : PreparedLine) (now : ℕ) (infs : List (List Field)) → own.fields ≡ merged_fields infs → Clear hub own (line_effect hub own line now)
 clear-line hub own line now infs known = clear (outcome hub own line now) infs known

@@ -3,26 +3,26 @@ use Rattle.std.proofs.Common.{◌≡◌, ◌∙◌, ◌++◌, ap, refl, ℕ, tru
 use Rattle.std.specs.Prelude.{chars}
 use Rattle.adc_base32.specs.Bits.{bits, value_of}
 use Rattle.adc_base32.specs.Digits.{digit_of, value_at}
-use Rattle.adc_base32.specs.Sids.{four_digits, sid_at}
-use Rattle.adc_base32.specs.Spelled.{bytes_from, number_from, spelled}
+use Rattle.adc_base32.specs.Sids.{sid_at}
+use Rattle.adc_base32.specs.Spelled.{bytes_from, number_from, spelled_bytes}
 use Rattle.adc_ids.specs.Nicks.{is_nick}
-use Rattle.adc_line.specs.declared.kind.Kind.TheVariants as kinds
-use Rattle.adc_line.specs.Escapes.{escaped, is_escaped, unescaped}
-use Rattle.adc_line.specs.Header.{addressed, head_at, header_of, is_feature_name, kind_at}
+use Rattle.adc_line.specs.declared.header.Kind.TheVariants as kinds
+use Rattle.adc_line.specs.Escapes.{escaped_text, is_escaped, unescaped_text}
+use Rattle.adc_line.specs.Header.{with_addresses, head_at, header_of, is_feature_name, kind_at}
 use Rattle.adc_line.specs.Lines.{Reading, reading}
 use Rattle.adc_line.specs.Parameters.{params_fault}
 use Rattle.feature_route.specs.Audiences.{audience, holds_words}
 use Rattle.feature_route.specs.declared.hearers.Audience.TheVariants as audiences
 use Rattle.inf_fields.specs.Cleaning.{clean}
-use Rattle.inf_fields.specs.Field.{Field, field, printed}
+use Rattle.inf_fields.specs.Field.{Field, field, printed_fields}
 use Rattle.inf_fields.specs.Merging.{merged_with}
 use Rattle.inf_fields.specs.Updates as updates
 use Rattle.login_state.specs.declared.stage.Stage.TheVariants as stages
 use Rattle.login_state.specs.Denials.{denial_text}
-use Rattle.login_state.specs.Mentions.{feature_named, mention_at, signed}
-use Rattle.login_state.specs.Support.{said, supported, supported_after}
-use Rattle.login_state.specs.SupportAnswers.{applied}
-use Rattle.operator_acts.specs.Bans.{left}
+use Rattle.login_state.specs.Mentions.{feature_named, mention_at}
+use Rattle.login_state.specs.Support.{mentions_in, features_left, supported_after}
+use Rattle.login_state.specs.SupportAnswers.{support_after}
+use Rattle.operator_acts.specs.Bans.{left_of_bans}
 use Rattle.user_table.specs.Listed.{Listed}
 use Rattle.hub_rules.specs.declared.effect.Change.TheVariants.{Nothing, Sender}
 use Rattle.hub_rules.specs.declared.effect.Effect.{Effect}
@@ -32,19 +32,19 @@ use Rattle.hub_rules.specs.declared.history.Verdict.TheVariants.{Ended, Kept}
 use Rattle.hub_rules.specs.Accounts.{account_with}
 use Rattle.hub_rules.specs.Grounds.{login_grounds}
 use Rattle.hub_rules.specs.Denied.{request_denied}
-use Rattle.hub_rules.specs.Effects.{accepted, denial}
+use Rattle.hub_rules.specs.Effects.{accepted_effect, denial}
 use Rattle.hub_rules.specs.Facts.{newcomer, own_of}
-use Rattle.hub_rules.specs.Identities.{key_of_points, listed, nick_in}
+use Rattle.hub_rules.specs.Identities.{key_of_points, listed_user, nick_in}
 use Rattle.hub_rules.specs.Prepared.{owner_digest, update_of}
-use Rattle.hub_rules.specs.Requests.{refused, request_of}
+use Rattle.login_state.specs.Requests.{request_at}
 use Rattle.hub_rules.specs.Shares.{About, lags_with, owed_with}
 use Rattle.hub_rules.specs.Sights.{user_after}
-use Rattle.hub_rules.specs.Texts.{ended, hub_line, identifier_line, support_line, user_line}
+use Rattle.hub_rules.specs.Texts.{with_line_feed, hub_line, identifier_line, support_line, user_line}
 use Rattle.hub_laws.specs.Conversations.{BothAreHeard, ChatIsHeard, DeniedAndOut, LoginIsHeard, ThreeAnswers, ana_entered, ana_text, ana_told, bob_entered, bob_text, bob_told, bobs_id, greeting_of, hi_text, lacking_text, nobodys_id, one, one_asked, one_denied, one_joined, peer, plain, said_hi, two_asked, zeros}
-use Rattle.hub_laws.proofs.Greetings.{greeted, greets-more, sup-read}
+use Rattle.hub_laws.proofs.Greetings.{greeted_about, greets-more, sup-read}
 use Rattle.hub_laws.proofs.Heard.{effect_of, reading-ascii}
 use Rattle.hub_laws.proofs.Known.{Known, facts_of}
-use Rattle.hub_laws.proofs.Messages.{ana-asks, ana_greeted, entry_effect, passed, plain_with}
+use Rattle.hub_laws.proofs.Messages.{ana-asks, ana_greeted, entry_effect, message_effect, plain_with}
 use Rattle.hub_laws.proofs.Steps.{Comes, joins-more, next-at, nobody_yet, opens, says-more}
 use Rattle.hub_laws.proofs.Visitors.{ana-chars, ana-key, bob-chars, bob-key, login_line, logs-in, no-password}
 
@@ -74,19 +74,19 @@ lacking_line = record {
 }
 
 lacking-read : reading lacking_text ≡ Ok lacking_line
-unfolding header_of head_at kind_at addressed params_fault is_escaped
+unfolding header_of head_at kind_at with_addresses params_fault is_escaped
 lacking-read = reading-ascii lacking_text refl refl ∙ refl
 
 abbrev denied_effect : Effect
 denied_effect = record {
-  own = ended (codes "ISTA 245 Feature\\smissing FCBASE") ∷ [];
+  own = with_line_feed (codes "ISTA 245 Feature\\smissing FCBASE") ∷ [];
   others = [];
   hearers = Others;
   change = Sender senders.Falls;
 }
 
 lacking-decided : (hash : List ℕ → List ℕ) → effect_of plain hash (facts_of one_there) 1 lacking_text 0 (Ok lacking_line) ≡ denied_effect
-unfolding refused request_denied request_of denial denial_text feature_named mention_at signed said supported supported_after applied is_feature_name
+unfolding request_denied request_at denial denial_text feature_named mention_at mentions_in features_left supported_after support_after is_feature_name
 lacking-decided hash = refl
 
 abbrev one_fallen : Known
@@ -120,29 +120,29 @@ ana-updates : updates.reading ana_words ≡ Ok ana
 unfolding updates.reading updates.is_named updates.update
 ana-updates = refl
 
-ana-listed : (sid : ℕ) → listed sid ana_fields ≡ ana_user sid
-unfolding listed unescaped spelled bytes_from number_from value_at bits value_of
+ana-listed : (sid : ℕ) → listed_user sid ana_fields ≡ ana_user sid
+unfolding listed_user unescaped_text spelled_bytes bytes_from number_from value_at bits value_of
 ana-listed sid i = record { sid = sid; cid = zeros; key = (ap key_of_points ana-chars ∙ ana-key) i; fields = ana_fields }
 
-ana-made : (c sid : ℕ) (owed : List (List ℕ)) → user_after (own_of (greeted c sid owed)) ana ≡ ana_user sid
+ana-made : (c sid : ℕ) (owed : List (List ℕ)) → user_after (own_of (greeted_about c sid owed)) ana ≡ ana_user sid
 unfolding clean merged_with
 ana-made c sid owed = ana-listed sid
 
 ana-nick : is_nick (chars (nick_in ana)) ≡ true
-unfolding unescaped is_nick
+unfolding unescaped_text is_nick
 ana-nick = ap is_nick ana-chars
 
 ana-digest : (hash : List ℕ → List ℕ) (text : List ℕ) (sid : ℕ) → owner_digest hash (update_of (Ok (login_line text sid ana_words))) ≡ Some (hash zeros)
-unfolding updates.reading updates.is_named updates.update spelled bytes_from number_from value_at bits value_of
+unfolding updates.reading updates.is_named updates.update spelled_bytes bytes_from number_from value_at bits value_of
 ana-digest hash text sid = refl
 
 ana-read : reading ana_text ≡ Ok (login_line ana_text 1 ana_words)
-unfolding header_of head_at kind_at addressed params_fault is_escaped sid_at four_digits value_at
+unfolding header_of head_at kind_at with_addresses params_fault is_escaped sid_at value_of value_at
 ana-read = reading-ascii ana_text refl refl ∙ refl
 
 ana-decided : (hash : List ℕ → List ℕ) → hash zeros ≡ zeros
     → effect_of plain hash (facts_of ana_greeted) 1 ana_text 0 (Ok (login_line ana_text 1 ana_words)) ≡ entry_effect (ana_user 1) [] ana_told
-unfolding login_grounds left account_with user_line printed digit_of spelled bytes_from number_from value_at bits value_of
+unfolding login_grounds left_of_bans account_with user_line printed_fields digit_of spelled_bytes bytes_from number_from value_at bits value_of
 ana-decided hash same =
     logs-in plain hash ana_greeted (plain_with []) 1 1 0 (greeting_of (codes "AAAB")) ana_words ana_text zeros ana (ana_user 1) refl refl refl
     (ana-digest hash ana_text 1) same (no-password plain hash (update_of (Ok (login_line ana_text 1 ana_words))) refl) ana-updates
@@ -150,13 +150,13 @@ ana-decided hash same =
 
 -- a user who is present, and what it was owed
 abbrev ana_about : List (List ℕ) → About
-ana_about owed = record (greeted 1 1 owed) { stage = stages.Normal; fields = ana_fields }
+ana_about owed = record (greeted_about 1 1 owed) { stage = stages.Normal; fields = ana_fields }
 
 abbrev ana_present : Known
 ana_present = record ana_greeted { present = 1 ∷ []; abouts = ana_about (greeting_of (codes "AAAB") ++ ana_told ∷ []) ∷ [] }
 
 ana-enters : (hash : List ℕ → List ℕ) → hash zeros ≡ zeros → Comes plain hash ana_entered ana_present
-unfolding owed_with lags_with listed
+unfolding owed_with lags_with listed_user
 ana-enters hash same =
     says-more plain hash one_asked ana_greeted ana_present 1 (login_line ana_text 1 ana_words) 0 (entry_effect (ana_user 1) [] ana_told) Kept (ana-asks hash)
     (refl, refl, refl, ana-read, refl, refl) (ana-decided hash same) refl refl
@@ -168,10 +168,10 @@ login-is-heard hash same = let comes = ana-enters hash same in (comes.legal, ap 
 -- ---- a second user
 
 abbrev bob_greeted : Known
-bob_greeted = record ana_present { last = 2; opened = 1 ∷ 2 ∷ []; abouts = greeted 2 2 (greeting_of (codes "AAAC")) ∷ ana_present.abouts }
+bob_greeted = record ana_present { last = 2; opened = 1 ∷ 2 ∷ []; abouts = greeted_about 2 2 (greeting_of (codes "AAAC")) ∷ ana_present.abouts }
 
 bob-asks : (hash : List ℕ → List ℕ) → hash zeros ≡ zeros → Comes plain hash two_asked bob_greeted
-unfolding owed_with lags_with support_line identifier_line hub_line escaped digit_of
+unfolding owed_with lags_with support_line identifier_line hub_line escaped_text digit_of
 bob-asks hash same =
     greets-more plain hash ana_entered ana_present bob_greeted 2 2 0 (ana-enters hash same) refl refl (next-at (facts_of ana_present) refl)
     (refl, refl, refl, sup-read, refl, refl) refl refl refl
@@ -192,29 +192,29 @@ bob-updates : updates.reading bob_words ≡ Ok bob
 unfolding updates.reading updates.is_named updates.update
 bob-updates = refl
 
-bob-listed : (sid : ℕ) → listed sid bob_fields ≡ bob_user sid
-unfolding listed unescaped spelled bytes_from number_from value_at bits value_of
+bob-listed : (sid : ℕ) → listed_user sid bob_fields ≡ bob_user sid
+unfolding listed_user unescaped_text spelled_bytes bytes_from number_from value_at bits value_of
 bob-listed sid i = record { sid = sid; cid = one; key = (ap key_of_points bob-chars ∙ bob-key) i; fields = bob_fields }
 
-bob-made : (c sid : ℕ) (owed : List (List ℕ)) → user_after (own_of (greeted c sid owed)) bob ≡ bob_user sid
+bob-made : (c sid : ℕ) (owed : List (List ℕ)) → user_after (own_of (greeted_about c sid owed)) bob ≡ bob_user sid
 unfolding clean merged_with
 bob-made c sid owed = bob-listed sid
 
 bob-nick : is_nick (chars (nick_in bob)) ≡ true
-unfolding unescaped is_nick
+unfolding unescaped_text is_nick
 bob-nick = ap is_nick bob-chars
 
 bob-digest : (hash : List ℕ → List ℕ) (text : List ℕ) (sid : ℕ) → owner_digest hash (update_of (Ok (login_line text sid bob_words))) ≡ Some (hash one)
-unfolding updates.reading updates.is_named updates.update spelled bytes_from number_from value_at bits value_of
+unfolding updates.reading updates.is_named updates.update spelled_bytes bytes_from number_from value_at bits value_of
 bob-digest hash text sid = refl
 
 bob-read : reading bob_text ≡ Ok (login_line bob_text 2 bob_words)
-unfolding header_of head_at kind_at addressed params_fault is_escaped sid_at four_digits value_at
+unfolding header_of head_at kind_at with_addresses params_fault is_escaped sid_at value_of value_at
 bob-read = reading-ascii bob_text refl refl ∙ refl
 
 bob-decided : (hash : List ℕ → List ℕ) → hash one ≡ one
     → effect_of plain hash (facts_of bob_greeted) 2 bob_text 0 (Ok (login_line bob_text 2 bob_words)) ≡ entry_effect (bob_user 2) (ana_told ∷ []) bob_told
-unfolding login_grounds left account_with user_line printed digit_of spelled bytes_from number_from value_at bits value_of
+unfolding login_grounds left_of_bans account_with user_line printed_fields digit_of spelled_bytes bytes_from number_from value_at bits value_of
 bob-decided hash same =
     logs-in plain hash bob_greeted (plain_with (ana_user 1 ∷ [])) 2 2 0 (greeting_of (codes "AAAC")) bob_words bob_text one bob (bob_user 2) refl refl
     (λ i. plain_with (ana-listed 1 i ∷ [])) (bob-digest hash bob_text 2) same (no-password plain hash (update_of (Ok (login_line bob_text 2 bob_words))) refl) bob-updates
@@ -225,12 +225,12 @@ abbrev two_there : List (List ℕ) → Known
 two_there more = record bob_greeted {
   present = 1 ∷ 2 ∷ [];
   abouts =
-      record (greeted 2 2 (greeting_of (codes "AAAC") ++ ana_told ∷ bob_told ∷ more)) { stage = stages.Normal; fields = bob_fields }
+      record (greeted_about 2 2 (greeting_of (codes "AAAC") ++ ana_told ∷ bob_told ∷ more)) { stage = stages.Normal; fields = bob_fields }
       ∷ ana_about (greeting_of (codes "AAAB") ++ ana_told ∷ bob_told ∷ more) ∷ [];
 }
 
 bob-enters : (hash : List ℕ → List ℕ) → hash zeros ≡ zeros → hash one ≡ one → Comes plain hash bob_entered (two_there [])
-unfolding owed_with lags_with listed
+unfolding owed_with lags_with listed_user
 bob-enters hash same same_one =
     says-more plain hash two_asked bob_greeted (two_there []) 2 (login_line bob_text 2 bob_words) 0 (entry_effect (bob_user 2) (ana_told ∷ []) bob_told) Kept
     (bob-asks hash same) (refl, refl, refl, bob-read, refl, refl) (bob-decided hash same_one) refl refl
@@ -246,13 +246,13 @@ abbrev hi_line : Reading
 hi_line = record { text = hi_text; kind = kinds.Broadcast; command = codes "MSG"; from = Some 2; target = None; features = None; params = codes "hi" ∷ [] }
 
 hi-read : reading hi_text ≡ Ok hi_line
-unfolding header_of head_at kind_at addressed params_fault is_escaped sid_at four_digits value_at
+unfolding header_of head_at kind_at with_addresses params_fault is_escaped sid_at value_of value_at
 hi-read = reading-ascii hi_text refl refl ∙ refl
 
-bob-says-hi : (hash : List ℕ → List ℕ) → hash zeros ≡ zeros → hash one ≡ one → Comes plain hash said_hi (two_there (ended hi_text ∷ []))
-unfolding accepted refused request_denied request_of audience listed owed_with lags_with holds_words
+bob-says-hi : (hash : List ℕ → List ℕ) → hash zeros ≡ zeros → hash one ≡ one → Comes plain hash said_hi (two_there (with_line_feed hi_text ∷ []))
+unfolding accepted_effect request_denied request_at audience listed_user owed_with lags_with holds_words
 bob-says-hi hash same same_one =
-    says-more plain hash bob_entered (two_there []) (two_there (ended hi_text ∷ [])) 2 hi_line 0 (passed hi_text audiences.All Nothing) Kept (bob-enters hash same same_one)
+    says-more plain hash bob_entered (two_there []) (two_there (with_line_feed hi_text ∷ [])) 2 hi_line 0 (message_effect hi_text audiences.All Nothing) Kept (bob-enters hash same same_one)
     (refl, refl, refl, hi-read, refl, refl) refl refl refl
 
 -- both hear what the second says

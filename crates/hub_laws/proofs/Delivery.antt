@@ -1,16 +1,16 @@
--- What a take gives stands behind what the takes before it gave.
-use Rattle.std.proofs.Common.{◌≡◌, ◌∙◌, sym, ap, ap₂, refl, ℕ, ◌<◌, ◌≤◌, Bool, true, false, ◌==◌, List, [], ◌∷◌, ◌++◌, length, take, append-nil, arith}
+-- The lines that a take gives stand behind those of the takes before it.
+use Rattle.std.proofs.Common.{◌≡◌, ◌∙◌, sym, ap, ap₂, refl, ℕ, ◌<◌, ◌≤◌, Bool, true, false, ◌==◌, List, [], ◌∷◌, ◌++◌, length, take, append-nil, arith, cond}
 use Rattle.std.specs.List.{concat}
 use Rattle.std.proofs.lemmas.Bool.{eqb-true, false≢true}
 use Rattle.std.proofs.lemmas.List.{take-append-le}
 use Rattle.hub_rules.specs.declared.effect.Effect.{Effect}
 use Rattle.hub_rules.specs.declared.history.Call.{Call}
 use Rattle.hub_rules.specs.Configured.{Configured}
-use Rattle.hub_rules.specs.Effects.{departure, given_if}
+use Rattle.hub_rules.specs.Effects.{departure}
 use Rattle.hub_rules.specs.Facts.{Facts, facts, about_after, effect_of_line}
 use Rattle.hub_rules.specs.Legal.{Legal, reply, take_reply}
 use Rattle.hub_rules.specs.Shares.{About, waiting}
-use Rattle.hub_laws.specs.Delivery.{DeliveredAreTheFirst, bytes_of_take, bytes_taken, delivered}
+use Rattle.hub_laws.specs.Delivery.{DeliveredAreTheFirst, bytes_of_take, bytes_taken, bytes_delivered}
 use Rattle.hub_invariants.proofs.Becoming.{Becomes, becomes, taken_by}
 use Rattle.hub_invariants.proofs.Calls.{sound_of}
 use Rattle.hub_invariants.proofs.Kept.{fresh-taken, given-bytes}
@@ -27,7 +27,7 @@ front a = concat (take a.taken a.owed)
 front-after : (c : ℕ) (effect : Effect) (f : Facts) (d : ℕ) → (f.about d).taken ≤ length (f.about d).owed → front (about_after c effect f.about d) ≡ front (f.about d)
 front-after c effect f d few =
     ap (λ ls. concat (take (f.about d).taken ls)) (about-owed c effect f d)
-    ∙ ap concat (take-append-le (f.about d).taken (f.about d).owed (given_if (room_in (f.about d) (share_by c effect f d)) (share_by c effect f d)) few)
+    ∙ ap concat (take-append-le (f.about d).taken (f.about d).owed (cond (room_in (f.about d) (share_by c effect f d)) (share_by c effect f d) []) few)
 
 take-front : (f : Facts) (c count d : ℕ) (same other : Bool) → (d == c) ≡ same → same ≡ other
     → front (taken_by same count (f.about d)) ≡ front (f.about d) ++ bytes_of_take other (take_reply count (f.about c))
@@ -52,7 +52,7 @@ module _ {setup : Configured} {hash : List ℕ → List ℕ} {f : Facts} {caller
 -- ---- every history
 
 pub delivered_are_the_first : DeliveredAreTheFirst
-unfolding facts Legal delivered
+unfolding facts Legal bytes_delivered
 delivered_are_the_first setup hash [] legal c = refl
 delivered_are_the_first setup hash (e ∷ h) legal c =
     ap₂ ◌++◌ (delivered_are_the_first setup hash h legal.0 c) (ap (bytes_taken c e.call) legal.2)

@@ -1,4 +1,4 @@
--- What a call owes others by which a user leaves.
+-- The lines that others are owed by a call by which a user leaves.
 use Rattle.std.proofs.Common.{◌≡◌, ◌∙◌, sym, ap, refl, subst, ℕ, Bool, true, false, ◌&&◌, ◌==◌, List, [], ◌∷◌, Option}
 use Rattle.std.proofs.lemmas.Bool.{false≢true, eqb-true}
 use Rattle.adc_line.specs.Lines.{Reading}
@@ -13,7 +13,7 @@ use Rattle.hub_rules.specs.declared.effect.HubChange.{HubChange}
 use Rattle.hub_rules.specs.declared.effect.SenderChange.TheVariants as senders
 use Rattle.hub_rules.specs.declared.history.Call.{Call}
 use Rattle.hub_rules.specs.declared.history.Call.TheVariants.{Line, Quit}
-use Rattle.hub_rules.specs.declared.request.Request.{Request}
+use Rattle.login_state.specs.declared.request.Request.{Request}
 use Rattle.hub_rules.specs.Configured.{Configured}
 use Rattle.hub_rules.specs.Effects.{departure, farewell, is_present}
 use Rattle.hub_rules.specs.Facts.{Facts, facts, effect_of_line}

@@ -1,10 +1,11 @@
 -- Users leave, or are made to, computed from the rules.
 use Rattle.std.proofs.Common.{◌≡◌, ◌∙◌, ◌++◌, ap, refl, ℕ, List, [], ◌∷◌, codes, Some, None, Ok}
+use Rattle.adc_base32.specs.Bits.{value_of}
 use Rattle.adc_base32.specs.Digits.{digit_of, value_at}
-use Rattle.adc_base32.specs.Sids.{four_digits, sid_at}
-use Rattle.adc_line.specs.declared.kind.Kind.TheVariants as kinds
+use Rattle.adc_base32.specs.Sids.{sid_at}
+use Rattle.adc_line.specs.declared.header.Kind.TheVariants as kinds
 use Rattle.adc_line.specs.Escapes.{is_escaped}
-use Rattle.adc_line.specs.Header.{addressed, head_at, header_of, kind_at}
+use Rattle.adc_line.specs.Header.{with_addresses, head_at, header_of, kind_at}
 use Rattle.adc_line.specs.Lines.{Reading, reading}
 use Rattle.adc_line.specs.Parameters.{params_fault}
 use Rattle.login_state.specs.declared.stage.Stage.TheVariants as stages
@@ -15,14 +16,14 @@ use Rattle.hub_rules.specs.declared.effect.Hearers.TheVariants.{Others}
 use Rattle.hub_rules.specs.declared.effect.SenderChange.TheVariants as senders
 use Rattle.hub_rules.specs.declared.history.Verdict.TheVariants.{Ended}
 use Rattle.hub_rules.specs.Effects.{denial}
-use Rattle.hub_rules.specs.Requests.{refused}
+use Rattle.login_state.specs.Requests.{request_at}
 use Rattle.hub_rules.specs.Shares.{About, lags_with, owed_with}
-use Rattle.hub_rules.specs.Texts.{ended}
+use Rattle.hub_rules.specs.Texts.{with_line_feed}
 use Rattle.hub_laws.specs.Conversations.{one, plain, zeros}
 use Rattle.hub_laws.specs.Departures.{DeparturesAreHeard, ana_gone, ana_left, ana_lied, cy_gone, cy_left}
 use Rattle.hub_laws.specs.Messages.{cy_entered, three_told}
 use Rattle.hub_laws.specs.Visitors.{two}
-use Rattle.hub_laws.proofs.Greetings.{greeted}
+use Rattle.hub_laws.proofs.Greetings.{greeted_about}
 use Rattle.hub_laws.proofs.Heard.{effect_of, reading-ascii}
 use Rattle.hub_laws.proofs.Known.{Known, facts_of}
 use Rattle.hub_laws.proofs.Messages as messages
@@ -35,7 +36,7 @@ three_there = messages.three None [] [] []
 
 -- what is left of cy
 abbrev cy_over : About
-cy_over = record (greeted 3 3 (three_told (codes "AAAD"))) { stage = stages.Gone; fields = cy_fields }
+cy_over = record (greeted_about 3 3 (three_told (codes "AAAD"))) { stage = stages.Gone; fields = cy_fields }
 
 abbrev two_there : Known
 two_there = record three_there {
@@ -60,23 +61,23 @@ lie_line = record {
 }
 
 lie-read : reading lie_line.text ≡ Ok lie_line
-unfolding header_of head_at kind_at addressed params_fault is_escaped sid_at four_digits value_at
+unfolding header_of head_at kind_at with_addresses params_fault is_escaped sid_at value_of value_at
 lie-read = reading-ascii lie_line.text refl refl ∙ refl
 
 abbrev lie_effect : Effect
 lie_effect = record {
-  own = ended (codes "ISTA 240 Wrong\\sSID") ∷ [];
+  own = with_line_feed (codes "ISTA 240 Wrong\\sSID") ∷ [];
   others = ana_gone ∷ [];
   hearers = Others;
   change = Sender senders.Falls;
 }
 
 lie-decided : (hash : List ℕ → List ℕ) → effect_of plain hash (facts_of two_there) 1 lie_line.text 0 (Ok lie_line) ≡ lie_effect
-unfolding refused denial denial_text digit_of
+unfolding request_at denial denial_text digit_of
 lie-decided hash = refl
 
 abbrev ana_over : About
-ana_over = record (ana_about (three_told (codes "AAAB") ++ cy_gone ∷ ended (codes "ISTA 240 Wrong\\sSID") ∷ [])) { stage = stages.Gone }
+ana_over = record (ana_about (three_told (codes "AAAB") ++ cy_gone ∷ with_line_feed (codes "ISTA 240 Wrong\\sSID") ∷ [])) { stage = stages.Gone }
 
 abbrev one_there : Known
 one_there = record two_there {

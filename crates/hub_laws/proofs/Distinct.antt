@@ -1,11 +1,11 @@
 -- No two users who are present have the same nick, or the same client identifier.
-use Rattle.std.proofs.Common.{◌≡◌, ◌∙◌, sym, ap, refl, subst, ℕ, Bool, true, false, ◌||◌, ◌==◌, List, filter}
+use Rattle.std.proofs.Common.{◌≡◌, ◌∙◌, sym, ap, refl, subst, ℕ, Bool, true, false, ◌||◌, ◌==◌, List, filter, cond, ◌∷◌, []}
 use Rattle.std.proofs.lemmas.Bool.{false≢true, eqb-true, eq-eqb, and_parts}
 use Rattle.inf_fields.specs.Field.{Field}
 use Rattle.hub_rules.specs.declared.effect.Effect.{Effect}
 use Rattle.hub_rules.specs.Effects.{is_present}
-use Rattle.hub_rules.specs.Facts.{Facts, about_after, enters, happens, newcomer_if, present_after}
-use Rattle.hub_rules.specs.Shares.{chosen, fields_after}
+use Rattle.hub_rules.specs.Facts.{Facts, about_after, enters, happens, present_after}
+use Rattle.hub_rules.specs.Shares.{fields_after}
 use Rattle.hub_invariants.proofs.Members.{has, has-append, has-filter}
 use Rattle.hub_invariants.proofs.Sound.{Sound}
 
@@ -19,25 +19,25 @@ Clears of f c effect =
     is_present (about_after c effect f.about c).stage ≡ true → (d : ℕ) → has d f.present ≡ true → (c == d) ≡ false
     → of (fields_after effect.change (f.about c).fields) ≡ of (f.about d).fields → ⊥
 
-newcomer-other : (enter : Bool) (c d : ℕ) → (c == d) ≡ false → has d (newcomer_if enter c) ≡ false
+newcomer-other : (enter : Bool) (c d : ℕ) → (c == d) ≡ false → has d (cond enter (c ∷ []) []) ≡ false
 newcomer-other true c d other = ap (λ b. b || false) other
 newcomer-other false c d other = refl
 
 was-there : (c : ℕ) (effect : Effect) (f : Facts) (d : ℕ) (first : Bool) → has d (filter (λ x. is_present (about_after c effect f.about x).stage) f.present) ≡ first
-    → (c == d) ≡ false → (first || has d (newcomer_if (enters effect.change) c)) ≡ true → has d f.present ≡ true
+    → (c == d) ≡ false → (first || has d (cond (enters effect.change) (c ∷ []) [])) ≡ true → has d f.present ≡ true
 was-there c effect f d true is other there = (and_parts (has d f.present) _ (sym (has-filter (λ x. is_present (about_after c effect f.about x).stage) d f.present) ∙ is)).0
 was-there c effect f d false is other there = absurd (false≢true (sym (newcomer-other (enters effect.change) c d other) ∙ there))
 
 stays-there : (c : ℕ) (effect : Effect) (f : Facts) (d : ℕ) → (c == d) ≡ false → has d (present_after c effect f.about f.present) ≡ true → has d f.present ≡ true
 stays-there c effect f d other there =
     was-there c effect f d (has d (filter (λ x. is_present (about_after c effect f.about x).stage) f.present)) refl other
-    (sym (has-append d (filter (λ x. is_present (about_after c effect f.about x).stage) f.present) (newcomer_if (enters effect.change) c)) ∙ there)
+    (sym (has-append d (filter (λ x. is_present (about_after c effect f.about x).stage) f.present) (cond (enters effect.change) (c ∷ []) [])) ∙ there)
 
 other-fields : (c : ℕ) (effect : Effect) (f : Facts) (d : ℕ) → (d == c) ≡ false → (about_after c effect f.about d).fields ≡ (f.about d).fields
-other-fields c effect f d other = ap (λ b. chosen b (fields_after effect.change (f.about d).fields) (f.about d).fields) other
+other-fields c effect f d other = ap (λ b. cond b (fields_after effect.change (f.about d).fields) (f.about d).fields) other
 
 own-fields : (c : ℕ) (effect : Effect) (f : Facts) → (about_after c effect f.about c).fields ≡ fields_after effect.change (f.about c).fields
-own-fields c effect f = ap (λ b. chosen b (fields_after effect.change (f.about c).fields) (f.about c).fields) (eq-eqb c c refl)
+own-fields c effect f = ap (λ b. cond b (fields_after effect.change (f.about c).fields) (f.about c).fields) (eq-eqb c c refl)
 
 flip : (a b : ℕ) (r : Bool) → (b == a) ≡ r → (a == b) ≡ false → r ≡ false
 flip a b true is other = absurd (false≢true (sym other ∙ eq-eqb a b (sym (eqb-true b a is))))

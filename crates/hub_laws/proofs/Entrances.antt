@@ -10,15 +10,15 @@ use Rattle.inf_fields.specs.Merging.{merged_with}
 use Rattle.inf_fields.specs.Updates as updates
 use Rattle.login_state.specs.declared.deny.Deny.{Deny}
 use Rattle.login_state.specs.declared.stage.Stage.TheVariants as stages
-use Rattle.operator_acts.specs.Bans.{left}
+use Rattle.operator_acts.specs.Bans.{left_of_bans}
 use Rattle.operator_acts.specs.declared.left.Left.TheVariants as lefts
 use Rattle.user_table.specs.Listed.{Listed}
 use Rattle.hub_rules.specs.declared.effect.Effect.{Effect}
-use Rattle.hub_rules.specs.declared.request.Request.{Request}
-use Rattle.hub_rules.specs.declared.request.Request.TheVariants as requests
-use Rattle.hub_rules.specs.Denied.{denied, digest_given, password_denied, update_denied}
+use Rattle.login_state.specs.declared.request.Request.{Request}
+use Rattle.login_state.specs.declared.request.Request.TheVariants as requests
+use Rattle.hub_rules.specs.Denied.{denial_of, digest_given, password_denied, update_denied}
 use Rattle.hub_rules.specs.Effects.{is_over, line_effect}
-use Rattle.hub_rules.specs.Identities.{cid_in, key_in, listed}
+use Rattle.hub_rules.specs.Identities.{cid_in, key_in, listed_user}
 use Rattle.hub_rules.specs.Requests.{request_of}
 use Rattle.hub_rules.specs.Said.{accepted_line, kept_unless, unless_refused}
 use Rattle.hub_rules.specs.Shares.{expected_after, fields_after, stage_after}
@@ -41,7 +41,7 @@ pub record LogsIn (hub : Sight) (own : Own) (now : ℕ) (said : Option Reading) 
   pub asks : request_of own.stage reading.kind reading.command ≡ requests.Login
   pub words : updates.reading reading.params ≡ Ok update
   pub merges : fields ≡ merged_with own.fields (clean update own.peer)
-  pub unbanned : left hub.bans (cid_in fields) now ≡ lefts.Free
+  pub unbanned : left_of_bans hub.bans (cid_in fields) now ≡ lefts.Free
   pub admitted : is_barred hub (key_in fields) ≡ false
 
 -- a password that is right
@@ -52,7 +52,7 @@ pub record GivesPassword (hub : Sight) (own : Own) (now : ℕ) (said : Option Re
   pub asks : request_of own.stage reading.kind reading.command ≡ requests.Password
   pub spells : digest_given reading.params ≡ Some own.expected
   pub stays : fields ≡ own.fields
-  pub unbanned : left hub.bans (cid_in fields) now ≡ lefts.Free
+  pub unbanned : left_of_bans hub.bans (cid_in fields) now ≡ lefts.Free
 
 pub record WaitsStill (own : Own) (effect : Effect) : Type 0 where
   pub at : own.stage ≡ stages.Verify
@@ -107,7 +107,7 @@ logs-in hub own line now reading u logs =
       asks = logs.asks;
       words = logs.words;
       merges = is;
-      unbanned = ap (λ fs. left hub.bans (cid_in fs) now) is ∙ ap (λ cid. left hub.bans cid now) (sym (listed-cid own.sid (merged_with own.fields (clean u own.peer)))) ∙ known.0;
+      unbanned = ap (λ fs. left_of_bans hub.bans (cid_in fs) now) is ∙ ap (λ cid. left_of_bans hub.bans cid now) (sym (listed-cid own.sid (merged_with own.fields (clean u own.peer)))) ∙ known.0;
       admitted = ap (λ fs. is_barred hub (key_in fs)) is ∙ ap (is_barred hub) (sym (listed-key own.sid (merged_with own.fields (clean u own.peer)))) ∙ known.1;
     }
 
@@ -121,7 +121,7 @@ login-account hub own u b is =
 gives-password : (hub : Sight) (own : Own) (now : ℕ) (reading : Reading) → own.stage ≡ stages.Verify → request_of own.stage reading.kind reading.command ≡ requests.Password
     → password_denied hub own now reading.params ≡ None → GivesPassword hub own now (Some reading) own.fields
 gives-password hub own now reading at asks none =
-    let user : Listed = listed own.sid own.fields in
+    let user : Listed = listed_user own.sid own.fields in
     record {
       reading = reading;
       is_said = refl;
@@ -129,7 +129,7 @@ gives-password hub own now reading at asks none =
       asks = asks;
       spells = password-right hub own now (digest_given reading.params) user none;
       stays = refl;
-      unbanned = ap (λ cid. left hub.bans cid now) (sym (listed-cid own.sid own.fields)) ∙ entry-unbanned hub now user (password-entry hub own now (digest_given reading.params) user none);
+      unbanned = ap (λ cid. left_of_bans hub.bans cid now) (sym (listed-cid own.sid own.fields)) ∙ entry-unbanned hub now user (password-entry hub own now (digest_given reading.params) user none);
     }
 
 -- ---- updates
@@ -174,7 +174,7 @@ same-kept (Some deny) line reading is = let none : ⊥ = cc is in absurd none
 same-kept None line reading is = cc is
 
 read-by : (hub : Sight) (own : Own) (line : PreparedLine) (now : ℕ) (r : Result Reading LineFault) (reading : Reading) → unless_refused hub own line now r ≡ Some reading → r ≡ Ok reading
-read-by hub own line now (Ok first) reading is = ap Ok (same-kept (denied hub own line now first) first reading is)
+read-by hub own line now (Ok first) reading is = ap Ok (same-kept (denial_of hub own line now first) first reading is)
 read-by hub own line now (Err fault) reading is = let none : ⊥ = cc is in absurd none
 
 read-if : (over empty : Bool) (said : Option Reading) (reading : Reading) → (if over then None else if empty then None else said) ≡ Some reading → said ≡ Some reading

@@ -12,9 +12,9 @@ use Rattle.hub_rules.specs.declared.history.Entry.{Entry}
 use Rattle.hub_rules.specs.Configured.{Configured}
 use Rattle.hub_rules.specs.Effects.{departure, is_over, is_present}
 use Rattle.hub_rules.specs.Entering.{PresentInOrder, brought_in, entrants}
-use Rattle.hub_rules.specs.Facts.{Facts, facts, after, about_after, closed, effect_of_line, enters, happens, has_joins, has_place, joined, newcomer, newcomer_if, next_sid, own_of, sight_of}
-use Rattle.hub_rules.specs.Prepared.{prepared}
-use Rattle.hub_rules.specs.Shares.{chosen, removed_by, stage_after}
+use Rattle.hub_rules.specs.Facts.{Facts, facts, after, about_after, without_connection, effect_of_line, enters, happens, has_joins, has_place, with_connection, newcomer, next_sid, own_of, sight_of}
+use Rattle.hub_rules.specs.Prepared.{prepared_line}
+use Rattle.hub_rules.specs.Shares.{removed_by, stage_after}
 use Rattle.hub_invariants.proofs.Becoming.{take-facts}
 use Rattle.hub_invariants.proofs.Calls.{sound_of}
 use Rattle.hub_invariants.proofs.Fits.{Fits, fits-departure}
@@ -109,7 +109,7 @@ either : (a b : Bool) → (a || b) ≡ true → (a ≡ false → b ≡ true)
 either true b e other = absurd (false≢true (sym other))
 either false b e other = e
 
-in-newcomer : (enter : Bool) (c d : ℕ) → has d (newcomer_if enter c) ≡ true → (enter ≡ true) × (c ≡ d)
+in-newcomer : (enter : Bool) (c d : ℕ) → has d (cond enter (c ∷ []) []) ≡ true → (enter ≡ true) × (c ≡ d)
 in-newcomer true c d there = (refl, eqb-true c d (sym (or-false (eqb c d)) ∙ there))
 in-newcomer false c d there = absurd (false≢true there)
 
@@ -117,34 +117,34 @@ grown : (P : ℕ → Type 0) (cs more : List ℕ) (d : ℕ) (first : Bool) → h
 grown P cs more d true is old new there = old is
 grown P cs more d false is old new there = new (either (has d cs) (has d more) (sym (has-append d cs more) ∙ there) is)
 
-newcomer-stays : (p : ℕ → Bool) (enter : Bool) (c : ℕ) → (enter ≡ true → p c ≡ true) → filter p (newcomer_if enter c) ≡ newcomer_if enter c
+newcomer-stays : (p : ℕ → Bool) (enter : Bool) (c : ℕ) → (enter ≡ true → p c ≡ true) → filter p (cond enter (c ∷ []) []) ≡ cond enter (c ∷ []) []
 newcomer-stays p true c here = ap (λ b. cond b (c ∷ []) []) (here refl)
 newcomer-stays p false c here = refl
 
 happens-ordered : (c : ℕ) (effect : Effect) (f : Facts) (cs : List ℕ) → Sound f → Fits (f.about c).stage effect → Steady (f.about c).stage effect → Ordered f cs
-    → Ordered (happens c effect f) (cs ++ newcomer_if (enters effect.change) c)
+    → Ordered (happens c effect f) (cs ++ cond (enters effect.change) (c ∷ []) [])
 unfolding happens
 happens-ordered c effect f cs sound suits steady ordered = record {
-  all_settled = λ d there. grown (λ x. is_settled (about_after c effect f.about x).stage ≡ true) cs (newcomer_if (enters effect.change) c) d (has d cs) refl
+  all_settled = λ d there. grown (λ x. is_settled (about_after c effect f.about x).stage ≡ true) cs (cond (enters effect.change) (c ∷ []) []) d (has d cs) refl
       (λ old. about-settled c effect f steady d (ordered.all_settled d old))
       (λ new. let is = in-newcomer (enters effect.change) c d new in
       subst (λ x. is_settled (about_after c effect f.about x).stage ≡ true) is.1
       (settled-present (about_after c effect f.about c).stage (entered-here c effect f suits is.0)))
       there;
-  all_joined = λ d there. grown (λ x. x ≤ f.joins) cs (newcomer_if (enters effect.change) c) d (has d cs) refl
+  all_joined = λ d there. grown (λ x. x ≤ f.joins) cs (cond (enters effect.change) (c ∷ []) []) d (has d cs) refl
       (ordered.all_joined d)
       (λ new. let is = in-newcomer (enters effect.change) c d new in
       subst (λ x. x ≤ f.joins) is.1
       (sound.counted c (happens-open c effect f sound suits c (not-over (about_after c effect f.about c).stage (entered-here c effect f suits is.0)))))
       there;
   in_order =
-      ap (λ xs. filter (λ d. is_present (about_after c effect f.about d).stage) xs ++ newcomer_if (enters effect.change) c) ordered.in_order
-      ∙ ap (λ xs. xs ++ newcomer_if (enters effect.change) c)
+      ap (λ xs. filter (λ d. is_present (about_after c effect f.about d).stage) xs ++ cond (enters effect.change) (c ∷ []) []) ordered.in_order
+      ∙ ap (λ xs. xs ++ cond (enters effect.change) (c ∷ []) [])
       (filter-narrow (λ d. is_present (f.about d).stage) (λ d. is_present (about_after c effect f.about d).stage) cs
       (λ d there. was-present c effect f suits d (ordered.all_settled d there)))
       ∙ ap (λ xs. filter (λ d. is_present (about_after c effect f.about d).stage) cs ++ xs)
       (sym (newcomer-stays (λ d. is_present (about_after c effect f.about d).stage) (enters effect.change) c (entered-here c effect f suits)))
-      ∙ sym (filter-append (λ d. is_present (about_after c effect f.about d).stage) cs (newcomer_if (enters effect.change) c));
+      ∙ sym (filter-append (λ d. is_present (about_after c effect f.about d).stage) cs (cond (enters effect.change) (c ∷ []) []));
 }
 
 -- the same of facts whose stages are the same where somebody entered
@@ -164,27 +164,27 @@ ordered-same f g cs more present same ordered = record {
 }
 
 join-stage : (f : Facts) (owner : ℕ) (peer challenge : List ℕ) (d : ℕ) (same : Bool) → (d == (f.joins + 1)) ≡ same → d ≤ f.joins
-    → (chosen same (newcomer owner (next_sid f) peer challenge) (f.about d)).stage ≡ (f.about d).stage
+    → (cond same (newcomer owner (next_sid f) peer challenge) (f.about d)).stage ≡ (f.about d).stage
 join-stage f owner peer challenge d true is below = let e : d ≡ f.joins + 1 = eqb-true d (f.joins + 1) is in absurd (omega (arith, e, below))
 join-stage f owner peer challenge d false is below = refl
 
-joined-ordered : (f : Facts) (owner : ℕ) (peer challenge : List ℕ) (cs : List ℕ) → Ordered f cs → Ordered (joined f owner peer challenge) cs
-unfolding joined
+joined-ordered : (f : Facts) (owner : ℕ) (peer challenge : List ℕ) (cs : List ℕ) → Ordered f cs → Ordered (with_connection f owner peer challenge) cs
+unfolding with_connection
 joined-ordered f owner peer challenge cs ordered =
     ordered-same f _ cs (omega arith) refl (λ d below. join-stage f owner peer challenge d (d == (f.joins + 1)) refl below) ordered
 
-join-ordered : (f : Facts) (owner : ℕ) (peer challenge : List ℕ) (cs : List ℕ) (accepted : Bool) → Ordered f cs → Ordered (chosen accepted (joined f owner peer challenge) f) cs
+join-ordered : (f : Facts) (owner : ℕ) (peer challenge : List ℕ) (cs : List ℕ) (accepted : Bool) → Ordered f cs → Ordered (cond accepted (with_connection f owner peer challenge) f) cs
 join-ordered f owner peer challenge cs true ordered = joined-ordered f owner peer challenge cs ordered
 join-ordered f owner peer challenge cs false ordered = ordered
 
-closed-ordered : (c : ℕ) (f : Facts) (cs : List ℕ) → Ordered f cs → Ordered (closed c f) cs
-unfolding closed
+closed-ordered : (c : ℕ) (f : Facts) (cs : List ℕ) → Ordered f cs → Ordered (without_connection c f) cs
+unfolding without_connection
 closed-ordered c f cs ordered = record { all_settled = ordered.all_settled; all_joined = ordered.all_joined; in_order = ordered.in_order }
 
 steady-line : (setup : Configured) (hash : List ℕ → List ℕ) (f : Facts) (c : ℕ) (bytes : List ℕ) (now : ℕ) → Steady (f.about c).stage (effect_of_line setup hash f c bytes now)
 steady-line setup hash f c bytes now = record {
   settled = λ is. keeps-settled (effect_of_line setup hash f c bytes now).change (f.about c).stage
-      (keeps-line (sight_of setup f) (own_of (f.about c)) (prepared setup hash (f.about c).challenge bytes) now is) is;
+      (keeps-line (sight_of setup f) (own_of (f.about c)) (prepared_line setup hash (f.about c).challenge bytes) now is) is;
 }
 
 -- a call that brings nobody in
@@ -196,7 +196,7 @@ after-ordered : (setup : Configured) (hash : List ℕ → List ℕ) (f : Facts) 
 unfolding after happens
 after-ordered setup hash f caller (Line c bytes now) cs sound ordered =
     let effect : Effect = effect_of_line setup hash f c bytes now in
-    subst (λ b. Ordered (happens c effect f) (cs ++ newcomer_if b c)) (enters-is c effect f (fits-line setup hash f c bytes now))
+    subst (λ b. Ordered (happens c effect f) (cs ++ cond b (c ∷ []) [])) (enters-is c effect f (fits-line setup hash f c bytes now))
     (happens-ordered c effect f cs sound (fits-line setup hash f c bytes now) (steady-line setup hash f c bytes now) ordered)
 after-ordered setup hash f caller (Join peer challenge now) cs sound ordered =
     none-brought _ cs (join-ordered f caller peer challenge cs (has_place setup f && has_joins f) ordered)

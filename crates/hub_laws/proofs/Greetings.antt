@@ -1,14 +1,14 @@
 -- A connection joins, and says that it supports what each must.
 use Rattle.std.proofs.Common.{◌≡◌, ◌∙◌, ap, refl, ℕ, ◌+◌, true, ◌&&◌, List, [], ◌∷◌, length, codes, None, Ok}
-use Rattle.adc_line.specs.declared.kind.Kind.TheVariants as kinds
+use Rattle.adc_line.specs.declared.header.Kind.TheVariants as kinds
 use Rattle.adc_line.specs.Escapes.{is_escaped}
-use Rattle.adc_line.specs.Header.{addressed, head_at, header_of, is_feature_name, kind_at}
+use Rattle.adc_line.specs.Header.{with_addresses, head_at, header_of, is_feature_name, kind_at}
 use Rattle.adc_line.specs.Lines.{Reading, reading}
 use Rattle.adc_line.specs.Parameters.{params_fault}
 use Rattle.login_state.specs.declared.stage.Stage.TheVariants as stages
-use Rattle.login_state.specs.Mentions.{feature_named, mention_at, signed}
+use Rattle.login_state.specs.Mentions.{feature_named, mention_at}
 use Rattle.login_state.specs.Support as support
-use Rattle.login_state.specs.SupportAnswers.{applied}
+use Rattle.login_state.specs.SupportAnswers.{support_after}
 use Rattle.hub_rules.specs.declared.effect.Change.TheVariants.{Sender}
 use Rattle.hub_rules.specs.declared.effect.Effect.{Effect}
 use Rattle.hub_rules.specs.declared.effect.Hearers.TheVariants.{Others}
@@ -16,11 +16,11 @@ use Rattle.hub_rules.specs.declared.effect.SenderChange.TheVariants as senders
 use Rattle.hub_rules.specs.declared.history.Entry.{Entry}
 use Rattle.hub_rules.specs.declared.history.Verdict.TheVariants.{Kept}
 use Rattle.hub_rules.specs.Configured.{Configured}
-use Rattle.hub_rules.specs.Effects.{accepted, greeting, heard}
+use Rattle.hub_rules.specs.Effects.{accepted_effect, greeting, effect_of_reading}
 use Rattle.hub_rules.specs.Facts.{Facts, has_joins, has_place, newcomer, next_sid, own_of, sight_of}
 use Rattle.hub_rules.specs.Denied.{request_denied}
 use Rattle.hub_rules.specs.Legal.{verdict_of}
-use Rattle.hub_rules.specs.Requests.{refused, request_of}
+use Rattle.login_state.specs.Requests.{request_at}
 use Rattle.hub_rules.specs.Shares.{About}
 use Rattle.hub_laws.specs.Conversations.{peer, sup_text, zeros}
 use Rattle.hub_laws.specs.Talking.{joins, says}
@@ -40,7 +40,7 @@ sup_line = record {
 }
 
 pub sup-read : reading sup_text ≡ Ok sup_line
-unfolding header_of head_at kind_at addressed params_fault is_escaped
+unfolding header_of head_at kind_at with_addresses params_fault is_escaped
 sup-read = reading-ascii sup_text refl refl ∙ refl
 
 -- what such a client supports
@@ -48,8 +48,8 @@ abbrev pub both : List (List ℕ)
 both = codes "TIGR" ∷ codes "BASE" ∷ []
 
 -- a connection that may log in, with what it was owed so far
-abbrev pub greeted : ℕ → ℕ → List (List ℕ) → About
-greeted c sid owed = record (newcomer c sid peer zeros) { stage = stages.Identify; features = both; owed = owed }
+abbrev pub greeted_about : ℕ → ℕ → List (List ℕ) → About
+greeted_about c sid owed = record (newcomer c sid peer zeros) { stage = stages.Identify; features = both; owed = owed }
 
 abbrev pub greets : Configured → Facts → ℕ → ℕ → Effect
 greets setup f now sid = record {
@@ -61,9 +61,9 @@ greets setup f now sid = record {
 
 pub sup-decided : (setup : Configured) (hash : List ℕ → List ℕ) (f : Facts) (c sid now : ℕ) → f.about c ≡ newcomer c sid peer zeros
     → effect_of setup hash f c sup_text now (Ok sup_line) ≡ greets setup f now sid
-unfolding accepted refused request_denied request_of feature_named mention_at signed support.said support.supported support.supported_after applied is_feature_name
+unfolding accepted_effect request_denied request_at feature_named mention_at support.mentions_in support.features_left support.supported_after support_after is_feature_name
 sup-decided setup hash f c sid now new =
-    ap (λ a. heard (sight_of setup f) (own_of a) (record { bytes = sup_text; owner = None; password = None }) now (Ok sup_line)) new
+    ap (λ a. effect_of_reading (sight_of setup f) (own_of a) (record { bytes = sup_text; owner = None; password = None }) now (Ok sup_line)) new
 
 pub greets-more : (setup : Configured) (hash : List ℕ → List ℕ) (h : List Entry) (k t : Known) (c sid now : ℕ) → Comes setup hash h k
     → (has_place setup (facts_of k) && has_joins (facts_of k)) ≡ true → c ≡ length k.abouts + 1 → next_sid (facts_of k) ≡ sid

@@ -1,4 +1,4 @@
--- How a line is heard whose words are known: what worked conversations compute with.
+-- The effect of a line whose words are known: worked conversations compute with it.
 use Rattle.std.proofs.Common.{◌≡◌, ◌∙◌, ap, ℕ, ◌<◌, suc, zero, Bool, true, false, ◌&&◌, not, nat_lt, List, [], ◌∷◌, length, Result, Ok, Err, arith}
 use Rattle.std.specs.Str.{IsAscii, is_utf8}
 use Rattle.std.proofs.lemmas.Bool.{and_parts}
@@ -13,9 +13,9 @@ use Rattle.adc_line.specs.Words.{words}
 use Rattle.hub_rules.specs.declared.history.Call.TheVariants.{Line}
 use Rattle.hub_rules.specs.declared.effect.Effect.{Effect}
 use Rattle.hub_rules.specs.Configured.{Configured}
-use Rattle.hub_rules.specs.Effects.{heard, is_over, line_effect}
+use Rattle.hub_rules.specs.Effects.{effect_of_reading, is_over, line_effect}
 use Rattle.hub_rules.specs.Facts.{Facts, after, happens, own_of, sight_of}
-use Rattle.hub_rules.specs.Prepared.{owner_digest, password_digest, prepared, update_of}
+use Rattle.hub_rules.specs.Prepared.{owner_digest, password_digest, prepared_line, update_of}
 use Rattle.hub_rules.specs.Quiet.{nothing}
 
 abbrev pub all_ascii : List ℕ → Bool
@@ -39,7 +39,7 @@ reading-ascii bytes short ascii =
 
 -- what bytes lead to that are read as this
 abbrev pub effect_of : Configured → (List ℕ → List ℕ) → Facts → ℕ → List ℕ → ℕ → Result Reading LineFault → Effect
-effect_of setup hash f c bytes now read = heard (sight_of setup f) (own_of (f.about c)) (record {
+effect_of setup hash f c bytes now read = effect_of_reading (sight_of setup f) (own_of (f.about c)) (record {
   bytes = bytes;
   owner = owner_digest hash (update_of read);
   password = password_digest setup hash (f.about c).challenge (update_of read);
@@ -48,7 +48,7 @@ effect_of setup hash f c bytes now read = heard (sight_of setup f) (own_of (f.ab
 -- a line that is not empty is heard as its words say
 pub after-read : (setup : Configured) (hash : List ℕ → List ℕ) (f : Facts) (caller c now : ℕ) (line : Reading) → reading line.text ≡ Ok line → (length line.text == 0) ≡ false
     → (is_over (f.about c).stage ≡ false) → after setup hash f caller (Line c line.text now) ≡ happens c (effect_of setup hash f c line.text now (Ok line)) f
-unfolding after line_effect prepared
+unfolding after line_effect prepared_line
 after-read setup hash f caller c now line is some going =
     ap (λ b. happens c (if b then nothing else (if length line.text == 0 then nothing else effect_of setup hash f c line.text now (reading line.text))) f) going
     ∙ ap (λ b. happens c (if b then nothing else effect_of setup hash f c line.text now (reading line.text)) f) some

@@ -61,20 +61,20 @@ absent cid [] above = refl
 absent cid (e ∷ es) above = ap (λ b. cond b (Some e.1) (ban_on es cid)) (ap is_eq above.0) ∙ absent cid es above.1
 
 -- how many more they are
-abbrev added : Bool → ℕ
-added true = 0
-added false = 1
+abbrev bans_added : Bool → ℕ
+bans_added true = 0
+bans_added false = 1
 
 length-with : (bans : List (List ℕ × Ban)) (cid : List ℕ) (ban : Ban) → IsStrictlySortedBy cid_cmp (keys_of bans)
-    → length (with_ban bans cid ban) ≡ length bans + added (is_some (ban_on bans cid))
+    → length (with_ban bans cid ban) ≡ length bans + bans_added (is_some (ban_on bans cid))
 length-with [] cid ban sorted = refl
 length-with (e ∷ es) cid ban sorted =
     let head = sorted_head cid_cmp e.0 (keys_of es) sorted in
     let tail = sorted_tail cid_cmp e.0 (keys_of es) sorted in
     let go : (o : Ordering) → cid_cmp cid e.0 ≡ o
-    → length (match_ordering o ((cid, ban) ∷ e ∷ es) ((e.0, ban) ∷ es) (e ∷ with_ban es cid ban)) ≡ length (e ∷ es) + added (is_some (cond (is_eq o) (Some e.1) (ban_on es cid))) =
+    → length (match_ordering o ((cid, ban) ∷ e ∷ es) ((e.0, ban) ∷ es) (e ∷ with_ban es cid ban)) ≡ length (e ∷ es) + bans_added (is_some (cond (is_eq o) (Some e.1) (ban_on es cid))) =
     elim [
-      | Less ↦ λ is. let none : ban_on es cid ≡ None = absent cid es (all-above cid e.0 (keys_of es) is head) in omega (arith, ap (λ o. added (is_some o)) none)
+      | Less ↦ λ is. let none : ban_on es cid ≡ None = absent cid es (all-above cid e.0 (keys_of es) is head) in omega (arith, ap (λ o. bans_added (is_some o)) none)
       | Equal ↦ λ is. omega arith
       | Greater ↦ λ is. omega (arith, length-with es cid ban tail)
     ] in
@@ -119,7 +119,7 @@ pub record AreHeld (bans : List (List ℕ × Ban)) : Type 0 where
   pub few : length bans ≤ max_bans
   pub apart : IsStrictlySortedBy cid_cmp (keys_of bans)
 
-few-with : (found full : Bool) (n m : ℕ) → m ≡ n + added found → (not found && full) ≡ false → nat_le max_bans n ≡ full → n ≤ max_bans → m ≤ max_bans
+few-with : (found full : Bool) (n m : ℕ) → m ≡ n + bans_added found → (not found && full) ≡ false → nat_le max_bans n ≡ full → n ≤ max_bans → m ≤ max_bans
 few-with true full n m is room tells few = omega (arith, is, few)
 few-with false true n m is room tells few = absurd (false≢true (sym room))
 few-with false false n m is room tells few = let more : n < max_bans = leb-false max_bans n tells in omega (arith, is, few, more)

@@ -1,24 +1,24 @@
 -- Which session identifiers are given, computed from the rules.
 use Rattle.std.proofs.Common.{◌≡◌, ◌∙◌, ap, refl, sym, subst, ℕ, zero, suc, ◌+◌, ◌<◌, ◌≤◌, true, false, not, ◌||◌, List, [], ◌∷◌, codes, arith}
-use Rattle.std.specs.Prelude.{◌==◌, nat_le, if◌then◌else◌}
+use Rattle.std.specs.Prelude.{◌==◌, nat_le, if◌then◌else◌, cond}
 use Rattle.std.proofs.lemmas.Bool.Decides.{nat_tests}
 use Rattle.adc_base32.specs.Digits.{digit_of}
 use Rattle.adc_base32.specs.Turns.{following}
-use Rattle.adc_line.specs.Escapes.{escaped}
+use Rattle.adc_line.specs.Escapes.{escaped_text}
 use Rattle.login_state.specs.declared.stage.Stage.TheVariants as stages
 use Rattle.hub_rules.specs.declared.effect.Effect.{Effect}
 use Rattle.hub_rules.specs.declared.history.Call.TheVariants.{Join, Line, Quit}
 use Rattle.hub_rules.specs.declared.history.Reply.TheVariants.{Full, Joined, Said}
 use Rattle.hub_rules.specs.Effects.{departure}
-use Rattle.hub_rules.specs.Facts.{Facts, about_after, after, closed, facts, happens, joined, newcomer, next_sid, nobody, with_one}
-use Rattle.hub_rules.specs.History.{owed, sid}
+use Rattle.hub_rules.specs.Facts.{Facts, about_after, after, without_connection, facts, happens, with_connection, newcomer, next_sid, nobody, with_one}
+use Rattle.hub_rules.specs.History.{lines_owed, sid}
 use Rattle.hub_rules.specs.Legal.{Legal, MayCall, is_open, join_reply, reply, verdict_of}
-use Rattle.hub_rules.specs.Shares.{About, chosen, lags_with, owed_with}
+use Rattle.hub_rules.specs.Shares.{About, lags_with, owed_with}
 use Rattle.hub_rules.specs.Texts.{hub_line, identifier_line, support_line}
 use Rattle.hub_laws.specs.Conversations.{greeting_of, peer, plain, sup_text, zeros}
 use Rattle.hub_laws.specs.Identifiers.{FirstIsGivenAgain, NextIsGiven, all_given, come_and_go, for_two, let_in, turned_away}
 use Rattle.hub_laws.specs.Talking.{joins, quits}
-use Rattle.hub_laws.proofs.Greetings.{greeted, greets, greets-more, sup-decided, sup-read, sup_line}
+use Rattle.hub_laws.proofs.Greetings.{greeted_about, greets, greets-more, sup-decided, sup-read, sup_line}
 use Rattle.hub_laws.proofs.Heard.{after-read}
 use Rattle.hub_laws.proofs.Known.{Known, facts_of}
 use Rattle.hub_laws.proofs.Steps.{Comes, goes-on, joins-more, next-at, nobody_yet, opens, quits-more}
@@ -50,10 +50,10 @@ unfolding owed_with lags_with
 one-leaves hash = quits-more for_two hash turned_away two_there one_left 1 (third-is-turned-away hash) refl refl refl refl
 
 abbrev three_there : Known
-three_there = record one_left { last = 3; opened = 2 ∷ 3 ∷ []; abouts = greeted 3 3 (greeting_of (codes "AAAD")) ∷ one_left.abouts }
+three_there = record one_left { last = 3; opened = 2 ∷ 3 ∷ []; abouts = greeted_about 3 3 (greeting_of (codes "AAAD")) ∷ one_left.abouts }
 
 third-is-let-in : (hash : List ℕ → List ℕ) → Comes for_two hash let_in three_there
-unfolding owed_with lags_with support_line identifier_line hub_line escaped digit_of
+unfolding owed_with lags_with support_line identifier_line hub_line escaped_text digit_of
 third-is-let-in hash =
     greets-more for_two hash (quits 1 turned_away) one_left three_there 3 3 0 (one-leaves hash) refl refl (next-at (facts_of one_left) refl)
     (refl, refl, refl, sup-read, refl, refl) refl refl refl
@@ -64,13 +64,13 @@ next-is-given hash = let comes = third-is-let-in hash in (comes.legal, ap (λ f.
 -- ---- round and round
 
 -- so many came, and none is there
-abbrev idle : ℕ → (ℕ → About) → Facts
-idle n about = record { joins = n; last = n; opened = []; present = []; bans = []; topic = []; about = about }
+abbrev idle_facts : ℕ → (ℕ → About) → Facts
+idle_facts n about = record { joins = n; last = n; opened = []; present = []; bans = []; topic = []; about = about }
 
 record Idle (hash : List ℕ → List ℕ) (n : ℕ) : Type 0 where
   legal : Legal plain hash (come_and_go n)
   about : ℕ → About
-  known : facts plain hash (come_and_go n) ≡ idle n about
+  known : facts plain hash (come_and_go n) ≡ idle_facts n about
 
 itself : (n : ℕ) → (n == n) ≡ true
 itself n = grind arith
@@ -90,10 +90,10 @@ one_of n sid about = record {
 one-more : (n : ℕ) → n + 1 ≡ suc n
 one-more n = omega arith
 
-one-comes : (n sid : ℕ) (about : ℕ → About) → following n 0 ≡ sid → joined (idle n about) (suc n) peer zeros ≡ one_of n sid about
-unfolding joined
+one-comes : (n sid : ℕ) (about : ℕ → About) → following n 0 ≡ sid → with_connection (idle_facts n about) (suc n) peer zeros ≡ one_of n sid about
+unfolding with_connection
 one-comes n sid about next i =
-    let is : next_sid (idle n about) ≡ sid = next-at (idle n about) refl ∙ next in
+    let is : next_sid (idle_facts n about) ≡ sid = next-at (idle_facts n about) refl ∙ next in
     record {
       joins = one-more n i;
       last = is i;
@@ -112,13 +112,13 @@ one-joined : (hash : List ℕ → List ℕ) (n sid : ℕ) (idle_there : Idle has
     → (Legal plain hash (joins (suc n) 0 (come_and_go n))) × (facts plain hash (joins (suc n) 0 (come_and_go n)) ≡ one_of n sid idle_there.about)
 unfolding Legal facts after reply
 one-joined hash n sid there few next =
-    let f = idle n there.about in (
+    let f = idle_facts n there.about in (
       (there.legal, tt, ap Joined (sym (one-more n)) ∙ ap (λ b. join_reply true b n) (sym (has-joins n few)) ∙ ap (λ g. reply plain hash g (suc n) (Join peer zeros 0)) (sym there.known)),
-      ap (λ g. after plain hash g (suc n) (Join peer zeros 0)) there.known ∙ ap (λ b. chosen b (joined f (suc n) peer zeros) f) (has-joins n few) ∙ one-comes n sid there.about next,
+      ap (λ g. after plain hash g (suc n) (Join peer zeros 0)) there.known ∙ ap (λ b. cond b (with_connection f (suc n) peer zeros) f) (has-joins n few) ∙ one-comes n sid there.about next,
     )
 
 its-about : (n sid : ℕ) (about : ℕ → About) → (one_of n sid about).about (suc n) ≡ newcomer (suc n) sid peer zeros
-its-about n sid about = ap (λ b. chosen b (newcomer (suc n) sid peer zeros) (about (suc n))) (itself (suc n))
+its-about n sid about = ap (λ b. cond b (newcomer (suc n) sid peer zeros) (about (suc n))) (itself (suc n))
 
 is-there : (n sid : ℕ) (about : ℕ → About) → is_open (suc n) (one_of n sid about) ≡ true
 is-there n sid about = ap (λ b. b || false) (itself (suc n))
@@ -127,9 +127,9 @@ is-there n sid about = ap (λ b. b || false) (itself (suc n))
 abbrev leaves : ℕ → (ℕ → About) → Effect
 leaves n about = departure ((one_of n (suc n) about).about (suc n)).stage ((one_of n (suc n) about).about (suc n)).sid
 
-one-goes : (n : ℕ) (about : ℕ → About) → closed (suc n) (happens (suc n) (leaves n about) (one_of n (suc n) about))
-    ≡ idle (suc n) (about_after (suc n) (leaves n about) (one_of n (suc n) about).about)
-unfolding closed happens
+one-goes : (n : ℕ) (about : ℕ → About) → without_connection (suc n) (happens (suc n) (leaves n about) (one_of n (suc n) about))
+    ≡ idle_facts (suc n) (about_after (suc n) (leaves n about) (one_of n (suc n) about).about)
+unfolding without_connection happens
 one-goes n about i = record {
   joins = suc n;
   last = suc n;
@@ -167,8 +167,8 @@ each-has-its-own hash n few =
     ap (λ f. (f.about (suc n)).sid) came.1 ∙ ap (λ a. a.sid) (its-about n (suc n) there.about)
 
 -- the last of them asks
-last-asks : (hash : List ℕ → List ℕ) → Idle hash 1_048_575 → Legal plain hash all_given × (owed plain hash all_given 1_048_576 ≡ greeting_of (codes "AAAB"))
-unfolding Legal facts reply owed_with lags_with support_line identifier_line hub_line escaped digit_of happens
+last-asks : (hash : List ℕ → List ℕ) → Idle hash 1_048_575 → Legal plain hash all_given × (lines_owed plain hash all_given 1_048_576 ≡ greeting_of (codes "AAAB"))
+unfolding Legal facts reply owed_with lags_with support_line identifier_line hub_line escaped_text digit_of happens
 last-asks hash there =
     let came = one-joined hash 1_048_575 1 there (omega arith) refl in
     let f = one_of 1_048_575 1 there.about in

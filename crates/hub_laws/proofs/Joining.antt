@@ -1,15 +1,15 @@
 -- No call changes what a connection joined with.
-use Rattle.std.proofs.Common.{◌≡◌, ◌∙◌, sym, ap, ap₂, refl, ℕ, ◌+◌, ◌≤◌, Bool, true, false, ◌&&◌, ◌==◌, List, [], ◌∷◌, ◌++◌, arith}
+use Rattle.std.proofs.Common.{◌≡◌, ◌∙◌, sym, ap, ap₂, refl, ℕ, ◌+◌, ◌≤◌, Bool, true, false, ◌&&◌, ◌==◌, List, [], ◌∷◌, ◌++◌, arith, cond}
 use Rattle.std.proofs.lemmas.Bool.{eq-eqb}
 use Rattle.hub_rules.specs.declared.history.Call.{Call}
 use Rattle.hub_rules.specs.declared.history.Call.TheVariants.{Join}
 use Rattle.hub_rules.specs.declared.history.Entry.{Entry}
 use Rattle.hub_rules.specs.declared.history.Reply.TheVariants.{Joined}
 use Rattle.hub_rules.specs.Configured.{Configured}
-use Rattle.hub_rules.specs.Facts.{Facts, facts, after, closed, happens, has_joins, has_place, joined, newcomer, next_sid}
+use Rattle.hub_rules.specs.Facts.{Facts, facts, after, without_connection, happens, has_joins, has_place, with_connection, newcomer, next_sid}
 use Rattle.hub_rules.specs.Legal.{Legal, join_reply, reply}
-use Rattle.hub_rules.specs.Shares.{About, chosen}
-use Rattle.hub_laws.specs.Joining.{IsAsJoined, JoinsAreCounted, JoinsStay, accepted, accepted_in}
+use Rattle.hub_rules.specs.Shares.{About}
+use Rattle.hub_laws.specs.Joining.{IsAsJoined, JoinsAreCounted, JoinsStay, joins_accepted, accepted_in}
 use Rattle.hub_invariants.proofs.Becoming.{Becomes, becomes}
 use Rattle.hub_invariants.proofs.Kept.{joins-grow}
 
@@ -34,12 +34,12 @@ record HasJoined (before now : Facts) (caller : ℕ) (call : Call) (c : ℕ) : T
   old : c ≤ now.joins
   joined_as : IsAsJoined before (now.about c) caller call
 
-newest : (f : Facts) (owner : ℕ) (peer challenge : List ℕ) (now c : ℕ) → c ≡ f.joins + 1 → HasJoined f (joined f owner peer challenge) owner (Join peer challenge now) c
-unfolding joined
+newest : (f : Facts) (owner : ℕ) (peer challenge : List ℕ) (now c : ℕ) → c ≡ f.joins + 1 → HasJoined f (with_connection f owner peer challenge) owner (Join peer challenge now) c
+unfolding with_connection
 newest f owner peer challenge now c is =
     let here : (c == (f.joins + 1)) ≡ true = eq-eqb c (f.joins + 1) is in
-    let same : chosen (c == (f.joins + 1)) (newcomer owner (next_sid f) peer challenge) (f.about c) ≡ newcomer owner (next_sid f) peer challenge =
-    ap (λ b. chosen b (newcomer owner (next_sid f) peer challenge) (f.about c)) here in
+    let same : cond (c == (f.joins + 1)) (newcomer owner (next_sid f) peer challenge) (f.about c) ≡ newcomer owner (next_sid f) peer challenge =
+    ap (λ b. cond b (newcomer owner (next_sid f) peer challenge) (f.about c)) here in
     record {
       old = omega (arith, is);
       joined_as = (
@@ -51,7 +51,7 @@ newest f owner peer challenge now c is =
     }
 
 join-made : (f : Facts) (owner : ℕ) (peer challenge : List ℕ) (now c : ℕ) (place counted : Bool) → join_reply place counted f.joins ≡ Joined c
-    → HasJoined f (chosen (place && counted) (joined f owner peer challenge) f) owner (Join peer challenge now) c
+    → HasJoined f (cond (place && counted) (with_connection f owner peer challenge) f) owner (Join peer challenge now) c
 join-made f owner peer challenge now c true true is = let e : c ≡ f.joins + 1 = cc is in newest f owner peer challenge now c e
 join-made f owner peer challenge now c true false is = let none : ⊥ = cc is in absurd none
 join-made f owner peer challenge now c false counted is = let none : ⊥ = cc is in absurd none
@@ -84,15 +84,15 @@ pub joins_stay : JoinsStay
 joins_stay setup hash later earlier e c legal is = (stays setup hash later earlier e c legal is).joined_as
 
 join-counts : (f : Facts) (owner : ℕ) (peer challenge : List ℕ) (place counted : Bool)
-    → (chosen (place && counted) (joined f owner peer challenge) f).joins ≡ f.joins + accepted (join_reply place counted f.joins)
-unfolding joined
+    → (cond (place && counted) (with_connection f owner peer challenge) f).joins ≡ f.joins + joins_accepted (join_reply place counted f.joins)
+unfolding with_connection
 join-counts f owner peer challenge true true = refl
 join-counts f owner peer challenge true false = omega arith
 join-counts f owner peer challenge false counted = omega arith
 
 after-counts : (setup : Configured) (hash : List ℕ → List ℕ) (f : Facts) (caller : ℕ) (call : Call)
-    → (after setup hash f caller call).joins ≡ f.joins + accepted (reply setup hash f caller call)
-unfolding after closed happens reply
+    → (after setup hash f caller call).joins ≡ f.joins + joins_accepted (reply setup hash f caller call)
+unfolding after without_connection happens reply
 after-counts setup hash f caller (Join peer challenge now) = join-counts f caller peer challenge (has_place setup f) (has_joins f)
 after-counts setup hash f caller _ = omega arith
 
@@ -101,4 +101,4 @@ unfolding facts Legal accepted_in
 joins_are_counted setup hash [] legal = refl
 joins_are_counted setup hash (e ∷ h) legal =
     after-counts setup hash (facts setup hash h) e.caller e.call
-    ∙ ap₂ ◌+◌ (joins_are_counted setup hash h legal.0) (ap accepted (sym legal.2))
+    ∙ ap₂ ◌+◌ (joins_are_counted setup hash h legal.0) (ap joins_accepted (sym legal.2))

@@ -1,12 +1,12 @@
--- What is known of a hub, rest worked conversations go on: the connections that joined are a list.
+-- The state of a hub as worked conversations carry it on: the connections that joined are a list.
 use Rattle.std.proofs.Common.{◌≡◌, ◌∙◌, ap, refl, sym, ℕ, ◌≤◌, ◌+◌, suc, Bool, true, false, ◌&&◌, List, [], ◌∷◌, ◌++◌, length, arith}
-use Rattle.std.specs.Prelude.{◌==◌, nat_le}
+use Rattle.std.specs.Prelude.{◌==◌, nat_le, cond}
 use Rattle.std.proofs.lemmas.Bool.{false≢true}
 use Rattle.std.proofs.lemmas.Bool.Decides.{nat_tests}
 use Rattle.operator_acts.specs.declared.ban.Ban.{Ban}
 use Rattle.hub_rules.specs.declared.effect.Effect.{Effect}
-use Rattle.hub_rules.specs.Facts.{Facts, bans_after, given, happens, joined, newcomer, next_sid, nobody, present_after, topic_after, with_one}
-use Rattle.hub_rules.specs.Shares.{About, affected, chosen, lags_with, owed_with}
+use Rattle.hub_rules.specs.Facts.{Facts, bans_after, with_lines_taken, happens, with_connection, newcomer, next_sid, nobody, present_after, topic_after, with_one}
+use Rattle.hub_rules.specs.Shares.{About, affected_connection, lags_with, owed_with}
 
 pub record Known : Type 0 where
   pub last : ℕ
@@ -19,7 +19,7 @@ pub record Known : Type 0 where
 
 abbrev pub about_in : List About → ℕ → About
 about_in [] d = nobody
-about_in (a ∷ rest) d = chosen (d == length rest + 1) a (about_in rest d)
+about_in (a ∷ rest) d = cond (d == length rest + 1) a (about_in rest d)
 
 abbrev pub facts_of : Known → Facts
 facts_of k = record {
@@ -34,11 +34,11 @@ facts_of k = record {
 
 -- ---- a change of connections, by whether each is the one that calls
 
-abbrev pub changed : (Bool → About → About) → ℕ → List About → List About
-changed change c [] = []
-changed change c (a ∷ rest) = change (length rest + 1 == c) a ∷ changed change c rest
+abbrev pub changed_at : (Bool → About → About) → ℕ → List About → List About
+changed_at change c [] = []
+changed_at change c (a ∷ rest) = change (length rest + 1 == c) a ∷ changed_at change c rest
 
-changed-length : (change : Bool → About → About) (c : ℕ) (rest : List About) → length (changed change c rest) ≡ length rest
+changed-length : (change : Bool → About → About) (c : ℕ) (rest : List About) → length (changed_at change c rest) ≡ length rest
 changed-length change c [] = refl
 changed-length change c (a ∷ rest) = ap suc (changed-length change c rest)
 
@@ -57,7 +57,7 @@ smaller : (n c d : ℕ) → (d == n + 1) ≡ false → d ≡ c → c ≤ suc n �
 smaller n c d other is most = grind (arith, other, is, most)
 
 changed-at : (change : Bool → About → About) (c : ℕ) → change false nobody ≡ nobody → (rest : List About) (d : ℕ) → IsAmong c d rest
-    → change (d == c) (about_in rest d) ≡ about_in (changed change c rest) d
+    → change (d == c) (about_in rest d) ≡ about_in (changed_at change c rest) d
 changed-at change c none [] d among = ap (λ b. change b nobody) (nobody-calls c d (d == c) refl among) ∙ none
 changed-at change c none (a ∷ rest) d among = newest-or-not (changed-at change c none rest d) (d == length rest + 1) refl
   where
@@ -67,18 +67,18 @@ changed-at change c none (a ∷ rest) d among = newest-or-not (changed-at change
     among-rest : (d == length rest + 1) ≡ false → IsAmong c d rest
     among-rest not_newest is = ((among is).0, smaller (length rest) c d not_newest (same-number c d is) (among is).1)
 
-    chosen-change : (IsAmong c d rest → change (d == c) (about_in rest d) ≡ about_in (changed change c rest) d) → (is_newest : Bool) → (d == length rest + 1) ≡ is_newest
-        → change (d == c) (chosen is_newest a (about_in rest d)) ≡ chosen is_newest (change (length rest + 1 == c) a) (about_in (changed change c rest) d)
+    chosen-change : (IsAmong c d rest → change (d == c) (about_in rest d) ≡ about_in (changed_at change c rest) d) → (is_newest : Bool) → (d == length rest + 1) ≡ is_newest
+        → change (d == c) (cond is_newest a (about_in rest d)) ≡ cond is_newest (change (length rest + 1 == c) a) (about_in (changed_at change c rest) d)
     chosen-change before true is = here is
     chosen-change before false is = before (among-rest is)
 
-    newest-or-not : (IsAmong c d rest → change (d == c) (about_in rest d) ≡ about_in (changed change c rest) d) → (is_newest : Bool) → (d == length rest + 1) ≡ is_newest
-        → change (d == c) (chosen (d == length rest + 1) a (about_in rest d)) ≡ chosen (d == length (changed change c rest) + 1) (change (length rest + 1 == c) a) (about_in (changed change c rest) d)
+    newest-or-not : (IsAmong c d rest → change (d == c) (about_in rest d) ≡ about_in (changed_at change c rest) d) → (is_newest : Bool) → (d == length rest + 1) ≡ is_newest
+        → change (d == c) (cond (d == length rest + 1) a (about_in rest d)) ≡ cond (d == length (changed_at change c rest) + 1) (change (length rest + 1 == c) a) (about_in (changed_at change c rest) d)
     newest-or-not before is_newest is =
-        ap (λ b. change (d == c) (chosen b a (about_in rest d))) is
+        ap (λ b. change (d == c) (cond b a (about_in rest d))) is
         ∙ chosen-change before is_newest is
-        ∙ ap (λ b. chosen b (change (length rest + 1 == c) a) (about_in (changed change c rest) d)) (sym is)
-        ∙ ap (λ n. chosen (d == n + 1) (change (length rest + 1 == c) a) (about_in (changed change c rest) d)) (sym (changed-length change c rest))
+        ∙ ap (λ b. cond b (change (length rest + 1 == c) a) (about_in (changed_at change c rest) d)) (sym is)
+        ∙ ap (λ n. cond (d == n + 1) (change (length rest + 1 == c) a) (about_in (changed_at change c rest) d)) (sym (changed-length change c rest))
 
 -- ---- what calls make of what is known
 
@@ -87,7 +87,7 @@ with_effect c effect k = record k {
   present = present_after c effect (about_in k.abouts) k.present;
   bans = bans_after effect.change k.bans;
   topic = topic_after effect.change k.topic;
-  abouts = changed (λ is_caller a. affected is_caller effect a) c k.abouts;
+  abouts = changed_at (λ is_caller a. affected_connection is_caller effect a) c k.abouts;
 }
 
 -- the connection joined
@@ -102,36 +102,36 @@ known-among : (c d : ℕ) (k : Known) → is_known c k ≡ true → IsAmong c d 
 known-among c d k known is =
     let both = and-both (nat_le 1 c) (nat_le c (length k.abouts)) known in (grind (arith, nat_tests, both.0), grind (arith, nat_tests, both.1))
 
-nobody-affected : (effect : Effect) → affected false effect nobody ≡ nobody
+nobody-affected : (effect : Effect) → affected_connection false effect nobody ≡ nobody
 unfolding owed_with lags_with
 nobody-affected effect = refl
 
 pub happens-known : (c : ℕ) (effect : Effect) (k : Known) → is_known c k ≡ true → happens c effect (facts_of k) ≡ facts_of (with_effect c effect k)
 unfolding happens
 happens-known c effect k known i = record {
-  joins = sym (changed-length (λ is_caller a. affected is_caller effect a) c k.abouts) i;
+  joins = sym (changed-length (λ is_caller a. affected_connection is_caller effect a) c k.abouts) i;
   last = k.last;
   opened = k.opened;
   present = present_after c effect (about_in k.abouts) k.present;
   bans = bans_after effect.change k.bans;
   topic = topic_after effect.change k.topic;
-  about = λ d. changed-at (λ is_caller a. affected is_caller effect a) c (nobody-affected effect) k.abouts d (known-among c d k known) i;
+  about = λ d. changed-at (λ is_caller a. affected_connection is_caller effect a) c (nobody-affected effect) k.abouts d (known-among c d k known) i;
 }
 
 -- so many lines are taken
 abbrev pub with_taken : ℕ → ℕ → Known → Known
-with_taken c count k = record k { abouts = changed (λ is_caller a. chosen is_caller (given count a) a) c k.abouts }
+with_taken c count k = record k { abouts = changed_at (λ is_caller a. cond is_caller (with_lines_taken count a) a) c k.abouts }
 
 pub taken-known : (c count : ℕ) (k : Known) → is_known c k ≡ true
-    → record (facts_of k) { about = with_one c (given count) (facts_of k).about } ≡ facts_of (with_taken c count k)
+    → record (facts_of k) { about = with_one c (with_lines_taken count) (facts_of k).about } ≡ facts_of (with_taken c count k)
 taken-known c count k known i = record {
-  joins = sym (changed-length (λ is_caller a. chosen is_caller (given count a) a) c k.abouts) i;
+  joins = sym (changed-length (λ is_caller a. cond is_caller (with_lines_taken count a) a) c k.abouts) i;
   last = k.last;
   opened = k.opened;
   present = k.present;
   bans = k.bans;
   topic = k.topic;
-  about = λ d. changed-at (λ is_caller a. chosen is_caller (given count a) a) c refl k.abouts d (known-among c d k known) i;
+  about = λ d. changed-at (λ is_caller a. cond is_caller (with_lines_taken count a) a) c refl k.abouts d (known-among c d k known) i;
 }
 
 -- a connection more
@@ -146,8 +146,8 @@ one-more : (n : ℕ) → n + 1 ≡ suc n
 one-more n = omega arith
 
 pub joins-known : (owner sid : ℕ) (peer challenge : List ℕ) (k : Known) → next_sid (facts_of k) ≡ sid
-    → joined (facts_of k) owner peer challenge ≡ facts_of (with_newcomer owner sid peer challenge k)
-unfolding joined
+    → with_connection (facts_of k) owner peer challenge ≡ facts_of (with_newcomer owner sid peer challenge k)
+unfolding with_connection
 joins-known owner sid peer challenge k is i = record {
   joins = one-more (length k.abouts) i;
   last = is i;
@@ -155,5 +155,5 @@ joins-known owner sid peer challenge k is i = record {
   present = k.present;
   bans = k.bans;
   topic = k.topic;
-  about = λ d. chosen (d == length k.abouts + 1) (newcomer owner (is i) peer challenge) (about_in k.abouts d);
+  about = λ d. cond (d == length k.abouts + 1) (newcomer owner (is i) peer challenge) (about_in k.abouts d);
 }

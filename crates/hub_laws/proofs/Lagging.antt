@@ -1,6 +1,6 @@
 -- A connection lags from the first share on that does not fit, and is owed the shares before it.
 use Rattle.std.proofs.Common.{◌≡◌, ◌∙◌, sym, ap, ap₂, refl, subst, ℕ, ◌+◌, ◌<◌, Bool, true, false, not, ◌&&◌, ◌||◌, ◌==◌, List, [], ◌∷◌, ◌++◌, length, append-nil, arith}
-use Rattle.std.specs.Prelude.{if◌then◌else◌}
+use Rattle.std.specs.Prelude.{if◌then◌else◌, cond}
 use Rattle.std.proofs.Math.Bool.{and-true}
 use Rattle.std.proofs.lemmas.Bool.{eqb-true, le-leb}
 use Rattle.adc_line.specs.Lines as lines
@@ -10,12 +10,12 @@ use Rattle.hub_rules.specs.declared.history.Call.{Call}
 use Rattle.hub_rules.specs.declared.history.Call.TheVariants.{Join, Line, Quit, Take}
 use Rattle.hub_rules.specs.declared.history.Entry.{Entry}
 use Rattle.hub_rules.specs.Configured.{Configured}
-use Rattle.hub_rules.specs.Effects.{departure, given_if, heard, is_over, is_present, line_effect}
+use Rattle.hub_rules.specs.Effects.{departure, effect_of_reading, is_over, is_present, line_effect}
 use Rattle.hub_rules.specs.Facts.{Facts, facts, about_after, after, effect_of_line, own_of, sight_of}
-use Rattle.hub_rules.specs.Lagging.{LagIsTheFirst, OwedAreShares, all_fit, has_room_for, share, shares_that_fit}
-use Rattle.hub_rules.specs.Prepared.{prepared}
+use Rattle.hub_rules.specs.Lagging.{LagIsTheFirst, OwedAreShares, all_fit, share, shares_that_fit}
+use Rattle.hub_rules.specs.Prepared.{prepared_line}
 use Rattle.hub_rules.specs.Quiet.{nothing}
-use Rattle.hub_rules.specs.Shares.{About, chosen, hears_those, lags_with, max_bytes, max_lines, owed_with, owes, waiting}
+use Rattle.hub_rules.specs.Shares.{has_room_for, About, hears_those, lags_with, max_bytes, max_lines, owed_with, owes, waiting}
 use Rattle.hub_rules.specs.Sights.{Own, PreparedLine, Sight}
 use Rattle.hub_invariants.proofs.Becoming.{Becomes, becomes}
 use Rattle.hub_invariants.proofs.Calls.{present-over, sound_of}
@@ -31,7 +31,7 @@ lag-step false true = refl
 lag-step false false = refl
 lag-step true fit = refl
 
-owed-step : (room : Bool) (owed more : List (List ℕ)) → chosen room (owed ++ more) owed ≡ owed ++ given_if room more
+owed-step : (room : Bool) (owed more : List (List ℕ)) → cond room (owed ++ more) owed ≡ owed ++ cond room more []
 owed-step true owed more = refl
 owed-step false owed more = sym (append-nil owed)
 
@@ -46,7 +46,7 @@ unfolding lags_with
 about-lags c effect f d = lag-step (f.about d).lags (has_room_for (waiting (f.about d)) (share_by c effect f d))
 
 pub about-owed : (c : ℕ) (effect : Effect) (f : Facts) (d : ℕ)
-    → (about_after c effect f.about d).owed ≡ (f.about d).owed ++ given_if (room_in (f.about d) (share_by c effect f d)) (share_by c effect f d)
+    → (about_after c effect f.about d).owed ≡ (f.about d).owed ++ cond (room_in (f.about d) (share_by c effect f d)) (share_by c effect f d) []
 unfolding owed_with
 about-owed c effect f d = owed-step (room_in (f.about d) (share_by c effect f d)) (f.about d).owed (share_by c effect f d)
 
@@ -68,26 +68,26 @@ double-not false room = refl
 
 effect-stood : (c : ℕ) (effect : Effect) (f : Facts) (d : ℕ) (fit : Bool) (lines : List (List ℕ)) → Stood (f.about d) fit lines
     → Stood (about_after c effect f.about d) (fit && has_room_for (waiting (f.about d)) (share_by c effect f d))
-    (lines ++ given_if (fit && has_room_for (waiting (f.about d)) (share_by c effect f d)) (share_by c effect f d))
+    (lines ++ cond (fit && has_room_for (waiting (f.about d)) (share_by c effect f d)) (share_by c effect f d) [])
 effect-stood c effect f d fit lines stood =
     let room : room_in (f.about d) (share_by c effect f d) ≡ (fit && has_room_for (waiting (f.about d)) (share_by c effect f d)) =
     ap (λ l. not l && has_room_for (waiting (f.about d)) (share_by c effect f d)) stood.lags ∙ double-not fit _ in
     record {
       lags = about-lags c effect f d ∙ ap not room;
-      owed = about-owed c effect f d ∙ ap₂ (λ ls r. ls ++ given_if r (share_by c effect f d)) stood.owed room;
+      owed = about-owed c effect f d ∙ ap₂ (λ ls r. ls ++ cond r (share_by c effect f d) []) stood.owed room;
     }
 
 -- no line
 abbrev none : List (List ℕ)
 none = []
 
-pub given-nothing : {A : Type 0} (b : Bool) → given_if {A = A} b [] ≡ []
+pub given-nothing : {A : Type 0} (b : Bool) → cond {A = List A} b [] [] ≡ []
 given-nothing true = refl
 given-nothing false = refl
 
 -- a call that owes nothing
 still-stood : (a b : About) (fit : Bool) (lines : List (List ℕ)) → Tidy a → b.lags ≡ a.lags → b.owed ≡ a.owed → Stood a fit lines
-    → Stood b (fit && has_room_for (waiting a) []) (lines ++ given_if (fit && has_room_for (waiting a) []) [])
+    → Stood b (fit && has_room_for (waiting a) []) (lines ++ cond (fit && has_room_for (waiting a) []) [] [])
 still-stood a b fit lines tidy lags owed stood = record {
   lags = lags ∙ stood.lags ∙ ap not (sym (and-true fit)) ∙ ap (λ r. not (fit && r)) (sym (room-nothing a tidy));
   owed = owed ∙ stood.owed ∙ sym (append-nil lines) ∙ ap (λ more. lines ++ more) (sym (given-nothing _));
@@ -99,18 +99,18 @@ pub record Unowed (a : About) : Type 0 where
   pub lags : a.lags ≡ false
   pub owed : a.owed ≡ []
 
-not-heard : (same : Bool) (effect : Effect) (a : About) → is_present a.stage ≡ false → given_if same effect.own ≡ [] → owes same effect a ≡ []
-not-heard same effect a absent none = ap₂ (λ p own. given_if (p && hears_those same effect.hearers a) effect.others ++ own) absent none
+not-heard : (same : Bool) (effect : Effect) (a : About) → is_present a.stage ≡ false → cond same effect.own [] ≡ [] → owes same effect a ≡ []
+not-heard same effect a absent none = ap₂ (λ p own. cond (p && hears_those same effect.hearers a) effect.others [] ++ own) absent none
 
 line-silent : (hub : Sight) (own : Own) (line : PreparedLine) (now : ℕ) → is_over own.stage ≡ true → (line_effect hub own line now).own ≡ []
 unfolding line_effect
-line-silent hub own line now over = ap (λ b. (if b then nothing else if length line.bytes == 0 then nothing else heard hub own line now (lines.reading line.bytes)).own) over
+line-silent hub own line now over = ap (λ b. (if b then nothing else if length line.bytes == 0 then nothing else effect_of_reading hub own line now (lines.reading line.bytes)).own) over
 
 own-silent : (setup : Configured) (hash : List ℕ → List ℕ) (f : Facts) (d c : ℕ) (bytes : List ℕ) (now : ℕ) (same : Bool) → (d == c) ≡ same → is_over (f.about d).stage ≡ true
-    → given_if same (effect_of_line setup hash f c bytes now).own ≡ []
+    → cond same (effect_of_line setup hash f c bytes now).own [] ≡ []
 own-silent setup hash f d c bytes now true is over =
     let e : d ≡ c = eqb-true d c is in
-    line-silent (sight_of setup f) (own_of (f.about c)) (prepared setup hash (f.about c).challenge bytes) now (subst (λ x. is_over (f.about x).stage ≡ true) e over)
+    line-silent (sight_of setup f) (own_of (f.about c)) (prepared_line setup hash (f.about c).challenge bytes) now (subst (λ x. is_over (f.about x).stage ≡ true) e over)
 own-silent setup hash f d c bytes now false is over = refl
 
 pub share-beyond : (setup : Configured) (hash : List ℕ → List ℕ) (f : Facts) (d : ℕ) (call : Call) → is_over (f.about d).stage ≡ true → share setup hash f d call ≡ []
@@ -126,7 +126,7 @@ share-beyond setup hash f d (Take c count) over = refl
 module _ {setup : Configured} {hash : List ℕ → List ℕ} {f : Facts} {caller d : ℕ} where
   stood-after : {call : Call} {a : About} → Becomes setup hash f caller d call a → (fit : Bool) (lines : List (List ℕ)) → Tidy (f.about d) → (f.joins < d → Unowed (f.about d))
       → Stood (f.about d) fit lines → Stood a (fit && has_room_for (waiting (f.about d)) (share setup hash f d call))
-      (lines ++ given_if (fit && has_room_for (waiting (f.about d)) (share setup hash f d call)) (share setup hash f d call))
+      (lines ++ cond (fit && has_room_for (waiting (f.about d)) (share setup hash f d call)) (share setup hash f d call) [])
   stood-after (Becomes.joins peer challenge now place is) fit lines tidy fresh stood =
       let none = fresh (omega (arith, is)) in still-stood (f.about d) _ fit lines tidy (sym none.lags) (sym none.owed) stood
   stood-after (Becomes.says c bytes now) fit lines tidy fresh stood = effect-stood c (effect_of_line setup hash f c bytes now) f d fit lines stood
@@ -142,7 +142,7 @@ unowed-after setup hash f caller call d sound tidy beyond none =
     let stood = stood-after (becomes setup hash f caller d call) true [] tidy (λ b. none) (record { lags = none.lags; owed = none.owed }) in
     record {
       lags = stood.lags ∙ ap (λ more. not (has_room_for (waiting (f.about d)) more)) silent ∙ ap not (room-nothing (f.about d) tidy);
-      owed = stood.owed ∙ ap (λ more. given_if (has_room_for (waiting (f.about d)) more) more) silent ∙ given-nothing _;
+      owed = stood.owed ∙ ap (λ more. cond (has_room_for (waiting (f.about d)) more) more []) silent ∙ given-nothing _;
     }
 
 pub unowed_of : (setup : Configured) (hash : List ℕ → List ℕ) (h : List Entry) (d : ℕ) → (facts setup hash h).joins < d → Unowed ((facts setup hash h).about d)

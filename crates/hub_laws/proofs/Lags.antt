@@ -1,17 +1,18 @@
 -- A user does not take what waits for it, computed from the rules: by induction, since so many lines wait.
 use Rattle.std.proofs.Common.{◌≡◌, ◌∙◌, ap, ap₂, refl, sym, ℕ, zero, suc, ◌+◌, ◌≤◌, Bool, true, false, not, ◌&&◌, ◌||◌, List, [], ◌∷◌, ◌++◌, length, filter, drop, take, replicate, codes, Some, None, Ok, arith}
-use Rattle.std.specs.Prelude.{nat_le, if◌then◌else◌}
+use Rattle.std.specs.Prelude.{nat_le, if◌then◌else◌, cond}
 use Rattle.std.specs.List.{concat}
 use Rattle.std.proofs.lemmas.Bool.Decides.{nat_tests}
 use Rattle.std.proofs.lemmas.Bool.{le-leb, leb-true}
 use Rattle.std.proofs.lemmas.List.{drop-append-le, drop_all, length-replicate, take_all}
 use Rattle.std.proofs.lemmas.List.Folds.{sum_by-replicate}
 use Rattle.std.proofs.lemmas.List.Sums.{sum_by-append}
+use Rattle.adc_base32.specs.Bits.{value_of}
 use Rattle.adc_base32.specs.Digits.{value_at}
-use Rattle.adc_base32.specs.Sids.{four_digits, sid_at}
-use Rattle.adc_line.specs.declared.kind.Kind.TheVariants as kinds
+use Rattle.adc_base32.specs.Sids.{sid_at}
+use Rattle.adc_line.specs.declared.header.Kind.TheVariants as kinds
 use Rattle.adc_line.specs.Escapes.{is_escaped}
-use Rattle.adc_line.specs.Header.{addressed, head_at, header_of, kind_at}
+use Rattle.adc_line.specs.Header.{with_addresses, head_at, header_of, kind_at}
 use Rattle.adc_line.specs.Lines.{Reading, reading}
 use Rattle.adc_line.specs.Parameters.{params_fault}
 use Rattle.feature_route.specs.Audiences.{audience, holds_words}
@@ -23,18 +24,18 @@ use Rattle.hub_rules.specs.declared.history.Entry.{Entry}
 use Rattle.hub_rules.specs.declared.history.Reply.TheVariants.{Took}
 use Rattle.hub_rules.specs.declared.history.Verdict.TheVariants.{Kept}
 use Rattle.hub_rules.specs.Denied.{request_denied}
-use Rattle.hub_rules.specs.Effects.{accepted, is_present}
-use Rattle.hub_rules.specs.Identities.{listed}
+use Rattle.hub_rules.specs.Effects.{accepted_effect, is_present}
+use Rattle.hub_rules.specs.Identities.{listed_user}
 use Rattle.hub_rules.specs.Legal.{take_reply}
-use Rattle.hub_rules.specs.Requests.{refused, request_of}
-use Rattle.hub_rules.specs.Shares.{About, affected, chosen, has_room, lags_with, owed_with, waiting}
+use Rattle.login_state.specs.Requests.{request_at}
+use Rattle.hub_rules.specs.Shares.{About, affected_connection, has_room, lags_with, owed_with, waiting}
 use Rattle.hub_laws.specs.Conversations.{one, plain, zeros}
 use Rattle.hub_laws.specs.Lags.{WhoTakesNothingLags, bob_ready, chatter, ho_text, ho_told, once_more, two_told}
 use Rattle.hub_laws.specs.Messages.{bob_entered}
 use Rattle.hub_laws.specs.Talking.{says, takes}
 use Rattle.hub_laws.proofs.Heard.{effect_of, reading-ascii}
 use Rattle.hub_laws.proofs.Known.{Known, about_in, facts_of, with_effect, with_taken}
-use Rattle.hub_laws.proofs.Messages.{ana_about, bob-enters, bob_about, bob_present, passed}
+use Rattle.hub_laws.proofs.Messages.{ana_about, bob-enters, bob_about, bob_present, message_effect}
 use Rattle.hub_laws.proofs.Steps.{Comes, says-more, takes-more}
 
 -- what a user was owed that heard it so many times
@@ -88,31 +89,31 @@ abbrev ho_line : Reading
 ho_line = record { text = ho_text; kind = kinds.Broadcast; command = codes "MSG"; from = Some 2; target = None; features = None; params = codes "ho" ∷ [] }
 
 ho-read : reading ho_text ≡ Ok ho_line
-unfolding header_of head_at kind_at addressed params_fault is_escaped sid_at four_digits value_at
+unfolding header_of head_at kind_at with_addresses params_fault is_escaped sid_at value_of value_at
 ho-read = reading-ascii ho_text refl refl ∙ refl
 
 abbrev ho_effect : Effect
-ho_effect = passed ho_text audiences.All Nothing
+ho_effect = message_effect ho_text audiences.All Nothing
 
 abbrev crowd : About → About → Known
 crowd bob ana = record bob_present { abouts = bob ∷ ana ∷ [] }
 
 -- a connection that heard the line, by whether there was room for it
 abbrev by_room : Bool → About → About
-by_room room a = record a { owed = chosen room (a.owed ++ ho_told ∷ []) a.owed; lags = not room || a.lags }
+by_room room a = record a { owed = cond room (a.owed ++ ho_told ∷ []) a.owed; lags = not room || a.lags }
 
-ana-hears : (n : ℕ) → n ≤ 1_018 → affected false ho_effect (ana_by n) ≡ ana_by (suc n)
+ana-hears : (n : ℕ) → n ≤ 1_018 → affected_connection false ho_effect (ana_by n) ≡ ana_by (suc n)
 unfolding owed_with lags_with holds_words
 ana-hears n few = ap (λ b. by_room b (ana_by n)) (room-for-ana n few) ∙ ap ana_about (once-longer (codes "AAAB") n)
 
-bob-hears : (n : ℕ) → affected true ho_effect (bob_by n n) ≡ bob_by n (suc n)
+bob-hears : (n : ℕ) → affected_connection true ho_effect (bob_by n n) ≡ bob_by n (suc n)
 unfolding owed_with lags_with holds_words
 bob-hears n =
     ap (λ b. by_room b (bob_by n n)) (room-for-bob n)
     ∙ ap (λ lines. record (bob_about lines) { taken = n + 5 }) (once-longer (codes "AAAC") n)
 
 -- where it is known what the line makes of both, and that they stay
-both-hear : (bob ana bob_then ana_then : About) → affected true ho_effect bob ≡ bob_then → affected false ho_effect ana ≡ ana_then
+both-hear : (bob ana bob_then ana_then : About) → affected_connection true ho_effect bob ≡ bob_then → affected_connection false ho_effect ana ≡ ana_then
     → is_present bob_then.stage ≡ true → is_present ana_then.stage ≡ true → with_effect 2 ho_effect (crowd bob ana) ≡ crowd bob_then ana_then
 both-hear bob ana bob_then ana_then bob_hears ana_hears bob_stays ana_stays =
     (λ i. record (crowd bob ana) {
@@ -122,7 +123,7 @@ both-hear bob ana bob_then ana_then bob_hears ana_hears bob_stays ana_stays =
     ∙ ap₂ (λ b a. record (crowd bob_then ana_then) { present = (if a then 1 ∷ (if b then 2 ∷ [] else []) else (if b then 2 ∷ [] else [])) ++ [] }) bob_stays ana_stays
 
 ho-decided : (hash : List ℕ → List ℕ) (n : ℕ) → effect_of plain hash (facts_of (crowd (bob_by n n) (ana_by n))) 2 ho_text 0 (Ok ho_line) ≡ ho_effect
-unfolding accepted refused request_denied request_of audience listed
+unfolding accepted_effect request_denied request_at audience listed_user
 ho-decided hash n = refl
 
 bob-says : (hash : List ℕ → List ℕ) (h : List Entry) (n : ℕ) → n ≤ 1_018 → Comes plain hash h (crowd (bob_by n n) (ana_by n))
@@ -176,7 +177,7 @@ no-room-for-ana n many =
 abbrev ana_lagging : ℕ → About
 ana_lagging n = record (ana_by n) { lags = true }
 
-ana-lags : (n : ℕ) → 1_019 ≤ n → affected false ho_effect (ana_by n) ≡ ana_lagging n
+ana-lags : (n : ℕ) → 1_019 ≤ n → affected_connection false ho_effect (ana_by n) ≡ ana_lagging n
 unfolding owed_with lags_with holds_words
 ana-lags n many = ap (λ b. by_room b (ana_by n)) (no-room-for-ana n many)
 

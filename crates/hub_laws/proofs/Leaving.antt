@@ -16,7 +16,7 @@ use Rattle.hub_rules.specs.declared.history.Entry.{Entry}
 use Rattle.hub_rules.specs.Configured.{Configured}
 use Rattle.hub_rules.specs.Effects.{departure, is_over, is_present}
 use Rattle.hub_rules.specs.Facts.{Facts, facts, after, effect_of_line, happens, own_of, sight_of}
-use Rattle.hub_rules.specs.Prepared.{prepared}
+use Rattle.hub_rules.specs.Prepared.{prepared_line}
 use Rattle.hub_rules.specs.Shares.{About, is_removed, removed_by, stage_after}
 use Rattle.hub_rules.specs.World.{change_of}
 use Rattle.hub_laws.specs.Leaving.{KicksShutOut, OutIsForGood, WhoIsOutHearsNothing}
@@ -42,7 +42,7 @@ line-over : (setup : Configured) (hash : List ℕ → List ℕ) (f : Facts) (c d
 line-over setup hash f c d bytes now over is =
     let same : d ≡ c = eqb-true d c is in
     ap (λ (e : Effect). stage_after e.change stages.Gone)
-    (silent-over (sight_of setup f) (own_of (f.about c)) (prepared setup hash (f.about c).challenge bytes) now (subst (λ x. (f.about x).stage ≡ stages.Gone) same over))
+    (silent-over (sight_of setup f) (own_of (f.about c)) (prepared_line setup hash (f.about c).challenge bytes) now (subst (λ x. (f.about x).stage ≡ stages.Gone) same over))
 
 module _ {setup : Configured} {hash : List ℕ → List ℕ} {f : Facts} {caller d : ℕ} where
   over-after : {call : Call} {a : About} → Becomes setup hash f caller d call a → d ≤ f.joins → (f.about d).stage ≡ stages.Gone → a.stage ≡ stages.Gone

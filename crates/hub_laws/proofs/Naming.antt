@@ -5,16 +5,16 @@ use Rattle.std.specs.List.{AllByRecursion, list_all}
 use Rattle.std.specs.Str.{bytes_eq}
 use Rattle.std.proofs.lemmas.Bool.{false≢true}
 use Rattle.std.proofs.lemmas.Slice.Eq.{bytes_eq-Decides}
-use Rattle.inf_fields.specs.Cleaning.{any_address, asks_for_address, clean, dotted, is_held_back, with_address}
+use Rattle.inf_fields.specs.Cleaning.{any_address, asks_for_address, clean, dotted_decimal, is_held_back, with_address}
 use Rattle.inf_fields.specs.Field.{Field, besides, field, has_name, is_called, value_of}
 use Rattle.inf_fields.specs.FieldNames.{address_name}
 use Rattle.inf_fields.specs.Updates as updates
-use Rattle.inf_fields.specs.Updates.{reading, are_few, before, field_in, is_named, unless_too_many, update}
+use Rattle.inf_fields.specs.Updates.{reading, are_few, field_in, is_named, unless_too_many, update}
 use Rattle.inf_fields.specs.declared.fault.InfFault.TheVariants.{BadName, TooMany}
 use Rattle.hub_rules.specs.Grounds.{is_wrong_address}
-use Rattle.hub_rules.specs.Identities.{given}
+use Rattle.hub_rules.specs.Identities.{value_or_empty}
 use Rattle.hub_laws.specs.Secrets.{IsPassed}
-use Rattle.hub_laws.proofs.Secrets.{filled, passed-address}
+use Rattle.hub_laws.proofs.Secrets.{filled_address, passed-address}
 
 -- ---- each name once
 
@@ -80,31 +80,31 @@ exact (f ∷ u) apart = (ap (λ b. if b then Some f.value else value_of f.name u
 -- ---- what is passed on
 
 with-filled : (peer : List ℕ) (f : Field) (called any : Bool) → is_called address_name f ≡ called → bytes_eq any_address f.value ≡ any → called ≡ true
-    → (if called && any then field f.name (dotted peer) else f).value ≡ (if any then dotted peer else f.value)
+    → (if called && any then field f.name (dotted_decimal peer) else f).value ≡ (if any then dotted_decimal peer else f.value)
 with-filled peer f true true is-called is-any here = refl
 with-filled peer f true false is-called is-any here = refl
 with-filled peer f false any is-called is-any here = absurd (false≢true here)
 
-with-name : (peer : List ℕ) (f : Field) (asks : Bool) → (if asks then field f.name (dotted peer) else f).name ≡ f.name
+with-name : (peer : List ℕ) (f : Field) (asks : Bool) → (if asks then field f.name (dotted_decimal peer) else f).name ≡ f.name
 with-name peer f true = refl
 with-name peer f false = refl
 
-with-held : (peer : List ℕ) (f : Field) (asks : Bool) → is_held_back f ≡ false → is_held_back (if asks then field f.name (dotted peer) else f) ≡ false
+with-held : (peer : List ℕ) (f : Field) (asks : Bool) → is_held_back f ≡ false → is_held_back (if asks then field f.name (dotted_decimal peer) else f) ≡ false
 with-held peer f true held = held
 with-held peer f false held = held
 
-passed-one : (peer : List ℕ) (u : List Field) (f : Field) → is_wrong_address peer (given address_name u) ≡ false → IsExact u f → is_held_back f ≡ false → IsPassed peer (with_address peer f)
+passed-one : (peer : List ℕ) (u : List Field) (f : Field) → is_wrong_address peer (value_or_empty address_name u) ≡ false → IsExact u f → is_held_back f ≡ false → IsPassed peer (with_address peer f)
 passed-one peer u f right exactly held = (
   with-held peer f (asks_for_address f) held,
   λ called.
       let here : is_called address_name f ≡ true = ap (bytes_eq address_name) (sym (with-name peer f (asks_for_address f))) ∙ called in
-      let value : (with_address peer f).value ≡ filled peer f.value = with-filled peer f (is_called address_name f) (bytes_eq any_address f.value) refl refl here in
+      let value : (with_address peer f).value ≡ filled_address peer f.value = with-filled peer f (is_called address_name f) (bytes_eq any_address f.value) refl refl here in
       let found : value_of address_name u ≡ Some f.value = ap (λ n. value_of n u) ((bytes_eq-Decides address_name f.name).0 here) ∙ exactly in
-      subst (λ (v : List ℕ). (v ≡ []) ⊎ (v ≡ dotted peer)) (sym value)
-      (passed-address peer (Some f.value) (filled peer f.value) (ap (λ o. is_wrong_address peer (unwrap_or o [])) (sym found) ∙ right) refl),
+      subst (λ (v : List ℕ). (v ≡ []) ⊎ (v ≡ dotted_decimal peer)) (sym value)
+      (passed-address peer (Some f.value) (filled_address peer f.value) (ap (λ o. is_wrong_address peer (unwrap_or o [])) (sym found) ∙ right) refl),
 )
 
-passed-all : (peer : List ℕ) (u fields : List Field) → is_wrong_address peer (given address_name u) ≡ false → AllByRecursion (IsExact u) fields
+passed-all : (peer : List ℕ) (u fields : List Field) → is_wrong_address peer (value_or_empty address_name u) ≡ false → AllByRecursion (IsExact u) fields
     → AllByRecursion (IsPassed peer) (clean fields peer)
 unfolding clean
 passed-all peer u [] right exactly = tt
@@ -131,6 +131,6 @@ read-update : (words : List (List ℕ)) (u : List Field) → updates.reading wor
 unfolding reading
 read-update words u is = named-same (list_all is_named words) (update words) u is
 
-pub read-passed : (peer : List ℕ) (words : List (List ℕ)) (u : List Field) → updates.reading words ≡ Ok u → is_wrong_address peer (given address_name u) ≡ false
+pub read-passed : (peer : List ℕ) (words : List (List ℕ)) (u : List Field) → updates.reading words ≡ Ok u → is_wrong_address peer (value_or_empty address_name u) ≡ false
     → AllByRecursion (IsPassed peer) (clean u peer)
 read-passed peer words u is right = passed-all peer u u right (exact u (subst Apart (sym (read-update words u is)) (apart-update words)))

@@ -1,11 +1,11 @@
 -- Which lines change something for all, and which bring a user in.
-use Rattle.std.proofs.Common.{◌≡◌, ◌∙◌, sym, ap, ap₂, refl, subst, ℕ, ◌+◌, Bool, false, ◌&&◌, ◌⊎◌, inl, inr, ◌==◌, List, Option, fold, eq-eqb}
+use Rattle.std.proofs.Common.{◌≡◌, ◌∙◌, sym, ap, ap₂, refl, subst, ℕ, ◌+◌, Bool, false, ◌&&◌, ◌⊎◌, inl, inr, ◌==◌, List, Option, fold, eq-eqb, cond}
 use Rattle.std.proofs.lemmas.Bool.{false≢true, eqb-true}
 use Rattle.adc_line.specs.Lines.{Reading}
 use Rattle.login_state.specs.declared.stage.Stage.{Stage}
 use Rattle.login_state.specs.declared.stage.Stage.TheVariants as stages
 use Rattle.operator_acts.specs.BanHistory.{act_on}
-use Rattle.operator_acts.specs.Bans.{left}
+use Rattle.operator_acts.specs.Bans.{left_of_bans}
 use Rattle.operator_acts.specs.declared.ban.Ban.{Ban}
 use Rattle.operator_acts.specs.declared.left.Left.TheVariants as lefts
 use Rattle.hub_rules.specs.declared.effect.Change.TheVariants.{Sender}
@@ -14,15 +14,15 @@ use Rattle.hub_rules.specs.declared.effect.SenderChange.TheVariants as senders
 use Rattle.hub_rules.specs.declared.history.Call.{Call}
 use Rattle.hub_rules.specs.declared.history.Call.TheVariants.{Line}
 use Rattle.hub_rules.specs.declared.history.Entry.{Entry}
-use Rattle.hub_rules.specs.declared.request.Request.{Request}
+use Rattle.login_state.specs.declared.request.Request.{Request}
 use Rattle.hub_rules.specs.Acts.{is_operator}
 use Rattle.hub_rules.specs.Configured.{Configured}
 use Rattle.hub_rules.specs.Effects.{departure, is_present}
 use Rattle.hub_rules.specs.Facts.{Facts, facts, effect_of_line, own_of, sight_of}
 use Rattle.hub_rules.specs.Identities.{cid_in}
-use Rattle.hub_rules.specs.Prepared.{prepared}
+use Rattle.hub_rules.specs.Prepared.{prepared_line}
 use Rattle.hub_rules.specs.Said.{accepted_line}
-use Rattle.hub_rules.specs.Shares.{About, chosen, fields_after, removed_by, stage_after}
+use Rattle.hub_rules.specs.Shares.{About, fields_after, removed_by, stage_after}
 use Rattle.hub_rules.specs.Sights.{Own, PreparedLine, Sight}
 use Rattle.hub_rules.specs.World.{change_of}
 use Rattle.hub_laws.specs.Operating.{NobodyBannedEnters, OnlyOperatorsBan, OnlyOperatorsSetTopics, OnlyOperatorsShutOut, is_of_operator, is_own}
@@ -42,7 +42,7 @@ may_act hub own = is_present own.stage && is_operator hub own
 
 module _ {hub : Sight} {own : Own} {line : PreparedLine} {now : ℕ} where
   operator-acts : {said : Option Reading} {request : Request} {effect : Effect} → Outcome hub own line now said request effect → may_act hub own ≡ false → is_act effect.change ≡ false
-  operator-acts (acts reading others change at operator act) none_of = absurd (false≢true (sym none_of ∙ ap₂ (λ (s : Stage) b. is_present s && b) at operator))
+  operator-acts (acts reading done at operator does) none_of = absurd (false≢true (sym none_of ∙ ap₂ (λ (s : Stage) b. is_present s && b) at operator))
   operator-acts _ none_of = refl
 
 same-call : (setup : Configured) (hash : List ℕ → List ℕ) (h : List Entry) (call : Call) → is_of_operator setup hash h call ≡ false
@@ -55,7 +55,7 @@ same-call setup hash h _ none_of = refl
 pub only_operators_ban : OnlyOperatorsBan
 unfolding facts
 only_operators_ban setup hash h e cid now none_of =
-    ap (λ (bans : List (List ℕ × Ban)). left bans cid now)
+    ap (λ (bans : List (List ℕ × Ban)). left_of_bans bans cid now)
     (step-bans setup hash (facts setup hash h) e.caller e.call ∙ ap (fold act_on (facts setup hash h).bans) (no-ban (change_of setup hash (facts setup hash h) e.call) (same-call setup hash h e.call none_of)))
 
 pub only_operators_set_topics : OnlyOperatorsSetTopics
@@ -87,11 +87,11 @@ only_operators_shut_out setup hash h e d none_of other = kept-after (becomes set
 -- ---- who enters
 
 abbrev Enters : Facts → List Field → Call → ℕ → Type 0
-Enters f fields call c = (bytes : List ℕ) × (moment : ℕ) × (call ≡ Line c bytes moment) × (left f.bans (cid_in fields) moment ≡ lefts.Free)
+Enters f fields call c = (bytes : List ℕ) × (moment : ℕ) × (call ≡ Line c bytes moment) × (left_of_bans f.bans (cid_in fields) moment ≡ lefts.Free)
 
 unbanned : (hub : Sight) (own : Own) (now : ℕ) (said : Option Reading) (effect : Effect) → (own.stage ≡ stages.Normal → ⊥)
     → IsHereStill hub own effect ⊎ (EntersUnasked hub own now said effect ⊎ GivesPassword hub own now said (fields_after effect.change own.fields))
-    → left hub.bans (cid_in (fields_after effect.change own.fields)) now ≡ lefts.Free
+    → left_of_bans hub.bans (cid_in (fields_after effect.change own.fields)) now ≡ lefts.Free
 unbanned hub own now said effect absent (inl here) = absurd (absent here.at)
 unbanned hub own now said effect absent (inr (inl unasked)) = unasked.logs.unbanned
 unbanned hub own now said effect absent (inr (inr gives)) = gives.unbanned
@@ -100,7 +100,7 @@ module _ {setup : Configured} {hash : List ℕ → List ℕ} {f : Facts} {caller
   enters-after : {call : Call} {a : About} → Becomes setup hash f caller d call a → ((f.about d).stage ≡ stages.Normal → ⊥) → a.stage ≡ stages.Normal → Enters f a.fields call d
   enters-after (Becomes.joins peer challenge now place at) absent here = absurd (protocol-normal here)
   enters-after (Becomes.says c bytes now) absent here =
-      let line : PreparedLine = prepared setup hash (f.about c).challenge bytes in
+      let line : PreparedLine = prepared_line setup hash (f.about c).challenge bytes in
       let effect : Effect = effect_of_line setup hash f c bytes now in
       let moved = moves-to (removed_by effect (f.about d)) (d == c) effect.change (f.about d).stage stages.Normal gone-normal absent here in
       let same : d ≡ c = eqb-true d c moved.is_caller in
@@ -108,8 +108,8 @@ module _ {setup : Configured} {hash : List ℕ → List ℕ} {f : Facts} {caller
         bytes,
         now,
         ap (λ x. Line x bytes now) (sym same),
-        ap (λ fs. left f.bans (cid_in fs) now)
-            (ap (λ b. chosen b (fields_after effect.change (f.about d).fields) (f.about d).fields) moved.is_caller
+        ap (λ fs. left_of_bans f.bans (cid_in fs) now)
+            (ap (λ b. cond b (fields_after effect.change (f.about d).fields) (f.about d).fields) moved.is_caller
             ∙ ap (λ x. fields_after effect.change (f.about x).fields) same)
             ∙ unbanned (sight_of setup f) (own_of (f.about c)) now (accepted_line (sight_of setup f) (own_of (f.about c)) line now) effect
             (subst (λ x. (f.about x).stage ≡ stages.Normal → ⊥) same absent)

@@ -1,14 +1,14 @@
--- What is passed on of an update leaves the nick as it was given.
+-- The part of an update that is passed on leaves the nick as it came.
 use Rattle.std.proofs.Common.{◌≡◌, ◌∙◌, sym, ap, ap₂, refl, ℕ, Bool, true, false, not, ◌&&◌, ◌||◌, cond, List, [], ◌∷◌, map, filter, Some, unwrap_or}
 use Rattle.std.specs.Prelude.{if◌then◌else◌}
 use Rattle.std.specs.Str.{bytes_eq}
 use Rattle.std.proofs.lemmas.Bool.{false≢true}
 use Rattle.std.proofs.lemmas.Slice.Eq.{bytes_eq-Decides}
-use Rattle.inf_fields.specs.Cleaning.{any_address, asks_for_address, clean, dotted, is_held_back, with_address}
+use Rattle.inf_fields.specs.Cleaning.{any_address, asks_for_address, clean, dotted_decimal, is_held_back, with_address}
 use Rattle.inf_fields.specs.Field.{Field, field, is_called, value_of}
 use Rattle.inf_fields.specs.FieldNames.{address6_name, address_name, client_type_name, nick_name, port6_name, private_id_name}
-use Rattle.inf_fields.specs.Merging.{merged, merged_with}
-use Rattle.hub_rules.specs.Identities.{given, key_in, key_of, meaning}
+use Rattle.inf_fields.specs.Merging.{merged_fields, merged_with}
+use Rattle.hub_rules.specs.Identities.{value_or_empty, key_in, key_of, meaning}
 use Rattle.hub_rules.proofs.Merges.{given-after}
 
 other-name : (other : List ℕ) (f : Field) (called : Bool) → bytes_eq nick_name other ≡ false → is_called other f ≡ called → is_called nick_name f ≡ true → called ≡ false
@@ -27,7 +27,7 @@ nick-kept f here =
     ap₂ ◌||◌ (ap₂ ◌||◌ (ap₂ ◌||◌ (other-is private_id_name f refl here) (other-is client_type_name f refl here)) (other-is address6_name f refl here)) (other-is port6_name f refl here)
 
 nick-value : (peer : List ℕ) (f : Field) → is_called nick_name f ≡ true → with_address peer f ≡ f
-nick-value peer f here = ap (λ b. if (b && bytes_eq any_address f.value) then field f.name (dotted peer) else f) (other-is address_name f refl here)
+nick-value peer f here = ap (λ b. if (b && bytes_eq any_address f.value) then field f.name (dotted_decimal peer) else f) (other-is address_name f refl here)
 
 clean-cons : (held called : Bool) (peer : List ℕ) (f : Field) (fields : List Field) → is_held_back f ≡ held → is_called nick_name f ≡ called
     → value_of nick_name (map (with_address peer) (filter (λ g. not (is_held_back g)) fields)) ≡ value_of nick_name fields
@@ -40,7 +40,7 @@ clean-cons false true peer f fields held called rest =
     ∙ ap (λ b. if b then Some f.value else value_of nick_name (map (with_address peer) (filter (λ g. not (is_held_back g)) fields))) called
 clean-cons false false peer f fields held called rest =
     ap (λ b. if b then Some (with_address peer f).value else value_of nick_name (map (with_address peer) (filter (λ g. not (is_held_back g)) fields)))
-    (ap (bytes_eq nick_name) (passed-name (asks_for_address f) f (field f.name (dotted peer)) refl) ∙ called)
+    (ap (bytes_eq nick_name) (passed-name (asks_for_address f) f (field f.name (dotted_decimal peer)) refl) ∙ called)
     ∙ rest
 
 nick-clean : (fields : List Field) (peer : List ℕ) → value_of nick_name (clean fields peer) ≡ value_of nick_name fields
@@ -48,11 +48,11 @@ unfolding clean
 nick-clean [] peer = refl
 nick-clean (f ∷ fields) peer = clean-cons (is_held_back f) (is_called nick_name f) peer f fields refl refl (nick-clean fields peer)
 
-merged-none : merged [] ≡ []
-unfolding merged
+merged-none : merged_fields [] ≡ []
+unfolding merged_fields
 merged-none = refl
 
-nick-merged : (u : List Field) (peer : List ℕ) → given nick_name (merged_with [] (clean u peer)) ≡ given nick_name u
+nick-merged : (u : List Field) (peer : List ℕ) → value_or_empty nick_name (merged_with [] (clean u peer)) ≡ value_or_empty nick_name u
 nick-merged u peer = given-after nick_name [] [] (clean u peer) (sym merged-none) ∙ ap (λ o. unwrap_or o []) (nick-clean u peer)
 
 -- where nothing is known of a user yet, its nick is that of its first INF

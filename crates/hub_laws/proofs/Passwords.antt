@@ -15,33 +15,33 @@ use Rattle.hub_rules.specs.declared.history.Call.TheVariants.{Join, Line, Quit, 
 use Rattle.hub_rules.specs.declared.history.Entry.{Entry}
 use Rattle.hub_rules.specs.Configured.{Account, Configured}
 use Rattle.hub_rules.specs.Effects.{departure, is_present, line_effect}
-use Rattle.hub_rules.specs.Facts.{Facts, facts, about_after, after, bans_after, closed, effect_of_line, enters, given, happens, has_joins, has_place, joined, newcomer, newcomer_if, next_sid, own_of, present_after, sight_of, topic_after, user_of}
+use Rattle.hub_rules.specs.Facts.{Facts, facts, about_after, after, bans_after, without_connection, effect_of_line, enters, with_lines_taken, happens, has_joins, has_place, with_connection, newcomer, next_sid, own_of, present_after, sight_of, topic_after, user_of}
 use Rattle.adc_base32.specs.Turns.{next_free}
-use Rattle.hub_rules.specs.History.{owed}
-use Rattle.hub_rules.specs.Identities.{listed}
-use Rattle.hub_rules.specs.Prepared.{prepared}
-use Rattle.hub_rules.specs.Shares.{About, affected, chosen, lags_with, owed_with}
+use Rattle.hub_rules.specs.History.{lines_owed}
+use Rattle.hub_rules.specs.Identities.{listed_user}
+use Rattle.hub_rules.specs.Prepared.{prepared_line}
+use Rattle.hub_rules.specs.Shares.{About, affected_connection, lags_with, owed_with}
 use Rattle.hub_rules.specs.Sights.{Own, Sight}
 use Rattle.hub_laws.specs.Passwords.{AreLikeCalls, AreLikeHistories, PasswordsAreNotTold, is_password, is_right, without_passwords}
-use Rattle.hub_laws.proofs.Veiling.{AreAlike, other_hub, other_own, passwords-alike, same-line-alike, veiled, veiled_change}
+use Rattle.hub_laws.proofs.Veiling.{AreAlike, other_hub, other_own, passwords-alike, same-line-alike, veiled_effect, veiled_change}
 
 -- what is known of a connection, but for the digest that is waited for
-abbrev unasked : About → About
-unasked a = record a { expected = [] }
+abbrev without_digest : About → About
+without_digest a = record a { expected = [] }
 
 record AreSame (f g : Facts) : Type 0 where
   rest : g ≡ record f { about = g.about }
-  about : (d : ℕ) → unasked (f.about d) ≡ unasked (g.about d)
+  about : (d : ℕ) → without_digest (f.about d) ≡ without_digest (g.about d)
 
 -- ---- what a decision looks at
 
-own-same : (a b : About) → unasked a ≡ unasked b → own_of b ≡ other_own (own_of a) b.expected
+own-same : (a b : About) → without_digest a ≡ without_digest b → own_of b ≡ other_own (own_of a) b.expected
 own-same a b same = ap (λ (x : About). own_of (record x { expected = b.expected })) (sym same)
 
-users-same : (about others : ℕ → About) (cs : List ℕ) → ((d : ℕ) → unasked (about d) ≡ unasked (others d)) → map (user_of others) cs ≡ map (user_of about) cs
+users-same : (about others : ℕ → About) (cs : List ℕ) → ((d : ℕ) → without_digest (about d) ≡ without_digest (others d)) → map (user_of others) cs ≡ map (user_of about) cs
 users-same about others [] same = refl
 users-same about others (c ∷ cs) same =
-    ap₂ (λ (user : Listed) users. user ∷ users) (ap (λ (a : About). listed a.sid a.fields) (sym (same c))) (users-same about others cs same)
+    ap₂ (λ (user : Listed) users. user ∷ users) (ap (λ (a : About). listed_user a.sid a.fields) (sym (same c))) (users-same about others cs same)
 
 abbrev with_accounts : Configured → List Account → Configured
 with_accounts setup accounts = record setup { accounts = accounts }
@@ -54,21 +54,21 @@ sight-same setup accounts f g same =
 -- ---- what an effect makes of a connection
 
 by-hearers : (is_caller : Bool) (own others : List (List ℕ)) (hearers : Hearers) (change : Change) (a : About)
-    → unasked (affected is_caller (record { own = own; others = others; hearers = hearers; change = change }) a)
-    ≡ unasked (affected is_caller (record { own = own; others = others; hearers = hearers; change = veiled_change change }) (unasked a))
+    → without_digest (affected_connection is_caller (record { own = own; others = others; hearers = hearers; change = change }) a)
+    ≡ without_digest (affected_connection is_caller (record { own = own; others = others; hearers = hearers; change = veiled_change change }) (without_digest a))
 unfolding owed_with lags_with
 by-hearers is_caller own others Others (Sender (senders.Waits entrant expected)) a = refl
 by-hearers is_caller own others (Those audience) (Sender (senders.Waits entrant expected)) a = refl
 by-hearers is_caller own others Others change a = refl
 by-hearers is_caller own others (Those audience) change a = refl
 
-affected-veiled : (is_caller : Bool) (effect : Effect) (a : About) → unasked (affected is_caller effect a) ≡ unasked (affected is_caller (veiled effect) (unasked a))
+affected-veiled : (is_caller : Bool) (effect : Effect) (a : About) → without_digest (affected_connection is_caller effect a) ≡ without_digest (affected_connection is_caller (veiled_effect effect) (without_digest a))
 affected-veiled is_caller effect a = by-hearers is_caller effect.own effect.others effect.hearers effect.change a
 
-affected-same : (is_caller : Bool) (effect another : Effect) (a b : About) → veiled effect ≡ veiled another → unasked a ≡ unasked b
-    → unasked (affected is_caller effect a) ≡ unasked (affected is_caller another b)
+affected-same : (is_caller : Bool) (effect another : Effect) (a b : About) → veiled_effect effect ≡ veiled_effect another → without_digest a ≡ without_digest b
+    → without_digest (affected_connection is_caller effect a) ≡ without_digest (affected_connection is_caller another b)
 affected-same is_caller effect another a b alike same =
-    affected-veiled is_caller effect a ∙ ap₂ (λ (e : Effect) (x : About). unasked (affected is_caller e x)) alike same ∙ sym (affected-veiled is_caller another b)
+    affected-veiled is_caller effect a ∙ ap₂ (λ (e : Effect) (x : About). without_digest (affected_connection is_caller e x)) alike same ∙ sym (affected-veiled is_caller another b)
 
 -- ---- what an effect makes of the hub
 
@@ -85,7 +85,7 @@ topic-veiled topic (Sender (senders.Waits entrant expected)) = refl
 topic-veiled topic change = refl
 
 -- what the veil hides makes no difference to it
-read-same : {A : Type 0} (read : Change → A) → ((change : Change) → read change ≡ read (veiled_change change)) → (effect another : Effect) → veiled effect ≡ veiled another
+read-same : {A : Type 0} (read : Change → A) → ((change : Change) → read change ≡ read (veiled_change change)) → (effect another : Effect) → veiled_effect effect ≡ veiled_effect another
     → read another.change ≡ read effect.change
 read-same read same effect another alike = same another.change ∙ ap (λ (e : Effect). read e.change) (sym alike) ∙ sym (same effect.change)
 
@@ -93,15 +93,15 @@ filter-same : (p q : ℕ → Bool) (xs : List ℕ) → ((x : ℕ) → p x ≡ q 
 filter-same p q [] same = refl
 filter-same p q (x ∷ xs) same = ap₂ (λ b ys. cond b (x ∷ ys) (filter p xs)) (same x) (filter-same p q xs same) ∙ ap (λ ys. cond (q x) (x ∷ filter q xs) ys) (filter-same p q xs same)
 
-present-same : (c : ℕ) (effect another : Effect) (about others : ℕ → About) (present : List ℕ) → veiled effect ≡ veiled another
-    → ((d : ℕ) → unasked (about d) ≡ unasked (others d)) → present_after c another others present ≡ present_after c effect about present
+present-same : (c : ℕ) (effect another : Effect) (about others : ℕ → About) (present : List ℕ) → veiled_effect effect ≡ veiled_effect another
+    → ((d : ℕ) → without_digest (about d) ≡ without_digest (others d)) → present_after c another others present ≡ present_after c effect about present
 present-same c effect another about others present alike same =
-    ap₂ (λ (ds : List ℕ) b. ds ++ newcomer_if b c)
+    ap₂ (λ (ds : List ℕ) b. ds ++ cond b (c ∷ []) [])
     (filter-same (λ d. is_present (about_after c another others d).stage) (λ d. is_present (about_after c effect about d).stage) present
     (λ d. ap (λ (a : About). is_present a.stage) (sym (affected-same (d == c) effect another (about d) (others d) alike (same d)))))
     (read-same enters enters-veiled effect another alike)
 
-happens-same : (c : ℕ) (effect another : Effect) (f g : Facts) → veiled effect ≡ veiled another → AreSame f g → AreSame (happens c effect f) (happens c another g)
+happens-same : (c : ℕ) (effect another : Effect) (f g : Facts) → veiled_effect effect ≡ veiled_effect another → AreSame f g → AreSame (happens c effect f) (happens c another g)
 unfolding happens
 happens-same c effect another f g alike same = record {
   rest = ap (λ (x : Facts). record x {
@@ -127,32 +127,32 @@ AreAlikeLines bytes others = (bytes ≡ others) ⊎ ((is_password (lines.reading
 decided-same : (setup : Configured) (accounts : List Account) (hash : List ℕ → List ℕ) (hub : Sight) (own : Own) (expected challenge bytes others : List ℕ) (now : ℕ)
     → AreAlike hub.setup.accounts accounts → AreAlikeLines bytes others
     → (own.stage ≡ stages.Verify → is_right own.expected (lines.reading bytes) ≡ is_right expected (lines.reading others))
-    → veiled (line_effect hub own (prepared setup hash challenge bytes) now)
-    ≡ veiled (line_effect (other_hub hub accounts) (other_own own expected) (prepared (with_accounts setup accounts) hash challenge others) now)
-unfolding prepared
+    → veiled_effect (line_effect hub own (prepared_line setup hash challenge bytes) now)
+    ≡ veiled_effect (line_effect (other_hub hub accounts) (other_own own expected) (prepared_line (with_accounts setup accounts) hash challenge others) now)
+unfolding prepared_line
 decided-same setup accounts hash hub own expected challenge bytes others now alike (inl same) right =
-    same-line-alike hub accounts own expected (prepared setup hash challenge bytes) (prepared (with_accounts setup accounts) hash challenge bytes).password now alike
+    same-line-alike hub accounts own expected (prepared_line setup hash challenge bytes) (prepared_line (with_accounts setup accounts) hash challenge bytes).password now alike
     (λ waits. right waits ∙ ap (λ bs. is_right expected (lines.reading bs)) (sym same))
-    ∙ ap (λ bs. veiled (line_effect (other_hub hub accounts) (other_own own expected) (prepared (with_accounts setup accounts) hash challenge bs) now)) same
+    ∙ ap (λ bs. veiled_effect (line_effect (other_hub hub accounts) (other_own own expected) (prepared_line (with_accounts setup accounts) hash challenge bs) now)) same
 decided-same setup accounts hash hub own expected challenge bytes others now alike (inr passwords) right =
-    passwords-alike hub accounts own expected (prepared setup hash challenge bytes) (prepared (with_accounts setup accounts) hash challenge others) now alike
+    passwords-alike hub accounts own expected (prepared_line setup hash challenge bytes) (prepared_line (with_accounts setup accounts) hash challenge others) now alike
     passwords.0 passwords.1 right
 
 effect-same : (setup : Configured) (accounts : List Account) (hash : List ℕ → List ℕ) (f g : Facts) (c : ℕ) (bytes others : List ℕ) (now : ℕ)
     → AreAlike setup.accounts accounts → AreSame f g → AreAlikeLines bytes others
     → ((f.about c).stage ≡ stages.Verify → is_right (f.about c).expected (lines.reading bytes) ≡ is_right (g.about c).expected (lines.reading others))
-    → veiled (effect_of_line setup hash f c bytes now) ≡ veiled (effect_of_line (with_accounts setup accounts) hash g c others now)
+    → veiled_effect (effect_of_line setup hash f c bytes now) ≡ veiled_effect (effect_of_line (with_accounts setup accounts) hash g c others now)
 effect-same setup accounts hash f g c bytes others now alike same like right =
     decided-same setup accounts hash (sight_of setup f) (own_of (f.about c)) (g.about c).expected (f.about c).challenge bytes others now alike like right
     ∙ ap (λ (a : About).
-    veiled (line_effect (other_hub (sight_of setup f) accounts) (other_own (own_of (f.about c)) (g.about c).expected)
-    (prepared (with_accounts setup accounts) hash a.challenge others) now)) (same.about c)
-    ∙ ap₂ (λ (hub : Sight) (own : Own). veiled (line_effect hub own (prepared (with_accounts setup accounts) hash (g.about c).challenge others) now))
+    veiled_effect (line_effect (other_hub (sight_of setup f) accounts) (other_own (own_of (f.about c)) (g.about c).expected)
+    (prepared_line (with_accounts setup accounts) hash a.challenge others) now)) (same.about c)
+    ∙ ap₂ (λ (hub : Sight) (own : Own). veiled_effect (line_effect hub own (prepared_line (with_accounts setup accounts) hash (g.about c).challenge others) now))
     (sym (sight-same setup accounts f g same)) (sym (own-same (f.about c) (g.about c) (same.about c)))
 
 -- ---- every call
 
-sids-same : (about others : ℕ → About) (cs : List ℕ) → ((d : ℕ) → unasked (about d) ≡ unasked (others d)) → map (λ c. (others c).sid) cs ≡ map (λ c. (about c).sid) cs
+sids-same : (about others : ℕ → About) (cs : List ℕ) → ((d : ℕ) → without_digest (about d) ≡ without_digest (others d)) → map (λ c. (others c).sid) cs ≡ map (λ c. (about c).sid) cs
 sids-same about others [] same = refl
 sids-same about others (c ∷ cs) same = ap₂ (λ (n : ℕ) ns. n ∷ ns) (ap (λ (a : About). a.sid) (sym (same c))) (sids-same about others cs same)
 
@@ -160,45 +160,45 @@ next-same : (f g : Facts) → AreSame f g → next_sid g ≡ next_sid f
 next-same f g same =
     ap (λ (x : Facts). next_free x.last (map (λ c. (g.about c).sid) x.opened)) same.rest ∙ ap (next_free f.last) (sids-same f.about g.about f.opened same.about)
 
-newcomer-same : (is_new : Bool) (a b new : About) → unasked a ≡ unasked b → unasked (chosen is_new new a) ≡ unasked (chosen is_new new b)
+newcomer-same : (is_new : Bool) (a b new : About) → without_digest a ≡ without_digest b → without_digest (cond is_new new a) ≡ without_digest (cond is_new new b)
 newcomer-same true a b new same = refl
 newcomer-same false a b new same = same
 
-joined-same : (f g : Facts) (owner : ℕ) (peer challenge : List ℕ) → AreSame f g → AreSame (joined f owner peer challenge) (joined g owner peer challenge)
-unfolding joined
+joined-same : (f g : Facts) (owner : ℕ) (peer challenge : List ℕ) → AreSame f g → AreSame (with_connection f owner peer challenge) (with_connection g owner peer challenge)
+unfolding with_connection
 joined-same f g owner peer challenge same = record {
   rest = ap (λ (x : Facts). record x {
     joins = x.joins + 1;
     last = next_sid g;
     opened = x.opened ++ (x.joins + 1) ∷ [];
-    about = λ d. chosen (d == (g.joins + 1)) (newcomer owner (next_sid g) peer challenge) (g.about d);
+    about = λ d. cond (d == (g.joins + 1)) (newcomer owner (next_sid g) peer challenge) (g.about d);
   }) same.rest
       ∙ ap (λ n. record f {
         joins = f.joins + 1;
         last = n;
         opened = f.opened ++ (f.joins + 1) ∷ [];
-        about = λ d. chosen (d == (g.joins + 1)) (newcomer owner (next_sid g) peer challenge) (g.about d);
+        about = λ d. cond (d == (g.joins + 1)) (newcomer owner (next_sid g) peer challenge) (g.about d);
       }) (next-same f g same);
   about = λ d. newcomer-same (d == (f.joins + 1)) (f.about d) (g.about d) (newcomer owner (next_sid f) peer challenge) (same.about d)
-      ∙ ap₂ (λ joins n. unasked (chosen (d == (joins + 1)) (newcomer owner n peer challenge) (g.about d))) (ap (λ (x : Facts). x.joins) (sym same.rest)) (sym (next-same f g same));
+      ∙ ap₂ (λ joins n. without_digest (cond (d == (joins + 1)) (newcomer owner n peer challenge) (g.about d))) (ap (λ (x : Facts). x.joins) (sym same.rest)) (sym (next-same f g same));
 }
 
-chosen-same : (is_accepted : Bool) (f g x y : Facts) → AreSame x y → AreSame f g → AreSame (chosen is_accepted x f) (chosen is_accepted y g)
+chosen-same : (is_accepted : Bool) (f g x y : Facts) → AreSame x y → AreSame f g → AreSame (cond is_accepted x f) (cond is_accepted y g)
 chosen-same true f g x y first second = first
 chosen-same false f g x y first second = second
 
-closed-same : (c : ℕ) (f g : Facts) → AreSame f g → AreSame (closed c f) (closed c g)
-unfolding closed
+closed-same : (c : ℕ) (f g : Facts) → AreSame f g → AreSame (without_connection c f) (without_connection c g)
+unfolding without_connection
 closed-same c f g same = record { rest = ap (λ (x : Facts). record x { opened = filter (λ d. not (d == c)) x.opened }) same.rest; about = same.about }
 
-given-same : (is_caller : Bool) (count : ℕ) (a b : About) → unasked a ≡ unasked b → unasked (chosen is_caller (given count a) a) ≡ unasked (chosen is_caller (given count b) b)
-given-same true count a b same = ap (given count) same
+given-same : (is_caller : Bool) (count : ℕ) (a b : About) → without_digest a ≡ without_digest b → without_digest (cond is_caller (with_lines_taken count a) a) ≡ without_digest (cond is_caller (with_lines_taken count b) b)
+given-same true count a b same = ap (with_lines_taken count) same
 given-same false count a b same = same
 
 taken-same : (f g : Facts) (c count : ℕ) → AreSame f g
-    → AreSame (record f { about = λ d. chosen (d == c) (given count (f.about d)) (f.about d) }) (record g { about = λ d. chosen (d == c) (given count (g.about d)) (g.about d) })
+    → AreSame (record f { about = λ d. cond (d == c) (with_lines_taken count (f.about d)) (f.about d) }) (record g { about = λ d. cond (d == c) (with_lines_taken count (g.about d)) (g.about d) })
 taken-same f g c count same = record {
-  rest = ap (λ (x : Facts). record x { about = λ d. chosen (d == c) (given count (g.about d)) (g.about d) }) same.rest;
+  rest = ap (λ (x : Facts). record x { about = λ d. cond (d == c) (with_lines_taken count (g.about d)) (g.about d) }) same.rest;
   about = λ d. given-same (d == c) count (f.about d) (g.about d) (same.about d);
 }
 
@@ -223,19 +223,19 @@ places-same : (setup : Configured) (accounts : List Account) (f g : Facts) → A
 places-same setup accounts f g same = ap (λ (x : Facts). has_place (with_accounts setup accounts) x && has_joins x) same.rest
 
 join-same : (setup : Configured) (accounts : List Account) (f g : Facts) (caller : ℕ) (peer challenge : List ℕ) → AreSame f g
-    → AreSame (chosen (has_place setup f && has_joins f) (joined f caller peer challenge) f)
-    (chosen (has_place (with_accounts setup accounts) g && has_joins g) (joined g caller peer challenge) g)
+    → AreSame (cond (has_place setup f && has_joins f) (with_connection f caller peer challenge) f)
+    (cond (has_place (with_accounts setup accounts) g && has_joins g) (with_connection g caller peer challenge) g)
 join-same setup accounts f g caller peer challenge same =
-    subst (λ b. AreSame (chosen (has_place setup f && has_joins f) (joined f caller peer challenge) f) (chosen b (joined g caller peer challenge) g))
+    subst (λ b. AreSame (cond (has_place setup f && has_joins f) (with_connection f caller peer challenge) f) (cond b (with_connection g caller peer challenge) g))
     (sym (places-same setup accounts f g same))
-    (chosen-same (has_place setup f && has_joins f) f g (joined f caller peer challenge) (joined g caller peer challenge) (joined-same f g caller peer challenge same) same)
+    (chosen-same (has_place setup f && has_joins f) f g (with_connection f caller peer challenge) (with_connection g caller peer challenge) (joined-same f g caller peer challenge same) same)
 
 quit-same : (f g : Facts) (c : ℕ) → AreSame f g
-    → AreSame (closed c (happens c (departure (f.about c).stage (f.about c).sid) f)) (closed c (happens c (departure (g.about c).stage (g.about c).sid) g))
+    → AreSame (without_connection c (happens c (departure (f.about c).stage (f.about c).sid) f)) (without_connection c (happens c (departure (g.about c).stage (g.about c).sid) g))
 quit-same f g c same =
     closed-same c (happens c (departure (f.about c).stage (f.about c).sid) f) (happens c (departure (g.about c).stage (g.about c).sid) g)
     (happens-same c (departure (f.about c).stage (f.about c).sid) (departure (g.about c).stage (g.about c).sid) f g
-    (ap (λ (a : About). veiled (departure a.stage a.sid)) (same.about c)) same)
+    (ap (λ (a : About). veiled_effect (departure a.stage a.sid)) (same.about c)) same)
 
 after-same : (setup : Configured) (accounts : List Account) (hash : List ℕ → List ℕ) (f g : Facts) (caller : ℕ) (call another : Call) → AreAlike setup.accounts accounts
     → AreSame f g → LikeCalls f g call another → AreSame (after setup hash f caller call) (after (with_accounts setup accounts) hash g caller another)
@@ -285,4 +285,4 @@ passwords_are_not_told setup other hash h g alike like d =
     let same : with_accounts setup other.accounts ≡ other = other-setup setup other alike in
     let accounts : AreAlike setup.accounts other.accounts = ap (λ (s : Configured). s.accounts) alike in
     let both = same-of setup other.accounts hash h g accounts (subst (λ s. AreLikeHistories setup s hash h g) (sym same) like) in
-    ap (λ (a : About). a.owed) (both.about d) ∙ ap (λ s. owed s hash g d) same
+    ap (λ (a : About). a.owed) (both.about d) ∙ ap (λ s. lines_owed s hash g d) same

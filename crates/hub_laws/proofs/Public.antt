@@ -1,5 +1,5 @@
 -- After every history what is known of a user may be known.
-use Rattle.std.proofs.Common.{◌≡◌, sym, refl, subst, ℕ, Bool, true, false, ◌==◌, List, [], ◌∷◌, Option, None, Ok}
+use Rattle.std.proofs.Common.{◌≡◌, sym, refl, subst, ℕ, Bool, true, false, ◌==◌, List, [], ◌∷◌, Option, None, Ok, cond}
 use Rattle.std.specs.List.{AllByRecursion}
 use Rattle.std.proofs.lemmas.Bool.{eqb-true}
 use Rattle.adc_line.specs.Lines.{Reading}
@@ -7,21 +7,23 @@ use Rattle.inf_fields.specs.Cleaning.{clean}
 use Rattle.inf_fields.specs.Field.{Field}
 use Rattle.inf_fields.specs.FieldNames.{address_name}
 use Rattle.inf_fields.specs.Merging.{merged_with}
+use Rattle.login_state.specs.declared.deny.Deny.{Deny}
+use Rattle.login_state.specs.declared.deny.Deny.TheVariants as denials
 use Rattle.user_table.specs.Listed.{Listed}
 use Rattle.hub_rules.specs.declared.effect.Effect.{Effect}
 use Rattle.hub_rules.specs.declared.history.Call.{Call}
-use Rattle.hub_rules.specs.declared.request.Request.{Request}
+use Rattle.login_state.specs.declared.request.Request.{Request}
 use Rattle.hub_rules.specs.Configured.{Configured}
 use Rattle.hub_rules.specs.Denied.{login_denied}
 use Rattle.hub_rules.specs.Facts.{Facts, facts, after, effect_of_line}
 use Rattle.hub_rules.specs.Grounds.{first_ground, is_wrong_address, login_grounds, update_grounds}
 use Rattle.hub_rules.specs.Identities as identities
-use Rattle.hub_rules.specs.Identities.{listed}
-use Rattle.hub_rules.specs.Shares.{About, chosen, fields_after}
+use Rattle.hub_rules.specs.Identities.{listed_user}
+use Rattle.hub_rules.specs.Shares.{About, fields_after}
 use Rattle.hub_rules.specs.Sights.{Own, PreparedLine, Sight, user_after}
 use Rattle.hub_laws.specs.Secrets.{InfoIsPublic, IsPublic}
 use Rattle.hub_invariants.proofs.Becoming.{Becomes, becomes}
-use Rattle.hub_invariants.proofs.Claims.{AllFalse, all-false}
+use Rattle.hub_invariants.proofs.Claims.{AllFalse, grounds_of, none-of}
 use Rattle.hub_invariants.proofs.Outcomes.{Outcome, lets_in, line-outcome, revises, waits}
 use Rattle.hub_laws.proofs.Secrets.{clean-passed, merged-public}
 
@@ -32,18 +34,22 @@ ArePublic peer fields = AllByRecursion (IsPublic peer) fields
 
 -- an address that denies nothing is one that may stand
 abbrev pub IsRightAddress : List ℕ → List Field → Type 0
-IsRightAddress peer u = is_wrong_address peer (identities.given address_name u) ≡ false
+IsRightAddress peer u = is_wrong_address peer (identities.value_or_empty address_name u) ≡ false
+
+abbrev is_address : Deny → Bool
+is_address (denials.Address severity peer) = true
+is_address deny = false
 
 pub login-right : (hub : Sight) (own : Own) (now : ℕ) (digest : Option (List ℕ)) (u : List Field) (user : Listed) → first_ground (login_grounds hub own now digest u user) ≡ None
     → IsRightAddress own.peer u
 unfolding login_grounds
 login-right hub own now digest u user none =
-    let tests : AllFalse (login_grounds hub own now digest u user) = all-false (login_grounds hub own now digest u user) none in tests.1.1.1.1.1.1.1.1.1.1.1.0
+    let address : AllFalse (grounds_of is_address (login_grounds hub own now digest u user)) = none-of is_address (login_grounds hub own now digest u user) none in address.0
 
 pub update-right : (hub : Sight) (own : Own) (u : List Field) (user : Listed) → first_ground (update_grounds hub own u user) ≡ None → IsRightAddress own.peer u
 unfolding update_grounds
 update-right hub own u user none =
-    let tests : AllFalse (update_grounds hub own u user) = all-false (update_grounds hub own u user) none in tests.1.1.1.1.1.0
+    let address : AllFalse (grounds_of is_address (update_grounds hub own u user)) = none-of is_address (update_grounds hub own u user) none in address.0
 
 -- ---- one line
 
@@ -54,8 +60,8 @@ public-merged : (own : Own) (u : List Field) → IsRightAddress own.peer u → A
     → ArePublic own.peer (merged_with own.fields (clean u own.peer))
 public-merged own u right all = merged-public own.peer own.fields (clean u own.peer) all (clean-passed u own.peer right)
 
-listed-public : (sid : ℕ) (peer : List ℕ) (fields : List Field) → ArePublic peer fields → ArePublic peer (listed sid fields).fields
-unfolding listed
+listed-public : (sid : ℕ) (peer : List ℕ) (fields : List Field) → ArePublic peer fields → ArePublic peer (listed_user sid fields).fields
+unfolding listed_user
 listed-public sid peer fields all = all
 
 login-public : (hub : Sight) (own : Own) (line : PreparedLine) (now : ℕ) (u : List Field) → login_denied hub own line.owner now (Ok u) ≡ None → ArePublic own.peer own.fields
@@ -76,7 +82,7 @@ module _ {hub : Sight} {own : Own} {line : PreparedLine} {now : ℕ} where
 abbrev AboutIsPublic : About → Type 0
 AboutIsPublic a = ArePublic a.peer a.fields
 
-chosen-public : (peer : List ℕ) (same : Bool) (after before : List Field) → (same ≡ true → ArePublic peer after) → ArePublic peer before → ArePublic peer (chosen same after before)
+chosen-public : (peer : List ℕ) (same : Bool) (after before : List Field) → (same ≡ true → ArePublic peer after) → ArePublic peer before → ArePublic peer (cond same after before)
 chosen-public peer true after before own all = own refl
 chosen-public peer false after before own all = all
 

@@ -1,15 +1,16 @@
--- What a kick or a ban owes, where its line stands, and when the nick is another's.
+-- The lines owed by a kick or a ban, where its line stands, and when the nick is another's.
 use Rattle.std.proofs.Common.{◌≡◌, ◌∙◌, sym, ap, ap₂, refl, subst, ℕ, ◌≤◌, Bool, true, false, ◌&&◌, ◌||◌, ◌⊎◌, inl, inr, ◌==◌, List, [], ◌∷◌, ◌++◌, map, append-nil, append_assoc, Option, Some, None}
 use Rattle.std.specs.Str.{bytes_eq}
 use Rattle.std.proofs.lemmas.Bool.{false≢true, eqb-true, eq-eqb}
 use Rattle.std.proofs.lemmas.Slice.Eq.{bytes_eq-Decides}
-use Rattle.std.specs.Prelude.{if◌then◌else◌}
+use Rattle.std.specs.Prelude.{if◌then◌else◌, cond}
 use Rattle.adc_line.specs.Lines.{Reading}
 use Rattle.inf_fields.specs.Field.{Field}
 use Rattle.login_state.specs.declared.stage.Stage.{Stage}
 use Rattle.login_state.specs.declared.stage.Stage.TheVariants as stages
+use Rattle.operator_acts.specs.declared.ban.Ban.{Ban}
 use Rattle.user_table.specs.Listed.{Listed}
-use Rattle.user_table.specs.Tables.{first_who, has_key, user_by_key}
+use Rattle.user_table.specs.Tables.{has_key, user_by_key}
 use Rattle.hub_rules.specs.declared.effect.Change.{Change}
 use Rattle.hub_rules.specs.declared.effect.Change.TheVariants.{Hub}
 use Rattle.hub_rules.specs.declared.effect.Effect.{Effect}
@@ -18,25 +19,25 @@ use Rattle.hub_rules.specs.declared.effect.HubChange.TheVariants as shared
 use Rattle.hub_rules.specs.declared.history.Call.{Call}
 use Rattle.hub_rules.specs.declared.history.Call.TheVariants.{Line}
 use Rattle.hub_rules.specs.declared.history.Entry.{Entry}
-use Rattle.hub_rules.specs.declared.request.Request.{Request}
-use Rattle.hub_rules.specs.Configured.{Configured}
-use Rattle.hub_rules.specs.Effects.{given_if, is_present}
+use Rattle.login_state.specs.declared.request.Request.{Request}
+use Rattle.hub_rules.specs.Configured.{most_users, Configured}
+use Rattle.hub_rules.specs.Effects.{is_present}
 use Rattle.hub_rules.specs.Facts.{Facts, facts, after, effect_of_line, happens, user_of}
-use Rattle.hub_rules.specs.History.{info, lags, owed, sid, stage}
+use Rattle.hub_rules.specs.History.{info, lags, lines_owed, sid, stage}
 use Rattle.hub_rules.specs.Identities.{key_in, key_of_points}
 use Rattle.hub_rules.specs.Lagging.{all_fit, share}
-use Rattle.hub_rules.specs.Shares.{About, chosen, fields_after, is_removed, removed_by}
+use Rattle.hub_rules.specs.Shares.{About, fields_after, is_removed, removed_by}
 use Rattle.hub_rules.specs.Sights.{Own, PreparedLine, Sight}
 use Rattle.hub_rules.specs.Texts.{done_line, removal_line}
 use Rattle.hub_rules.specs.World.{change_of}
-use Rattle.hub_rules.specs.Acts.{carried, user_called}
+use Rattle.hub_rules.specs.Acts.{Done, effect_for_all, user_called}
 use Rattle.hub_rules.specs.Promises.{is_in}
-use Rattle.hub_laws.specs.Ordering.{added}
+use Rattle.hub_laws.specs.Ordering.{lines_added}
 use Rattle.hub_laws.specs.Removing.{HasNick, NamesakesComeLater, OnlyUsersAreRemoved, RemovalsAreHeard, RemovalsComeFirst, Removes, TakesNick, seconds_of}
 use Rattle.hub_laws.specs.Telling.{news_of}
 use Rattle.hub_invariants.proofs.Suits.{listed-sid}
 use Rattle.hub_invariants.proofs.Kept.{present_are_users, is-normal}
-use Rattle.hub_invariants.proofs.Outcomes.{Acts, Outcome, acts, bans, kicks, line-outcome}
+use Rattle.hub_invariants.proofs.Outcomes.{Does, Outcome, acts, bans_user, kicks, line-outcome}
 use Rattle.hub_invariants.proofs.Sound.{or-true, stage_next}
 use Rattle.hub_laws.proofs.Apart.{nicks_differ}
 use Rattle.hub_laws.proofs.Lagging.{lag_is_the_first}
@@ -54,7 +55,7 @@ act-of change own named = absurd (false≢true named)
 news-removal : (act : HubChange) (own operator : ℕ) (reason : List ℕ) → is_removed (Hub act) own ≡ true
     → news_of act operator reason ≡ removal_line own operator (seconds_of (Hub act)) reason ∷ []
 news-removal (shared.Kick target) own operator reason named = ap (λ n. removal_line n operator None reason ∷ []) (sym (eqb-true own target named))
-news-removal (shared.Ban banned) own operator reason named = ap (λ n. removal_line n operator (Some banned.seconds) reason ∷ []) (sym (eqb-true own banned.sid named))
+news-removal (shared.Ban banned) own operator reason named = ap (λ n. removal_line n operator (Some banned.ban.seconds) reason ∷ []) (sym (eqb-true own banned.sid named))
 news-removal act own operator reason named = absurd (false≢true named)
 
 news-by : (change : Change) (act : HubChange) (own operator : ℕ) (reason : List ℕ) → change ≡ Hub act → is_removed change own ≡ true
@@ -74,27 +75,27 @@ removals_are_heard setup hash h e c removes =
       told.3,
       told.4,
       λ d here. told.5 d
-          ∙ ap (λ (s : Stage). given_if (is_present s) (news_of act.0 (sid setup hash h told.0) told.3) ++ given_if (d == told.0) (done_line ∷ [])) here
-          ∙ ap (λ ls. ls ++ given_if (d == told.0) (done_line ∷ [])) (news-by change act.0 (sid setup hash h c) (sid setup hash h told.0) told.3 act.1 removes.named),
+          ∙ ap (λ (s : Stage). cond (is_present s) (news_of act.0 (sid setup hash h told.0) told.3) [] ++ cond (d == told.0) (done_line ∷ []) []) here
+          ∙ ap (λ ls. ls ++ cond (d == told.0) (done_line ∷ []) []) (news-by change act.0 (sid setup hash h c) (sid setup hash h told.0) told.3 act.1 removes.named),
     )
 
 -- ---- where it stands
 
-grows-on : (setup : Configured) (hash : List ℕ → List ℕ) (later h : List Entry) (d : ℕ) → (rest : List (List ℕ)) × (owed setup hash (later ++ h) d ≡ owed setup hash h d ++ rest)
-grows-on setup hash [] h d = ([], sym (append-nil (owed setup hash h d)))
+grows-on : (setup : Configured) (hash : List ℕ → List ℕ) (later h : List Entry) (d : ℕ) → (rest : List (List ℕ)) × (lines_owed setup hash (later ++ h) d ≡ lines_owed setup hash h d ++ rest)
+grows-on setup hash [] h d = ([], sym (append-nil (lines_owed setup hash h d)))
 grows-on setup hash (e ∷ later) h d =
     let before = grows-on setup hash later h d in
-    let more : List (List ℕ) = added setup hash (later ++ h) e d in
-    (before.0 ++ more, owed_grows setup hash (later ++ h) e d ∙ ap (λ ls. ls ++ more) before.1 ∙ append_assoc (owed setup hash h d) before.0 more)
+    let more : List (List ℕ) = lines_added setup hash (later ++ h) e d in
+    (before.0 ++ more, owed_grows setup hash (later ++ h) e d ∙ ap (λ ls. ls ++ more) before.1 ∙ append_assoc (lines_owed setup hash h d) before.0 more)
 
 -- who does not lag was owed what the last entry owed it
 owed-last : (setup : Configured) (hash : List ℕ → List ℕ) (h : List Entry) (e : Entry) (d : ℕ) → lags setup hash (e ∷ h) d ≡ false
-    → owed setup hash (e ∷ h) d ≡ owed setup hash h d ++ share setup hash (facts setup hash h) d e.call
+    → lines_owed setup hash (e ∷ h) d ≡ lines_owed setup hash h d ++ share setup hash (facts setup hash h) d e.call
 owed-last setup hash h e d fine =
     owed_grows setup hash h e d
-    ∙ ap (λ ls. owed setup hash h d ++ ls)
+    ∙ ap (λ ls. lines_owed setup hash h d ++ ls)
     (added-is setup hash h e d
-    ∙ ap (λ b. given_if b (share setup hash (facts setup hash h) d e.call)) (not-false (all_fit setup hash (e ∷ h) d) (sym (lag_is_the_first setup hash (e ∷ h) d) ∙ fine)))
+    ∙ ap (λ b. cond b (share setup hash (facts setup hash h) d e.call) []) (not-false (all_fit setup hash (e ∷ h) d) (sym (lag_is_the_first setup hash (e ∷ h) d) ∙ fine)))
 
 pub removals_come_first : RemovalsComeFirst
 removals_come_first setup hash later earlier e c d removes here fine =
@@ -103,7 +104,7 @@ removals_come_first setup hash later earlier e c d removes here fine =
       told.0,
       told.3,
       on.0,
-      on.1 ∙ ap (λ ls. ls ++ on.0) (owed-last setup hash earlier e d fine ∙ ap (λ ls. owed setup hash earlier d ++ ls) (told.5 d here)),
+      on.1 ∙ ap (λ ls. ls ++ on.0) (owed-last setup hash earlier e d fine ∙ ap (λ ls. lines_owed setup hash earlier d ++ ls) (told.5 d here)),
     )
 
 -- ---- who is named
@@ -125,25 +126,24 @@ first-or-later about c cs target more later (inr is) =
     (found.0, ap (λ b. (c == found.0) || b) found.1 ∙ or-true (c == found.0), found.2)
 
 found-here : (about : ℕ → About) (key : List ℕ) (cs : List ℕ) (target : Listed) → user_by_key key (map (user_of about) cs) ≡ Some target → HasUser about cs target.sid
-unfolding first_who
 found-here about key [] target is = let nothing : ⊥ = cc is in absurd nothing
 found-here about key (c ∷ cs) target is =
     first-or-later about c cs target (user_by_key key (map (user_of about) cs)) (found-here about key cs target)
     (found-by (has_key key (user_of about c)) (user_of about c) target (user_by_key key (map (user_of about) cs)) is)
 
 -- a user of the hub whom an effect removes
-abbrev NamesUser : Sight → Effect → Type 0
-NamesUser hub effect =
-    (named : ℕ) → is_removed effect.change named ≡ true → (target : Listed) × (nick : List ℕ) × (user_called hub nick ≡ Some target) × (target.sid ≡ named)
+abbrev NamesUser : List Listed → Effect → Type 0
+NamesUser users effect =
+    (named : ℕ) → is_removed effect.change named ≡ true → (target : Listed) × (nick : List ℕ) × (user_called users nick ≡ Some target) × (target.sid ≡ named)
 
-names-act : {hub : Sight} {own : Own} {now : ℕ} {others : List (List ℕ)} {change : HubChange} → Acts hub own now others change → NamesUser hub (carried others change)
-names-act (kicks nick reason target called) named is = (target, nick, called, sym (eqb-true named target.sid is))
-names-act (bans nick seconds reason target called room) named is = (target, nick, called, sym (eqb-true named target.sid is))
-names-act _ named is = absurd (false≢true is)
+names-act : {users : List Listed} {bans : List (List ℕ × Ban)} {operator : ℕ} (done : Done) → Does users bans operator done.others done.change → NamesUser users (effect_for_all done)
+names-act done (kicks nick reason target called) named is = (target, nick, called, sym (eqb-true named target.sid is))
+names-act done (bans_user nick reason target banned called same room) named is = (target, nick, called, sym same ∙ sym (eqb-true named banned.sid is))
+names-act done _ named is = absurd (false≢true is)
 
 module _ {hub : Sight} {own : Own} {line : PreparedLine} {now : ℕ} where
-  names : {said : Option Reading} {request : Request} {effect : Effect} → Outcome hub own line now said request effect → NamesUser hub effect
-  names (acts reading others change at operator act) named is = names-act act named is
+  names : {said : Option Reading} {request : Request} {effect : Effect} → Outcome hub own line now said request effect → NamesUser hub.users effect
+  names (acts reading done at operator does) named is = names-act done does named is
   names _ named is = absurd (false≢true is)
 
 call-names : (setup : Configured) (hash : List ℕ → List ℕ) (f : Facts) (call : Call) (named : ℕ) → is_removed (change_of setup hash f call) named ≡ true
@@ -172,7 +172,7 @@ still-here true is_caller act stage is = absurd (gone-normal is)
 still-here false true act stage is = (refl, is)
 still-here false false act stage is = (refl, is)
 
-same-fields : (is_caller : Bool) (act : HubChange) (fields : List Field) → chosen is_caller (fields_after (Hub act) fields) fields ≡ fields
+same-fields : (is_caller : Bool) (act : HubChange) (fields : List Field) → cond is_caller (fields_after (Hub act) fields) fields ≡ fields
 same-fields true act fields = refl
 same-fields false act fields = refl
 
@@ -195,7 +195,7 @@ effect-remains o effect f c n present named is =
     (sym (ap (λ change. stage_next (removed_by effect (f.about n)) (n == o) change (f.about n).stage) act.1) ∙ is) in
     record {
       here = still.1;
-      fields = ap (λ change. chosen (n == o) (fields_after change (f.about n).fields) (f.about n).fields) act.1 ∙ same-fields (n == o) act.0 (f.about n).fields;
+      fields = ap (λ change. cond (n == o) (fields_after change (f.about n).fields) (f.about n).fields) act.1 ∙ same-fields (n == o) act.0 (f.about n).fields;
       other = λ same. false≢true (sym still.0 ∙ ap (λ x. removed_by effect (f.about x)) same ∙ is-out effect.change (f.about c) present named);
     }
 
@@ -210,7 +210,7 @@ remains : (setup : Configured) (hash : List ℕ → List ℕ) (h : List Entry) (
 unfolding facts
 remains setup hash h e c n removes is = call-remains setup hash (facts setup hash h) e.caller e.call c n removes.present removes.named is
 
-nobody-has : (setup : Configured) (hash : List ℕ → List ℕ) (h : List Entry) (e : Entry) (c n : ℕ) → setup.max_users ≤ 900 → Removes setup hash h e c
+nobody-has : (setup : Configured) (hash : List ℕ → List ℕ) (h : List Entry) (e : Entry) (c n : ℕ) → setup.max_users ≤ most_users → Removes setup hash h e c
     → HasNick setup hash (e ∷ h) n (key_in (info setup hash h c)) → ⊥
 nobody-has setup hash h e c n small removes has =
     let was = remains setup hash h e c n removes has.0 in

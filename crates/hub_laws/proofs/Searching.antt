@@ -1,5 +1,5 @@
 -- A connection's last search is the last of its accepted searches.
-use Rattle.std.proofs.Common.{◌≡◌, ◌∙◌, sym, ap, ap₂, refl, subst, ℕ, ◌+◌, ◌<◌, Bool, true, false, ◌&&◌, ◌==◌, List, [], ◌∷◌, length, map, Option, None, arith, Some}
+use Rattle.std.proofs.Common.{◌≡◌, ◌∙◌, sym, ap, ap₂, refl, subst, ℕ, ◌+◌, ◌<◌, Bool, true, false, ◌&&◌, ◌==◌, List, [], ◌∷◌, length, map, Option, None, arith, Some, cond}
 use Rattle.std.specs.List.{sum_by}
 use Rattle.std.specs.Option.{option_or}
 use Rattle.std.proofs.lemmas.Bool.{eqb-true}
@@ -15,15 +15,15 @@ use Rattle.hub_rules.specs.declared.effect.Effect.{Effect}
 use Rattle.hub_rules.specs.declared.history.Call.{Call}
 use Rattle.hub_rules.specs.declared.history.Call.TheVariants.{Line}
 use Rattle.hub_rules.specs.declared.history.Entry.{Entry}
-use Rattle.hub_rules.specs.declared.request.Request.{Request}
+use Rattle.login_state.specs.declared.request.Request.{Request}
 use Rattle.hub_rules.specs.Configured.{Configured}
 use Rattle.hub_rules.specs.Effects.{is_over, line_effect}
 use Rattle.hub_rules.specs.Facts.{Facts, facts, about_after, after, effect_of_line, own_of, sight_of, user_of}
-use Rattle.hub_rules.specs.Identities.{listed}
-use Rattle.hub_rules.specs.Prepared.{prepared}
+use Rattle.hub_rules.specs.Identities.{listed_user}
+use Rattle.hub_rules.specs.Prepared.{prepared_line}
 use Rattle.hub_rules.specs.Said.{accepted_line}
 use Rattle.hub_rules.specs.Searched.{SearchIsTheLast, TotalsAreSums, is_search, last_search, moment_if, search_in, searches}
-use Rattle.hub_rules.specs.Shares.{About, chosen, searched_after}
+use Rattle.hub_rules.specs.Shares.{About, searched_after}
 use Rattle.hub_rules.specs.Sights.{Own, PreparedLine, Sight}
 use Rattle.hub_invariants.proofs.Becoming.{Becomes, becomes}
 use Rattle.hub_invariants.proofs.Calls.{sound_of}
@@ -54,7 +54,7 @@ finds-line hub own line now before =
 -- ---- what a call does to the last search of a connection
 
 search-one : (is_caller is_searching : Bool) (now : ℕ) (before after : Option ℕ) → after ≡ option_or (moment_if is_searching now) before
-    → chosen is_caller after before ≡ option_or (moment_if (is_caller && is_searching) now) before
+    → cond is_caller after before ≡ option_or (moment_if (is_caller && is_searching) now) before
 search-one true is_searching now before after is = is
 search-one false is_searching now before after is = refl
 
@@ -63,16 +63,16 @@ line-searched : (setup : Configured) (hash : List ℕ → List ℕ) (f : Facts) 
     → (about_after d (effect_of_line setup hash f d bytes now) f.about c).searched ≡ option_or (search_in setup hash f c (Line d bytes now)) (f.about c).searched
 line-searched setup hash f c d bytes now =
     search-one (c == d) _ now (f.about c).searched _
-    (finds-line (sight_of setup f) (own_of (f.about d)) (prepared setup hash (f.about d).challenge bytes) now (f.about c).searched)
+    (finds-line (sight_of setup f) (own_of (f.about d)) (prepared_line setup hash (f.about d).challenge bytes) now (f.about c).searched)
 
 -- ---- a connection that has not joined yet never searched
 
 quiet-one : (setup : Configured) (hash : List ℕ → List ℕ) (f : Facts) (c d : ℕ) (bytes : List ℕ) (now : ℕ) (same : Bool) → (c == d) ≡ same → is_over (f.about c).stage ≡ true
-    → moment_if (same && searches (own_of (f.about d)) (accepted_line (sight_of setup f) (own_of (f.about d)) (prepared setup hash (f.about d).challenge bytes) now)) now ≡ None
+    → moment_if (same && searches (own_of (f.about d)) (accepted_line (sight_of setup f) (own_of (f.about d)) (prepared_line setup hash (f.about d).challenge bytes) now)) now ≡ None
 quiet-one setup hash f c d bytes now true is over =
     let e : c ≡ d = eqb-true c d is in
     ap (λ said. moment_if (searches (own_of (f.about d)) said) now)
-    (unheard (sight_of setup f) (own_of (f.about d)) (prepared setup hash (f.about d).challenge bytes) now (subst (λ x. is_over (f.about x).stage ≡ true) e over))
+    (unheard (sight_of setup f) (own_of (f.about d)) (prepared_line setup hash (f.about d).challenge bytes) now (subst (λ x. is_over (f.about x).stage ≡ true) e over))
 quiet-one setup hash f c d bytes now false is over = refl
 
 -- ---- every call, and every history
@@ -113,8 +113,8 @@ sum-same weight count user [] same = refl
 sum-same weight count user (c ∷ cs) same =
     sum_by-cons weight (user c) (map user cs) ∙ ap₂ ◌+◌ (same c) (sum-same weight count user cs same) ∙ sym (sum_by-cons count c cs)
 
-listed-amount : (name : List ℕ) (sid : ℕ) (fields : List Field) → amount name (listed sid fields).fields ≡ amount name fields
-unfolding listed
+listed-amount : (name : List ℕ) (sid : ℕ) (fields : List Field) → amount name (listed_user sid fields).fields ≡ amount name fields
+unfolding listed_user
 listed-amount name sid fields = refl
 
 sums : (name : List ℕ) (about : ℕ → About) (cs : List ℕ)
@@ -122,12 +122,12 @@ sums : (name : List ℕ) (about : ℕ → About) (cs : List ℕ)
 sums name about cs =
     sum-same (λ (user : Listed). amount name user.fields) (λ c. amount name (about c).fields) (user_of about) cs (λ c. listed-amount name (about c).sid (about c).fields)
 
-abbrev counted : ℕ → ℕ → ℕ → Totals
-counted users ss sf = record { users = users; ss = ss; sf = sf }
+abbrev totals_of : ℕ → ℕ → ℕ → Totals
+totals_of users ss sf = record { users = users; ss = ss; sf = sf }
 
 pub totals_are_sums : TotalsAreSums
 totals_are_sums setup hash h =
     let about = (facts setup hash h).about in
     let cs = (facts setup hash h).present in
-    ap₂ (λ n s. counted n s (sum_by (λ (user : Listed). amount shared_files_name user.fields) (map (user_of about) cs))) (length-map cs (user_of about)) (sums share_size_name about cs)
-    ∙ ap (counted (length cs) (sum_by (λ c. amount share_size_name (about c).fields) cs)) (sums shared_files_name about cs)
+    ap₂ (λ n s. totals_of n s (sum_by (λ (user : Listed). amount shared_files_name user.fields) (map (user_of about) cs))) (length-map cs (user_of about)) (sums share_size_name about cs)
+    ∙ ap (totals_of (length cs) (sum_by (λ c. amount share_size_name (about c).fields) cs)) (sums shared_files_name about cs)

@@ -1,4 +1,4 @@
--- What is passed on of an accepted update may be known, and what is merged of such updates too.
+-- Fields of accepted updates that are passed on may be known, and so may what is merged of them.
 use Rattle.std.proofs.Common.{◌≡◌, ◌∙◌, sym, ap, refl, subst, ℕ, Bool, true, false, cond, not, ◌&&◌, ◌||◌, ◌⊎◌, inl, inr, List, [], ◌∷◌, ◌++◌, map, filter, Option, Some, None, is_some, unwrap_or}
 use Rattle.std.specs.Prelude.{if◌then◌else◌}
 use Rattle.std.specs.List.{AllByRecursion}
@@ -6,12 +6,12 @@ use Rattle.std.specs.Option.{option_map}
 use Rattle.std.specs.Str.{bytes_eq}
 use Rattle.std.proofs.lemmas.Bool.{false≢true}
 use Rattle.std.proofs.lemmas.Slice.Eq.{bytes_eq-Decides}
-use Rattle.inf_fields.specs.Cleaning.{any_address, asks_for_address, clean, dotted, is_held_back, with_address}
+use Rattle.inf_fields.specs.Cleaning.{any_address, asks_for_address, clean, dotted_decimal, is_held_back, with_address}
 use Rattle.inf_fields.specs.Field.{Field, besides, field, has_name, is_called, value_of}
 use Rattle.inf_fields.specs.FieldNames.{address_name}
-use Rattle.inf_fields.specs.Merging.{followed_by, is_empty_value, latest, leave, merged_with, settled}
+use Rattle.inf_fields.specs.Merging.{followed_by, is_empty_value, latest, leave, merged_with, settled_fields}
 use Rattle.hub_rules.specs.Grounds.{is_empty, is_wrong_address}
-use Rattle.hub_rules.specs.Identities.{given}
+use Rattle.hub_rules.specs.Identities.{value_or_empty}
 use Rattle.hub_laws.specs.Secrets.{IsPublic}
 
 -- ---- lists
@@ -56,13 +56,13 @@ named (f ∷ u) = (
 -- an update of which others may hear: it has nothing that is held back, and names no address but the one that the hub sees, or none
 pub record HasPassed (peer : List ℕ) (u : List Field) : Type 0 where
   pub kept : AllByRecursion (λ (f : Field). is_held_back f ≡ false) u
-  pub address : (v : List ℕ) → value_of address_name u ≡ Some v → (v ≡ []) ⊎ (v ≡ dotted peer)
+  pub address : (v : List ℕ) → value_of address_name u ≡ Some v → (v ≡ []) ⊎ (v ≡ dotted_decimal peer)
 
 not-held : (b : Bool) → not b ≡ true → b ≡ false
 not-held true is = absurd (false≢true is)
 not-held false is = refl
 
-addressed-held : (peer : List ℕ) (f : Field) (b : Bool) → is_held_back f ≡ false → is_held_back (if b then field f.name (dotted peer) else f) ≡ false
+addressed-held : (peer : List ℕ) (f : Field) (b : Bool) → is_held_back f ≡ false → is_held_back (if b then field f.name (dotted_decimal peer) else f) ≡ false
 addressed-held peer f true held = held
 addressed-held peer f false held = held
 
@@ -79,13 +79,13 @@ clean-kept (f ∷ u) peer = keep-if peer f (filter (λ g. not (is_held_back g)) 
 -- ---- the address in it
 
 -- an address is filled in where the client asks for that
-abbrev pub filled : List ℕ → List ℕ → List ℕ
-filled peer v = if bytes_eq any_address v then dotted peer else v
+abbrev pub filled_address : List ℕ → List ℕ → List ℕ
+filled_address peer v = if bytes_eq any_address v then dotted_decimal peer else v
 
 held-name : (name : List ℕ) → bytes_eq address_name name ≡ true → is_held_back (field name []) ≡ false
 held-name name is = ap (λ n. is_held_back (field n [])) (sym ((bytes_eq-Decides address_name name).0 is))
 
-address-here : (peer : List ℕ) (f : Field) (any : Bool) → bytes_eq any_address f.value ≡ any → (if any then field f.name (dotted peer) else f).value ≡ (if any then dotted peer else f.value)
+address-here : (peer : List ℕ) (f : Field) (any : Bool) → bytes_eq any_address f.value ≡ any → (if any then field f.name (dotted_decimal peer) else f).value ≡ (if any then dotted_decimal peer else f.value)
 address-here peer f true is = refl
 address-here peer f false is = refl
 
@@ -94,22 +94,22 @@ same-name true f g same = same
 same-name false f g same = refl
 
 address-cons : (peer : List ℕ) (f : Field) (u : List Field) (held called : Bool) → is_held_back f ≡ held → is_called address_name f ≡ called
-    → value_of address_name (map (with_address peer) (filter (λ g. not (is_held_back g)) u)) ≡ option_map (filled peer) (value_of address_name u)
+    → value_of address_name (map (with_address peer) (filter (λ g. not (is_held_back g)) u)) ≡ option_map (filled_address peer) (value_of address_name u)
     → value_of address_name (map (with_address peer) (cond (not held) (f ∷ filter (λ g. not (is_held_back g)) u) (filter (λ g. not (is_held_back g)) u)))
-    ≡ option_map (filled peer) (if called then Some f.value else value_of address_name u)
+    ≡ option_map (filled_address peer) (if called then Some f.value else value_of address_name u)
 address-cons peer f u true true is-held is-called rest = absurd (false≢true (sym (held-name f.name is-called) ∙ is-held))
 address-cons peer f u true false is-held is-called rest = rest
 address-cons peer f u false true is-held is-called rest =
     ap (λ b. if b then Some (with_address peer f).value else value_of address_name (map (with_address peer) (filter (λ g. not (is_held_back g)) u)))
-    (ap (bytes_eq address_name) (same-name (asks_for_address f) f (field f.name (dotted peer)) refl) ∙ is-called)
-    ∙ ap Some (ap (λ b. (if (b && bytes_eq any_address f.value) then field f.name (dotted peer) else f).value) is-called
+    (ap (bytes_eq address_name) (same-name (asks_for_address f) f (field f.name (dotted_decimal peer)) refl) ∙ is-called)
+    ∙ ap Some (ap (λ b. (if (b && bytes_eq any_address f.value) then field f.name (dotted_decimal peer) else f).value) is-called
     ∙ address-here peer f (bytes_eq any_address f.value) refl)
 address-cons peer f u false false is-held is-called rest =
     ap (λ b. if b then Some (with_address peer f).value else value_of address_name (map (with_address peer) (filter (λ g. not (is_held_back g)) u)))
-    (ap (bytes_eq address_name) (same-name (asks_for_address f) f (field f.name (dotted peer)) refl) ∙ is-called)
+    (ap (bytes_eq address_name) (same-name (asks_for_address f) f (field f.name (dotted_decimal peer)) refl) ∙ is-called)
     ∙ rest
 
-address-clean : (u : List Field) (peer : List ℕ) → value_of address_name (clean u peer) ≡ option_map (filled peer) (value_of address_name u)
+address-clean : (u : List Field) (peer : List ℕ) → value_of address_name (clean u peer) ≡ option_map (filled_address peer) (value_of address_name u)
 unfolding clean
 address-clean [] peer = refl
 address-clean (f ∷ u) peer = address-cons peer f u (is_held_back f) (is_called address_name f) refl refl (address-clean u peer)
@@ -119,25 +119,25 @@ empty-nil : (w : List ℕ) → is_empty w ≡ true → w ≡ []
 empty-nil [] is = refl
 empty-nil (b ∷ more) is = absurd (false≢true is)
 
-filled-own : (peer : List ℕ) (any : Bool) → (if any then dotted peer else dotted peer) ≡ dotted peer
+filled-own : (peer : List ℕ) (any : Bool) → (if any then dotted_decimal peer else dotted_decimal peer) ≡ dotted_decimal peer
 filled-own peer true = refl
 filled-own peer false = refl
 
-is-right : (peer w : List ℕ) (none any own : Bool) → is_empty w ≡ none → bytes_eq w any_address ≡ any → bytes_eq w (dotted peer) ≡ own
-    → not (none || any || own) ≡ false → (filled peer w ≡ []) ⊎ (filled peer w ≡ dotted peer)
-is-right peer w true any own is-none is-any is-own right = inl (ap (filled peer) (empty-nil w is-none))
-is-right peer w false true own is-none is-any is-own right = inr (ap (filled peer) ((bytes_eq-Decides w any_address).0 is-any))
-is-right peer w false false true is-none is-any is-own right = inr (ap (filled peer) ((bytes_eq-Decides w (dotted peer)).0 is-own) ∙ filled-own peer (bytes_eq any_address (dotted peer)))
+is-right : (peer w : List ℕ) (none any own : Bool) → is_empty w ≡ none → bytes_eq w any_address ≡ any → bytes_eq w (dotted_decimal peer) ≡ own
+    → not (none || any || own) ≡ false → (filled_address peer w ≡ []) ⊎ (filled_address peer w ≡ dotted_decimal peer)
+is-right peer w true any own is-none is-any is-own right = inl (ap (filled_address peer) (empty-nil w is-none))
+is-right peer w false true own is-none is-any is-own right = inr (ap (filled_address peer) ((bytes_eq-Decides w any_address).0 is-any))
+is-right peer w false false true is-none is-any is-own right = inr (ap (filled_address peer) ((bytes_eq-Decides w (dotted_decimal peer)).0 is-own) ∙ filled-own peer (bytes_eq any_address (dotted_decimal peer)))
 is-right peer w false false false is-none is-any is-own right = absurd (false≢true (sym right))
 
-pub passed-address : (peer : List ℕ) (o : Option (List ℕ)) (v : List ℕ) → is_wrong_address peer (unwrap_or o []) ≡ false → option_map (filled peer) o ≡ Some v → (v ≡ []) ⊎ (v ≡ dotted peer)
+pub passed-address : (peer : List ℕ) (o : Option (List ℕ)) (v : List ℕ) → is_wrong_address peer (unwrap_or o []) ≡ false → option_map (filled_address peer) o ≡ Some v → (v ≡ []) ⊎ (v ≡ dotted_decimal peer)
 passed-address peer None v right is = let none : ⊥ = cc is in absurd none
 passed-address peer (Some w) v right is =
-    let e : filled peer w ≡ v = cc is in
-    subst (λ (x : List ℕ). (x ≡ []) ⊎ (x ≡ dotted peer)) e
-    (is-right peer w (is_empty w) (bytes_eq w any_address) (bytes_eq w (dotted peer)) refl refl refl right)
+    let e : filled_address peer w ≡ v = cc is in
+    subst (λ (x : List ℕ). (x ≡ []) ⊎ (x ≡ dotted_decimal peer)) e
+    (is-right peer w (is_empty w) (bytes_eq w any_address) (bytes_eq w (dotted_decimal peer)) refl refl refl right)
 
-pub clean-passed : (u : List Field) (peer : List ℕ) → is_wrong_address peer (given address_name u) ≡ false → HasPassed peer (clean u peer)
+pub clean-passed : (u : List Field) (peer : List ℕ) → is_wrong_address peer (value_or_empty address_name u) ≡ false → HasPassed peer (clean u peer)
 clean-passed u peer right = record {
   kept = clean-kept u peer;
   address = λ v is. passed-address peer (value_of address_name u) v right (sym (address-clean u peer) ∙ is);
@@ -145,20 +145,20 @@ clean-passed u peer right = record {
 
 -- ---- merging
 
-abbrev renewed : List Field → Field → Field
-renewed u f = field f.name (latest (u ∷ []) f.name f.value)
+abbrev renewed_field : List Field → Field → Field
+renewed_field u f = field f.name (latest (u ∷ []) f.name f.value)
 
-by-value : (peer v : List ℕ) → (v ≡ []) ⊎ (v ≡ dotted peer) → (not (is_empty_value (Some v)) && true) ≡ true → v ≡ dotted peer
+by-value : (peer v : List ℕ) → (v ≡ []) ⊎ (v ≡ dotted_decimal peer) → (not (is_empty_value (Some v)) && true) ≡ true → v ≡ dotted_decimal peer
 by-value peer v (inl none) stays = absurd (false≢true (sym (ap (λ (x : List ℕ). not (is_empty_value (Some x)) && true) none) ∙ stays))
 by-value peer v (inr is) stays = is
 
-renewed-value : (peer : List ℕ) (name value : List ℕ) (o : Option (List ℕ)) → ((v : List ℕ) → o ≡ Some v → (v ≡ []) ⊎ (v ≡ dotted peer)) → (o ≡ None → value ≡ dotted peer)
-    → (not (is_empty_value o) && true) ≡ true → unwrap_or o value ≡ dotted peer
+renewed-value : (peer : List ℕ) (name value : List ℕ) (o : Option (List ℕ)) → ((v : List ℕ) → o ≡ Some v → (v ≡ []) ⊎ (v ≡ dotted_decimal peer)) → (o ≡ None → value ≡ dotted_decimal peer)
+    → (not (is_empty_value o) && true) ≡ true → unwrap_or o value ≡ dotted_decimal peer
 renewed-value peer name value None address own stays = own refl
 renewed-value peer name value (Some v) address own stays = by-value peer v (address v refl) stays
 
 renewed-public : (peer : List ℕ) (u : List Field) (f : Field) → HasPassed peer u → is_held_back f ≡ false
-    → (is_called address_name f ≡ true → value_of f.name u ≡ None → f.value ≡ dotted peer) → leave (u ∷ []) f.name ≡ true → IsPublic peer (renewed u f)
+    → (is_called address_name f ≡ true → value_of f.name u ≡ None → f.value ≡ dotted_decimal peer) → leave (u ∷ []) f.name ≡ true → IsPublic peer (renewed_field u f)
 renewed-public peer u f passed held own stays = (
   held,
   λ called. renewed-value peer f.name f.value (value_of f.name u)
@@ -166,14 +166,14 @@ renewed-public peer u f passed held own stays = (
 )
 
 abbrev IsRenewed : List ℕ → List Field → Field → Type 0
-IsRenewed peer u f = leave (u ∷ []) f.name ≡ true → IsPublic peer (renewed u f)
+IsRenewed peer u f = leave (u ∷ []) f.name ≡ true → IsPublic peer (renewed_field u f)
 
 settle-if : (peer : List ℕ) (u : List Field) (f : Field) (xs : List Field) (stays : Bool) → leave (u ∷ []) f.name ≡ stays → IsRenewed peer u f
-    → AllByRecursion (IsPublic peer) (map (renewed u) xs) → AllByRecursion (IsPublic peer) (map (renewed u) (cond stays (f ∷ xs) xs))
+    → AllByRecursion (IsPublic peer) (map (renewed_field u) xs) → AllByRecursion (IsPublic peer) (map (renewed_field u) (cond stays (f ∷ xs) xs))
 settle-if peer u f xs true is one rest = (one is, rest)
 settle-if peer u f xs false is one rest = rest
 
-settled-public : (peer : List ℕ) (u xs : List Field) → AllByRecursion (IsRenewed peer u) xs → AllByRecursion (IsPublic peer) (settled (u ∷ []) xs)
+settled-public : (peer : List ℕ) (u xs : List Field) → AllByRecursion (IsRenewed peer u) xs → AllByRecursion (IsPublic peer) (settled_fields (u ∷ []) xs)
 settled-public peer u [] all = tt
 settled-public peer u (f ∷ xs) all =
     settle-if peer u f (filter (λ g. leave (u ∷ []) g.name) xs) (leave (u ∷ []) f.name) refl all.0 (settled-public peer u xs all.1)

@@ -1,5 +1,5 @@
 -- The stage of a connection is what the last entry that changes it made it.
-use Rattle.std.proofs.Common.{◌≡◌, ◌∙◌, sym, ap, refl, subst, ℕ, Bool, true, false, ◌&&◌, ◌==◌, List, [], ◌∷◌, length, Option, Some, None, Result, Ok, Err, unwrap_or}
+use Rattle.std.proofs.Common.{◌≡◌, ◌∙◌, sym, ap, refl, subst, ℕ, Bool, true, false, ◌&&◌, ◌==◌, List, [], ◌∷◌, length, Option, Some, None, Result, Ok, Err, unwrap_or, cond}
 use Rattle.std.specs.Prelude.{if◌then◌else◌}
 use Rattle.std.specs.Option.{option_or}
 use Rattle.std.proofs.lemmas.Bool.{eqb-true}
@@ -13,25 +13,25 @@ use Rattle.login_state.specs.declared.stage.Stage.{Stage}
 use Rattle.login_state.specs.declared.stage.Stage.TheVariants as stages
 use Rattle.login_state.specs.Denials.{is_fatal}
 use Rattle.hub_rules.specs.declared.effect.Change.{Change}
-use Rattle.hub_rules.specs.declared.effect.Change.TheVariants.{Sender}
+use Rattle.hub_rules.specs.declared.effect.Change.TheVariants.{Nothing, Sender}
 use Rattle.hub_rules.specs.declared.effect.Effect.{Effect}
 use Rattle.hub_rules.specs.declared.effect.SenderChange.TheVariants as senders
 use Rattle.hub_rules.specs.declared.history.Call.{Call}
-use Rattle.hub_rules.specs.declared.request.Request.{Request}
+use Rattle.login_state.specs.declared.request.Request.{Request}
 use Rattle.hub_rules.specs.Configured.{Configured}
-use Rattle.hub_rules.specs.Denied.{denied}
-use Rattle.hub_rules.specs.Effects.{denial, fall_if, heard, is_over, is_present, line_effect, unless_denied}
+use Rattle.hub_rules.specs.Denied.{denial_of}
+use Rattle.hub_rules.specs.Effects.{denial, effect_of_reading, tells_others, tells_sender, is_over, is_present, line_effect, unless_denied}
 use Rattle.hub_rules.specs.Facts.{Facts, facts, effect_of_line, own_of, sight_of}
-use Rattle.hub_rules.specs.Prepared.{prepared}
+use Rattle.hub_rules.specs.Prepared.{prepared_line}
 use Rattle.hub_rules.specs.Quiet.{nothing}
-use Rattle.hub_rules.specs.Requests.{refused}
+use Rattle.hub_rules.specs.Requests.{refusal_of}
 use Rattle.hub_rules.specs.Shares.{About, removed_by, stage_after}
 use Rattle.hub_rules.specs.Sights.{Own, PreparedLine, Sight, is_account, user_after}
 use Rattle.hub_rules.specs.Stepping as stepping
 use Rattle.hub_rules.specs.Stepping.{StageIsLastMade, entry_stage, accepted_stage, decided_stage, gone_if, heard_stage, last_made, line_stage, logged_in, only_if, stage_made}
 use Rattle.hub_invariants.proofs.Becoming.{Becomes, becomes}
 use Rattle.hub_invariants.proofs.Members.{and-false}
-use Rattle.hub_invariants.proofs.Outcomes.{Outcome, asked, by-request, denies, greets, later-none, lets_in, quiet, shuts_out, waits}
+use Rattle.hub_invariants.proofs.Outcomes.{Outcome, request-asks, by-request, denies, greets, later-none, lets_in, quiet, shuts_out, waits}
 use Rattle.hub_invariants.proofs.Sound.{stage_next}
 
 -- ---- one line
@@ -43,13 +43,14 @@ makes-if : (own : Own) (b : Bool) (x y : Effect) (first second : Option Stage) �
 makes-if own true x y first second here there = here
 makes-if own false x y first second here there = there
 
-fall-stage : (b : Bool) (stage : Stage) → stage_after (fall_if b) stage ≡ unwrap_or (gone_if b) stage
-fall-stage true stage = refl
-fall-stage false stage = refl
+fall-stage : (b : Bool) (own others : List (List ℕ)) (stage : Stage)
+    → stage_after (cond b (tells_others own others (Sender senders.Falls)) (tells_sender own Nothing)).change stage ≡ unwrap_or (gone_if b) stage
+fall-stage true own others stage = refl
+fall-stage false own others stage = refl
 
 makes-denial : (own : Own) (deny : Deny) → Makes own (denial own deny) (gone_if (is_fatal deny))
 unfolding denial
-makes-denial own deny = fall-stage (is_fatal deny) own.stage
+makes-denial own deny = fall-stage (is_fatal deny) _ _ own.stage
 
 -- what an accepted line makes of the stage, if one was accepted
 abbrev MakesSaid : Sight → Own → Option Reading → Request → Effect → Type 0
@@ -65,7 +66,7 @@ module _ {hub : Sight} {own : Own} {line : PreparedLine} {now : ℕ} where
   makes quiet = tt
   makes (denies deny) = tt
   makes (shuts_out deny) = tt
-  makes (greets reading features at applies) = ap (λ r. unwrap_or (stepping.greeted r) own.stage) (sym applies)
+  makes (greets reading features at applies) = ap (λ r. unwrap_or (stepping.stage_after_sup r) own.stage) (sym applies)
   makes (waits reading u logs account) = login-stage hub own reading u true logs.words account
   makes (lets_in reading u logs account) = login-stage hub own reading u false logs.words account
   makes _ = refl
@@ -75,10 +76,10 @@ makes-unless : (own : Own) (refusal : Option Deny) (effect : Effect) (made : Opt
 makes-unless own (Some deny) effect made makes = makes-denial own deny
 makes-unless own None effect made makes = makes refl
 
-makes-heard : (hub : Sight) (own : Own) (line : PreparedLine) (now : ℕ) (r : Result Reading LineFault) → Makes own (heard hub own line now r) (heard_stage hub own line now r)
+makes-heard : (hub : Sight) (own : Own) (line : PreparedLine) (now : ℕ) (r : Result Reading LineFault) → Makes own (effect_of_reading hub own line now r) (heard_stage hub own line now r)
 makes-heard hub own line now (Ok reading) =
-    makes-unless own (denied hub own line now reading) _ _
-    (λ none. makes (by-request hub own line now reading _ (asked own.stage reading.kind reading.command) refl (later-none (refused own.stage own.sid reading) _ none)))
+    makes-unless own (denial_of hub own line now reading) _ _
+    (λ none. makes (by-request hub own line now reading _ (request-asks own.stage reading.kind reading.command) refl (later-none (refusal_of own.stage own.sid reading) _ none)))
 makes-heard hub own line now (Err fault) = makes-denial own _
 
 makes-line : (hub : Sight) (own : Own) (line : PreparedLine) (now : ℕ) → Makes own (line_effect hub own line now) (line_stage hub own line now)
@@ -111,8 +112,8 @@ module _ {setup : Configured} {hash : List ℕ → List ℕ} {f : Facts} {caller
       let effect : Effect = effect_of_line setup hash f d bytes now in
       next-made (removed_by effect (f.about c)) (c == d) effect.change (f.about c).stage _
       (λ is. subst (λ x. stage_after effect.change (f.about x).stage
-      ≡ unwrap_or (line_stage (sight_of setup f) (own_of (f.about d)) (prepared setup hash (f.about d).challenge bytes) now) (f.about x).stage) (sym (eqb-true c d is))
-      (makes-line (sight_of setup f) (own_of (f.about d)) (prepared setup hash (f.about d).challenge bytes) now))
+      ≡ unwrap_or (line_stage (sight_of setup f) (own_of (f.about d)) (prepared_line setup hash (f.about d).challenge bytes) now) (f.about x).stage) (sym (eqb-true c d is))
+      (makes-line (sight_of setup f) (own_of (f.about d)) (prepared_line setup hash (f.about d).challenge bytes) now))
   made-after (Becomes.quits d) =
       ap (λ r. stage_next r (c == d) (Sender senders.Falls) (f.about c).stage) (and-false (is_present (f.about c).stage))
       ∙ quit-next (c == d) (f.about c).stage ∙ made-alone (f.about c) _

@@ -1,23 +1,21 @@
 -- A history entry by entry: it stays legal, and what is known of the hub is computed.
 use Rattle.std.proofs.Common.{◌≡◌, ◌∙◌, ap, refl, sym, subst, ℕ, ◌+◌, suc, Bool, true, false, ◌&&◌, List, [], ◌∷◌, length, map, filter, not, Ok}
-use Rattle.std.specs.Prelude.{◌==◌, if◌then◌else◌}
+use Rattle.std.specs.Prelude.{◌==◌, if◌then◌else◌, cond}
 use Rattle.std.specs.List.{concat}
 use Rattle.adc_base32.specs.Turns.{following, is_taken, next_within}
-use Rattle.adc_base32.specs.Turns as turns
 use Rattle.adc_line.specs.Lines.{Reading, reading}
 use Rattle.hub_rules.specs.declared.effect.Effect.{Effect}
 use Rattle.hub_rules.specs.declared.history.Call.TheVariants.{Join, Line, Quit, Take}
 use Rattle.hub_rules.specs.declared.history.Entry.{Entry}
 use Rattle.hub_rules.specs.declared.history.Reply.TheVariants.{Joined, Left, Said, Took}
 use Rattle.hub_rules.specs.declared.history.Verdict.{Verdict}
-use Rattle.hub_rules.specs.declared.history.Verdict.TheVariants.{Ended}
+use Rattle.hub_rules.specs.declared.history.Verdict.TheVariants.{Kept, Ended}
 use Rattle.hub_rules.specs.Configured.{Configured}
-use Rattle.hub_rules.specs.Effects.{departure, heard, is_over, line_effect}
-use Rattle.hub_rules.specs.Facts.{Facts, after, closed, facts, happens, has_joins, has_place, joined, next_sid, own_of, sight_of}
-use Rattle.hub_rules.specs.Legal.{Legal, MayCall, is_open, join_reply, reply, take_reply, verdict_if, verdict_of}
-use Rattle.hub_rules.specs.Prepared.{prepared}
+use Rattle.hub_rules.specs.Effects.{departure, effect_of_reading, is_over, line_effect}
+use Rattle.hub_rules.specs.Facts.{Facts, after, without_connection, facts, happens, has_joins, has_place, with_connection, next_sid, own_of, sight_of}
+use Rattle.hub_rules.specs.Legal.{Legal, MayCall, is_open, join_reply, reply, take_reply, verdict_of}
+use Rattle.hub_rules.specs.Prepared.{prepared_line}
 use Rattle.hub_rules.specs.Quiet.{nothing}
-use Rattle.hub_rules.specs.Shares.{chosen}
 use Rattle.std.proofs.lemmas.Bool.{false≢true}
 use Rattle.hub_laws.specs.Conversations.{peer, zeros}
 use Rattle.hub_laws.specs.Talking.{joins, quits, says, takes}
@@ -62,7 +60,7 @@ says-more setup hash h k t c line now effect verdict before (may, owns, there, i
 -- the next number, where nobody has it
 next-number : (most last : ℕ) (taken : List ℕ) → is_taken (following last 0) taken ≡ false → next_within (suc most) last taken ≡ following last 0
 unfolding next_within
-next-number most last taken free = ap (λ b. turns.chosen b (next_within most (following last 0) taken) (following last 0)) free
+next-number most last taken free = ap (λ b. cond b (next_within most (following last 0) taken) (following last 0)) free
 
 pub next-at : (f : Facts) → is_taken (following f.last 0) (map (λ c. (f.about c).sid) f.opened) ≡ false → next_sid f ≡ following f.last 0
 next-at f free = next-number 1_048_574 f.last (map (λ c. (f.about c).sid) f.opened) free
@@ -79,7 +77,7 @@ unfolding reply after
 joins-more setup hash h k c sid now before may numbered is =
     goes-on setup hash h k (with_newcomer c sid peer zeros k) (record { caller = c; call = Join peer zeros now; reply = Joined c }) before tt
     (accepted-reply (has_place setup (facts_of k)) (has_joins (facts_of k)) (length k.abouts) c may numbered)
-    (ap (λ b. chosen b (joined (facts_of k) c peer zeros) (facts_of k)) may ∙ joins-known c sid peer zeros k is)
+    (ap (λ b. cond b (with_connection (facts_of k) c peer zeros) (facts_of k)) may ∙ joins-known c sid peer zeros k is)
 
 -- ---- before the first join
 
@@ -98,12 +96,12 @@ pub says-unheard : (setup : Configured) (hash : List ℕ → List ℕ) (h : List
 unfolding reply after line_effect
 says-unheard setup hash h k c text now before may owns there over same =
     let own = own_of ((facts_of k).about c) in
-    let line = prepared setup hash own.challenge text in
+    let line = prepared_line setup hash own.challenge text in
     let done : after setup hash (facts_of k) c (Line c text now) ≡ facts_of k =
-    ap (λ b. happens c (if b then nothing else (if length line.bytes == 0 then nothing else heard (sight_of setup (facts_of k)) own line now (reading line.bytes))) (facts_of k)) over
+    ap (λ b. happens c (if b then nothing else (if length line.bytes == 0 then nothing else effect_of_reading (sight_of setup (facts_of k)) own line now (reading line.bytes))) (facts_of k)) over
     ∙ happens-known c nothing k there ∙ ap facts_of same in
     goes-on setup hash h k k (record { caller = c; call = Line c text now; reply = Said Ended }) before (may, owns)
-    (ap (λ b. Said (verdict_if b)) (sym over) ∙ ap (λ f. Said (verdict_of (f.about c).stage)) (sym done)) done
+    (ap (λ b. Said (if b then Ended else Kept)) (sym over) ∙ ap (λ f. Said (verdict_of (f.about c).stage)) (sym done)) done
 
 -- ---- a take
 
@@ -124,7 +122,7 @@ with_quit c k = let gone = with_effect c (departure ((facts_of k).about c).stage
 
 pub quits-more : (setup : Configured) (hash : List ℕ → List ℕ) (h : List Entry) (k t : Known) (c : ℕ)
     → Comes setup hash h k → is_open c (facts_of k) ≡ true → ((facts_of k).about c).owner ≡ c → is_known c k ≡ true → with_quit c k ≡ t → Comes setup hash (quits c h) t
-unfolding reply after closed
+unfolding reply after without_connection
 quits-more setup hash h k t c before may owns there made =
     goes-on setup hash h k t (record { caller = c; call = Quit c; reply = Left }) before (may, owns) refl
-    (ap (closed c) (happens-known c (departure ((facts_of k).about c).stage ((facts_of k).about c).sid) k there) ∙ ap facts_of made)
+    (ap (without_connection c) (happens-known c (departure ((facts_of k).about c).stage ((facts_of k).about c).sid) k there) ∙ ap facts_of made)

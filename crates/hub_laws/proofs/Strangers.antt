@@ -1,13 +1,13 @@
 -- Others hear nothing of a line by which a user who is not present does not enter.
-use Rattle.std.proofs.Common.{◌≡◌, ◌∙◌, sym, ap, ap₂, refl, ℕ, Bool, true, false, ◌&&◌, ◌==◌, List, [], ◌∷◌, ◌++◌, Option}
+use Rattle.std.proofs.Common.{◌≡◌, ◌∙◌, sym, ap, ap₂, refl, ℕ, Bool, true, false, ◌&&◌, ◌==◌, List, [], ◌∷◌, ◌++◌, Option, cond}
 use Rattle.std.proofs.lemmas.Bool.{false≢true, eq-eqb}
 use Rattle.adc_line.specs.Lines.{Reading}
 use Rattle.outboxes.specs.Quits.{quit_line}
 use Rattle.hub_rules.specs.declared.effect.Effect.{Effect}
 use Rattle.hub_rules.specs.declared.history.Call.TheVariants.{Line}
-use Rattle.hub_rules.specs.declared.request.Request.{Request}
+use Rattle.login_state.specs.declared.request.Request.{Request}
 use Rattle.hub_rules.specs.Configured.{Configured}
-use Rattle.hub_rules.specs.Effects.{given_if, is_present}
+use Rattle.hub_rules.specs.Effects.{is_present}
 use Rattle.hub_rules.specs.Facts.{Facts, facts, after, effect_of_line, happens}
 use Rattle.hub_rules.specs.Lagging.{share}
 use Rattle.hub_rules.specs.Shares.{About, hears, is_removed, owes, stage_after}
@@ -22,11 +22,11 @@ IsUnheard own effect = is_present own.stage ≡ false → is_present (stage_afte
 
 module _ {hub : Sight} {own : Own} {line : PreparedLine} {now : ℕ} where
   unheard : {said : Option Reading} {request : Request} {effect : Effect} → Outcome hub own line now said request effect → IsUnheard own effect
-  unheard (shuts_out deny) away still = ap (λ b. given_if b (quit_line own.sid ∷ [])) away
+  unheard (shuts_out deny) away still = ap (λ b. cond b (quit_line own.sid ∷ []) []) away
   unheard (lets_in reading u logs account) away still = absurd (false≢true (sym still))
   unheard (proves reading at asks none) away still = absurd (false≢true (sym still))
   unheard (revises reading u at words none) away still = absurd (false≢true (sym away ∙ ap is_present at))
-  unheard (acts reading others change at operator act) away still = absurd (false≢true (sym away ∙ ap is_present at))
+  unheard (acts reading done at operator does) away still = absurd (false≢true (sym away ∙ ap is_present at))
   unheard (searches reading at) away still = absurd (false≢true (sym away ∙ ap is_present at))
   unheard (passes reading at) away still = absurd (false≢true (sym away ∙ ap is_present at))
   unheard _ away still = refl
@@ -35,7 +35,7 @@ module _ {hub : Sight} {own : Own} {line : PreparedLine} {now : ℕ} where
 
 owes-others : (is_caller : Bool) (effect : Effect) (a : About) → is_caller ≡ false → effect.others ≡ [] → owes is_caller effect a ≡ []
 owes-others true effect a other none = absurd (false≢true (sym other))
-owes-others false effect a other none = ap (λ (ls : List (List ℕ)). given_if (hears false effect.hearers a) ls ++ []) none ∙ ap (λ ls. ls ++ []) (given-nothing (hears false effect.hearers a))
+owes-others false effect a other none = ap (λ (ls : List (List ℕ)). cond (hears false effect.hearers a) ls [] ++ []) none ∙ ap (λ ls. ls ++ []) (given-nothing (hears false effect.hearers a))
 
 stage-own : (c : ℕ) (effect : Effect) (f : Facts) → is_present (f.about c).stage ≡ false → is_present ((happens c effect f).about c).stage ≡ false
     → is_present (stage_after effect.change (f.about c).stage) ≡ false

@@ -1,5 +1,5 @@
--- What an operator's act owes.
-use Rattle.std.proofs.Common.{◌≡◌, ◌∙◌, sym, ap, ap₂, refl, ℕ, Bool, true, false, ◌&&◌, ◌⊎◌, inl, inr, ◌==◌, List, [], ◌∷◌, ◌++◌, Option}
+-- The lines owed by an operator's act.
+use Rattle.std.proofs.Common.{◌≡◌, ◌∙◌, sym, ap, ap₂, refl, ℕ, Bool, true, false, ◌&&◌, ◌⊎◌, inl, inr, ◌==◌, List, [], ◌∷◌, ◌++◌, Option, cond}
 use Rattle.std.proofs.lemmas.Bool.{false≢true}
 use Rattle.adc_line.specs.Lines.{Reading}
 use Rattle.feature_route.specs.Audiences.{holds_words}
@@ -12,10 +12,12 @@ use Rattle.hub_rules.specs.declared.effect.Hearers.TheVariants.{Those}
 use Rattle.hub_rules.specs.declared.effect.HubChange.{HubChange}
 use Rattle.hub_rules.specs.declared.history.Call.{Call}
 use Rattle.hub_rules.specs.declared.history.Call.TheVariants.{Line}
-use Rattle.hub_rules.specs.declared.request.Request.{Request}
-use Rattle.hub_rules.specs.Acts.{carried}
+use Rattle.login_state.specs.declared.request.Request.{Request}
+use Rattle.operator_acts.specs.declared.ban.Ban.{Ban}
+use Rattle.user_table.specs.Listed.{Listed}
+use Rattle.hub_rules.specs.Acts.{Done, effect_for_all}
 use Rattle.hub_rules.specs.Configured.{Configured}
-use Rattle.hub_rules.specs.Effects.{given_if, is_present}
+use Rattle.hub_rules.specs.Effects.{is_present}
 use Rattle.hub_rules.specs.Facts.{Facts, facts, effect_of_line, own_of}
 use Rattle.hub_rules.specs.Lagging.{share}
 use Rattle.hub_rules.specs.Shares.{About, hears_those, owes}
@@ -23,7 +25,7 @@ use Rattle.hub_rules.specs.Sights.{Own, PreparedLine, Sight}
 use Rattle.hub_rules.specs.Texts.{done_line}
 use Rattle.hub_rules.specs.World.{change_of}
 use Rattle.hub_laws.specs.Telling.{ActsAreHeard, news_of}
-use Rattle.hub_invariants.proofs.Outcomes.{Acts, Outcome, acts, bans, kicks, line-outcome, sets_topic, unbans}
+use Rattle.hub_invariants.proofs.Outcomes.{Does, Outcome, acts, bans_user, kicks, line-outcome, sets_topic, unbans}
 use Rattle.hub_laws.proofs.Worlds.{is_act}
 
 -- the line that tells of a change, where it is an operator's act
@@ -40,15 +42,15 @@ record IsTold (own : Own) (effect : Effect) : Type 0 where
 abbrev Tells : Own → Effect → Type 0
 Tells own effect = (is_act effect.change ≡ false) ⊎ IsTold own effect
 
-told-act : {hub : Sight} {own : Own} {now : ℕ} {others : List (List ℕ)} {change : HubChange} → Acts hub own now others change → IsTold own (carried others change)
-told-act (kicks nick reason target called) = record { reason = reason; others = refl; hearers = refl; done = refl }
-told-act (bans nick seconds reason target called room) = record { reason = reason; others = refl; hearers = refl; done = refl }
-told-act (unbans cid) = record { reason = []; others = refl; hearers = refl; done = refl }
-told-act (sets_topic text) = record { reason = []; others = refl; hearers = refl; done = refl }
+told-act : {users : List Listed} {bans : List (List ℕ × Ban)} {own : Own} (done : Done) → Does users bans own.sid done.others done.change → IsTold own (effect_for_all done)
+told-act done (kicks nick reason target called) = record { reason = reason; others = refl; hearers = refl; done = refl }
+told-act done (bans_user nick reason target banned called same room) = record { reason = reason; others = refl; hearers = refl; done = refl }
+told-act done (unbans cid) = record { reason = []; others = refl; hearers = refl; done = refl }
+told-act done (sets_topic text) = record { reason = []; others = refl; hearers = refl; done = refl }
 
 module _ {hub : Sight} {own : Own} {line : PreparedLine} {now : ℕ} where
   tells : {said : Option Reading} {request : Request} {effect : Effect} → Outcome hub own line now said request effect → Tells own effect
-  tells (acts reading others change at operator act) = inr (told-act act)
+  tells (acts reading done at operator does) = inr (told-act done does)
   tells _ = inl refl
 
 -- ---- the call
@@ -57,22 +59,22 @@ told : (own : Own) (effect : Effect) (act : HubChange) → effect.change ≡ Hub
 told own effect act is (inl none) = absurd (false≢true (sym none ∙ ap is_act is))
 told own effect act is (inr is_told) = is_told
 
-and-all : (here is_caller : Bool) (ls own : List (List ℕ)) → given_if (here && true) ls ++ given_if is_caller own ≡ given_if here ls ++ given_if is_caller own
+and-all : (here is_caller : Bool) (ls own : List (List ℕ)) → cond (here && true) ls [] ++ cond is_caller own [] ≡ cond here ls [] ++ cond is_caller own []
 and-all true is_caller ls own = refl
 and-all false is_caller ls own = refl
 
 owes-all : (is_caller : Bool) (effect : Effect) (a : About) (ls own : List (List ℕ)) → effect.others ≡ ls → effect.hearers ≡ Those audiences.All → effect.own ≡ own
-    → owes is_caller effect a ≡ given_if (is_present a.stage) ls ++ given_if is_caller own
+    → owes is_caller effect a ≡ cond (is_present a.stage) ls [] ++ cond is_caller own []
 unfolding holds_words
 owes-all is_caller effect a ls own others hearers done =
-    ap₂ (λ (hs : Hearers) (xs : List (List ℕ)). given_if (is_present a.stage && hears_those is_caller hs a) xs ++ given_if is_caller effect.own) hearers others
-    ∙ ap (λ xs. given_if (is_present a.stage && true) ls ++ given_if is_caller xs) done
+    ap₂ (λ (hs : Hearers) (xs : List (List ℕ)). cond (is_present a.stage && hears_those is_caller hs a) xs [] ++ cond is_caller effect.own []) hearers others
+    ∙ ap (λ xs. cond (is_present a.stage && true) ls [] ++ cond is_caller xs []) done
     ∙ and-all (is_present a.stage) is_caller ls own
 
 abbrev IsHeard : Configured → (List ℕ → List ℕ) → Facts → Call → HubChange → Type 0
 IsHeard setup hash f call act =
     (c : ℕ) × (bytes : List ℕ) × (now : ℕ) × (reason : List ℕ) × (call ≡ Line c bytes now)
-    × ((d : ℕ) → share setup hash f d call ≡ given_if (is_present (f.about d).stage) (news_of act (f.about c).sid reason) ++ given_if (d == c) (done_line ∷ []))
+    × ((d : ℕ) → share setup hash f d call ≡ cond (is_present (f.about d).stage) (news_of act (f.about c).sid reason) [] ++ cond (d == c) (done_line ∷ []) [])
 
 no-act : (act : HubChange) → Nothing ≡ Hub act → ⊥
 no-act act is = cc is

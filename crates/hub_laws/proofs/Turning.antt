@@ -8,7 +8,7 @@ use Rattle.hub_rules.specs.declared.effect.Change.{Change}
 use Rattle.hub_rules.specs.declared.effect.Change.TheVariants.{Sender}
 use Rattle.hub_rules.specs.declared.effect.Effect.{Effect}
 use Rattle.hub_rules.specs.declared.effect.SenderChange.TheVariants as senders
-use Rattle.hub_rules.specs.declared.request.Request.{Request}
+use Rattle.login_state.specs.declared.request.Request.{Request}
 use Rattle.hub_rules.specs.Effects.{line_effect}
 use Rattle.hub_rules.specs.Shares.{stage_after}
 use Rattle.hub_rules.specs.Sights.{Own, PreparedLine, Sight}

@@ -1,5 +1,5 @@
--- What an accepted INF says that may be passed on, and who hears of it.
-use Rattle.std.proofs.Common.{◌≡◌, ◌∙◌, sym, ap, ap₂, refl, subst, ℕ, Bool, true, false, ◌&&◌, ◌==◌, List, [], ◌∷◌, ◌++◌, append-nil, Option, Some, None, Ok}
+-- The fields of an accepted INF that may be passed on, and the users who hear of it.
+use Rattle.std.proofs.Common.{◌≡◌, ◌∙◌, sym, ap, ap₂, refl, subst, ℕ, Bool, true, false, ◌&&◌, ◌==◌, List, [], ◌∷◌, ◌++◌, append-nil, Option, Some, None, Ok, cond}
 use Rattle.std.specs.List.{AllByRecursion}
 use Rattle.std.proofs.lemmas.Bool.{eqb-true}
 use Rattle.adc_line.specs.Lines.{Reading}
@@ -11,18 +11,18 @@ use Rattle.inf_fields.specs.FieldNames.{address_name}
 use Rattle.inf_fields.specs.Updates as updates
 use Rattle.login_state.specs.declared.stage.Stage.TheVariants as stages
 use Rattle.hub_rules.specs.Grounds.{is_wrong_address}
-use Rattle.hub_rules.specs.Identities.{given}
+use Rattle.hub_rules.specs.Identities.{value_or_empty}
 use Rattle.hub_rules.specs.declared.effect.Effect.{Effect}
 use Rattle.hub_rules.specs.declared.effect.Hearers.{Hearers}
 use Rattle.hub_rules.specs.declared.effect.Hearers.TheVariants.{Those}
 use Rattle.hub_rules.specs.declared.history.Call.TheVariants.{Line}
-use Rattle.hub_rules.specs.declared.request.Request.{Request}
+use Rattle.login_state.specs.declared.request.Request.{Request}
 use Rattle.hub_rules.specs.Configured.{Configured}
 use Rattle.hub_rules.specs.Denied.{update_denied}
-use Rattle.hub_rules.specs.Effects.{given_if, is_present, line_unless_empty, update_effect}
+use Rattle.hub_rules.specs.Effects.{is_present, line_unless_empty, update_effect}
 use Rattle.hub_rules.specs.Facts.{Facts, facts, effect_of_line, own_of, sight_of}
-use Rattle.hub_rules.specs.Prepared.{prepared}
-use Rattle.hub_rules.specs.Said.{accepted_line, cleaned, inf_update, listed_if, read_by}
+use Rattle.hub_rules.specs.Prepared.{prepared_line}
+use Rattle.hub_rules.specs.Said.{accepted_line, cleaned_update, inf_update, listed_if, read_by}
 use Rattle.hub_rules.specs.Shares.{About, hears_those, owes}
 use Rattle.hub_rules.specs.Sights.{Own, PreparedLine, Sight, user_after}
 use Rattle.hub_laws.specs.Secrets.{IsPassed, UpdatesAreHeard, UpdatesArePassed}
@@ -43,14 +43,14 @@ record IsInf (own : Own) (effect : Effect) (u : List Field) : Type 0 where
   heard : own.stage ≡ stages.Normal → IsUpdate own effect u
 
 -- what a login or an update says that is not denied is what may be passed on of it
-says-passed : (own : Own) (reading : Reading) (first u : List Field) → updates.reading reading.params ≡ Ok first → is_wrong_address own.peer (given address_name first) ≡ false
-    → cleaned own.peer (updates.reading reading.params) ≡ Some u → (clean first own.peer ≡ u) × AllByRecursion (IsPassed own.peer) u
+says-passed : (own : Own) (reading : Reading) (first u : List Field) → updates.reading reading.params ≡ Ok first → is_wrong_address own.peer (value_or_empty address_name first) ≡ false
+    → cleaned_update own.peer (updates.reading reading.params) ≡ Some u → (clean first own.peer ≡ u) × AllByRecursion (IsPassed own.peer) u
 says-passed own reading first u words right says =
-    let same : clean first own.peer ≡ u = cc (ap (cleaned own.peer) (sym words) ∙ says) in
+    let same : clean first own.peer ≡ u = cc (ap (cleaned_update own.peer) (sym words) ∙ says) in
     (same, subst (AllByRecursion (IsPassed own.peer)) same (read-passed own.peer reading.params first words right))
 
 login-inf : (hub : Sight) (own : Own) (line : PreparedLine) (now : ℕ) (reading : Reading) (effect : Effect) (first u : List Field) → Logs hub own line now reading first
-    → cleaned own.peer (updates.reading reading.params) ≡ Some u → IsInf own effect u
+    → cleaned_update own.peer (updates.reading reading.params) ≡ Some u → IsInf own effect u
 login-inf hub own line now reading effect first u logs says =
     let user = user_after own first in
     record {
@@ -60,7 +60,7 @@ login-inf hub own line now reading effect first u logs says =
     }
 
 update-inf : (hub : Sight) (own : Own) (reading : Reading) (first u : List Field) → updates.reading reading.params ≡ Ok first → update_denied hub own (Ok first) ≡ None
-    → cleaned own.peer (updates.reading reading.params) ≡ Some u → IsInf own (update_effect own (clean first own.peer)) u
+    → cleaned_update own.peer (updates.reading reading.params) ≡ Some u → IsInf own (update_effect own (clean first own.peer)) u
 update-inf hub own reading first u words none says =
     let user = user_after own first in
     let is = says-passed own reading first u words (update-right hub own first user none) says in
@@ -93,31 +93,31 @@ speaks true None u is = let nothing : ⊥ = cc is in absurd nothing
 speaks false o u is = let nothing : ⊥ = cc is in absurd nothing
 
 line-says : (setup : Configured) (hash : List ℕ → List ℕ) (f : Facts) (c d : ℕ) (bytes : List ℕ) (now : ℕ) (u : List Field)
-    → listed_if (c == d) (read_by inf_update (own_of (f.about d)) (accepted_line (sight_of setup f) (own_of (f.about d)) (prepared setup hash (f.about d).challenge bytes) now)) ≡ u ∷ []
+    → listed_if (c == d) (read_by inf_update (own_of (f.about d)) (accepted_line (sight_of setup f) (own_of (f.about d)) (prepared_line setup hash (f.about d).challenge bytes) now)) ≡ u ∷ []
     → IsInf (own_of (f.about c)) (effect_of_line setup hash f d bytes now) u
 line-says setup hash f c d bytes now u is =
     let speaks-own = speaks (c == d) _ u is in
     subst (λ x. IsInf (own_of (f.about x)) (effect_of_line setup hash f d bytes now) u) (sym (eqb-true c d speaks-own.is_own))
     (says-inf (line-outcome setup hash f d bytes now) u
-    (said-read inf_update (own_of (f.about d)) (accepted_line (sight_of setup f) (own_of (f.about d)) (prepared setup hash (f.about d).challenge bytes) now) ∙ speaks-own.says))
+    (said-read inf_update (own_of (f.about d)) (accepted_line (sight_of setup f) (own_of (f.about d)) (prepared_line setup hash (f.about d).challenge bytes) now) ∙ speaks-own.says))
 
 pub updates_are_passed : UpdatesArePassed
 updates_are_passed setup hash h c (Line d bytes now) u is = (line-says setup hash (facts setup hash h) c d bytes now u is).passed
 updates_are_passed setup hash h c _ u is = let nothing : ⊥ = cc is in absurd nothing
 
-no-more : (here is_caller : Bool) (ls : List (List ℕ)) → given_if (here && true) ls ++ given_if is_caller [] ≡ given_if here ls
+no-more : (here is_caller : Bool) (ls : List (List ℕ)) → cond (here && true) ls [] ++ cond is_caller [] [] ≡ cond here ls []
 no-more true true ls = append-nil ls
 no-more true false ls = append-nil ls
 no-more false true ls = refl
 no-more false false ls = refl
 
 hears-update : (is_caller : Bool) (effect : Effect) (a : About) (ls : List (List ℕ)) (here : Bool) → is_present a.stage ≡ here → effect.others ≡ ls → effect.hearers ≡ Those audiences.All
-    → effect.own ≡ [] → owes is_caller effect a ≡ given_if here ls
+    → effect.own ≡ [] → owes is_caller effect a ≡ cond here ls []
 unfolding holds_words
 hears-update is_caller effect a ls here is_here others hearers silent =
-    ap₂ (λ (hs : Hearers) (xs : List (List ℕ)). given_if (is_present a.stage && hears_those is_caller hs a) xs ++ given_if is_caller effect.own) hearers others
-    ∙ ap (λ own. given_if (is_present a.stage && true) ls ++ given_if is_caller own) silent
-    ∙ ap (λ b. given_if (b && true) ls ++ given_if is_caller []) is_here
+    ap₂ (λ (hs : Hearers) (xs : List (List ℕ)). cond (is_present a.stage && hears_those is_caller hs a) xs [] ++ cond is_caller effect.own []) hearers others
+    ∙ ap (λ own. cond (is_present a.stage && true) ls [] ++ cond is_caller own []) silent
+    ∙ ap (λ b. cond (b && true) ls [] ++ cond is_caller [] []) is_here
     ∙ no-more here is_caller ls
 
 pub updates_are_heard : UpdatesAreHeard

@@ -1,21 +1,22 @@
--- What a line leads to is the same, whatever the passwords, but for the digest that is waited for.
+-- Effects of a line are the same, whatever the passwords, but for the digest that is waited for.
 use Rattle.std.proofs.Common.{◌≡◌, ◌∙◌, sym, ap, ap₂, refl, ℕ, suc, Bool, true, false, not, ◌&&◌, ◌||◌, ◌==◌, ◌⊎◌, inl, inr, List, [], ◌∷◌, ◌++◌, length, map, Option, Some, None, Result, Ok, Err, arith, subst}
-use Rattle.std.specs.Prelude.{codes, if◌then◌else◌, is_some}
-use Rattle.std.specs.Option.{option_map}
+use Rattle.std.specs.Prelude.{codes, if◌then◌else◌, is_some, cond}
+use Rattle.std.specs.Result.{result_err}
+use Rattle.std.specs.Option.{option_map, option_or}
 use Rattle.std.specs.Str.{bytes_eq}
 use Rattle.std.proofs.lemmas.Bool.{false≢true}
 use Rattle.std.proofs.lemmas.Bool.Decides.{nat_tests}
 use Rattle.std.proofs.lemmas.Slice.Eq.{bytes_eq-Decides}
 use Rattle.adc_base32.specs.Sids.{sid_text}
 use Rattle.adc_line.specs.declared.fault.LineFault.{LineFault}
-use Rattle.adc_line.specs.declared.kind.Kind.{Kind}
-use Rattle.adc_line.specs.declared.kind.Kind.TheVariants as kinds
+use Rattle.adc_line.specs.declared.header.Kind.{Kind}
+use Rattle.adc_line.specs.declared.header.Kind.TheVariants as kinds
 use Rattle.adc_line.specs.Grammar.{IsAddressed}
 use Rattle.adc_line.specs.Header.{header_of, head_at}
 use Rattle.adc_line.specs.Lines as lines
-use Rattle.adc_line.specs.Lines.{Reading, with_header}
+use Rattle.adc_line.specs.Lines.{Reading}
 use Rattle.adc_line.proofs.ReadsLemmas.{Reads-of}
-use Rattle.inf_fields.specs.Field.{Field, printed}
+use Rattle.inf_fields.specs.Field.{Field, printed_fields}
 use Rattle.inf_fields.specs.Updates as updates
 use Rattle.inf_fields.specs.declared.fault.InfFault.{InfFault}
 use Rattle.login_state.specs.declared.deny.Deny.{Deny}
@@ -25,32 +26,32 @@ use Rattle.login_state.specs.declared.stage.Stage.{Stage}
 use Rattle.login_state.specs.declared.stage.Stage.TheVariants as stages
 use Rattle.login_state.specs.Mentions.{ucmd}
 use Rattle.login_state.specs.Support.{has_feature}
-use Rattle.login_state.specs.SupportAnswers.{applied}
+use Rattle.login_state.specs.SupportAnswers.{support_after}
 use Rattle.operator_acts.specs.Acts.{act_at}
 use Rattle.operator_acts.specs.declared.act.Act.{Act}
-use Rattle.operator_acts.specs.declared.act.Act.TheVariants as acts
 use Rattle.user_table.specs.Listed.{Listed}
 use Rattle.hub_rules.specs.declared.effect.Change.{Change}
 use Rattle.hub_rules.specs.declared.effect.Change.TheVariants.{Sender}
 use Rattle.hub_rules.specs.declared.effect.Effect.{Effect}
 use Rattle.hub_rules.specs.declared.effect.Hearers.TheVariants.{Others}
 use Rattle.hub_rules.specs.declared.effect.SenderChange.TheVariants as senders
-use Rattle.hub_rules.specs.declared.request.Request.{Request}
-use Rattle.hub_rules.specs.declared.request.Request.TheVariants as requests
+use Rattle.login_state.specs.declared.request.Request.{Request}
+use Rattle.login_state.specs.declared.request.Request.TheVariants as requests
 use Rattle.hub_rules.specs.Accounts.{account_with, operates}
-use Rattle.hub_rules.specs.Acts.{act_denied, act_effect, asked_denied, asked_effect, ban_denied, ban_effect, is_command, is_operator, kick_effect, text_in, user_called}
+use Rattle.hub_rules.specs.Acts.{act_denied, act_effect, answer_to, effect_by, is_command, is_operator, text_in}
 use Rattle.hub_rules.specs.Configured.{Account}
-use Rattle.hub_rules.specs.Denied.{denied, digest_given, login_denied, or_else, password_denied, request_denied, update_denied}
-use Rattle.hub_rules.specs.Effects.{accepted, admits, denial, enters, entrant, given_if, greets, heard, is_over, line_effect, line_of, logs_in, unless_denied, updates_user}
+use Rattle.hub_rules.specs.Denied.{denial_of, digest_given, login_denied, password_denied, request_denied, update_denied}
+use Rattle.hub_rules.specs.Effects.{accepted_effect, admits, denial, enters, entrant, greets, effect_of_reading, is_over, line_effect, line_of, logs_in, unless_denied, updates_user}
 use Rattle.hub_rules.specs.Grounds.{differs, entry_grounds, first_ground, is_digest, login_grounds, touches_account, update_grounds}
-use Rattle.hub_rules.specs.Identities.{key_in, listed}
+use Rattle.hub_rules.specs.Identities.{key_in, listed_user}
 use Rattle.hub_rules.specs.Quiet.{nothing}
-use Rattle.hub_rules.specs.Requests.{refused, request_of}
+use Rattle.login_state.specs.Requests.{request_at}
+use Rattle.hub_rules.specs.Requests.{refusal_of, request_of}
 use Rattle.hub_rules.specs.Sights.{Own, PreparedLine, Sight, is_account, user_after}
-use Rattle.hub_rules.specs.Texts.{client_type, ended, hub_line, menu_line, user_line}
-use Rattle.hub_laws.proofs.Checked.{is_barred, with_test}
+use Rattle.hub_rules.specs.Texts.{client_type, with_line_feed, hub_line, menu_line, user_line}
+use Rattle.hub_laws.proofs.Checked.{is_access, is_barred, is_for_accounts, with_test}
 use Rattle.hub_laws.specs.Passwords.{is_password, is_right, is_to_hub, without_password}
-use Rattle.hub_invariants.proofs.Outcomes.{Asked, asked}
+use Rattle.hub_invariants.proofs.Outcomes.{Asked, request-asks}
 use Rattle.hub_laws.proofs.Heard.{reading-ascii}
 
 -- the digest that is waited for is veiled
@@ -58,8 +59,8 @@ abbrev pub veiled_change : Change → Change
 veiled_change (Sender (senders.Waits entrant expected)) = Sender (senders.Waits entrant [])
 veiled_change change = change
 
-abbrev pub veiled : Effect → Effect
-veiled effect = record effect { change = veiled_change effect.change }
+abbrev pub veiled_effect : Effect → Effect
+veiled_effect effect = record effect { change = veiled_change effect.change }
 
 -- the same hub with other accounts, a connection of which it expects another digest, a line with another digest
 abbrev pub other_hub : Sight → List Account → Sight
@@ -117,7 +118,7 @@ operator-alike hub accounts own alike =
 line-alike : (hub : Sight) (accounts : List Account) (user : Listed) → AreAlike hub.setup.accounts accounts → line_of hub user ≡ line_of (other_hub hub accounts) user
 unfolding user_line
 line-alike hub accounts user alike =
-    ap (λ (type : List ℕ). ended (codes "BINF " ++ sid_text user.sid ++ printed user.fields ++ type))
+    ap (λ (type : List ℕ). with_line_feed (codes "BINF " ++ sid_text user.sid ++ printed_fields user.fields ++ type))
     (type-without (account_with user.key hub.setup.accounts) ∙ ap client_type (found-alike user.key hub.setup.accounts accounts alike)
     ∙ sym (type-without (account_with user.key accounts)))
 
@@ -127,10 +128,10 @@ lines-alike hub accounts [] alike = refl
 lines-alike hub accounts (user ∷ users) alike = ap₂ (λ (l : List ℕ) (ls : List (List ℕ)). l ∷ ls) (line-alike hub accounts user alike) (lines-alike hub accounts users alike)
 
 enters-alike : (hub : Sight) (accounts : List Account) (own : Own) (expected : List ℕ) (user : Listed) (change : Change) → AreAlike hub.setup.accounts accounts
-    → veiled (enters hub own user change) ≡ veiled (enters (other_hub hub accounts) (other_own own expected) user change)
+    → veiled_effect (enters hub own user change) ≡ veiled_effect (enters (other_hub hub accounts) (other_own own expected) user change)
 enters-alike hub accounts own expected user change alike =
     ap₂ (λ (ls : List (List ℕ)) (l : List ℕ). record {
-      own = ls ++ l ∷ given_if (has_feature ucmd own.features) (map menu_line hub.setup.menu);
+      own = ls ++ l ∷ cond (has_feature ucmd own.features) (map menu_line hub.setup.menu) [];
       others = l ∷ [];
       hearers = Others;
       change = veiled_change change;
@@ -139,23 +140,23 @@ enters-alike hub accounts own expected user change alike =
 -- ---- what an accepted line leads to
 
 greets-alike : (hub : Sight) (accounts : List Account) (own : Own) (expected : List ℕ) (now : ℕ) (r : Result (List (List ℕ)) SupFault)
-    → veiled (greets hub own now r) ≡ veiled (greets (other_hub hub accounts) (other_own own expected) now r)
+    → veiled_effect (greets hub own now r) ≡ veiled_effect (greets (other_hub hub accounts) (other_own own expected) now r)
 unfolding hub_line
 greets-alike hub accounts own expected now (Ok features) = refl
 greets-alike hub accounts own expected now (Err fault) = refl
 
 admits-alike : (hub : Sight) (accounts : List Account) (own : Own) (expected : List ℕ) (line : PreparedLine) (password : Option (List ℕ)) (user : Listed) (b : Bool)
     → AreAlike hub.setup.accounts accounts
-    → veiled (admits hub own line b user) ≡ veiled (admits (other_hub hub accounts) (other_own own expected) (other_line line password) b user)
+    → veiled_effect (admits hub own line b user) ≡ veiled_effect (admits (other_hub hub accounts) (other_own own expected) (other_line line password) b user)
 admits-alike hub accounts own expected line password user true alike = refl
 admits-alike hub accounts own expected line password user false alike = enters-alike hub accounts own expected user (Sender (senders.EntersAs (entrant user))) alike
 
 login-alike : (hub : Sight) (accounts : List Account) (own : Own) (expected : List ℕ) (line : PreparedLine) (password : Option (List ℕ)) (r : Result (List Field) InfFault)
     → AreAlike hub.setup.accounts accounts
-    → veiled (logs_in hub own line r) ≡ veiled (logs_in (other_hub hub accounts) (other_own own expected) (other_line line password) r)
+    → veiled_effect (logs_in hub own line r) ≡ veiled_effect (logs_in (other_hub hub accounts) (other_own own expected) (other_line line password) r)
 login-alike hub accounts own expected line password (Ok u) alike =
     admits-alike hub accounts own expected line password (user_after own u) (is_account hub (user_after own u).key) alike
-    ∙ ap (λ b. veiled (admits (other_hub hub accounts) (other_own own expected) (other_line line password) b (user_after own u)))
+    ∙ ap (λ b. veiled_effect (admits (other_hub hub accounts) (other_own own expected) (other_line line password) b (user_after own u)))
     (account-alike hub accounts (user_after own u).key alike)
 login-alike hub accounts own expected line password (Err fault) alike = refl
 
@@ -163,37 +164,27 @@ update-alike : (own : Own) (expected : List ℕ) (r : Result (List Field) InfFau
 update-alike own expected (Ok u) = refl
 update-alike own expected (Err fault) = refl
 
-kick-alike : (own : Own) (expected reason : List ℕ) (target : Option Listed) → kick_effect own reason target ≡ kick_effect (other_own own expected) reason target
-kick-alike own expected reason None = refl
-kick-alike own expected reason (Some target) = refl
-
-ban-alike : (own : Own) (expected : List ℕ) (now seconds : ℕ) (reason : List ℕ) (target : Option Listed)
-    → ban_effect own now seconds reason target ≡ ban_effect (other_own own expected) now seconds reason target
-ban-alike own expected now seconds reason None = refl
-ban-alike own expected now seconds reason (Some target) = refl
-
 asked-alike : (hub : Sight) (accounts : List Account) (own : Own) (expected : List ℕ) (now : ℕ) (act : Option Act)
-    → asked_effect hub own now act ≡ asked_effect (other_hub hub accounts) (other_own own expected) now act
-asked-alike hub accounts own expected now (Some (acts.Kick nick reason)) = kick-alike own expected reason (user_called hub nick)
-asked-alike hub accounts own expected now (Some (acts.Ban nick seconds reason)) = ban-alike own expected now seconds reason (user_called hub nick)
-asked-alike hub accounts own expected now _ = refl
+    → answer_to hub own now act ≡ answer_to (other_hub hub accounts) (other_own own expected) now act
+asked-alike hub accounts own expected now None = refl
+asked-alike hub accounts own expected now (Some act) = refl
 
 act-alike : (hub : Sight) (accounts : List Account) (own : Own) (expected : List ℕ) (now : ℕ) (params : List (List ℕ))
     → act_effect hub own now params ≡ act_effect (other_hub hub accounts) (other_own own expected) now params
 unfolding act_effect
 act-alike hub accounts own expected now params =
-    ap (λ (effect : Effect). if not (is_command (text_in params)) then nothing else effect) (asked-alike hub accounts own expected now (act_at (text_in params)))
+    ap (λ answer. if not (is_command (text_in params)) then nothing else effect_by answer) (asked-alike hub accounts own expected now (act_at (text_in params)))
 
 accepted-alike : (hub : Sight) (accounts : List Account) (own : Own) (expected : List ℕ) (line : PreparedLine) (password : Option (List ℕ)) (now : ℕ) (reading : Reading)
     (request : Request) → AreAlike hub.setup.accounts accounts
-    → veiled (accepted hub own line now reading request) ≡ veiled (accepted (other_hub hub accounts) (other_own own expected) (other_line line password) now reading request)
-unfolding accepted
-accepted-alike hub accounts own expected line password now reading requests.Greeting alike = greets-alike hub accounts own expected now (applied own.features reading.params)
+    → veiled_effect (accepted_effect hub own line now reading request) ≡ veiled_effect (accepted_effect (other_hub hub accounts) (other_own own expected) (other_line line password) now reading request)
+unfolding accepted_effect
+accepted-alike hub accounts own expected line password now reading requests.Greeting alike = greets-alike hub accounts own expected now (support_after own.features reading.params)
 accepted-alike hub accounts own expected line password now reading requests.Login alike =
     login-alike hub accounts own expected line password (updates.reading reading.params) alike
-accepted-alike hub accounts own expected line password now reading requests.Password alike = enters-alike hub accounts own expected (listed own.sid own.fields) (Sender senders.Enters) alike
-accepted-alike hub accounts own expected line password now reading requests.Update alike = ap veiled (update-alike own expected (updates.reading reading.params))
-accepted-alike hub accounts own expected line password now reading requests.Act alike = ap veiled (act-alike hub accounts own expected now reading.params)
+accepted-alike hub accounts own expected line password now reading requests.Password alike = enters-alike hub accounts own expected (listed_user own.sid own.fields) (Sender senders.Enters) alike
+accepted-alike hub accounts own expected line password now reading requests.Update alike = ap veiled_effect (update-alike own expected (updates.reading reading.params))
+accepted-alike hub accounts own expected line password now reading requests.Act alike = ap veiled_effect (act-alike hub accounts own expected now reading.params)
 accepted-alike hub accounts own expected line password now reading _ alike = refl
 
 -- ---- which rule denies a line
@@ -205,7 +196,7 @@ login-denied-alike : (hub : Sight) (accounts : List Account) (own : Own) (expect
     → AreAlike hub.setup.accounts accounts → login_denied hub own digest now r ≡ login_denied (other_hub hub accounts) (other_own own expected) digest now r
 unfolding login_grounds
 login-denied-alike hub accounts own expected digest now (Ok u) alike =
-    ap (λ b. first_ground (with_test 12 b (login_grounds hub own now digest u (user_after own u)))) (barred-alike hub accounts (user_after own u).key alike)
+    ap (λ b. first_ground (with_test is_for_accounts b (login_grounds hub own now digest u (user_after own u)))) (barred-alike hub accounts (user_after own u).key alike)
 login-denied-alike hub accounts own expected digest now (Err fault) alike = refl
 
 touched-alike : (hub : Sight) (accounts : List Account) (before after : List ℕ) → AreAlike hub.setup.accounts accounts
@@ -217,24 +208,16 @@ update-denied-alike : (hub : Sight) (accounts : List Account) (own : Own) (expec
     → update_denied hub own r ≡ update_denied (other_hub hub accounts) (other_own own expected) r
 unfolding update_grounds
 update-denied-alike hub accounts own expected (Ok u) alike =
-    ap (λ b. first_ground (with_test 4 b (update_grounds hub own u (user_after own u))))
+    ap (λ b. first_ground (with_test is_access b (update_grounds hub own u (user_after own u))))
     (touched-alike hub accounts (key_in own.fields) (user_after own u).key alike)
 update-denied-alike hub accounts own expected (Err fault) alike = refl
 
-ban-denied-alike : (hub : Sight) (accounts : List Account) (target : Option Listed) → ban_denied hub target ≡ ban_denied (other_hub hub accounts) target
-ban-denied-alike hub accounts None = refl
-ban-denied-alike hub accounts (Some target) = refl
-
-asked-denied-alike : (hub : Sight) (accounts : List Account) (act : Option Act) → asked_denied hub act ≡ asked_denied (other_hub hub accounts) act
-asked-denied-alike hub accounts (Some (acts.Ban nick seconds reason)) = ban-denied-alike hub accounts (user_called hub nick)
-asked-denied-alike hub accounts _ = refl
-
-act-denied-alike : (hub : Sight) (accounts : List Account) (own : Own) (expected : List ℕ) (params : List (List ℕ)) → AreAlike hub.setup.accounts accounts
-    → act_denied hub own params ≡ act_denied (other_hub hub accounts) (other_own own expected) params
+act-denied-alike : (hub : Sight) (accounts : List Account) (own : Own) (expected : List ℕ) (now : ℕ) (params : List (List ℕ)) → AreAlike hub.setup.accounts accounts
+    → act_denied hub own now params ≡ act_denied (other_hub hub accounts) (other_own own expected) now params
 unfolding act_denied
-act-denied-alike hub accounts own expected params alike =
-    ap₂ (λ b (more : Option Deny). if not (is_command (text_in params)) then None else if not b then Some (denials.Access (codes "HMSG")) else more)
-    (operator-alike hub accounts own alike) (asked-denied-alike hub accounts (act_at (text_in params)))
+act-denied-alike hub accounts own expected now params alike =
+    ap₂ (λ b answer. if not (is_command (text_in params)) then None else if not b then Some (denials.Access (codes "HMSG")) else result_err answer)
+    (operator-alike hub accounts own alike) (asked-alike hub accounts own expected now (act_at (text_in params)))
 
 -- a password is denied where it is not right
 password-alike : (hub : Sight) (accounts : List Account) (own : Own) (expected : List ℕ) (now : ℕ) (params others : List (List ℕ))
@@ -242,7 +225,7 @@ password-alike : (hub : Sight) (accounts : List Account) (own : Own) (expected :
     → password_denied hub own now params ≡ password_denied (other_hub hub accounts) (other_own own expected) now others
 unfolding entry_grounds
 password-alike hub accounts own expected now params others right =
-    ap (λ b. first_ground ((not b, denials.Password) ∷ entry_grounds hub now (listed own.sid own.fields))) right
+    ap (λ b. first_ground ((not b, denials.Password) ∷ entry_grounds hub now (listed_user own.sid own.fields))) right
 
 request-denied-alike : (hub : Sight) (accounts : List Account) (own : Own) (expected : List ℕ) (line : PreparedLine) (password : Option (List ℕ)) (now : ℕ) (reading : Reading)
     (request : Request) → AreAlike hub.setup.accounts accounts
@@ -255,7 +238,7 @@ request-denied-alike hub accounts own expected line password now reading request
     password-alike hub accounts own expected now reading.params reading.params (right refl)
 request-denied-alike hub accounts own expected line password now reading requests.Update alike right =
     update-denied-alike hub accounts own expected (updates.reading reading.params) alike
-request-denied-alike hub accounts own expected line password now reading requests.Act alike right = act-denied-alike hub accounts own expected reading.params alike
+request-denied-alike hub accounts own expected line password now reading requests.Act alike right = act-denied-alike hub accounts own expected now reading.params alike
 request-denied-alike hub accounts own expected line password now reading _ alike right = refl
 
 -- ---- the same line in both hubs
@@ -264,34 +247,34 @@ denial-alike : (own : Own) (expected : List ℕ) (deny : Deny) → denial own de
 unfolding denial
 denial-alike own expected deny = refl
 
-unless-alike : (own : Own) (expected : List ℕ) (refusal : Option Deny) (x y : Effect) → veiled x ≡ veiled y
-    → veiled (unless_denied own refusal x) ≡ veiled (unless_denied (other_own own expected) refusal y)
-unless-alike own expected (Some deny) x y alike = ap veiled (denial-alike own expected deny)
+unless-alike : (own : Own) (expected : List ℕ) (refusal : Option Deny) (x y : Effect) → veiled_effect x ≡ veiled_effect y
+    → veiled_effect (unless_denied own refusal x) ≡ veiled_effect (unless_denied (other_own own expected) refusal y)
+unless-alike own expected (Some deny) x y alike = ap veiled_effect (denial-alike own expected deny)
 unless-alike own expected None x y alike = alike
 
 heard-alike : (hub : Sight) (accounts : List Account) (own : Own) (expected : List ℕ) (line : PreparedLine) (password : Option (List ℕ)) (now : ℕ) (r : Result Reading LineFault)
     → AreAlike hub.setup.accounts accounts → (own.stage ≡ stages.Verify → is_right own.expected r ≡ is_right expected r)
-    → veiled (heard hub own line now r) ≡ veiled (heard (other_hub hub accounts) (other_own own expected) (other_line line password) now r)
+    → veiled_effect (effect_of_reading hub own line now r) ≡ veiled_effect (effect_of_reading (other_hub hub accounts) (other_own own expected) (other_line line password) now r)
 heard-alike hub accounts own expected line password now (Ok reading) alike right =
     let request : Request = request_of own.stage reading.kind reading.command in
-    unless-alike own expected (denied hub own line now reading) _ _ (accepted-alike hub accounts own expected line password now reading request alike)
-    ∙ ap (λ d. veiled (unless_denied (other_own own expected) (or_else (refused own.stage own.sid reading) d)
-    (accepted (other_hub hub accounts) (other_own own expected) (other_line line password) now reading request)))
+    unless-alike own expected (denial_of hub own line now reading) _ _ (accepted-alike hub accounts own expected line password now reading request alike)
+    ∙ ap (λ d. veiled_effect (unless_denied (other_own own expected) (option_or (refusal_of own.stage own.sid reading) d)
+    (accepted_effect (other_hub hub accounts) (other_own own expected) (other_line line password) now reading request)))
     (request-denied-alike hub accounts own expected line password now reading request alike
-    (λ asks. right (subst (Asked own.stage) asks (asked own.stage reading.kind reading.command))))
-heard-alike hub accounts own expected line password now (Err fault) alike right = ap veiled (denial-alike own expected denials.Protocol)
+    (λ asks. right (subst (Asked own.stage) asks (request-asks own.stage reading.kind reading.command))))
+heard-alike hub accounts own expected line password now (Err fault) alike right = ap veiled_effect (denial-alike own expected denials.Protocol)
 
 abbrev unless_over : Bool → Bool → Effect → Effect
 unless_over over empty effect = if over then nothing else if empty then nothing else effect
 
-over-alike : (over empty : Bool) (x y : Effect) → veiled x ≡ veiled y → veiled (unless_over over empty x) ≡ veiled (unless_over over empty y)
+over-alike : (over empty : Bool) (x y : Effect) → veiled_effect x ≡ veiled_effect y → veiled_effect (unless_over over empty x) ≡ veiled_effect (unless_over over empty y)
 over-alike true empty x y alike = refl
 over-alike false true x y alike = refl
 over-alike false false x y alike = alike
 
 pub same-line-alike : (hub : Sight) (accounts : List Account) (own : Own) (expected : List ℕ) (line : PreparedLine) (password : Option (List ℕ)) (now : ℕ)
     → AreAlike hub.setup.accounts accounts → (own.stage ≡ stages.Verify → is_right own.expected (lines.reading line.bytes) ≡ is_right expected (lines.reading line.bytes))
-    → veiled (line_effect hub own line now) ≡ veiled (line_effect (other_hub hub accounts) (other_own own expected) (other_line line password) now)
+    → veiled_effect (line_effect hub own line now) ≡ veiled_effect (line_effect (other_hub hub accounts) (other_own own expected) (other_line line password) now)
 unfolding line_effect
 same-line-alike hub accounts own expected line password now alike right =
     over-alike (is_over own.stage) (length line.bytes == 0) _ _ (heard-alike hub accounts own expected line password now (lines.reading line.bytes) alike right)
@@ -346,20 +329,20 @@ not-empty (b ∷ bytes) is = more-than-none (length bytes)
 abbrev skeleton : Kind → List ℕ → Option ℕ → Reading
 skeleton kind command from = record { text = []; kind = kind; command = command; from = from; target = None; features = None; params = [] }
 
-refused-as : (stage : Stage) (sid : ℕ) (reading : Reading) → refused stage sid reading ≡ refused stage sid (skeleton reading.kind reading.command reading.from)
-unfolding refused
+refused-as : (stage : Stage) (sid : ℕ) (reading : Reading) → refusal_of stage sid reading ≡ refusal_of stage sid (skeleton reading.kind reading.command reading.from)
+unfolding request_at
 refused-as stage sid reading = refl
 
-pass-refused : (stage : Stage) (sid : ℕ) (reading : Reading) → IsPass reading → refused stage sid reading ≡ refused stage sid (skeleton kinds.Hub (codes "PAS") None)
+pass-refused : (stage : Stage) (sid : ℕ) (reading : Reading) → IsPass reading → refusal_of stage sid reading ≡ refusal_of stage sid (skeleton kinds.Hub (codes "PAS") None)
 pass-refused stage sid reading pass =
     refused-as stage sid reading
-    ∙ ap₂ (λ kind command. refused stage sid (skeleton kind command reading.from)) pass.kind pass.command
-    ∙ ap (λ from. refused stage sid (skeleton kinds.Hub (codes "PAS") from)) pass.from
+    ∙ ap₂ (λ kind command. refusal_of stage sid (skeleton kind command reading.from)) pass.kind pass.command
+    ∙ ap (λ from. refusal_of stage sid (skeleton kinds.Hub (codes "PAS") from)) pass.from
 
 -- a password is asked for, or nothing
 pass-request : (stage : Stage) → (request_of stage kinds.Hub (codes "PAS") ≡ requests.Nothing)
     ⊎ ((request_of stage kinds.Hub (codes "PAS") ≡ requests.Password) × (stage ≡ stages.Verify))
-unfolding request_of
+unfolding request_at
 pass-request stages.Verify = inr (refl, refl)
 pass-request _ = inl refl
 
@@ -369,50 +352,50 @@ pass-asks stage reading pass = ap₂ (request_of stage) pass.kind pass.command
 -- what comes of a message that no rule for every line refuses
 abbrev outcome : Sight → Own → PreparedLine → ℕ → Reading → Option Deny → Request → Effect
 outcome hub own line now reading refusal request =
-    unless_denied own (or_else refusal (request_denied hub own line now reading request)) (accepted hub own line now reading request)
+    unless_denied own (option_or refusal (request_denied hub own line now reading request)) (accepted_effect hub own line now reading request)
 
 outcome-alike : (hub : Sight) (accounts : List Account) (own : Own) (expected : List ℕ) (line another : PreparedLine) (now : ℕ) (reading others : Reading) (refusal : Option Deny)
     (request : Request) → AreAlike hub.setup.accounts accounts → (request ≡ requests.Nothing) ⊎ ((request ≡ requests.Password) × (own.stage ≡ stages.Verify))
     → (own.stage ≡ stages.Verify → is_digest own.expected (digest_given reading.params) ≡ is_digest expected (digest_given others.params))
-    → veiled (outcome hub own line now reading refusal request) ≡ veiled (outcome (other_hub hub accounts) (other_own own expected) another now others refusal request)
-unfolding accepted request_denied
+    → veiled_effect (outcome hub own line now reading refusal request) ≡ veiled_effect (outcome (other_hub hub accounts) (other_own own expected) another now others refusal request)
+unfolding accepted_effect request_denied
 outcome-alike hub accounts own expected line another now reading others refusal request alike (inl is) right =
-    ap (λ (r : Request). veiled (outcome hub own line now reading refusal r)) is
-    ∙ unless-alike own expected (or_else refusal None) nothing nothing refl
-    ∙ ap (λ (r : Request). veiled (outcome (other_hub hub accounts) (other_own own expected) another now others refusal r)) (sym is)
+    ap (λ (r : Request). veiled_effect (outcome hub own line now reading refusal r)) is
+    ∙ unless-alike own expected (option_or refusal None) nothing nothing refl
+    ∙ ap (λ (r : Request). veiled_effect (outcome (other_hub hub accounts) (other_own own expected) another now others refusal r)) (sym is)
 outcome-alike hub accounts own expected line another now reading others refusal request alike (inr asks) right =
-    ap (λ (r : Request). veiled (outcome hub own line now reading refusal r)) asks.0
-    ∙ ap (λ d. veiled (unless_denied own (or_else refusal d) (enters hub own (listed own.sid own.fields) (Sender senders.Enters))))
+    ap (λ (r : Request). veiled_effect (outcome hub own line now reading refusal r)) asks.0
+    ∙ ap (λ d. veiled_effect (unless_denied own (option_or refusal d) (enters hub own (listed_user own.sid own.fields) (Sender senders.Enters))))
     (password-alike hub accounts own expected now reading.params others.params (right asks.1))
-    ∙ unless-alike own expected _ _ _ (enters-alike hub accounts own expected (listed own.sid own.fields) (Sender senders.Enters) alike)
-    ∙ ap (λ (r : Request). veiled (outcome (other_hub hub accounts) (other_own own expected) another now others refusal r)) (sym asks.0)
+    ∙ unless-alike own expected _ _ _ (enters-alike hub accounts own expected (listed_user own.sid own.fields) (Sender senders.Enters) alike)
+    ∙ ap (λ (r : Request). veiled_effect (outcome (other_hub hub accounts) (other_own own expected) another now others refusal r)) (sym asks.0)
 
 heard-pass : (hub : Sight) (own : Own) (line : PreparedLine) (now : ℕ) (reading : Reading) → IsPass reading
-    → heard hub own line now (Ok reading)
-    ≡ outcome hub own line now reading (refused own.stage own.sid (skeleton kinds.Hub (codes "PAS") None)) (request_of own.stage kinds.Hub (codes "PAS"))
+    → effect_of_reading hub own line now (Ok reading)
+    ≡ outcome hub own line now reading (refusal_of own.stage own.sid (skeleton kinds.Hub (codes "PAS") None)) (request_of own.stage kinds.Hub (codes "PAS"))
 heard-pass hub own line now reading pass =
     ap₂ (outcome hub own line now reading) (pass-refused own.stage own.sid reading pass) (pass-asks own.stage reading pass)
 
 heard-passwords : (hub : Sight) (accounts : List Account) (own : Own) (expected : List ℕ) (line another : PreparedLine) (now : ℕ) (reading others : Reading)
     → AreAlike hub.setup.accounts accounts → IsPass reading → IsPass others
     → (own.stage ≡ stages.Verify → is_digest own.expected (digest_given reading.params) ≡ is_digest expected (digest_given others.params))
-    → veiled (heard hub own line now (Ok reading)) ≡ veiled (heard (other_hub hub accounts) (other_own own expected) another now (Ok others))
+    → veiled_effect (effect_of_reading hub own line now (Ok reading)) ≡ veiled_effect (effect_of_reading (other_hub hub accounts) (other_own own expected) another now (Ok others))
 heard-passwords hub accounts own expected line another now reading others alike first second right =
-    ap veiled (heard-pass hub own line now reading first)
+    ap veiled_effect (heard-pass hub own line now reading first)
     ∙ outcome-alike hub accounts own expected line another now reading others _ _ alike (pass-request own.stage) right
-    ∙ ap veiled (sym (heard-pass (other_hub hub accounts) (other_own own expected) another now others second))
+    ∙ ap veiled_effect (sym (heard-pass (other_hub hub accounts) (other_own own expected) another now others second))
 
 pub passwords-alike : (hub : Sight) (accounts : List Account) (own : Own) (expected : List ℕ) (line another : PreparedLine) (now : ℕ)
     → AreAlike hub.setup.accounts accounts → is_password (lines.reading line.bytes) ≡ true → is_password (lines.reading another.bytes) ≡ true
     → (own.stage ≡ stages.Verify → is_right own.expected (lines.reading line.bytes) ≡ is_right expected (lines.reading another.bytes))
-    → veiled (line_effect hub own line now) ≡ veiled (line_effect (other_hub hub accounts) (other_own own expected) another now)
+    → veiled_effect (line_effect hub own line now) ≡ veiled_effect (line_effect (other_hub hub accounts) (other_own own expected) another now)
 unfolding line_effect
 passwords-alike hub accounts own expected line another now alike first second right =
     let one = is-pass line.bytes (lines.reading line.bytes) refl first in
     let two = is-pass another.bytes (lines.reading another.bytes) refl second in
-    ap₂ (λ b (r : Result Reading LineFault). veiled (unless_over (is_over own.stage) b (heard hub own line now r))) (not-empty line.bytes first) one.1
+    ap₂ (λ b (r : Result Reading LineFault). veiled_effect (unless_over (is_over own.stage) b (effect_of_reading hub own line now r))) (not-empty line.bytes first) one.1
     ∙ over-alike (is_over own.stage) false _ _
     (heard-passwords hub accounts own expected line another now one.0 two.0 alike one.2 two.2
     (λ waits. sym (ap (is_right own.expected) one.1) ∙ right waits ∙ ap (is_right expected) two.1))
-    ∙ sym (ap₂ (λ b (r : Result Reading LineFault). veiled (unless_over (is_over own.stage) b (heard (other_hub hub accounts) (other_own own expected) another now r)))
+    ∙ sym (ap₂ (λ b (r : Result Reading LineFault). veiled_effect (unless_over (is_over own.stage) b (effect_of_reading (other_hub hub accounts) (other_own own expected) another now r)))
     (not-empty another.bytes second) two.1)

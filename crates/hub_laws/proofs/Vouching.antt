@@ -1,11 +1,12 @@
 -- After every history, whoever is present under the nick of an account gave its password, and whoever waits is waited for with its digest.
-use Rattle.std.proofs.Common.{◌≡◌, ◌∙◌, sym, ap, ap₂, refl, subst, ℕ, Bool, true, false, not, ◌&&◌, ◌⊎◌, inl, inr, ◌==◌, List, [], ◌∷◌, ◌++◌, Option, Some, None, is_some, Ok, unwrap_or}
-use Rattle.std.specs.Prelude.{codes, if◌then◌else◌}
+use Rattle.std.specs.Result.{result_ok, result_unwrap_or}
+use Rattle.std.proofs.Common.{◌≡◌, ◌∙◌, sym, ap, ap₂, refl, subst, ℕ, Bool, true, false, not, ◌&&◌, ◌⊎◌, inl, inr, ◌==◌, List, [], ◌∷◌, ◌++◌, Option, Some, None, is_some, Ok, Err, unwrap_or}
+use Rattle.std.specs.Prelude.{codes, if◌then◌else◌, cond}
 use Rattle.std.specs.Str.{bytes_eq}
 use Rattle.std.proofs.lemmas.Bool.{false≢true, eqb-true}
 use Rattle.std.proofs.lemmas.Slice.Eq.{bytes_eq-Decides}
-use Rattle.adc_line.specs.declared.kind.Kind.{Kind}
-use Rattle.adc_line.specs.declared.kind.Kind.TheVariants as kinds
+use Rattle.adc_line.specs.declared.header.Kind.{Kind}
+use Rattle.adc_line.specs.declared.header.Kind.TheVariants as kinds
 use Rattle.adc_line.specs.Lines as lines
 use Rattle.adc_line.specs.Lines.{Reading}
 use Rattle.inf_fields.specs.Field.{Field}
@@ -19,15 +20,17 @@ use Rattle.hub_rules.specs.declared.effect.SenderChange.TheVariants as senders
 use Rattle.hub_rules.specs.declared.history.Call.{Call}
 use Rattle.hub_rules.specs.declared.history.Call.TheVariants.{Line}
 use Rattle.hub_rules.specs.declared.history.Entry.{Entry}
-use Rattle.hub_rules.specs.declared.request.Request.TheVariants as requests
+use Rattle.login_state.specs.declared.deny.Deny.{Deny}
+use Rattle.login_state.specs.declared.request.Request.TheVariants as requests
 use Rattle.hub_rules.specs.Accounts.{account_with}
 use Rattle.hub_rules.specs.Configured.{Account, Configured}
 use Rattle.hub_rules.specs.Effects.{departure}
 use Rattle.hub_rules.specs.Facts.{Facts, facts, effect_of_line, own_of, sight_of}
 use Rattle.hub_rules.specs.Identities.{key_in}
-use Rattle.hub_rules.specs.Prepared.{is_broadcast, password_digest, password_of, prepared, update_if, update_in, update_of}
+use Rattle.hub_rules.specs.Prepared.{is_broadcast, password_digest, password_of, prepared_line, update_of}
+use Rattle.login_state.specs.Requests.{request_at}
 use Rattle.hub_rules.specs.Requests.{request_of}
-use Rattle.hub_rules.specs.Shares.{About, chosen, expected_after, fields_after, removed_by, stage_after}
+use Rattle.hub_rules.specs.Shares.{About, expected_after, fields_after, removed_by, stage_after}
 use Rattle.hub_rules.specs.Said.{accepted_line}
 use Rattle.hub_rules.specs.Sights.{PreparedLine}
 use Rattle.hub_laws.specs.Registered.{HasGiven, NicksAreProved, OnlyAccountsEnter}
@@ -92,41 +95,47 @@ vouched-joined setup hash h c fields expected challenge = vouched-away setup has
 
 -- ---- the line by which a user logs in, or gives its password
 
-login-if : (b : Bool) → (if b then requests.Login else requests.Nothing) ≡ requests.Login → b ≡ true
-login-if true is = refl
-login-if false is = let none : ⊥ = cc is in absurd none
+status-asks : (b : Bool) (deny : Deny) → result_unwrap_or (if b then Ok requests.Nothing else Err deny) requests.Nothing ≡ requests.Nothing
+status-asks true deny = refl
+status-asks false deny = refl
 
-password-if : (b : Bool) → (if b then requests.Password else requests.Nothing) ≡ requests.Password → b ≡ true
-password-if true is = refl
-password-if false is = let none : ⊥ = cc is in absurd none
+login-if : (b : Bool) (deny : Deny) → result_unwrap_or (if b then Ok requests.Login else Err deny) requests.Nothing ≡ requests.Login → b ≡ true
+login-if true deny is = refl
+login-if false deny is = let none : ⊥ = cc is in absurd none
+
+password-if : (b is_status : Bool) (deny : Deny)
+    → result_unwrap_or (if b then Ok requests.Password else (if is_status then Ok requests.Nothing else Err deny)) requests.Nothing ≡ requests.Password → b ≡ true
+password-if true is_status deny is = refl
+password-if false is_status deny is = let none : ⊥ = cc (sym (status-asks is_status deny) ∙ is) in absurd none
 
 is-inf : (kind : Kind) (command : List ℕ) → request_of stages.Identify kind command ≡ requests.Login → (is_broadcast kind && bytes_eq command (codes "INF")) ≡ true
-unfolding request_of
-is-inf kinds.Broadcast command is = login-if (bytes_eq command (codes "INF")) is
+unfolding request_at
+is-inf kinds.Broadcast command is = login-if (bytes_eq command (codes "INF")) _ is
+is-inf kinds.Hub command is = let none : ⊥ = cc (sym (status-asks (bytes_eq command (codes "STA")) _) ∙ is) in absurd none
 is-inf _ command is = let none : ⊥ = cc is in absurd none
 
 is-pas : (kind : Kind) (command : List ℕ) → request_of stages.Verify kind command ≡ requests.Password → (kind ≡ kinds.Hub) × (command ≡ codes "PAS")
-unfolding request_of
-is-pas kinds.Hub command is = (refl, (bytes_eq-Decides command (codes "PAS")).0 (password-if (bytes_eq command (codes "PAS")) is))
+unfolding request_at
+is-pas kinds.Hub command is = (refl, (bytes_eq-Decides command (codes "PAS")).0 (password-if (bytes_eq command (codes "PAS")) (bytes_eq command (codes "STA")) _ is))
 is-pas _ command is = let none : ⊥ = cc is in absurd none
 
-prepared-bytes : (setup : Configured) (hash : List ℕ → List ℕ) (challenge bytes : List ℕ) → (prepared setup hash challenge bytes).bytes ≡ bytes
-unfolding prepared
+prepared-bytes : (setup : Configured) (hash : List ℕ → List ℕ) (challenge bytes : List ℕ) → (prepared_line setup hash challenge bytes).bytes ≡ bytes
+unfolding prepared_line
 prepared-bytes setup hash challenge bytes = refl
 
 prepared-password : (setup : Configured) (hash : List ℕ → List ℕ) (challenge bytes : List ℕ)
-    → (prepared setup hash challenge bytes).password ≡ password_digest setup hash challenge (update_of (lines.reading bytes))
-unfolding prepared
+    → (prepared_line setup hash challenge bytes).password ≡ password_digest setup hash challenge (update_of (lines.reading bytes))
+unfolding prepared_line
 prepared-password setup hash challenge bytes = refl
 
 -- what was prepared of a login is the digest of the password of the account that its nick names
 login-password : (setup : Configured) (hash : List ℕ → List ℕ) (challenge bytes : List ℕ) (reading : Reading) (u : List Field) → lines.reading bytes ≡ Ok reading
     → request_of stages.Identify reading.kind reading.command ≡ requests.Login → updates.reading reading.params ≡ Ok u
-    → (prepared setup hash challenge bytes).password ≡ password_of hash challenge (account_with (key_in u) setup.accounts)
+    → (prepared_line setup hash challenge bytes).password ≡ password_of hash challenge (account_with (key_in u) setup.accounts)
 login-password setup hash challenge bytes reading u is asks words =
     prepared-password setup hash challenge bytes
     ∙ ap (password_digest setup hash challenge)
-    (ap update_of is ∙ ap (λ b. update_if b reading.params) (is-inf reading.kind reading.command asks) ∙ ap update_in words)
+    (ap update_of is ∙ ap (λ b. cond b (result_ok (updates.reading reading.params)) None) (is-inf reading.kind reading.command asks) ∙ ap result_ok words)
 
 found-password : (hash : List ℕ → List ℕ) (challenge : List ℕ) (account : Option Account) → is_some account ≡ true
     → password_of hash challenge account ≡ Some (unwrap_or (password_of hash challenge account) [])
@@ -144,14 +153,14 @@ accounts_of setup fields = account_with (key_in fields) setup.accounts
 
 asked-waits : (setup : Configured) (hash : List ℕ → List ℕ) (f : Facts) (c : ℕ) (bytes : List ℕ) (now : ℕ) (said : Option Reading) (effect : Effect)
     → ((reading : Reading) → said ≡ Some reading → lines.reading bytes ≡ Ok reading) → ((f.about c).stage ≡ stages.Identify → (f.about c).fields ≡ [])
-    → IsAsked (sight_of setup f) (own_of (f.about c)) (prepared setup hash (f.about c).challenge bytes) now said effect
+    → IsAsked (sight_of setup f) (own_of (f.about c)) (prepared_line setup hash (f.about c).challenge bytes) now said effect
     → password_of hash (f.about c).challenge (accounts_of setup (fields_after effect.change (f.about c).fields)) ≡ Some (expected_after effect.change (f.about c).expected)
 asked-waits setup hash f c bytes now said effect reads unnamed asked =
     let a : About = f.about c in
     let logs = asked.logs in
     let key : key_in (fields_after effect.change a.fields) ≡ key_in logs.update =
     ap key_in logs.merges ∙ key-merged a.fields logs.update a.peer (unnamed logs.at) in
-    let password : (prepared setup hash a.challenge bytes).password ≡ password_of hash a.challenge (accounts_of setup (fields_after effect.change a.fields)) =
+    let password : (prepared_line setup hash a.challenge bytes).password ≡ password_of hash a.challenge (accounts_of setup (fields_after effect.change a.fields)) =
     login-password setup hash a.challenge bytes logs.reading logs.update (reads logs.reading logs.is_said)
     (subst (λ stage. request_of stage logs.reading.kind logs.reading.command ≡ requests.Login) logs.at logs.asks) logs.words
     ∙ ap (λ k. password_of hash a.challenge (account_with k setup.accounts)) (sym key) in
@@ -188,7 +197,7 @@ gives-proof setup hash h e c bytes now said fields account call reads gives wait
 waits-after : (setup : Configured) (hash : List ℕ → List ℕ) (f : Facts) (c : ℕ) (bytes : List ℕ) (now : ℕ) (said : Option Reading) (effect : Effect)
     → ((reading : Reading) → said ≡ Some reading → lines.reading bytes ≡ Ok reading) → ((f.about c).stage ≡ stages.Identify → (f.about c).fields ≡ [])
     → ((f.about c).stage ≡ stages.Verify → password_of hash (f.about c).challenge (accounts_of setup (f.about c).fields) ≡ Some (f.about c).expected)
-    → WaitsStill (own_of (f.about c)) effect ⊎ IsAsked (sight_of setup f) (own_of (f.about c)) (prepared setup hash (f.about c).challenge bytes) now said effect
+    → WaitsStill (own_of (f.about c)) effect ⊎ IsAsked (sight_of setup f) (own_of (f.about c)) (prepared_line setup hash (f.about c).challenge bytes) now said effect
     → password_of hash (f.about c).challenge (accounts_of setup (fields_after effect.change (f.about c).fields)) ≡ Some (expected_after effect.change (f.about c).expected)
 waits-after setup hash f c bytes now said effect reads unnamed waits (inl still) =
     ap (λ fs. password_of hash (f.about c).challenge (accounts_of setup fs)) still.fields ∙ waits still.at ∙ ap Some (sym still.expected)
@@ -234,7 +243,7 @@ proved-after setup hash h e c bytes now said effect call reads vouched (inr (inr
 
 change-vouched : (setup : Configured) (hash : List ℕ → List ℕ) (h : List Entry) (e : Entry) (c : ℕ) (bytes : List ℕ) (now : ℕ) (said : Option Reading) (effect : Effect)
     → e.call ≡ Line c bytes now → ((reading : Reading) → said ≡ Some reading → lines.reading bytes ≡ Ok reading)
-    → IsChecked (sight_of setup (facts setup hash h)) (own_of ((facts setup hash h).about c)) (prepared setup hash ((facts setup hash h).about c).challenge bytes) now said effect
+    → IsChecked (sight_of setup (facts setup hash h)) (own_of ((facts setup hash h).about c)) (prepared_line setup hash ((facts setup hash h).about c).challenge bytes) now said effect
     → VouchedBy setup hash h c ((facts setup hash h).about c)
     → IsVouched setup hash (e ∷ h) c (stage_after effect.change ((facts setup hash h).about c).stage) (fields_after effect.change ((facts setup hash h).about c).fields)
     (expected_after effect.change ((facts setup hash h).about c).expected) ((facts setup hash h).about c).challenge
@@ -249,7 +258,7 @@ change-vouched setup hash h e c bytes now said effect call reads checked vouched
 
 vouched-next : (setup : Configured) (hash : List ℕ → List ℕ) (h : List Entry) (e : Entry) (c : ℕ) (removed same : Bool) (change : Change) (a : About) → VouchedBy setup hash h c a
     → (same ≡ true → IsVouched setup hash (e ∷ h) c (stage_after change a.stage) (fields_after change a.fields) (expected_after change a.expected) a.challenge)
-    → IsVouched setup hash (e ∷ h) c (stage_next removed same change a.stage) (chosen same (fields_after change a.fields) a.fields) (chosen same (expected_after change a.expected) a.expected)
+    → IsVouched setup hash (e ∷ h) c (stage_next removed same change a.stage) (cond same (fields_after change a.fields) a.fields) (cond same (expected_after change a.expected) a.expected)
     a.challenge
 vouched-next setup hash h e c true same change a vouched own = vouched-gone setup hash (e ∷ h) c _ _ a.challenge
 vouched-next setup hash h e c false true change a vouched own = own refl
@@ -262,7 +271,7 @@ line-vouched : (setup : Configured) (hash : List ℕ → List ℕ) (h : List Ent
     (expected_after (effect_of_line setup hash (facts setup hash h) c bytes now).change ((facts setup hash h).about c).expected) ((facts setup hash h).about c).challenge
 line-vouched setup hash h e c bytes now call vouched =
     let f : Facts = facts setup hash h in
-    let line : PreparedLine = prepared setup hash (f.about c).challenge bytes in
+    let line : PreparedLine = prepared_line setup hash (f.about c).challenge bytes in
     change-vouched setup hash h e c bytes now (accepted_line (sight_of setup f) (own_of (f.about c)) line now) (effect_of_line setup hash f c bytes now) call
     (λ reading said. ap lines.reading (sym (prepared-bytes setup hash (f.about c).challenge bytes)) ∙ read-accepted (sight_of setup f) (own_of (f.about c)) line now reading said)
     (checked-line (sight_of setup f) (own_of (f.about c)) line now) vouched

@@ -1,5 +1,5 @@
--- What a line owes that brings a user in.
-use Rattle.std.proofs.Common.{◌≡◌, ◌∙◌, sym, ap, ap₂, refl, subst, ℕ, Bool, true, false, ◌&&◌, ◌⊎◌, inl, inr, ◌==◌, List, [], ◌∷◌, ◌++◌, map, Option}
+-- The lines owed by a line that brings a user in.
+use Rattle.std.proofs.Common.{◌≡◌, ◌∙◌, sym, ap, ap₂, refl, subst, ℕ, Bool, true, false, ◌&&◌, ◌⊎◌, inl, inr, ◌==◌, List, [], ◌∷◌, ◌++◌, map, Option, cond}
 use Rattle.std.proofs.lemmas.Bool.{false≢true, eqb-true, eq-eqb}
 use Rattle.adc_line.specs.Lines.{Reading}
 use Rattle.inf_fields.specs.Field.{Field}
@@ -12,14 +12,14 @@ use Rattle.hub_rules.specs.declared.effect.Hearers.{Hearers}
 use Rattle.hub_rules.specs.declared.effect.Hearers.TheVariants.{Others}
 use Rattle.hub_rules.specs.declared.history.Call.TheVariants.{Line}
 use Rattle.hub_rules.specs.declared.history.Entry.{Entry}
-use Rattle.hub_rules.specs.declared.request.Request.{Request}
+use Rattle.login_state.specs.declared.request.Request.{Request}
 use Rattle.hub_rules.specs.Accounts.{account_with}
 use Rattle.hub_rules.specs.Configured.{Configured}
-use Rattle.hub_rules.specs.Effects.{given_if, is_present, line_of}
+use Rattle.hub_rules.specs.Effects.{is_present, line_of}
 use Rattle.hub_rules.specs.Facts.{Facts, facts, about_after, after, effect_of_line, happens, own_of, sight_of, user_of}
-use Rattle.hub_rules.specs.Identities.{key_in, listed}
+use Rattle.hub_rules.specs.Identities.{key_in, listed_user}
 use Rattle.hub_rules.specs.Lagging.{share}
-use Rattle.hub_rules.specs.Shares.{About, chosen, fields_after, hears_those, owes, removed_by, stage_after}
+use Rattle.hub_rules.specs.Shares.{About, fields_after, hears_those, owes, removed_by, stage_after}
 use Rattle.hub_rules.specs.Sights.{Own, PreparedLine, Sight, account_of}
 use Rattle.hub_rules.specs.Texts.{menu_line, user_line}
 use Rattle.hub_laws.specs.Welcoming.{EntrantsAreWelcomed, EntriesAreHeard}
@@ -37,14 +37,14 @@ line_by hub own fields = user_line own.sid fields (account_of hub (key_in fields
 record Welcomes (hub : Sight) (own : Own) (effect : Effect) (fields : List Field) : Type 0 where
   others : effect.others ≡ line_by hub own fields ∷ []
   hearers : effect.hearers ≡ Others
-  welcomes : effect.own ≡ map (line_of hub) hub.users ++ line_by hub own fields ∷ given_if (has_feature ucmd own.features) (map menu_line hub.setup.menu)
+  welcomes : effect.own ≡ map (line_of hub) hub.users ++ line_by hub own fields ∷ cond (has_feature ucmd own.features) (map menu_line hub.setup.menu) []
 
 abbrev IsWelcome : Sight → Own → Effect → Type 0
 IsWelcome hub own effect = stage_after effect.change own.stage ≡ stages.Normal → (own.stage ≡ stages.Normal) ⊎ Welcomes hub own effect (fields_after effect.change own.fields)
 
 module _ {hub : Sight} {own : Own} {line : PreparedLine} {now : ℕ} where
   welcome-outcome : {said : Option Reading} {request : Request} {effect : Effect} → Outcome hub own line now said request effect → IsWelcome hub own effect
-  unfolding listed
+  unfolding listed_user
   welcome-outcome (shuts_out deny) here = absurd (gone-normal here)
   welcome-outcome (greets reading features at applies) here = absurd (identify-normal here)
   welcome-outcome (waits reading u logs account) here = absurd (verify-normal here)
@@ -78,7 +78,7 @@ brings-by setup hash f caller c bytes now absent here =
     let effect : Effect = effect_of_line setup hash f c bytes now in
     let moved = moves-to (removed_by effect (f.about c)) (c == c) effect.change (f.about c).stage stages.Normal gone-normal absent here in
     let fields : (about_after c effect f.about c).fields ≡ fields_after effect.change (f.about c).fields =
-    ap (λ b. chosen b (fields_after effect.change (f.about c).fields) (f.about c).fields) (eq-eqb c c refl) in
+    ap (λ b. cond b (fields_after effect.change (f.about c).fields) (f.about c).fields) (eq-eqb c c refl) in
     record {
       welcomes = subst (Welcomes (sight_of setup f) (own_of (f.about c)) effect) (sym fields)
           (entered (sight_of setup f) (own_of (f.about c)) effect (fields_after effect.change (f.about c).fields) absent
@@ -107,13 +107,13 @@ pub hears-one : (is_caller : Bool) (effect : Effect) (a : About) (line : List �
     → owes is_caller effect a ≡ line ∷ []
 hears-one true effect a line others hearers other here = absurd (false≢true (sym other))
 hears-one false effect a line others hearers other here =
-    ap₂ (λ (hs : Hearers) (ls : List (List ℕ)). given_if (is_present a.stage && hears_those false hs a) ls ++ []) hearers others
-    ∙ ap (λ (s : Stage). given_if (is_present s && true) (line ∷ []) ++ []) here
+    ap₂ (λ (hs : Hearers) (ls : List (List ℕ)). cond (is_present a.stage && hears_those false hs a) ls [] ++ []) hearers others
+    ∙ ap (λ (s : Stage). cond (is_present s && true) (line ∷ []) [] ++ []) here
 
 hears-own : (is_caller : Bool) (effect : Effect) (a : About) → effect.hearers ≡ Others → is_caller ≡ true → owes is_caller effect a ≡ effect.own
 hears-own true effect a hearers is =
-    ap (λ (hs : Hearers). given_if (is_present a.stage && hears_those true hs a) effect.others ++ effect.own) hearers
-    ∙ ap (λ b. given_if b effect.others ++ effect.own) (and-false (is_present a.stage))
+    ap (λ (hs : Hearers). cond (is_present a.stage && hears_those true hs a) effect.others [] ++ effect.own) hearers
+    ∙ ap (λ b. cond b effect.others [] ++ effect.own) (and-false (is_present a.stage))
 hears-own false effect a hearers is = absurd (false≢true is)
 
 pub entries_are_heard : EntriesAreHeard
@@ -128,7 +128,7 @@ entries_are_heard setup hash h e c d absent here there =
 lines-of : (setup : Configured) (f : Facts) (present : List ℕ)
     → map (line_of (sight_of setup f)) (map (user_of f.about) present)
     ≡ map (λ c. user_line (f.about c).sid (f.about c).fields (account_with (key_in (f.about c).fields) setup.accounts)) present
-unfolding listed
+unfolding listed_user
 lines-of setup f [] = refl
 lines-of setup f (c ∷ present) = ap (λ ls. user_line (f.about c).sid (f.about c).fields (account_with (key_in (f.about c).fields) setup.accounts) ∷ ls) (lines-of setup f present)
 
@@ -140,4 +140,4 @@ entrants_are_welcomed setup hash h e c absent here =
     ∙ hears-own (c == c) (effect_of_line setup hash f c by.bytes by.now) (f.about c) by.welcomes.hearers (eq-eqb c c refl)
     ∙ by.welcomes.welcomes
     ∙ ap₂ (λ first s. first ++ user_line s ((facts setup hash (e ∷ h)).about c).fields (account_with (key_in ((facts setup hash (e ∷ h)).about c).fields) setup.accounts)
-    ∷ given_if (has_feature ucmd (f.about c).features) (map menu_line setup.menu)) (lines-of setup f f.present) (sym by.same_sid)
+    ∷ cond (has_feature ucmd (f.about c).features) (map menu_line setup.menu) []) (lines-of setup f f.present) (sym by.same_sid)

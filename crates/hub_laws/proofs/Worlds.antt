@@ -1,10 +1,10 @@
 -- Bans and the topic are as the acts of operators left them.
-use Rattle.std.proofs.Common.{◌≡◌, ◌∙◌, sym, ap, refl, ℕ, Bool, true, false, ◌&&◌, List, [], ◌∷◌, ◌++◌, fold}
+use Rattle.std.proofs.Common.{◌≡◌, ◌∙◌, sym, ap, refl, ℕ, Bool, true, false, ◌&&◌, List, [], ◌∷◌, ◌++◌, fold, cond}
 use Rattle.std.proofs.lemmas.Bool.{false≢true}
 use Rattle.std.proofs.lemmas.List.Sums.{fold-append}
 use Rattle.operator_acts.specs.BanHistory as acts
 use Rattle.operator_acts.specs.BanHistory.{act_on}
-use Rattle.operator_acts.specs.Bans.{left}
+use Rattle.operator_acts.specs.Bans.{left_of_bans}
 use Rattle.operator_acts.specs.declared.ban.Ban.{Ban}
 use Rattle.operator_acts.proofs.LastActs.{left-by_last_act}
 use Rattle.hub_rules.specs.declared.effect.Change.{Change}
@@ -14,8 +14,8 @@ use Rattle.hub_rules.specs.declared.history.Call.{Call}
 use Rattle.hub_rules.specs.declared.history.Call.TheVariants.{Join, Line, Quit, Take}
 use Rattle.hub_rules.specs.declared.history.Entry.{Entry}
 use Rattle.hub_rules.specs.Configured.{Configured}
-use Rattle.hub_rules.specs.Facts.{Facts, facts, after, bans_after, topic_after, joined, closed, happens, has_place, has_joins, effect_of_line}
-use Rattle.hub_rules.specs.Shares.{chosen, is_removed}
+use Rattle.hub_rules.specs.Facts.{Facts, facts, after, bans_after, topic_after, with_connection, without_connection, happens, has_place, has_joins, effect_of_line}
+use Rattle.hub_rules.specs.Shares.{is_removed}
 use Rattle.hub_rules.specs.World.{BanIsTheLastAct, TopicIsTheLast, ban_act_of, ban_acts, change_of, first_or, topic_act_of, topic_acts}
 
 -- an operator's act
@@ -44,19 +44,19 @@ one-topic : (change : Change) (topics : List (List ℕ)) (otherwise : List ℕ) 
 one-topic (Hub (shared.Topic text)) topics otherwise = refl
 one-topic change topics otherwise = refl
 
-pub join-bans : (f : Facts) (owner : ℕ) (peer challenge : List ℕ) (accepted : Bool) → (chosen accepted (joined f owner peer challenge) f).bans ≡ f.bans
-unfolding joined
+pub join-bans : (f : Facts) (owner : ℕ) (peer challenge : List ℕ) (accepted : Bool) → (cond accepted (with_connection f owner peer challenge) f).bans ≡ f.bans
+unfolding with_connection
 join-bans f owner peer challenge true = refl
 join-bans f owner peer challenge false = refl
 
-join-topic : (f : Facts) (owner : ℕ) (peer challenge : List ℕ) (accepted : Bool) → (chosen accepted (joined f owner peer challenge) f).topic ≡ f.topic
-unfolding joined
+join-topic : (f : Facts) (owner : ℕ) (peer challenge : List ℕ) (accepted : Bool) → (cond accepted (with_connection f owner peer challenge) f).topic ≡ f.topic
+unfolding with_connection
 join-topic f owner peer challenge true = refl
 join-topic f owner peer challenge false = refl
 
 pub step-bans : (setup : Configured) (hash : List ℕ → List ℕ) (f : Facts) (caller : ℕ) (call : Call)
     → (after setup hash f caller call).bans ≡ fold act_on f.bans (ban_act_of (change_of setup hash f call))
-unfolding after happens closed
+unfolding after happens without_connection
 step-bans setup hash f caller (Join peer challenge now) = join-bans f caller peer challenge (has_place setup f && has_joins f)
 step-bans setup hash f caller (Line c bytes now) = one-act (effect_of_line setup hash f c bytes now).change f.bans
 step-bans setup hash f caller (Quit c) = refl
@@ -64,7 +64,7 @@ step-bans setup hash f caller (Take c count) = refl
 
 pub step-topic : (setup : Configured) (hash : List ℕ → List ℕ) (f : Facts) (caller : ℕ) (call : Call)
     → (after setup hash f caller call).topic ≡ topic_after (change_of setup hash f call) f.topic
-unfolding after happens closed
+unfolding after happens without_connection
 step-topic setup hash f caller (Join peer challenge now) = join-topic f caller peer challenge (has_place setup f && has_joins f)
 step-topic setup hash f caller _ = refl
 
@@ -78,7 +78,7 @@ bans_are setup hash (e ∷ h) =
 
 pub ban_is_the_last_act : BanIsTheLastAct
 ban_is_the_last_act setup hash h cid now =
-    ap (λ (bans : List (List ℕ × Ban)). left bans cid now) (bans_are setup hash h) ∙ left-by_last_act (ban_acts setup hash h) cid now
+    ap (λ (bans : List (List ℕ × Ban)). left_of_bans bans cid now) (bans_are setup hash h) ∙ left-by_last_act (ban_acts setup hash h) cid now
 
 pub topic_is_the_last : TopicIsTheLast
 unfolding facts topic_acts

@@ -1,27 +1,18 @@
 -- Conversations with a plain hub, line by line, and what each of them comes to, byte for byte.
-use Rattle.std.specs.Prelude.{◌≡◌, ℕ, false, List, [], ◌∷◌, ◌++◌, codes}
+use Rattle.std.specs.Prelude.{◌≡◌, ℕ, List, [], ◌∷◌, ◌++◌, codes}
 use Rattle.login_state.specs.declared.stage.Stage.TheVariants as stages
 use Rattle.hub_rules.specs.declared.history.Call.TheVariants.{Join, Line}
 use Rattle.hub_rules.specs.declared.history.Entry.{Entry}
 use Rattle.hub_rules.specs.declared.history.Reply.TheVariants.{Joined, Said}
 use Rattle.hub_rules.specs.declared.history.Verdict.TheVariants.{Ended, Kept}
-use Rattle.hub_rules.specs.Configured.{Configured}
-use Rattle.hub_rules.specs.History.{owed, present, stage}
+use Rattle.hub_rules.specs.Configured.{Configured, plain_hub}
+use Rattle.hub_rules.specs.History.{lines_owed, present, stage}
 use Rattle.hub_rules.specs.Legal.{Legal}
-use Rattle.hub_rules.specs.Texts.{ended}
+use Rattle.hub_rules.specs.Texts.{with_line_feed}
 
 -- a hub without accounts, menu and topic
 abbrev pub plain : Configured
-plain = record {
-  name = codes "Hub";
-  topic = [];
-  accounts = [];
-  menu = [];
-  registered_only = false;
-  search_interval = 0;
-  max_users = 512;
-  opening = 0;
-}
+plain = plain_hub (codes "Hub")
 
 -- 127.0.0.1
 abbrev pub peer : List ℕ
@@ -46,11 +37,11 @@ one_asked = record { caller = 1; call = Line 1 sup_text 0; reply = Said Kept } �
 
 abbrev pub greeting_of : List ℕ → List (List ℕ)
 greeting_of sid =
-    ended (codes "ISUP ADBASE ADTIGR ADPING ADUCMD") ∷ ended (codes "ISID " ++ sid) ∷ ended (codes "IINF CT32 NIHub VEadc-hub\\s1.0") ∷ []
+    with_line_feed (codes "ISUP ADBASE ADTIGR ADPING ADUCMD") ∷ with_line_feed (codes "ISID " ++ sid) ∷ with_line_feed (codes "IINF CT32 NIHub VEadc-hub\\s1.0") ∷ []
 
 -- a client that says what it supports gets three lines
 abbrev pub ThreeAnswers : Type 0
-ThreeAnswers = (hash : List ℕ → List ℕ) → Legal plain hash one_asked × (owed plain hash one_asked 1 ≡ greeting_of (codes "AAAB"))
+ThreeAnswers = (hash : List ℕ → List ℕ) → Legal plain hash one_asked × (lines_owed plain hash one_asked 1 ≡ greeting_of (codes "AAAB"))
 
 -- ---- a fatal denial
 
@@ -65,7 +56,7 @@ abbrev pub DeniedAndOut : Type 0
 DeniedAndOut =
     (hash : List ℕ → List ℕ)
     → Legal plain hash one_denied
-    × (owed plain hash one_denied 1 ≡ ended (codes "ISTA 245 Feature\\smissing FCBASE") ∷ [])
+    × (lines_owed plain hash one_denied 1 ≡ with_line_feed (codes "ISTA 245 Feature\\smissing FCBASE") ∷ [])
     × (stage plain hash one_denied 1 ≡ stages.Gone)
 
 -- ---- a login
@@ -81,14 +72,14 @@ abbrev pub ana_entered : List Entry
 ana_entered = record { caller = 1; call = Line 1 ana_text 0; reply = Said Kept } ∷ one_asked
 
 abbrev pub ana_told : List ℕ
-ana_told = ended (codes "BINF AAAB IDAAAAAAAAAAAAAAAAAAAAAAAAAAAAAAAAAAAAAAA NIana")
+ana_told = with_line_feed (codes "BINF AAAB IDAAAAAAAAAAAAAAAAAAAAAAAAAAAAAAAAAAAAAAA NIana")
 
 -- a user that logs in hears of itself, and is present
 abbrev pub LoginIsHeard : Type 0
 LoginIsHeard =
     (hash : List ℕ → List ℕ) → hash zeros ≡ zeros
     → Legal plain hash ana_entered
-    × (owed plain hash ana_entered 1 ≡ greeting_of (codes "AAAB") ++ ana_told ∷ [])
+    × (lines_owed plain hash ana_entered 1 ≡ greeting_of (codes "AAAB") ++ ana_told ∷ [])
     × (present plain hash ana_entered ≡ 1 ∷ [])
 
 -- ---- a second user
@@ -112,15 +103,15 @@ abbrev pub bob_entered : List Entry
 bob_entered = record { caller = 2; call = Line 2 bob_text 0; reply = Said Kept } ∷ two_asked
 
 abbrev pub bob_told : List ℕ
-bob_told = ended (codes "BINF AAAC IDAAAAAAAAAAAAAAAAAAAAAAAAAAAAAAAAAAAAAAI NIbob")
+bob_told = with_line_feed (codes "BINF AAAC IDAAAAAAAAAAAAAAAAAAAAAAAAAAAAAAAAAAAAAAI NIbob")
 
 -- the second hears of the first and of itself, and the first of the second
 abbrev pub BothAreHeard : Type 0
 BothAreHeard =
     (hash : List ℕ → List ℕ) → hash zeros ≡ zeros → hash one ≡ one
     → Legal plain hash bob_entered
-    × (owed plain hash bob_entered 2 ≡ greeting_of (codes "AAAC") ++ ana_told ∷ bob_told ∷ [])
-    × (owed plain hash bob_entered 1 ≡ greeting_of (codes "AAAB") ++ ana_told ∷ bob_told ∷ [])
+    × (lines_owed plain hash bob_entered 2 ≡ greeting_of (codes "AAAC") ++ ana_told ∷ bob_told ∷ [])
+    × (lines_owed plain hash bob_entered 1 ≡ greeting_of (codes "AAAB") ++ ana_told ∷ bob_told ∷ [])
 
 -- ---- chat
 
@@ -135,5 +126,5 @@ abbrev pub ChatIsHeard : Type 0
 ChatIsHeard =
     (hash : List ℕ → List ℕ) → hash zeros ≡ zeros → hash one ≡ one
     → Legal plain hash said_hi
-    × (owed plain hash said_hi 1 ≡ greeting_of (codes "AAAB") ++ ana_told ∷ bob_told ∷ ended (codes "BMSG AAAC hi") ∷ [])
-    × (owed plain hash said_hi 2 ≡ greeting_of (codes "AAAC") ++ ana_told ∷ bob_told ∷ ended (codes "BMSG AAAC hi") ∷ [])
+    × (lines_owed plain hash said_hi 1 ≡ greeting_of (codes "AAAB") ++ ana_told ∷ bob_told ∷ with_line_feed (codes "BMSG AAAC hi") ∷ [])
+    × (lines_owed plain hash said_hi 2 ≡ greeting_of (codes "AAAC") ++ ana_told ∷ bob_told ∷ with_line_feed (codes "BMSG AAAC hi") ∷ [])

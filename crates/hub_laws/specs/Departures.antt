@@ -3,9 +3,9 @@ use Rattle.std.specs.Prelude.{◌≡◌, ℕ, List, [], ◌∷◌, ◌++◌, cod
 use Rattle.login_state.specs.declared.stage.Stage.TheVariants as stages
 use Rattle.hub_rules.specs.declared.history.Entry.{Entry}
 use Rattle.hub_rules.specs.declared.history.Verdict.TheVariants.{Ended}
-use Rattle.hub_rules.specs.History.{opened, owed, present, stage}
+use Rattle.hub_rules.specs.History.{open_connections, lines_owed, present, stage}
 use Rattle.hub_rules.specs.Legal.{Legal}
-use Rattle.hub_rules.specs.Texts.{ended}
+use Rattle.hub_rules.specs.Texts.{with_line_feed}
 use Rattle.hub_laws.specs.Conversations.{one, plain, zeros}
 use Rattle.hub_laws.specs.Messages.{cy_entered, three_told}
 use Rattle.hub_laws.specs.Talking.{quits, says}
@@ -22,19 +22,19 @@ abbrev pub ana_left : List Entry
 ana_left = quits 1 ana_lied
 
 abbrev pub cy_gone : List ℕ
-cy_gone = ended (codes "IQUI AAAD")
+cy_gone = with_line_feed (codes "IQUI AAAD")
 
 abbrev pub ana_gone : List ℕ
-ana_gone = ended (codes "IQUI AAAB")
+ana_gone = with_line_feed (codes "IQUI AAAB")
 
 -- those who are present hear of each who leaves, once; who speaks in another's name is told so, shut out, and not heard
 abbrev pub DeparturesAreHeard : Type 0
 DeparturesAreHeard =
     (hash : List ℕ → List ℕ) → hash zeros ≡ zeros → hash one ≡ one → hash two ≡ two
     → Legal plain hash ana_left
-    × (owed plain hash ana_left 1 ≡ three_told (codes "AAAB") ++ cy_gone ∷ ended (codes "ISTA 240 Wrong\\sSID") ∷ [])
-    × (owed plain hash ana_left 2 ≡ three_told (codes "AAAC") ++ cy_gone ∷ ana_gone ∷ [])
-    × (owed plain hash ana_left 3 ≡ three_told (codes "AAAD"))
+    × (lines_owed plain hash ana_left 1 ≡ three_told (codes "AAAB") ++ cy_gone ∷ with_line_feed (codes "ISTA 240 Wrong\\sSID") ∷ [])
+    × (lines_owed plain hash ana_left 2 ≡ three_told (codes "AAAC") ++ cy_gone ∷ ana_gone ∷ [])
+    × (lines_owed plain hash ana_left 3 ≡ three_told (codes "AAAD"))
     × (stage plain hash ana_lied 1 ≡ stages.Gone)
     × (present plain hash ana_lied ≡ 2 ∷ [])
-    × (opened plain hash ana_left ≡ 2 ∷ [])
+    × (open_connections plain hash ana_left ≡ 2 ∷ [])

@@ -5,7 +5,7 @@ use Rattle.hub_rules.specs.declared.history.Entry.{Entry}
 use Rattle.hub_rules.specs.declared.history.Reply.TheVariants.{Full}
 use Rattle.hub_rules.specs.declared.history.Verdict.TheVariants.{Kept}
 use Rattle.hub_rules.specs.Configured.{Configured}
-use Rattle.hub_rules.specs.History.{owed, sid}
+use Rattle.hub_rules.specs.History.{lines_owed, sid}
 use Rattle.hub_rules.specs.Legal.{Legal}
 use Rattle.hub_laws.specs.Conversations.{greeting_of, peer, plain, sup_text, zeros}
 use Rattle.hub_laws.specs.Talking.{joins, quits, says}
@@ -25,7 +25,7 @@ let_in = says 3 sup_text 0 Kept (joins 3 0 (quits 1 turned_away))
 
 -- there is room again, and the identifier is the next one, AAAD, though AAAB is free
 abbrev pub NextIsGiven : Type 0
-NextIsGiven = (hash : List ℕ → List ℕ) → Legal for_two hash let_in × (owed for_two hash let_in 3 ≡ greeting_of (codes "AAAD"))
+NextIsGiven = (hash : List ℕ → List ℕ) → Legal for_two hash let_in × (lines_owed for_two hash let_in 3 ≡ greeting_of (codes "AAAD"))
 
 -- ---- round and round
 
@@ -43,4 +43,4 @@ abbrev pub FirstIsGivenAgain : Type 0
 FirstIsGivenAgain =
     (hash : List ℕ → List ℕ)
     → ((n : ℕ) → n < 1_048_575 → sid plain hash (joins (suc n) 0 (come_and_go n)) (suc n) ≡ suc n) × Legal plain hash all_given
-    × (owed plain hash all_given 1_048_576 ≡ greeting_of (codes "AAAB"))
+    × (lines_owed plain hash all_given 1_048_576 ≡ greeting_of (codes "AAAB"))

@@ -1,4 +1,4 @@
--- What a connection joined with stays as it was, and joins are counted by their replies.
+-- A connection keeps what it joined with, and joins are counted by their replies.
 use Rattle.std.specs.Prelude.{◌≡◌, ℕ, ◌+◌, List, [], ◌∷◌, ◌++◌}
 use Rattle.hub_rules.specs.declared.history.Call.{Call}
 use Rattle.hub_rules.specs.declared.history.Call.TheVariants as calls
@@ -27,13 +27,13 @@ JoinsStay =
     → IsAsJoined (facts setup hash earlier) (about setup hash (later ++ e ∷ earlier) c) e.caller e.call
 
 -- how many replies accept a join
-abbrev pub accepted : Reply → ℕ
-accepted (replies.Joined c) = 1
-accepted reply = 0
+abbrev pub joins_accepted : Reply → ℕ
+joins_accepted (replies.Joined c) = 1
+joins_accepted reply = 0
 
 unfoldable pub accepted_in : List Entry → ℕ
 accepted_in [] = 0
-accepted_in (e ∷ h) = accepted_in h + accepted e.reply
+accepted_in (e ∷ h) = accepted_in h + joins_accepted e.reply
 
 -- as many joins were accepted as there are such replies
 abbrev pub JoinsAreCounted : Type 0

@@ -2,9 +2,9 @@
 use Rattle.std.specs.Prelude.{◌≡◌, ℕ, zero, suc, true, false, List, [], ◌∷◌, ◌++◌, codes, replicate}
 use Rattle.hub_rules.specs.declared.history.Entry.{Entry}
 use Rattle.hub_rules.specs.declared.history.Verdict.TheVariants.{Kept}
-use Rattle.hub_rules.specs.History.{lags, owed}
+use Rattle.hub_rules.specs.History.{lags, lines_owed}
 use Rattle.hub_rules.specs.Legal.{Legal}
-use Rattle.hub_rules.specs.Texts.{ended}
+use Rattle.hub_rules.specs.Texts.{with_line_feed}
 use Rattle.hub_laws.specs.Conversations.{greeting_of, one, plain, zeros}
 use Rattle.hub_laws.specs.Messages.{bob_entered}
 use Rattle.hub_laws.specs.Talking.{says, takes}
@@ -22,7 +22,7 @@ abbrev pub ho_text : List ℕ
 ho_text = codes "BMSG AAAC ho"
 
 abbrev pub ho_told : List ℕ
-ho_told = ended ho_text
+ho_told = with_line_feed ho_text
 
 -- so many times bob speaks, and takes what it hears of it
 unfoldable pub chatter : ℕ → List Entry
@@ -45,5 +45,5 @@ WhoTakesNothingLags =
     × (lags plain hash (chatter 1_019) 1 ≡ false)
     × (lags plain hash once_more 1 ≡ true)
     × (lags plain hash once_more 2 ≡ false)
-    × (owed plain hash once_more 1 ≡ two_told (codes "AAAB") ++ replicate 1_019 ho_told)
-    × (owed plain hash once_more 2 ≡ two_told (codes "AAAC") ++ replicate 1_020 ho_told)
+    × (lines_owed plain hash once_more 1 ≡ two_told (codes "AAAB") ++ replicate 1_019 ho_told)
+    × (lines_owed plain hash once_more 2 ≡ two_told (codes "AAAC") ++ replicate 1_020 ho_told)

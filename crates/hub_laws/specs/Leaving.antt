@@ -1,4 +1,4 @@
--- Who is shut out hears nothing more, and stays out; and an operator's kick or ban shuts out whom it names.
+-- A connection that is shut out hears nothing more, and stays out; an operator's kick or ban shuts out the user whom it names.
 use Rattle.std.specs.Prelude.{◌≡◌, ◌⊎◌, ◌≤◌, ℕ, List, [], ◌∷◌, ◌++◌}
 use Rattle.login_state.specs.declared.stage.Stage.TheVariants.{Gone, Normal}
 use Rattle.hub_rules.specs.declared.effect.Banned.{Banned}

@@ -2,9 +2,9 @@
 use Rattle.std.specs.Prelude.{◌≡◌, ℕ, List, [], ◌∷◌, ◌++◌, codes}
 use Rattle.hub_rules.specs.declared.history.Entry.{Entry}
 use Rattle.hub_rules.specs.declared.history.Verdict.TheVariants.{Kept}
-use Rattle.hub_rules.specs.History.{owed}
+use Rattle.hub_rules.specs.History.{lines_owed}
 use Rattle.hub_rules.specs.Legal.{Legal}
-use Rattle.hub_rules.specs.Texts.{ended}
+use Rattle.hub_rules.specs.Texts.{with_line_feed}
 use Rattle.hub_laws.specs.Conversations.{greeting_of, one, plain, sup_text, zeros}
 use Rattle.hub_laws.specs.Talking.{joins, says}
 use Rattle.hub_laws.specs.Visitors.{ana_text, ana_told, bob_text, bob_told, cy_text, cy_told, dan_text, dan_told, three, two}
@@ -51,10 +51,10 @@ abbrev pub MessagesAreForTheirTargets : Type 0
 MessagesAreForTheirTargets =
     (hash : List ℕ → List ℕ) → hash zeros ≡ zeros → hash one ≡ one → hash two ≡ two
     → Legal plain hash messages_sent
-    × (owed plain hash messages_sent 1 ≡ three_told (codes "AAAB") ++ ended (codes "DMSG AAAB AAAB note") ∷ ended (codes "EMSG AAAB AAAC yo")
-    ∷ ended (codes "EMSG AAAB AAAB me") ∷ [])
-    × (owed plain hash messages_sent 2 ≡ three_told (codes "AAAC") ++ ended (codes "DMSG AAAB AAAC hi") ∷ ended (codes "EMSG AAAB AAAC yo") ∷ [])
-    × (owed plain hash messages_sent 3 ≡ three_told (codes "AAAD"))
+    × (lines_owed plain hash messages_sent 1 ≡ three_told (codes "AAAB") ++ with_line_feed (codes "DMSG AAAB AAAB note") ∷ with_line_feed (codes "EMSG AAAB AAAC yo")
+    ∷ with_line_feed (codes "EMSG AAAB AAAB me") ∷ [])
+    × (lines_owed plain hash messages_sent 2 ≡ three_told (codes "AAAC") ++ with_line_feed (codes "DMSG AAAB AAAC hi") ∷ with_line_feed (codes "EMSG AAAB AAAC yo") ∷ [])
+    × (lines_owed plain hash messages_sent 3 ≡ three_told (codes "AAAD"))
 
 -- ---- searches by features: ana has TCP4 and SEGA, bob has TCP4, and cy says nothing of features
 
@@ -70,11 +70,11 @@ abbrev pub SearchesAreByFeatures : Type 0
 SearchesAreByFeatures =
     (hash : List ℕ → List ℕ) → hash zeros ≡ zeros → hash one ≡ one → hash two ≡ two
     → Legal plain hash searches_sent
-    × (owed plain hash searches_sent 1 ≡ three_told (codes "AAAB") ++ ended (codes "FSCH AAAB +TCP4 ANx TO2")
-    ∷ ended (codes "FSCH AAAB +TCP4+SEGA ANx TO3") ∷ [])
-    × (owed plain hash searches_sent 2 ≡ three_told (codes "AAAC") ++ ended (codes "FSCH AAAB +TCP4-SEGA ANx TO1")
-    ∷ ended (codes "FSCH AAAB +TCP4 ANx TO2") ∷ [])
-    × (owed plain hash searches_sent 3 ≡ three_told (codes "AAAD") ++ ended (codes "FSCH AAAB -TCP4 ANx TO4") ∷ [])
+    × (lines_owed plain hash searches_sent 1 ≡ three_told (codes "AAAB") ++ with_line_feed (codes "FSCH AAAB +TCP4 ANx TO2")
+    ∷ with_line_feed (codes "FSCH AAAB +TCP4+SEGA ANx TO3") ∷ [])
+    × (lines_owed plain hash searches_sent 2 ≡ three_told (codes "AAAC") ++ with_line_feed (codes "FSCH AAAB +TCP4-SEGA ANx TO1")
+    ∷ with_line_feed (codes "FSCH AAAB +TCP4 ANx TO2") ∷ [])
+    × (lines_owed plain hash searches_sent 3 ≡ three_told (codes "AAAD") ++ with_line_feed (codes "FSCH AAAB -TCP4 ANx TO4") ∷ [])
 
 -- ---- updates: bob empties its field SU, and cy fills its own
 
@@ -90,11 +90,11 @@ abbrev pub UpdatesChangeWhoHears : Type 0
 UpdatesChangeWhoHears =
     (hash : List ℕ → List ℕ) → hash zeros ≡ zeros → hash one ≡ one → hash two ≡ two
     → Legal plain hash updates_sent
-    × (owed plain hash updates_sent 1 ≡ three_told (codes "AAAB") ++ ended (codes "BINF AAAC SU") ∷ ended (codes "FSCH AAAB +TCP4 ANx TO5")
-    ∷ ended (codes "BINF AAAD SUTCP4") ∷ ended (codes "FSCH AAAB +TCP4 ANx TO6") ∷ [])
-    × (owed plain hash updates_sent 2 ≡ three_told (codes "AAAC") ++ ended (codes "BINF AAAC SU") ∷ ended (codes "BINF AAAD SUTCP4") ∷ [])
-    × (owed plain hash updates_sent 3 ≡ three_told (codes "AAAD") ++ ended (codes "BINF AAAC SU") ∷ ended (codes "BINF AAAD SUTCP4")
-    ∷ ended (codes "FSCH AAAB +TCP4 ANx TO6") ∷ [])
+    × (lines_owed plain hash updates_sent 1 ≡ three_told (codes "AAAB") ++ with_line_feed (codes "BINF AAAC SU") ∷ with_line_feed (codes "FSCH AAAB +TCP4 ANx TO5")
+    ∷ with_line_feed (codes "BINF AAAD SUTCP4") ∷ with_line_feed (codes "FSCH AAAB +TCP4 ANx TO6") ∷ [])
+    × (lines_owed plain hash updates_sent 2 ≡ three_told (codes "AAAC") ++ with_line_feed (codes "BINF AAAC SU") ∷ with_line_feed (codes "BINF AAAD SUTCP4") ∷ [])
+    × (lines_owed plain hash updates_sent 3 ≡ three_told (codes "AAAD") ++ with_line_feed (codes "BINF AAAC SU") ∷ with_line_feed (codes "BINF AAAD SUTCP4")
+    ∷ with_line_feed (codes "FSCH AAAB +TCP4 ANx TO6") ∷ [])
 
 abbrev pub dan_asked : List Entry
 dan_asked = says 4 sup_text 0 Kept (joins 4 0 updates_sent)
@@ -107,6 +107,6 @@ abbrev pub NewcomersHearOfUpdates : Type 0
 NewcomersHearOfUpdates =
     (hash : List ℕ → List ℕ) → hash zeros ≡ zeros → hash one ≡ one → hash two ≡ two → hash three ≡ three
     → Legal plain hash dan_entered
-    × (owed plain hash dan_entered 4 ≡ greeting_of (codes "AAAE") ++ ana_told
-    ∷ ended (codes "BINF AAAC IDAAAAAAAAAAAAAAAAAAAAAAAAAAAAAAAAAAAAAAI NIbob SS5 SF1")
-    ∷ ended (codes "BINF AAAD IDAAAAAAAAAAAAAAAAAAAAAAAAAAAAAAAAAAAAAAQ NIcy SUTCP4") ∷ dan_told ∷ [])
+    × (lines_owed plain hash dan_entered 4 ≡ greeting_of (codes "AAAE") ++ ana_told
+    ∷ with_line_feed (codes "BINF AAAC IDAAAAAAAAAAAAAAAAAAAAAAAAAAAAAAAAAAAAAAI NIbob SS5 SF1")
+    ∷ with_line_feed (codes "BINF AAAD IDAAAAAAAAAAAAAAAAAAAAAAAAAAAAAAAAAAAAAAQ NIcy SUTCP4") ∷ dan_told ∷ [])

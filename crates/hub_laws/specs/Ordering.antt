@@ -1,33 +1,33 @@
 -- Lines of another user come in that user's order, each as often as it was sent to whom it is for, and none that was not sent.
-use Rattle.std.specs.Prelude.{◌≡◌, ℕ, ◌==◌, ◌&&◌, Bool, true, false, List, [], ◌∷◌, ◌++◌, length, drop, Option, Some, None}
+use Rattle.std.specs.Prelude.{◌≡◌, ℕ, ◌==◌, ◌&&◌, Bool, true, false, List, [], ◌∷◌, ◌++◌, length, drop, Option, Some, None, if◌then◌else◌}
 use Rattle.adc_line.specs.Lines.{Reading}
 use Rattle.hub_rules.specs.declared.history.Call.{Call}
 use Rattle.hub_rules.specs.declared.history.Call.TheVariants as calls
 use Rattle.hub_rules.specs.declared.history.Entry.{Entry}
-use Rattle.hub_rules.specs.declared.request.Request.{Request}
-use Rattle.hub_rules.specs.declared.request.Request.TheVariants as requests
+use Rattle.login_state.specs.declared.request.Request.{Request}
+use Rattle.login_state.specs.declared.request.Request.TheVariants as requests
 use Rattle.hub_rules.specs.Configured.{Configured}
-use Rattle.hub_rules.specs.Effects.{given_if, is_present, is_target_here}
+use Rattle.hub_rules.specs.Effects.{is_present, is_target_here}
 use Rattle.hub_rules.specs.Facts.{Facts, facts, sight_of}
-use Rattle.hub_rules.specs.History.{info, lags, owed, sid, stage}
+use Rattle.hub_rules.specs.History.{info, lags, lines_owed, sid, stage}
 use Rattle.hub_rules.specs.Identities.{su_in}
 use Rattle.hub_rules.specs.Lagging.{share}
 use Rattle.hub_rules.specs.Said.{said_in}
 use Rattle.hub_rules.specs.Sights.{Own}
-use Rattle.hub_rules.specs.Texts.{ended}
+use Rattle.hub_rules.specs.Texts.{with_line_feed}
 use Rattle.hub_laws.specs.Routing.{is_for}
 
 -- ---- what each entry adds
 
 -- the lines that an entry adds to those that a connection is owed
-abbrev pub added : Configured → (List ℕ → List ℕ) → List Entry → Entry → ℕ → List (List ℕ)
-added setup hash h e d = drop (length (owed setup hash h d)) (owed setup hash (e ∷ h) d)
+abbrev pub lines_added : Configured → (List ℕ → List ℕ) → List Entry → Entry → ℕ → List (List ℕ)
+lines_added setup hash h e d = drop (length (lines_owed setup hash h d)) (lines_owed setup hash (e ∷ h) d)
 
 -- they come behind all that it was owed before: no line is taken back, changed, or put between others
 abbrev pub OwedGrows : Type 0
 OwedGrows =
     (setup : Configured) (hash : List ℕ → List ℕ) (h : List Entry) (e : Entry) (d : ℕ)
-    → owed setup hash (e ∷ h) d ≡ owed setup hash h d ++ added setup hash h e d
+    → lines_owed setup hash (e ∷ h) d ≡ lines_owed setup hash h d ++ lines_added setup hash h e d
 
 -- these lines are the first of all those, in order
 abbrev pub AreTheFirstOf : List (List ℕ) → List (List ℕ) → Type 0
@@ -44,12 +44,12 @@ is_of c call = false
 -- what the lines and the quit of connection c owe connection d, oldest first
 unfoldable pub owed_by : Configured → (List ℕ → List ℕ) → List Entry → ℕ → ℕ → List (List ℕ)
 owed_by setup hash [] c d = []
-owed_by setup hash (e ∷ h) c d = owed_by setup hash h c d ++ given_if (is_of c e.call) (share setup hash (facts setup hash h) d e.call)
+owed_by setup hash (e ∷ h) c d = owed_by setup hash h c d ++ (if is_of c e.call then share setup hash (facts setup hash h) d e.call else [])
 
 -- what they added to what d is owed
 unfoldable pub heard_of : Configured → (List ℕ → List ℕ) → List Entry → ℕ → ℕ → List (List ℕ)
 heard_of setup hash [] c d = []
-heard_of setup hash (e ∷ h) c d = heard_of setup hash h c d ++ given_if (is_of c e.call) (added setup hash h e d)
+heard_of setup hash (e ∷ h) c d = heard_of setup hash h c d ++ (if is_of c e.call then lines_added setup hash h e d else [])
 
 -- d hears of each other connection what that one's calls owe it, in the order of these calls: all of it, or the first of it where it lags
 abbrev pub CallsKeepTheirOrder : Type 0
@@ -81,18 +81,18 @@ abbrev pub names_present : Configured → (List ℕ → List ℕ) → List Entry
 names_present setup hash h line = is_target_here (sight_of setup (facts setup hash h)) line.target
 
 -- a message of c as connection d is owed it: as it came, where the user of d is present and it is for that user; else not at all
-abbrev pub routed : Configured → (List ℕ → List ℕ) → List Entry → ℕ → ℕ → List Reading → List (List ℕ)
-routed setup hash h c d [] = []
-routed setup hash h c d (line ∷ more) =
-    given_if
-    (is_present (stage setup hash h d)
-    && is_for line.kind line (names_present setup hash h line) (sid setup hash h c) (sid setup hash h d) (su_in (info setup hash h d)))
-    (ended line.text ∷ [])
+abbrev pub lines_routed : Configured → (List ℕ → List ℕ) → List Entry → ℕ → ℕ → List Reading → List (List ℕ)
+lines_routed setup hash h c d [] = []
+lines_routed setup hash h c d (line ∷ more) =
+    (if is_present (stage setup hash h d)
+    && is_for line.kind line (names_present setup hash h line) (sid setup hash h c) (sid setup hash h d) (su_in (info setup hash h d))
+    then with_line_feed line.text ∷ []
+    else [])
 
 -- all messages that c sent, as d is owed them, oldest first
 unfoldable pub messages_for : Configured → (List ℕ → List ℕ) → List Entry → ℕ → ℕ → List (List ℕ)
 messages_for setup hash [] c d = []
-messages_for setup hash (e ∷ h) c d = messages_for setup hash h c d ++ routed setup hash h c d (sent_in setup hash (facts setup hash h) c e.call)
+messages_for setup hash (e ∷ h) c d = messages_for setup hash h c d ++ lines_routed setup hash h c d (sent_in setup hash (facts setup hash h) c e.call)
 
 abbrev pub is_some_message : List Reading → Bool
 is_some_message [] = false
@@ -102,7 +102,7 @@ is_some_message (line ∷ more) = true
 unfoldable pub messages_heard : Configured → (List ℕ → List ℕ) → List Entry → ℕ → ℕ → List (List ℕ)
 messages_heard setup hash [] c d = []
 messages_heard setup hash (e ∷ h) c d =
-    messages_heard setup hash h c d ++ given_if (is_some_message (sent_in setup hash (facts setup hash h) c e.call)) (added setup hash h e d)
+    messages_heard setup hash h c d ++ (if is_some_message (sent_in setup hash (facts setup hash h) c e.call) then lines_added setup hash h e d else [])
 
 -- d hears of the messages of c those that are for it, byte for byte, each once for each time that it was sent, in the order in which they were sent:
 -- all of them, or the first of them where it lags

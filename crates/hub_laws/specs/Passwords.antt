@@ -1,9 +1,9 @@
 -- Lines say nothing of a password but whether it was right: with other passwords in the hub and in the clients' answers, all are owed the same.
-use Rattle.std.specs.Prelude.{◌≡◌, ◌⊎◌, ℕ, ◌==◌, ◌&&◌, Bool, true, false, List, [], ◌∷◌, codes, map, Result, Ok, Err}
+use Rattle.std.specs.Prelude.{◌≡◌, ◌⊎◌, ℕ, ◌==◌, ◌&&◌, Bool, true, false, List, [], ◌∷◌, codes, map, Result, Ok, Err, if◌then◌else◌}
 use Rattle.std.specs.Str.{bytes_eq}
 use Rattle.adc_line.specs.declared.fault.LineFault.{LineFault}
-use Rattle.adc_line.specs.declared.kind.Kind.{Kind}
-use Rattle.adc_line.specs.declared.kind.Kind.TheVariants as kinds
+use Rattle.adc_line.specs.declared.header.Kind.{Kind}
+use Rattle.adc_line.specs.declared.header.Kind.TheVariants as kinds
 use Rattle.adc_line.specs.Lines as lines
 use Rattle.adc_line.specs.Lines.{Reading}
 use Rattle.login_state.specs.declared.stage.Stage.TheVariants.{Verify}
@@ -12,10 +12,9 @@ use Rattle.hub_rules.specs.declared.history.Call.TheVariants.{Line}
 use Rattle.hub_rules.specs.declared.history.Entry.{Entry}
 use Rattle.hub_rules.specs.Configured.{Account, Configured}
 use Rattle.hub_rules.specs.Denied.{digest_given}
-use Rattle.hub_rules.specs.Effects.{given_if}
 use Rattle.hub_rules.specs.Facts.{facts}
 use Rattle.hub_rules.specs.Grounds.{is_digest}
-use Rattle.hub_rules.specs.History.{about, owed, stage}
+use Rattle.hub_rules.specs.History.{about, lines_owed, stage}
 use Rattle.hub_rules.specs.Lagging.{share}
 use Rattle.hub_rules.specs.Texts.{challenge_line}
 
@@ -68,7 +67,7 @@ AreLikeHistories setup other hash (e ∷ h) (x ∷ g) =
 abbrev pub PasswordsAreNotTold : Type 0
 PasswordsAreNotTold =
     (setup other : Configured) (hash : List ℕ → List ℕ) (h g : List Entry) → without_passwords setup ≡ without_passwords other
-    → AreLikeHistories setup other hash h g → (d : ℕ) → owed setup hash h d ≡ owed other hash g d
+    → AreLikeHistories setup other hash h g → (d : ℕ) → lines_owed setup hash h d ≡ lines_owed other hash g d
 
 -- ---- what is told where a password is asked for
 
@@ -77,4 +76,4 @@ abbrev pub ChallengesAreTold : Type 0
 ChallengesAreTold =
     (setup : Configured) (hash : List ℕ → List ℕ) (h : List Entry) (e : Entry) (c d : ℕ) → (stage setup hash h c ≡ Verify → ⊥)
     → stage setup hash (e ∷ h) c ≡ Verify
-    → share setup hash (facts setup hash h) d e.call ≡ given_if (d == c) (challenge_line (about setup hash h c).challenge ∷ [])
+    → share setup hash (facts setup hash h) d e.call ≡ (if d == c then challenge_line (about setup hash h c).challenge ∷ [] else [])

@@ -1,10 +1,10 @@
--- What a client is told that asks about the hub, to the byte.
+-- The answer to a client that asks about the hub, to the byte.
 use Rattle.std.specs.Prelude.{◌≡◌, ℕ, List, [], ◌∷◌, codes}
 use Rattle.hub_rules.specs.declared.history.Entry.{Entry}
 use Rattle.hub_rules.specs.declared.history.Verdict.TheVariants.{Kept}
-use Rattle.hub_rules.specs.History.{owed}
+use Rattle.hub_rules.specs.History.{lines_owed}
 use Rattle.hub_rules.specs.Legal.{Legal}
-use Rattle.hub_rules.specs.Texts.{ended}
+use Rattle.hub_rules.specs.Texts.{with_line_feed}
 use Rattle.hub_laws.specs.Conversations.{plain, zeros}
 use Rattle.hub_laws.specs.Messages.{ana_entered}
 use Rattle.hub_laws.specs.Talking.{joins, says}
@@ -18,5 +18,5 @@ abbrev pub PingTellsOfTheHub : Type 0
 PingTellsOfTheHub =
     (hash : List ℕ → List ℕ) → hash zeros ≡ zeros
     → Legal plain hash hub_asked
-    × (owed plain hash hub_asked 2 ≡ ended (codes "ISUP ADBASE ADTIGR ADPING ADUCMD") ∷ ended (codes "ISID AAAC")
-    ∷ ended (codes "IINF CT32 NIHub VEadc-hub\\s1.0 UC1 SS10 SF2 MC512 UP90") ∷ [])
+    × (lines_owed plain hash hub_asked 2 ≡ with_line_feed (codes "ISUP ADBASE ADTIGR ADPING ADUCMD") ∷ with_line_feed (codes "ISID AAAC")
+    ∷ with_line_feed (codes "IINF CT32 NIHub VEadc-hub\\s1.0 UC1 SS10 SF2 MC512 UP90") ∷ [])

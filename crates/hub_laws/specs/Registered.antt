@@ -2,7 +2,7 @@
 use Rattle.std.specs.Prelude.{◌≡◌, ℕ, true, List, ◌∷◌, ◌++◌, codes, Option, Some, Ok, is_some}
 use Rattle.adc_line.specs.Lines as lines
 use Rattle.adc_line.specs.Lines.{Reading}
-use Rattle.adc_line.specs.declared.kind.Kind.TheVariants.{Hub}
+use Rattle.adc_line.specs.declared.header.Kind.TheVariants.{Hub}
 use Rattle.login_state.specs.declared.stage.Stage.TheVariants.{Normal, Verify}
 use Rattle.hub_rules.specs.declared.history.Call.TheVariants.{Line}
 use Rattle.hub_rules.specs.declared.history.Entry.{Entry}

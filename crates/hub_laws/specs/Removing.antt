@@ -1,15 +1,14 @@
 -- All who are present hear once of a user whom an operator shuts out, before they are owed any line of a later user with that nick.
-use Rattle.std.specs.Prelude.{◌≡◌, ℕ, ◌≤◌, ◌==◌, true, false, List, [], ◌∷◌, ◌++◌, Option, Some, None}
+use Rattle.std.specs.Prelude.{◌≡◌, ℕ, ◌≤◌, ◌==◌, true, false, List, [], ◌∷◌, ◌++◌, Option, Some, None, if◌then◌else◌}
 use Rattle.login_state.specs.declared.stage.Stage.TheVariants.{Normal}
 use Rattle.hub_rules.specs.declared.effect.Change.{Change}
 use Rattle.hub_rules.specs.declared.effect.Change.TheVariants.{Hub}
 use Rattle.hub_rules.specs.declared.effect.HubChange.TheVariants as shared
 use Rattle.hub_rules.specs.declared.history.Call.TheVariants.{Line}
 use Rattle.hub_rules.specs.declared.history.Entry.{Entry}
-use Rattle.hub_rules.specs.Configured.{Configured}
-use Rattle.hub_rules.specs.Effects.{given_if}
+use Rattle.hub_rules.specs.Configured.{most_users, Configured}
 use Rattle.hub_rules.specs.Facts.{facts}
-use Rattle.hub_rules.specs.History.{info, lags, owed, sid, stage}
+use Rattle.hub_rules.specs.History.{info, lags, lines_owed, sid, stage}
 use Rattle.hub_rules.specs.Identities.{key_in}
 use Rattle.hub_rules.specs.Lagging.{share}
 use Rattle.hub_rules.specs.Shares.{is_removed}
@@ -23,7 +22,7 @@ pub record Removes (setup : Configured) (hash : List ℕ → List ℕ) (h : List
 
 -- for how many seconds, where it is a ban
 abbrev pub seconds_of : Change → Option ℕ
-seconds_of (Hub (shared.Ban banned)) = Some banned.seconds
+seconds_of (Hub (shared.Ban banned)) = Some banned.ban.seconds
 seconds_of change = None
 
 -- the line that says it: who was shut out, by which operator, for how long and why
@@ -38,7 +37,7 @@ RemovalsAreHeard =
     (setup : Configured) (hash : List ℕ → List ℕ) (h : List Entry) (e : Entry) (c : ℕ) → Removes setup hash h e c
     → (operator : ℕ) × (bytes : List ℕ) × (now : ℕ) × (reason : List ℕ) × (e.call ≡ Line operator bytes now)
     × ((d : ℕ) → stage setup hash h d ≡ Normal
-    → share setup hash (facts setup hash h) d e.call ≡ told_of_removal setup hash h e c operator reason ∷ given_if (d == operator) (done_line ∷ []))
+    → share setup hash (facts setup hash h) d e.call ≡ told_of_removal setup hash h e c operator reason ∷ (if d == operator then done_line ∷ [] else []))
 
 -- who does not lag is owed it right behind all that it was owed before, and before whatever later entries add
 abbrev pub RemovalsComeFirst : Type 0
@@ -46,8 +45,8 @@ RemovalsComeFirst =
     (setup : Configured) (hash : List ℕ → List ℕ) (later earlier : List Entry) (e : Entry) (c d : ℕ) → Removes setup hash earlier e c
     → stage setup hash earlier d ≡ Normal → lags setup hash (e ∷ earlier) d ≡ false
     → (operator : ℕ) × (reason : List ℕ) × (rest : List (List ℕ))
-    × (owed setup hash (later ++ e ∷ earlier) d
-    ≡ owed setup hash earlier d ++ (told_of_removal setup hash earlier e c operator reason ∷ given_if (d == operator) (done_line ∷ [])) ++ rest)
+    × (lines_owed setup hash (later ++ e ∷ earlier) d
+    ≡ lines_owed setup hash earlier d ++ (told_of_removal setup hash earlier e c operator reason ∷ (if d == operator then done_line ∷ [] else [])) ++ rest)
 
 -- the identifier that a kick or a ban names is that of a user who is present: whoever is out is not shut out again
 abbrev pub OnlyUsersAreRemoved : Type 0
@@ -71,6 +70,6 @@ pub record TakesNick (setup : Configured) (hash : List ℕ → List ℕ) (later 
 -- whoever is present under that nick afterwards took it later: nobody has it when the user is shut out
 abbrev pub NamesakesComeLater : Type 0
 NamesakesComeLater =
-    (setup : Configured) (hash : List ℕ → List ℕ) (later earlier : List Entry) (e : Entry) (c n : ℕ) → setup.max_users ≤ 900 → Removes setup hash earlier e c
+    (setup : Configured) (hash : List ℕ → List ℕ) (later earlier : List Entry) (e : Entry) (c n : ℕ) → setup.max_users ≤ most_users → Removes setup hash earlier e c
     → HasNick setup hash (later ++ e ∷ earlier) n (key_in (info setup hash earlier c))
     → TakesNick setup hash later (e ∷ earlier) n (key_in (info setup hash earlier c))

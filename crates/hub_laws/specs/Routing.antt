@@ -1,24 +1,24 @@
--- Who is owed a message of a user, by its type (ADC 1.0, "Message types"), and which calls owe nobody anything.
-use Rattle.std.specs.Prelude.{◌≡◌, ◌⊎◌, ℕ, ◌==◌, ◌&&◌, ◌||◌, Bool, true, false, List, [], ◌∷◌, Option, Some, None, Ok}
+-- The users who are owed a message, by its type (ADC 1.0, "Message types"), and the calls that owe nobody anything.
+use Rattle.std.specs.Prelude.{◌≡◌, ◌⊎◌, ℕ, ◌==◌, ◌&&◌, ◌||◌, Bool, true, false, List, [], ◌∷◌, Option, Some, None, Ok, if◌then◌else◌}
 use Rattle.adc_line.specs.Lines as lines
 use Rattle.adc_line.specs.Lines.{Reading}
-use Rattle.adc_line.specs.declared.kind.Kind.{Kind}
-use Rattle.adc_line.specs.declared.kind.Kind.TheVariants as kinds
+use Rattle.adc_line.specs.declared.header.Kind.{Kind}
+use Rattle.adc_line.specs.declared.header.Kind.TheVariants as kinds
 use Rattle.feature_route.specs.Matching.{meets, su_words}
 use Rattle.feature_route.specs.Wants.{wants_of}
 use Rattle.hub_rules.specs.declared.history.Call.TheVariants.{Join, Line, Quit, Take}
 use Rattle.hub_rules.specs.declared.history.Entry.{Entry}
-use Rattle.hub_rules.specs.declared.request.Request.TheVariants.{Message, Search}
+use Rattle.login_state.specs.declared.request.Request.TheVariants.{Message, Search}
 use Rattle.hub_rules.specs.Configured.{Configured}
-use Rattle.hub_rules.specs.Denied.{denied}
-use Rattle.hub_rules.specs.Effects.{given_if, is_present, is_target_here}
+use Rattle.hub_rules.specs.Denied.{denial_of}
+use Rattle.hub_rules.specs.Effects.{is_present, is_target_here}
 use Rattle.hub_rules.specs.Facts.{facts, own_of, sight_of}
 use Rattle.hub_rules.specs.History.{about, info, sid, stage}
 use Rattle.hub_rules.specs.Identities.{su_in}
 use Rattle.hub_rules.specs.Lagging.{share}
-use Rattle.hub_rules.specs.Prepared.{prepared}
+use Rattle.hub_rules.specs.Prepared.{prepared_line}
 use Rattle.hub_rules.specs.Requests.{request_of}
-use Rattle.hub_rules.specs.Texts.{ended}
+use Rattle.hub_rules.specs.Texts.{with_line_feed}
 use Rattle.login_state.specs.declared.stage.Stage.TheVariants.{Gone, Normal}
 
 -- ---- messages of users
@@ -49,17 +49,17 @@ pub record IsMessage (setup : Configured) (hash : List ℕ → List ℕ) (h : Li
   pub from : line.from ≡ Some (sid setup hash h c)
   pub to_users : (request_of Normal line.kind line.command ≡ Message) ⊎ (request_of Normal line.kind line.command ≡ Search)
   pub allowed :
-      denied (sight_of setup (facts setup hash h)) (own_of (about setup hash h c)) (prepared setup hash (about setup hash h c).challenge bytes) now line ≡ None
+      denial_of (sight_of setup (facts setup hash h)) (own_of (about setup hash h c)) (prepared_line setup hash (about setup hash h c).challenge bytes) now line ≡ None
 
 -- those who are present and for whom it is are owed it, as it came; all others are owed nothing
 abbrev pub MessagesAreRouted : Type 0
 MessagesAreRouted =
     (setup : Configured) (hash : List ℕ → List ℕ) (h : List Entry) (c d : ℕ) (bytes : List ℕ) (now : ℕ) (line : Reading) → IsMessage setup hash h c bytes now line
     → share setup hash (facts setup hash h) d (Line c bytes now)
-    ≡ given_if
-    (is_present (stage setup hash h d)
-    && is_for line.kind line (is_target_here (sight_of setup (facts setup hash h)) line.target) (sid setup hash h c) (sid setup hash h d) (su_in (info setup hash h d)))
-    (ended line.text ∷ [])
+    ≡ (if is_present (stage setup hash h d)
+    && is_for line.kind line (is_target_here (sight_of setup (facts setup hash h)) line.target) (sid setup hash h c) (sid setup hash h d) (su_in (info setup hash h d))
+    then with_line_feed line.text ∷ []
+    else [])
 
 -- ---- what owes nobody anything
 

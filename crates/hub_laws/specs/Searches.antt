@@ -1,11 +1,11 @@
--- How often a user may search, to the byte.
+-- The interval between a user's searches, to the byte.
 use Rattle.std.specs.Prelude.{◌≡◌, ℕ, List, [], ◌∷◌, ◌++◌, codes}
 use Rattle.hub_rules.specs.declared.history.Entry.{Entry}
 use Rattle.hub_rules.specs.declared.history.Verdict.TheVariants.{Kept}
 use Rattle.hub_rules.specs.Configured.{Configured}
-use Rattle.hub_rules.specs.History.{owed}
+use Rattle.hub_rules.specs.History.{lines_owed}
 use Rattle.hub_rules.specs.Legal.{Legal}
-use Rattle.hub_rules.specs.Texts.{ended}
+use Rattle.hub_rules.specs.Texts.{with_line_feed}
 use Rattle.hub_laws.specs.Conversations.{greeting_of, plain, sup_text, zeros}
 use Rattle.hub_laws.specs.Talking.{joins, says}
 use Rattle.hub_laws.specs.Visitors.{ana_text, ana_told}
@@ -38,5 +38,5 @@ abbrev pub SearchesMustWait : Type 0
 SearchesMustWait =
     (hash : List ℕ → List ℕ) → hash zeros ≡ zeros
     → Legal patient hash late_search
-    × (owed patient hash late_search 1 ≡ greeting_of (codes "AAAB") ++ ana_told ∷ ended search_text
-    ∷ ended (codes "ISTA 100 Search\\stoo\\ssoon") ∷ ended search_text ∷ [])
+    × (lines_owed patient hash late_search 1 ≡ greeting_of (codes "AAAB") ++ ana_told ∷ with_line_feed search_text
+    ∷ with_line_feed (codes "ISTA 100 Search\\stoo\\ssoon") ∷ with_line_feed search_text ∷ [])

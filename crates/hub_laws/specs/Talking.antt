@@ -1,4 +1,4 @@
--- How worked conversations are written: each step is an entry more, and each connection is its own caller.
+-- The words of worked conversations: each step is an entry more, and each connection is its own caller.
 use Rattle.std.specs.Prelude.{ℕ, Bool, List, ◌∷◌, length}
 use Rattle.std.specs.List.{concat}
 use Rattle.hub_rules.specs.declared.history.Call.TheVariants.{Join, Line, Quit, Take}

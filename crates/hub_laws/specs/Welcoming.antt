@@ -1,11 +1,10 @@
 -- Whoever enters hears of all who are present, in order of entry, and then of itself; and each of them hears of it, once.
-use Rattle.std.specs.Prelude.{◌≡◌, ℕ, List, [], ◌∷◌, ◌++◌, map}
+use Rattle.std.specs.Prelude.{◌≡◌, ℕ, List, [], ◌∷◌, ◌++◌, map, if◌then◌else◌}
 use Rattle.login_state.specs.declared.stage.Stage.TheVariants.{Normal}
 use Rattle.login_state.specs.Mentions.{ucmd}
 use Rattle.login_state.specs.Support.{has_feature}
 use Rattle.hub_rules.specs.declared.history.Entry.{Entry}
 use Rattle.hub_rules.specs.Configured.{Configured}
-use Rattle.hub_rules.specs.Effects.{given_if}
 use Rattle.hub_rules.specs.Facts.{facts}
 use Rattle.hub_rules.specs.History.{features, info, present, sid, stage}
 use Rattle.hub_rules.specs.Lagging.{share}
@@ -28,4 +27,4 @@ EntrantsAreWelcomed =
     (setup : Configured) (hash : List ℕ → List ℕ) (h : List Entry) (e : Entry) (c : ℕ) → (stage setup hash h c ≡ Normal → ⊥) → stage setup hash (e ∷ h) c ≡ Normal
     → share setup hash (facts setup hash h) c e.call
     ≡ map (info_line setup hash h) (present setup hash h)
-    ++ info_line setup hash (e ∷ h) c ∷ given_if (has_feature ucmd (features setup hash h c)) (map menu_line setup.menu)
+    ++ info_line setup hash (e ∷ h) c ∷ (if has_feature ucmd (features setup hash h c) then map menu_line setup.menu else [])

@@ -1,8 +1,8 @@
--- What the program is asked for, and how it ends.
+-- The tasks that the program is asked for, and its endings.
 use Rattle.std.specs.Prelude.{◌≡◌, ℕ, List, [], ◌∷◌, codes, Option}
 use Rattle.std.specs.Io.KnownBytes.{Keeps}
 use Rattle.hub_rules.specs.Configured.{Configured}
-use Rattle.hub_setup.specs.Settings.{plain_hub}
+use Rattle.hub_rules.specs.Configured.{plain_hub}
 use Rattle.session_hash.specs.First24.{first_24}
 use Rattle.hub_endings.specs.Endings.{status_of, message_of}
 use Rattle.hub_endings.specs.declared.ending.Ending.{Ending}

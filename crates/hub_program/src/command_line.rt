@@ -1,7 +1,7 @@
 ghost use Rattle.std.specs.Prelude.{◌≡◌, ◌↔◌, IsTrue, IfOk, IfSome, Ok, map};
 ghost use Rattle.std.specs.Arc.{arc_value};
 ghost use Rattle.std.specs.String.{string_bytes};
-ghost use Rattle.hub_setup.specs.Settings.{configured};
+ghost use Rattle.hub_setup.specs.Settings.{configured_hub};
 ghost use Rattle.hub_program.specs.Endings.{AsksForStdin, AsksToServe, stdin_setup, ending_of, EndsBy, Ends, EndsOver, Tells};
 
 use crate::start::serve_file;
@@ -114,7 +114,7 @@ fn stdin_setup(alloc: Global) -> Result<Arc<Setup>, AllocError>
 
 /// Gives the options of the default settings: a hub named `Hub` for 512 users, with nothing that settings may add.
 fn stdin_options() -> Options<'static>
-    ensures { configured result ≡ Ok stdin_setup }
+    ensures { configured_hub result ≡ Ok stdin_setup }
 {
     Options::named("Hub")
 }

@@ -266,7 +266,7 @@ impl<'t> Played<'t> {
 
     fn connection(&self, rt: &impl Abort, who: &str) -> Conn {
         if let Some(told) = who.strip_prefix('#') {
-            return self.numbered(rt, told);
+            return self.connection_of(rt, told);
         }
         for joined in self.joined.iter().rev() {
             if joined.name == who {
@@ -278,7 +278,7 @@ impl<'t> Played<'t> {
     }
 
     /// Finds the connection that joined as this one, counted from 1 on.
-    fn numbered(&self, rt: &impl Abort, told: &str) -> Conn {
+    fn connection_of(&self, rt: &impl Abort, told: &str) -> Conn {
         match self.joined.get(self.number(rt, told).wrapping_sub(1)) {
             Some(joined) => joined.connection,
             None => self.unknown(rt),

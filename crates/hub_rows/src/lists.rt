@@ -78,24 +78,24 @@ fn setup(rt: &impl Abort, alloc: Global) -> Arc<Setup> {
 
 fn prepare_lines(rt: &impl Abort, alloc: Global, setup: &Setup) -> Lines {
     Lines {
-        support: ready(rt, alloc, setup, b"HSUP ADBASE ADTIGR"),
-        ana: ready(
+        support: prepare_line(rt, alloc, setup, b"HSUP ADBASE ADTIGR"),
+        ana: prepare_line(
             rt,
             alloc,
             setup,
             b"BINF AAAB IDAAAAAAAAAAAAAAAAAAAAAAAAAAAAAAAAAAAAAAA PDAAAAAAAAAAAAAAAAAAAAAAAAAAAAAAAAAAAAAAA NIana",
         ),
-        bob: ready(
+        bob: prepare_line(
             rt,
             alloc,
             setup,
             b"BINF AAAC IDAAAAAAAAAAAAAAAAAAAAAAAAAAAAAAAAAAAAAAI PDAAAAAAAAAAAAAAAAAAAAAAAAAAAAAAAAAAAAAAI NIbob",
         ),
-        hello: ready(rt, alloc, setup, b"BMSG AAAB hello"),
+        hello: prepare_line(rt, alloc, setup, b"BMSG AAAB hello"),
     }
 }
 
-fn ready(rt: &impl Abort, alloc: Global, setup: &Setup, line: &[u8]) -> Prepared {
+fn prepare_line(rt: &impl Abort, alloc: Global, setup: &Setup, line: &[u8]) -> Prepared {
     again!(rt; prepare(alloc, setup, &First24, [0; 24], line))
 }
 

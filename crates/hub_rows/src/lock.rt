@@ -3,10 +3,8 @@ mod worker;
 
 ghost use Rattle.std.specs.Prelude.{◌≡◌, ◌∷◌, [], IfOk};
 
-use crate::lock::counter::{CountersSeat, add, opened};
-use crate::lock::worker::{
-    Worker, both, disband, eight, hired, interrupt, is_one_run, leave, team,
-};
+use crate::lock::counter::{CountersSeat, add, open_counter};
+use crate::lock::worker::{Worker, both, disband, eight, hire, interrupt, is_one_run, leave, team};
 use one_history::NotAlone;
 use std::alloc::{AllocError, AllocFailed, Global};
 use std::test::Fail;
@@ -27,10 +25,10 @@ fn only<S: Drop>(alloc: Global, item: S) -> Result<Vec<S>, AllocError>
 
 #[test]
 fn answers_each_caller_in_turn(rt: HostRuntime) -> Result<(), Fail> {
-    let (lock, mut host) = opened(rt.alloc(), 10)?;
+    let (lock, mut host) = open_counter(rt.alloc(), 10)?;
     let mut first = host.admit(&lock);
     let mut second = host.admit(&lock);
-    assert!(rt; host.admitted() == 2 && host.gathered() == 0);
+    assert!(rt; host.admitted() == 2 && host.gathered_seats() == 0);
     assert!(rt; add(&rt, &lock, &mut first, 1, 5) == Some(15));
     assert!(rt; add(&rt, &lock, &mut second, 2, 7) == Some(22));
     // A sum that does not fit changes nothing.
@@ -48,14 +46,14 @@ fn answers_each_caller_in_turn(rt: HostRuntime) -> Result<(), Fail> {
 
 #[test]
 fn hands_all_back_while_a_caller_is_left(rt: HostRuntime) -> Result<(), Fail> {
-    let (lock, mut host) = opened(rt.alloc(), 0)?;
+    let (lock, mut host) = open_counter(rt.alloc(), 0)?;
     let mut first = host.admit(&lock);
     let second = host.admit(&lock);
     let seats = only(rt.alloc(), second)?;
     let Err(NotAlone { lock, host, seats }) = lock.close(host, seats) else {
         panic!(rt; "a caller has its seat")
     };
-    assert!(rt; host.admitted() == 2 && host.gathered() == 0 && seats.len() == 1);
+    assert!(rt; host.admitted() == 2 && host.gathered_seats() == 0 && seats.len() == 1);
     assert!(rt; add(&rt, &lock, &mut first, 1, 4) == Some(4));
     let mut host = host;
     host.gather(&lock, first);
@@ -68,8 +66,8 @@ fn hands_all_back_while_a_caller_is_left(rt: HostRuntime) -> Result<(), Fail> {
 
 #[test]
 fn two_threads_have_one_history(rt: HostRuntime) -> Result<(), Fail> {
-    let (lock, mut host) = opened(rt.alloc(), 100)?;
-    let pair = (hired(&lock, &mut host, 3), hired(&lock, &mut host, 4));
+    let (lock, mut host) = open_counter(rt.alloc(), 100)?;
+    let pair = (hire(&lock, &mut host, 3), hire(&lock, &mut host, 4));
     let (first, second) = both(&rt, &lock, pair);
     let told = [
         leave(&lock, &mut host, first),
@@ -87,9 +85,9 @@ fn two_threads_have_one_history(rt: HostRuntime) -> Result<(), Fail> {
 
 #[test]
 fn sleeps_until_the_value_is_back(rt: HostRuntime) -> Result<(), Fail> {
-    let (lock, mut host) = opened(rt.alloc(), 0)?;
+    let (lock, mut host) = open_counter(rt.alloc(), 0)?;
     let holder = host.admit(&lock);
-    let worker = hired(&lock, &mut host, 2);
+    let worker = hire(&lock, &mut host, 2);
     let (holder, worker) = interrupt(&rt, &lock, holder, worker);
     host.gather(&lock, holder);
     assert!(rt; is_one_run(0, &[leave(&lock, &mut host, worker)]));
@@ -98,7 +96,7 @@ fn sleeps_until_the_value_is_back(rt: HostRuntime) -> Result<(), Fail> {
 
 #[test]
 fn eight_threads_have_one_history(rt: HostRuntime) -> Result<(), Fail> {
-    let (lock, mut host) = opened(rt.alloc(), 0)?;
+    let (lock, mut host) = open_counter(rt.alloc(), 0)?;
     let left = team(&lock, &mut host, 1);
     let right = team(&lock, &mut host, 2);
     let (left, right) = eight(&rt, &lock, left, right);
@@ -116,8 +114,8 @@ fn eight_threads_have_one_history(rt: HostRuntime) -> Result<(), Fail> {
 
 #[test]
 fn closes_over_what_has_a_seat(rt: HostRuntime) -> Result<(), Fail> {
-    let (lock, mut host) = opened(rt.alloc(), 1)?;
-    let worker: Worker = hired(&lock, &mut host, 9);
+    let (lock, mut host) = open_counter(rt.alloc(), 1)?;
+    let worker: Worker = hire(&lock, &mut host, 9);
     let workers = only(rt.alloc(), worker)?;
     assert!(rt;
         lock.close(host, workers)

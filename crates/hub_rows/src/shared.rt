@@ -6,7 +6,7 @@ ghost use Rattle.std.specs.Prelude.{◌≡◌};
 
 use crate::shared::chatting::{chats_of_two, is_one_chat, speaks_apart};
 use crate::shared::guests::{
-    Guest, Hall, both, entered, gone, hears, joined, looks, met, only, opened, says,
+    Guest, Hall, both, compare, hears, join, join_and_login, leave, looks, only, open_hall, says,
 };
 use crate::shared::refused::{hears_it_once, is_said, is_told_nothing};
 use hub_core::{JoinRefused, Stage, Touched, Verdict};
@@ -42,7 +42,7 @@ fn both_leave<R: Wait + Abort + Print>(
     requires ana { ana.pass.home ≡ hall.hub.home }
     requires bob { bob.pass.home ≡ hall.hub.home }
 {
-    let all = both(rt, alloc, gone(rt, &hall, ana), gone(rt, &hall, bob));
+    let all = both(rt, alloc, leave(rt, &hall, ana), leave(rt, &hall, bob));
     let Hall { setup: _, hub } = hall;
     let closed = hub.close(host, all);
     assert!(rt;
@@ -56,16 +56,16 @@ fn both_leave<R: Wait + Abort + Print>(
 
 #[test]
 fn what_one_thread_says_another_hears(rt: HostRuntime) {
-    let (hall, mut host) = opened(&rt, rt.alloc(), 512);
-    let ana = entered(&rt, rt.alloc(), &hall, host.admit(&hall.hub), ANA);
-    let mut bob = entered(&rt, rt.alloc(), &hall, host.admit(&hall.hub), BOB);
+    let (hall, mut host) = open_hall(&rt, rt.alloc(), 512);
+    let ana = join_and_login(&rt, rt.alloc(), &hall, host.admit(&hall.hub), ANA);
+    let mut bob = join_and_login(&rt, rt.alloc(), &hall, host.admit(&hall.hub), BOB);
     let mut ana = ana;
     // The lines of the two logins.
     hears(&rt, rt.alloc(), &hall, &mut ana);
     hears(&rt, rt.alloc(), &hall, &mut bob);
     let (ana, bob) = speaks_apart(&rt, rt.alloc(), &hall, ana, bob);
     assert!(rt; matches!(ana.pass.touched(), Touched::Everybody));
-    let (mut ana, mut bob) = met(&hall, ana, bob);
+    let (mut ana, mut bob) = compare(&hall, ana, bob);
     let heard = hears(&rt, rt.alloc(), &hall, &mut bob);
     assert!(rt;
         heard.as_slice() == b"BMSG AAAB hi\n".as_slice(),
@@ -82,17 +82,17 @@ fn what_one_thread_says_another_hears(rt: HostRuntime) {
 
 #[test]
 fn who_finds_no_room_may_join_later(rt: HostRuntime) {
-    let (hall, mut host) = opened(&rt, rt.alloc(), 2);
-    let first = entered(&rt, rt.alloc(), &hall, host.admit(&hall.hub), ANA);
-    let _second = entered(&rt, rt.alloc(), &hall, host.admit(&hall.hub), BOB);
+    let (hall, mut host) = open_hall(&rt, rt.alloc(), 2);
+    let first = join_and_login(&rt, rt.alloc(), &hall, host.admit(&hall.hub), ANA);
+    let _second = join_and_login(&rt, rt.alloc(), &hall, host.admit(&hall.hub), BOB);
     let third = host.admit(&hall.hub);
-    let Err((why, third)) = joined(&rt, rt.alloc(), &hall, third) else {
+    let Err((why, third)) = join(&rt, rt.alloc(), &hall, third) else {
         panic!(rt; "a third connection")
     };
     assert!(rt; why == JoinRefused::Full);
-    let first = gone(&rt, &hall, first);
+    let first = leave(&rt, &hall, first);
     assert!(rt; matches!(first.touched(), Touched::Everybody));
-    let Ok(mut third) = joined(&rt, rt.alloc(), &hall, third) else {
+    let Ok(mut third) = join(&rt, rt.alloc(), &hall, third) else {
         panic!(rt; "there is room")
     };
     says(
@@ -113,12 +113,12 @@ fn who_finds_no_room_may_join_later(rt: HostRuntime) {
 
 #[test]
 fn closes_once_all_visitors_are_back(rt: HostRuntime) {
-    let (hall, mut host) = opened(&rt, rt.alloc(), 512);
-    let first = entered(&rt, rt.alloc(), &hall, host.admit(&hall.hub), ANA);
-    let second = entered(&rt, rt.alloc(), &hall, host.admit(&hall.hub), BOB);
+    let (hall, mut host) = open_hall(&rt, rt.alloc(), 512);
+    let first = join_and_login(&rt, rt.alloc(), &hall, host.admit(&hall.hub), ANA);
+    let second = join_and_login(&rt, rt.alloc(), &hall, host.admit(&hall.hub), BOB);
     assert!(rt; host.admitted() == 2);
-    let first = gone(&rt, &hall, first);
-    let second = gone(&rt, &hall, second);
+    let first = leave(&rt, &hall, first);
+    let second = leave(&rt, &hall, second);
     let Hall { setup: _, hub } = hall;
     let one = only(&rt, rt.alloc(), first);
     let Err((why, hub, host, mut one)) = hub.close(host, one) else {
@@ -143,9 +143,9 @@ fn closes_once_all_visitors_are_back(rt: HostRuntime) {
 
 #[test]
 fn all_hear_one_conversation(rt: HostRuntime) {
-    let (hall, mut host) = opened(&rt, rt.alloc(), 512);
-    let mut ana = entered(&rt, rt.alloc(), &hall, host.admit(&hall.hub), ANA);
-    let mut bob = entered(&rt, rt.alloc(), &hall, host.admit(&hall.hub), BOB);
+    let (hall, mut host) = open_hall(&rt, rt.alloc(), 512);
+    let mut ana = join_and_login(&rt, rt.alloc(), &hall, host.admit(&hall.hub), ANA);
+    let mut bob = join_and_login(&rt, rt.alloc(), &hall, host.admit(&hall.hub), BOB);
     hears(&rt, rt.alloc(), &hall, &mut ana);
     hears(&rt, rt.alloc(), &hall, &mut bob);
     let ((ana, one), (bob, other)) = chats_of_two(&rt, rt.alloc(), &hall, ana, bob);
@@ -157,11 +157,11 @@ fn all_hear_one_conversation(rt: HostRuntime) {
 /// Tests that all hear the line once or nobody does, also where memory is refused to the line itself.
 #[test]
 fn a_line_is_heard_by_all_or_by_nobody(rt: HostRuntime) {
-    let (hall, mut host) = opened(&rt, rt.alloc(), 512);
-    let mut ana = entered(&rt, rt.alloc(), &hall, host.admit(&hall.hub), ANA);
-    let mut bob = entered(&rt, rt.alloc(), &hall, host.admit(&hall.hub), BOB);
-    let mut cy = entered(&rt, rt.alloc(), &hall, host.admit(&hall.hub), CY);
-    let mut dan = entered(&rt, rt.alloc(), &hall, host.admit(&hall.hub), DAN);
+    let (hall, mut host) = open_hall(&rt, rt.alloc(), 512);
+    let mut ana = join_and_login(&rt, rt.alloc(), &hall, host.admit(&hall.hub), ANA);
+    let mut bob = join_and_login(&rt, rt.alloc(), &hall, host.admit(&hall.hub), BOB);
+    let mut cy = join_and_login(&rt, rt.alloc(), &hall, host.admit(&hall.hub), CY);
+    let mut dan = join_and_login(&rt, rt.alloc(), &hall, host.admit(&hall.hub), DAN);
     // The lines of the logins.
     hears(&rt, rt.alloc(), &hall, &mut ana);
     hears(&rt, rt.alloc(), &hall, &mut bob);

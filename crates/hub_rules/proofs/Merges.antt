@@ -1,16 +1,16 @@
--- What an update does to one field of a user.
+-- One field of a user after an update.
 use Rattle.std.proofs.Common.{◌≡◌, ◌∙◌, sym, ap, ap₂, refl, ℕ, Bool, true, false, not, ◌&&◌, ◌||◌, cond, List, [], ◌∷◌, ◌++◌, map, filter, Option, Some, None, unwrap_or}
 use Rattle.std.specs.Option.{option_or}
 use Rattle.std.specs.Prelude.{if◌then◌else◌}
 use Rattle.std.specs.Str.{bytes_eq}
 use Rattle.std.proofs.lemmas.Bool.{false≢true}
 use Rattle.std.proofs.lemmas.Slice.Eq.{bytes_eq-Decides}
-use Rattle.inf_fields.specs.Cleaning.{any_address, asks_for_address, clean, dotted, is_held_back, with_address}
+use Rattle.inf_fields.specs.Cleaning.{any_address, asks_for_address, clean, dotted_decimal, is_held_back, with_address}
 use Rattle.inf_fields.specs.Field.{Field, field, is_called, value_of}
 use Rattle.inf_fields.specs.FieldNames.{address6_name, address_name, client_type_name, id_name, port6_name, private_id_name}
-use Rattle.inf_fields.specs.Merging.{if_filled, last_value, merged, merged_with}
+use Rattle.inf_fields.specs.Merging.{if_filled, last_value, merged_fields, merged_with}
 use Rattle.inf_fields.proofs.MergingLaws.{merged-more, value_of-merged}
-use Rattle.hub_rules.specs.Identities.{given}
+use Rattle.hub_rules.specs.Identities.{value_or_empty}
 
 -- ---- merging
 
@@ -37,18 +37,18 @@ or-given (Some x) b = refl
 or-given None b = refl
 
 -- a field has the value that the update gives it, and else the one before
-given-merged : (name : List ℕ) (infs : List (List Field)) (u : List Field) → given name (merged_with (merged infs) u) ≡ unwrap_or (value_of name u) (given name (merged infs))
+given-merged : (name : List ℕ) (infs : List (List Field)) (u : List Field) → value_or_empty name (merged_with (merged_fields infs) u) ≡ unwrap_or (value_of name u) (value_or_empty name (merged_fields infs))
 given-merged name infs u =
-    ap (given name) (sym (merged-more infs u))
+    ap (value_or_empty name) (sym (merged-more infs u))
     ∙ ap (λ o. unwrap_or o []) (value_of-merged name (infs ++ u ∷ []) ∙ ap if_filled (last_value-push name infs u))
     ∙ filled-given (option_or (value_of name u) (last_value name infs))
     ∙ or-given (value_of name u) (last_value name infs)
     ∙ ap (unwrap_or (value_of name u)) (sym (ap (λ o. unwrap_or o []) (value_of-merged name infs) ∙ filled-given (last_value name infs)))
 
-pub given-after : (name : List ℕ) (fields : List Field) (infs : List (List Field)) (u : List Field) → fields ≡ merged infs
-    → given name (merged_with fields u) ≡ unwrap_or (value_of name u) (given name fields)
+pub given-after : (name : List ℕ) (fields : List Field) (infs : List (List Field)) (u : List Field) → fields ≡ merged_fields infs
+    → value_or_empty name (merged_with fields u) ≡ unwrap_or (value_of name u) (value_or_empty name fields)
 given-after name fields infs u is =
-    ap (λ fs. given name (merged_with fs u)) is ∙ given-merged name infs u ∙ ap (λ fs. unwrap_or (value_of name u) (given name fs)) (sym is)
+    ap (λ fs. value_or_empty name (merged_with fs u)) is ∙ given-merged name infs u ∙ ap (λ fs. unwrap_or (value_of name u) (value_or_empty name fs)) (sym is)
 
 -- ---- what is passed on
 
@@ -71,7 +71,7 @@ id-kept f here =
     ap₂ ◌||◌ (ap₂ ◌||◌ (ap₂ ◌||◌ (other-is private_id_name f refl here) (other-is client_type_name f refl here)) (other-is address6_name f refl here)) (other-is port6_name f refl here)
 
 id-value : (peer : List ℕ) (f : Field) → is_called id_name f ≡ true → with_address peer f ≡ f
-id-value peer f here = ap (λ b. if (b && bytes_eq any_address f.value) then field f.name (dotted peer) else f) (other-is address_name f refl here)
+id-value peer f here = ap (λ b. if (b && bytes_eq any_address f.value) then field f.name (dotted_decimal peer) else f) (other-is address_name f refl here)
 
 clean-cons : (held called : Bool) (peer : List ℕ) (f : Field) (fields : List Field) → is_held_back f ≡ held → is_called id_name f ≡ called
     → value_of id_name (map (with_address peer) (filter (λ g. not (is_held_back g)) fields)) ≡ value_of id_name fields
@@ -84,7 +84,7 @@ clean-cons false true peer f fields held called rest =
     ∙ ap (λ b. if b then Some f.value else value_of id_name (map (with_address peer) (filter (λ g. not (is_held_back g)) fields))) called
 clean-cons false false peer f fields held called rest =
     ap (λ b. if b then Some (with_address peer f).value else value_of id_name (map (with_address peer) (filter (λ g. not (is_held_back g)) fields)))
-    (ap (bytes_eq id_name) (passed-name (asks_for_address f) f (field f.name (dotted peer)) refl) ∙ called)
+    (ap (bytes_eq id_name) (passed-name (asks_for_address f) f (field f.name (dotted_decimal peer)) refl) ∙ called)
     ∙ rest
 
 pub id-clean : (fields : List Field) (peer : List ℕ) → value_of id_name (clean fields peer) ≡ value_of id_name fields

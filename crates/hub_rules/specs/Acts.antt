@@ -1,14 +1,18 @@
--- What a message to the hub asks for: the commands of operators.
-use Rattle.std.specs.Prelude.{ℕ, ◌==◌, not, Bool, false, List, [], ◌∷◌, codes, Option, Some, None, is_some, if◌then◌else◌}
+-- The commands of operators, which a message to the hub asks for.
+use Rattle.std.specs.Prelude.{ℕ, ◌==◌, not, Bool, false, List, [], ◌∷◌, codes, Option, Some, None, Result, Ok, Err, is_some, if◌then◌else◌}
+use Rattle.std.specs.Result.{result_err}
+use Rattle.std.specs.Option.{option_map_or}
 use Rattle.feature_route.specs.declared.hearers.Audience.TheVariants as audiences
 use Rattle.login_state.specs.declared.deny.Deny.{Deny}
 use Rattle.login_state.specs.declared.deny.Deny.TheVariants as denials
 use Rattle.operator_acts.specs.Acts.{act_at}
 use Rattle.operator_acts.specs.Bans.{ban_on, is_full}
+use Rattle.operator_acts.specs.declared.ban.Ban.{Ban}
 use Rattle.operator_acts.specs.declared.act.Act.{Act}
 use Rattle.operator_acts.specs.declared.act.Act.TheVariants as acts
 use Rattle.user_table.specs.Listed.{Listed}
 use Rattle.user_table.specs.Tables.{user_by_key}
+use Rattle.hub_rules.specs.declared.effect.Banned.{Banned}
 use Rattle.hub_rules.specs.declared.effect.Change.TheVariants.{Hub}
 use Rattle.hub_rules.specs.declared.effect.Effect.{Effect}
 use Rattle.hub_rules.specs.declared.effect.Hearers.TheVariants.{Those}
@@ -33,57 +37,68 @@ is_command (b ∷ more) = b == 33
 abbrev pub is_operator : Sight → Own → Bool
 is_operator hub own = operates (account_of hub (key_in own.fields))
 
-abbrev pub user_called : Sight → List ℕ → Option Listed
-user_called hub nick = user_by_key (key_of_points nick) hub.users
+-- ---- each command, by the users who are present, the bans that are held, its operator and the moment
 
-abbrev pub kick_denied : Option Listed → Option Deny
-kick_denied None = Some denials.NoUser
-kick_denied (Some target) = None
+-- what is carried out: what all users are told, and what it changes
+pub record Done : Type 0 where
+  pub others : List (List ℕ)
+  pub change : HubChange
+
+abbrev pub user_called : List Listed → List ℕ → Option Listed
+user_called users nick = user_by_key (key_of_points nick) users
+
+abbrev pub if_present : Option Listed → (Listed → Result Done Deny) → Result Done Deny
+if_present user command = option_map_or command user (Err denials.NoUser)
+
+abbrev pub kick : ℕ → List ℕ → Listed → Result Done Deny
+kick operator reason user = Ok (record { others = removal_line user.sid operator None reason ∷ []; change = shared.Kick user.sid })
+
+abbrev pub banned_for : ℕ → ℕ → Listed → Banned
+banned_for seconds now user = record { sid = user.sid; cid = user.cid; ban = record { seconds = seconds; moment = now } }
+
+abbrev pub removal : ℕ → List ℕ → Banned → Done
+removal operator reason banned = record { others = removal_line banned.sid operator (Some banned.ban.seconds) reason ∷ []; change = shared.Ban banned }
 
 -- nobody is shut out where there is no room for the ban
-abbrev pub ban_denied : Sight → Option Listed → Option Deny
-ban_denied hub None = Some denials.NoUser
-ban_denied hub (Some target) = if is_full hub.bans target.cid then Some denials.BansFull else None
+abbrev pub ban : List (List ℕ × Ban) → ℕ → List ℕ → Banned → Result Done Deny
+ban bans operator reason banned = if is_full bans banned.cid then Err denials.BansFull else Ok (removal operator reason banned)
 
-abbrev pub unban_denied : Sight → List ℕ → Option Deny
-unban_denied hub cid = if is_some (ban_on hub.bans cid) then None else Some denials.NoBan
+abbrev pub unban : List (List ℕ × Ban) → List ℕ → Result Done Deny
+unban bans cid = if is_some (ban_on bans cid) then Ok (record { others = []; change = shared.Unban cid }) else Err denials.NoBan
 
-abbrev pub asked_denied : Sight → Option Act → Option Deny
-asked_denied hub None = Some denials.BadCommand
-asked_denied hub (Some (acts.Kick nick reason)) = kick_denied (user_called hub nick)
-asked_denied hub (Some (acts.Ban nick seconds reason)) = ban_denied hub (user_called hub nick)
-asked_denied hub (Some (acts.Unban cid)) = unban_denied hub cid
-asked_denied hub (Some (acts.Topic text)) = None
+abbrev pub topic : List ℕ → Done
+topic text = record { others = topic_line text ∷ []; change = shared.Topic text }
 
--- only an operator's text is looked into
-unfoldable pub act_denied : Sight → Own → List (List ℕ) → Option Deny
-act_denied hub own params =
-    if not (is_command (text_in params)) then None
-    else if not (is_operator hub own) then Some (denials.Access (codes "HMSG"))
-    else asked_denied hub (act_at (text_in params))
+abbrev pub answer_of : List Listed → List (List ℕ × Ban) → ℕ → ℕ → Act → Result Done Deny
+answer_of users bans operator now (acts.Kick nick reason) = if_present (user_called users nick) (kick operator reason)
+answer_of users bans operator now (acts.Ban nick seconds reason) =
+    if_present (user_called users nick) (λ user. ban bans operator reason (banned_for seconds now user))
+answer_of users bans operator now (acts.Unban cid) = unban bans cid
+answer_of users bans operator now (acts.Topic text) = Ok (topic text)
+
+-- ---- all of them
+
+-- what a command leads to that was read, if it is one, or why it is denied
+abbrev pub answer_to : Sight → Own → ℕ → Option Act → Result Done Deny
+answer_to hub own now None = Err denials.BadCommand
+answer_to hub own now (Some act) = answer_of hub.users hub.bans own.sid now act
 
 -- all users who are present are told, and then the operator that it is done
-abbrev pub carried : List (List ℕ) → HubChange → Effect
-carried others change = record { own = done_line ∷ []; others = others; hearers = Those audiences.All; change = Hub change }
+abbrev pub effect_for_all : Done → Effect
+effect_for_all done = record { own = done_line ∷ []; others = done.others; hearers = Those audiences.All; change = Hub done.change }
 
-abbrev pub kick_effect : Own → List ℕ → Option Listed → Effect
-kick_effect own reason None = nothing
-kick_effect own reason (Some target) = carried (removal_line target.sid own.sid None reason ∷ []) (shared.Kick target.sid)
+abbrev pub effect_by : Result Done Deny → Effect
+effect_by (Ok done) = effect_for_all done
+effect_by (Err deny) = nothing
 
-abbrev pub ban_effect : Own → ℕ → ℕ → List ℕ → Option Listed → Effect
-ban_effect own now seconds reason None = nothing
-ban_effect own now seconds reason (Some target) =
-    carried (removal_line target.sid own.sid (Some seconds) reason ∷ [])
-    (shared.Ban (record { sid = target.sid; cid = target.cid; seconds = seconds; now = now }))
-
-abbrev pub asked_effect : Sight → Own → ℕ → Option Act → Effect
-asked_effect hub own now None = nothing
-asked_effect hub own now (Some (acts.Kick nick reason)) = kick_effect own reason (user_called hub nick)
-asked_effect hub own now (Some (acts.Ban nick seconds reason)) = ban_effect own now seconds reason (user_called hub nick)
-asked_effect hub own now (Some (acts.Unban cid)) = carried [] (shared.Unban cid)
-asked_effect hub own now (Some (acts.Topic text)) = carried (topic_line text ∷ []) (shared.Topic text)
+-- only an operator's text is looked into
+unfoldable pub act_denied : Sight → Own → ℕ → List (List ℕ) → Option Deny
+act_denied hub own now params =
+    if not (is_command (text_in params)) then None
+    else if not (is_operator hub own) then Some (denials.Access (codes "HMSG"))
+    else result_err (answer_to hub own now (act_at (text_in params)))
 
 -- what an accepted message to the hub leads to
 unfoldable pub act_effect : Sight → Own → ℕ → List (List ℕ) → Effect
 act_effect hub own now params =
-    if not (is_command (text_in params)) then nothing else asked_effect hub own now (act_at (text_in params))
+    if not (is_command (text_in params)) then nothing else effect_by (answer_to hub own now (act_at (text_in params)))

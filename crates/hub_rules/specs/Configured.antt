@@ -1,5 +1,9 @@
--- What a hub is set up with, as contracts see it.
-use Rattle.std.specs.Prelude.{ℕ, Bool, List, Option}
+-- The setup of a hub, as contracts see it.
+use Rattle.std.specs.Prelude.{ℕ, Bool, false, List, [], Option}
+
+-- how many connections a hub may admit at once
+abbrev pub most_users : ℕ
+most_users = 900
 
 -- a registered user
 pub record Account : Type 0 where
@@ -25,3 +29,16 @@ pub record Configured : Type 0 where
   pub max_users : ℕ
   -- the moment at which the hub opens, in seconds
   pub opening : ℕ
+
+-- the hub of this name with nothing that settings may add, for 512 users, opened at moment 0
+abbrev pub plain_hub : List ℕ → Configured
+plain_hub name = record {
+  name = name;
+  topic = [];
+  accounts = [];
+  menu = [];
+  registered_only = false;
+  search_interval = 0;
+  max_users = 512;
+  opening = 0;
+}

@@ -1,6 +1,7 @@
 -- Which rule denies a line, if one does: the first that applies.
+use Rattle.std.specs.Option.{option_or}
 use Rattle.std.specs.Prelude.{ℕ, List, [], ◌∷◌, Option, Some, None, Result, Ok, Err, if◌then◌else◌}
-use Rattle.adc_base32.specs.Spelled.{spelled}
+use Rattle.adc_base32.specs.Spelled.{spelled_bytes}
 use Rattle.adc_line.specs.Lines.{Reading}
 use Rattle.inf_fields.specs.Field.{Field}
 use Rattle.inf_fields.specs.Updates as updates
@@ -8,19 +9,15 @@ use Rattle.inf_fields.specs.declared.fault.InfFault.{InfFault}
 use Rattle.login_state.specs.declared.deny.Deny.{Deny}
 use Rattle.login_state.specs.declared.deny.Deny.TheVariants as denials
 use Rattle.login_state.specs.declared.fault.SupFault.{SupFault}
-use Rattle.login_state.specs.SupportAnswers.{applied}
+use Rattle.login_state.specs.SupportAnswers.{support_after}
 use Rattle.search_pass.specs.Searches.{may_search}
-use Rattle.hub_rules.specs.declared.request.Request.{Request}
-use Rattle.hub_rules.specs.declared.request.Request.TheVariants as requests
+use Rattle.login_state.specs.declared.request.Request.{Request}
+use Rattle.login_state.specs.declared.request.Request.TheVariants as requests
 use Rattle.hub_rules.specs.Acts.{act_denied}
 use Rattle.hub_rules.specs.Grounds.{first_ground, sup_grounds, login_grounds, password_grounds, update_grounds}
-use Rattle.hub_rules.specs.Requests.{request_of, refused}
+use Rattle.hub_rules.specs.Requests.{request_of, refusal_of}
 use Rattle.hub_rules.specs.Sights.{Sight, Own, PreparedLine, user_after}
-use Rattle.hub_rules.specs.Identities.{listed}
-
-abbrev pub or_else : Option Deny → Option Deny → Option Deny
-or_else (Some deny) later = Some deny
-or_else None later = later
+use Rattle.hub_rules.specs.Identities.{listed_user}
 
 -- of a SUP: its words, how many features are left, which
 abbrev pub sup_denied : Result (List (List ℕ)) SupFault → Option Deny
@@ -35,11 +32,11 @@ login_denied hub own digest now (Err fault) = Some denials.Protocol
 -- the digest that the first parameter of a PAS spells
 abbrev pub digest_given : List (List ℕ) → Option (List ℕ)
 digest_given [] = None
-digest_given (word ∷ more) = spelled 24 word
+digest_given (word ∷ more) = spelled_bytes 24 word
 
 -- of a password: the digest, and then what may have changed since the login
 abbrev pub password_denied : Sight → Own → ℕ → List (List ℕ) → Option Deny
-password_denied hub own now params = first_ground (password_grounds hub own now (digest_given params) (listed own.sid own.fields))
+password_denied hub own now params = first_ground (password_grounds hub own now (digest_given params) (listed_user own.sid own.fields))
 
 -- of an update: its words, what they say
 abbrev pub update_denied : Sight → Own → Result (List Field) InfFault → Option Deny
@@ -52,17 +49,17 @@ search_denied hub own now = if may_search own.searched now hub.setup.search_inte
 
 -- the rules of what the line asks for
 unfoldable pub request_denied : Sight → Own → PreparedLine → ℕ → Reading → Request → Option Deny
-request_denied hub own prepared now line requests.Greeting = sup_denied (applied own.features line.params)
+request_denied hub own prepared now line requests.Greeting = sup_denied (support_after own.features line.params)
 request_denied hub own prepared now line requests.Login = login_denied hub own prepared.owner now (updates.reading line.params)
 request_denied hub own prepared now line requests.Password = password_denied hub own now line.params
 request_denied hub own prepared now line requests.Update = update_denied hub own (updates.reading line.params)
-request_denied hub own prepared now line requests.Support = sup_denied (applied own.features line.params)
-request_denied hub own prepared now line requests.Act = act_denied hub own line.params
+request_denied hub own prepared now line requests.Support = sup_denied (support_after own.features line.params)
+request_denied hub own prepared now line requests.Act = act_denied hub own now line.params
 request_denied hub own prepared now line requests.Search = search_denied hub own now
 request_denied hub own prepared now line requests.Message = None
 request_denied hub own prepared now line requests.Nothing = None
 
 -- why a line is denied, if it is
-abbrev pub denied : Sight → Own → PreparedLine → ℕ → Reading → Option Deny
-denied hub own prepared now line =
-    or_else (refused own.stage own.sid line) (request_denied hub own prepared now line (request_of own.stage line.kind line.command))
+abbrev pub denial_of : Sight → Own → PreparedLine → ℕ → Reading → Option Deny
+denial_of hub own prepared now line =
+    option_or (refusal_of own.stage own.sid line) (request_denied hub own prepared now line (request_of own.stage line.kind line.command))

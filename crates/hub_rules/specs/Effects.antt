@@ -1,11 +1,12 @@
--- What a line leads to: who is told what, what becomes of its connection, what changes for all.
-use Rattle.std.specs.Prelude.{ℕ, ◌-◌, ◌==◌, Bool, true, false, List, [], ◌∷◌, ◌++◌, length, map, Option, Some, None, Result, Ok, Err, if◌then◌else◌, chars}
-use Rattle.std.specs.Option.{option_map, unwrap_or}
+-- The effect of a line: who is told what, what becomes of its connection, what changes for all.
+use Rattle.std.specs.Prelude.{ℕ, ◌-◌, ◌==◌, Bool, true, false, List, [], ◌∷◌, ◌++◌, length, map, Option, Result, Ok, Err, if◌then◌else◌, chars}
+use Rattle.std.specs.Option.{option_map_or, option_map, unwrap_or}
 use Rattle.adc_line.specs.declared.fault.LineFault.{LineFault}
 use Rattle.adc_line.specs.Lines as lines
 use Rattle.adc_line.specs.Lines.{Reading}
 use Rattle.feature_route.specs.Audiences.{audience}
 use Rattle.feature_route.specs.Matching.{feature_set}
+use Rattle.feature_route.specs.declared.hearers.Audience.{Audience}
 use Rattle.feature_route.specs.declared.hearers.Audience.TheVariants as audiences
 use Rattle.inf_fields.specs.Cleaning.{clean}
 use Rattle.inf_fields.specs.Field.{Field, value_of}
@@ -21,7 +22,7 @@ use Rattle.login_state.specs.declared.stage.Stage.TheVariants as stages
 use Rattle.login_state.specs.Denials.{denial_line, is_fatal}
 use Rattle.login_state.specs.Mentions.{ping, ucmd}
 use Rattle.login_state.specs.Support.{has_feature}
-use Rattle.login_state.specs.SupportAnswers.{applied}
+use Rattle.login_state.specs.SupportAnswers.{support_after}
 use Rattle.outboxes.specs.Quits.{quit_line}
 use Rattle.user_table.specs.Listed.{Listed}
 use Rattle.user_table.specs.Tables.{has_sid, totals_of}
@@ -30,16 +31,17 @@ use Rattle.hub_rules.specs.declared.effect.Change.TheVariants.{Nothing, Sender}
 use Rattle.hub_rules.specs.declared.effect.Effect.{Effect}
 use Rattle.hub_rules.specs.declared.effect.Entrant.{Entrant}
 use Rattle.hub_rules.specs.declared.effect.Hearers.TheVariants.{Others, Those}
+use Rattle.hub_rules.specs.declared.effect.Revision.{Revision}
 use Rattle.hub_rules.specs.declared.effect.SenderChange.TheVariants as senders
-use Rattle.hub_rules.specs.declared.request.Request.{Request}
-use Rattle.hub_rules.specs.declared.request.Request.TheVariants as requests
+use Rattle.login_state.specs.declared.request.Request.{Request}
+use Rattle.login_state.specs.declared.request.Request.TheVariants as requests
 use Rattle.hub_rules.specs.Acts.{act_effect}
-use Rattle.hub_rules.specs.Denied.{denied}
-use Rattle.hub_rules.specs.Identities.{meaning, listed, su_in}
+use Rattle.hub_rules.specs.Denied.{denial_of}
+use Rattle.hub_rules.specs.Identities.{meaning, listed_user, su_in}
 use Rattle.hub_rules.specs.Quiet.{nothing}
 use Rattle.hub_rules.specs.Requests.{request_of}
 use Rattle.hub_rules.specs.Sights.{Sight, Own, PreparedLine, account_of, is_account, is_here, user_after}
-use Rattle.hub_rules.specs.Texts.{ended, support_line, identifier_line, ping_fields, hub_line, challenge_line, user_line, update_line, menu_line}
+use Rattle.hub_rules.specs.Texts.{with_line_feed, support_line, identifier_line, ping_fields, hub_line, challenge_line, user_line, update_line, menu_line}
 
 -- nothing more will ever come from or to such a connection
 abbrev pub is_over : Stage → Bool
@@ -51,52 +53,52 @@ abbrev pub is_present : Stage → Bool
 is_present stages.Normal = true
 is_present stage = false
 
-abbrev pub given_if : {A : Type 0} → Bool → List A → List A
-given_if true xs = xs
-given_if false xs = []
+-- the sender is told this, and the others who are present that
+abbrev pub tells_others : List (List ℕ) → List (List ℕ) → Change → Effect
+tells_others own others change = record { own = own; others = others; hearers = Others; change = change }
+
+-- the sender alone is told
+abbrev pub tells_sender : List (List ℕ) → Change → Effect
+tells_sender own change = tells_others own [] change
+
+-- those of the users who are present are told for whom it is
+abbrev pub tells_users : List (List ℕ) → Audience → Change → Effect
+tells_users lines audience change = record { own = []; others = lines; hearers = Those audience; change = change }
 
 -- ---- denials and departures
 
-abbrev pub fall_if : Bool → Change
-fall_if true = Sender senders.Falls
-fall_if false = Nothing
-
 -- the others who are present hear that a user left, where it was present
 abbrev pub farewell : Stage → ℕ → List (List ℕ)
-farewell stage sid = given_if (is_present stage) (quit_line sid ∷ [])
+farewell stage sid = if is_present stage then quit_line sid ∷ [] else []
 
 -- the connection is told why, and shut out where that is fatal
 unfoldable pub denial : Own → Deny → Effect
-denial own deny = record {
-  own = denial_line deny ∷ [];
-  others = given_if (is_fatal deny) (farewell own.stage own.sid);
-  hearers = Others;
-  change = fall_if (is_fatal deny);
-}
+denial own deny =
+    if is_fatal deny then tells_others (denial_line deny ∷ []) (farewell own.stage own.sid) (Sender senders.Falls)
+    else tells_sender (denial_line deny ∷ []) Nothing
 
 -- a connection leaves
 abbrev pub departure : Stage → ℕ → Effect
-departure stage sid = record { own = []; others = farewell stage sid; hearers = Others; change = Sender senders.Falls }
+departure stage sid = tells_others [] (farewell stage sid) (Sender senders.Falls)
 
 -- ---- SUP
 
 -- what a client hears that asked about the hub
 abbrev pub ping_of : Sight → ℕ → List (List ℕ) → List ℕ
 ping_of hub now features =
-    given_if (has_feature ping features) (ping_fields (totals_of hub.users) hub.setup.max_users (now - hub.setup.opening))
+    if has_feature ping features then ping_fields (totals_of hub.users) hub.setup.max_users (now - hub.setup.opening) else []
 
 abbrev pub greeting : Sight → ℕ → ℕ → List (List ℕ) → List (List ℕ)
 greeting hub now sid features = support_line ∷ identifier_line sid ∷ hub_line hub.setup hub.topic (ping_of hub now features) ∷ []
 
 -- the client is greeted, and may log in
 abbrev pub greets : Sight → Own → ℕ → Result (List (List ℕ)) SupFault → Effect
-greets hub own now (Ok features) =
-    record { own = greeting hub now own.sid features; others = []; hearers = Others; change = Sender (senders.Greets features) }
+greets hub own now (Ok features) = tells_sender (greeting hub now own.sid features) (Sender (senders.Greets features))
 greets hub own now (Err fault) = nothing
 
 -- the client supports other features from now on
 abbrev pub learns : Result (List (List ℕ)) SupFault → Effect
-learns (Ok features) = record { own = []; others = []; hearers = Others; change = Sender (senders.Learns features) }
+learns (Ok features) = tells_sender [] (Sender (senders.Learns features))
 learns (Err fault) = nothing
 
 -- ---- entering
@@ -107,28 +109,19 @@ line_of hub user = user_line user.sid user.fields (account_of hub user.key)
 -- the users who are present, the newcomer itself, and the menu where its client has one
 abbrev pub welcome : Sight → List (List ℕ) → Listed → List (List ℕ)
 welcome hub features user =
-    map (line_of hub) hub.users ++ line_of hub user ∷ given_if (has_feature ucmd features) (map menu_line hub.setup.menu)
+    map (line_of hub) hub.users ++ line_of hub user ∷ (if has_feature ucmd features then map menu_line hub.setup.menu else [])
 
 -- a user enters: it hears who is there, and the others hear of it
 abbrev pub enters : Sight → Own → Listed → Change → Effect
-enters hub own user change = record {
-  own = welcome hub own.features user;
-  others = line_of hub user ∷ [];
-  hearers = Others;
-  change = change;
-}
+enters hub own user change = tells_others (welcome hub own.features user) (line_of hub user ∷ []) change
 
 abbrev pub entrant : Listed → Entrant
 entrant user = record { user = user; support = feature_set (su_in user.fields) }
 
 -- a user with an account is asked for the password, and another enters
 abbrev pub admits : Sight → Own → PreparedLine → Bool → Listed → Effect
-admits hub own prepared true user = record {
-  own = challenge_line own.challenge ∷ [];
-  others = [];
-  hearers = Others;
-  change = Sender (senders.Waits (entrant user) (unwrap_or prepared.password []));
-}
+admits hub own prepared true user =
+    tells_sender (challenge_line own.challenge ∷ []) (Sender (senders.Waits (entrant user) (unwrap_or prepared.password [])))
 admits hub own prepared false user = enters hub own user (Sender (senders.EntersAs (entrant user)))
 
 abbrev pub logs_in : Sight → Own → PreparedLine → Result (List Field) InfFault → Effect
@@ -138,24 +131,18 @@ logs_in hub own prepared (Err fault) = nothing
 -- ---- updates
 
 abbrev pub line_unless_empty : ℕ → List Field → List (List ℕ)
-line_unless_empty sid [] = []
-line_unless_empty sid (f ∷ more) = update_line sid (f ∷ more) ∷ []
+line_unless_empty sid u = if length u == 0 then [] else update_line sid u ∷ []
 
-abbrev pub nick_points : List ℕ → List ℕ
-nick_points nick = chars (meaning nick)
+abbrev pub revision : Own → List Field → Revision
+revision own u = record {
+  update = u;
+  nick = option_map (λ (word : List ℕ). chars (meaning word)) (value_of nick_name u);
+  support = feature_set (su_in (merged_with own.fields u));
+}
 
 -- all who are present hear what changes
 abbrev pub update_effect : Own → List Field → Effect
-update_effect own u = record {
-  own = [];
-  others = line_unless_empty own.sid u;
-  hearers = Those audiences.All;
-  change = Sender (senders.Updates (record {
-    update = u;
-    nick = option_map nick_points (value_of nick_name u);
-    support = feature_set (su_in (merged_with own.fields u));
-  }));
-}
+update_effect own u = tells_users (line_unless_empty own.sid u) audiences.All (Sender (senders.Updates (revision own u)))
 
 abbrev pub updates_user : Own → Result (List Field) InfFault → Effect
 updates_user own (Ok u) = update_effect own (clean u own.peer)
@@ -164,44 +151,37 @@ updates_user own (Err fault) = nothing
 -- ---- messages
 
 abbrev pub is_target_here : Sight → Option ℕ → Bool
-is_target_here hub None = false
-is_target_here hub (Some target) = is_here (has_sid target) hub
+is_target_here hub target = option_map_or (λ (sid : ℕ). is_here (has_sid sid) hub) target false
 
 -- those for whom it is hear the line as it came
 abbrev pub passes_on : Sight → Reading → Change → Effect
-passes_on hub line change = record {
-  own = [];
-  others = ended line.text ∷ [];
-  hearers = Those (audience line (is_target_here hub line.target));
-  change = change;
-}
+passes_on hub line change = tells_users (with_line_feed line.text ∷ []) (audience line (is_target_here hub line.target)) change
 
 -- ---- any line
 
 -- what an accepted line leads to, by what it asks for
-unfoldable pub accepted : Sight → Own → PreparedLine → ℕ → Reading → Request → Effect
-accepted hub own prepared now line requests.Greeting = greets hub own now (applied own.features line.params)
-accepted hub own prepared now line requests.Login = logs_in hub own prepared (updates.reading line.params)
-accepted hub own prepared now line requests.Password = enters hub own (listed own.sid own.fields) (Sender senders.Enters)
-accepted hub own prepared now line requests.Update = updates_user own (updates.reading line.params)
-accepted hub own prepared now line requests.Support = learns (applied own.features line.params)
-accepted hub own prepared now line requests.Act = act_effect hub own now line.params
-accepted hub own prepared now line requests.Search = passes_on hub line (Sender (senders.Searches now))
-accepted hub own prepared now line requests.Message = passes_on hub line Nothing
-accepted hub own prepared now line requests.Nothing = nothing
+unfoldable pub accepted_effect : Sight → Own → PreparedLine → ℕ → Reading → Request → Effect
+accepted_effect hub own prepared now line requests.Greeting = greets hub own now (support_after own.features line.params)
+accepted_effect hub own prepared now line requests.Login = logs_in hub own prepared (updates.reading line.params)
+accepted_effect hub own prepared now line requests.Password = enters hub own (listed_user own.sid own.fields) (Sender senders.Enters)
+accepted_effect hub own prepared now line requests.Update = updates_user own (updates.reading line.params)
+accepted_effect hub own prepared now line requests.Support = learns (support_after own.features line.params)
+accepted_effect hub own prepared now line requests.Act = act_effect hub own now line.params
+accepted_effect hub own prepared now line requests.Search = passes_on hub line (Sender (senders.Searches now))
+accepted_effect hub own prepared now line requests.Message = passes_on hub line Nothing
+accepted_effect hub own prepared now line requests.Nothing = nothing
 
 abbrev pub unless_denied : Own → Option Deny → Effect → Effect
-unless_denied own (Some deny) effect = denial own deny
-unless_denied own None effect = effect
+unless_denied own refusal effect = option_map_or (denial own) refusal effect
 
-abbrev pub heard : Sight → Own → PreparedLine → ℕ → Result Reading LineFault → Effect
-heard hub own prepared now (Ok line) =
-    unless_denied own (denied hub own prepared now line) (accepted hub own prepared now line (request_of own.stage line.kind line.command))
-heard hub own prepared now (Err fault) = denial own Protocol
+abbrev pub effect_of_reading : Sight → Own → PreparedLine → ℕ → Result Reading LineFault → Effect
+effect_of_reading hub own prepared now (Ok line) =
+    unless_denied own (denial_of hub own prepared now line) (accepted_effect hub own prepared now line (request_of own.stage line.kind line.command))
+effect_of_reading hub own prepared now (Err fault) = denial own Protocol
 
--- What a line leads to. A connection that is shut out is not heard, and an empty line keeps a connection alive and leads to nothing.
+-- The effect of a line. A connection that is shut out is not heard, and an empty line keeps a connection alive and leads to nothing.
 unfoldable pub line_effect : Sight → Own → PreparedLine → ℕ → Effect
 line_effect hub own prepared now =
     if is_over own.stage then nothing
     else if length prepared.bytes == 0 then nothing
-    else heard hub own prepared now (lines.reading prepared.bytes)
+    else effect_of_reading hub own prepared now (lines.reading prepared.bytes)

@@ -1,13 +1,13 @@
--- What the calls so far amount to. A history is a list of entries, written **newest first**: `e ∷ h` is the history h
+-- The sum of the calls so far. A history is a list of entries, written **newest first**: `e ∷ h` is the history h
 -- and then the entry e. So 'h begins with s' says that s is an end of the list h.
-use Rattle.std.specs.Prelude.{ℕ, ◌+◌, ◌==◌, ◌&&◌, not, nat_le, Bool, true, false, List, [], ◌∷◌, ◌++◌, length, map, take, filter, None}
+use Rattle.std.specs.Prelude.{ℕ, ◌+◌, ◌==◌, ◌&&◌, not, nat_le, Bool, false, List, [], ◌∷◌, ◌++◌, length, map, take, filter, None, if◌then◌else◌}
 use Rattle.adc_base32.specs.Turns.{next_free}
 use Rattle.login_state.specs.declared.stage.Stage.TheVariants as stages
 use Rattle.operator_acts.specs.Bans.{with_ban, without_ban}
 use Rattle.operator_acts.specs.declared.ban.Ban.{Ban}
 use Rattle.user_table.specs.Listed.{Listed}
 use Rattle.hub_rules.specs.declared.effect.Change.{Change}
-use Rattle.hub_rules.specs.declared.effect.Change.TheVariants.{Hub, Sender}
+use Rattle.hub_rules.specs.declared.effect.Change.TheVariants.{Hub}
 use Rattle.hub_rules.specs.declared.effect.Effect.{Effect}
 use Rattle.hub_rules.specs.declared.effect.HubChange.TheVariants as shared
 use Rattle.hub_rules.specs.declared.effect.SenderChange.TheVariants as senders
@@ -16,9 +16,9 @@ use Rattle.hub_rules.specs.declared.history.Call.TheVariants.{Join, Line, Quit, 
 use Rattle.hub_rules.specs.declared.history.Entry.{Entry}
 use Rattle.hub_rules.specs.Configured.{Configured}
 use Rattle.hub_rules.specs.Effects.{line_effect, departure, is_present}
-use Rattle.hub_rules.specs.Identities.{listed}
-use Rattle.hub_rules.specs.Prepared.{prepared}
-use Rattle.hub_rules.specs.Shares.{About, affected, chosen, waiting}
+use Rattle.hub_rules.specs.Identities.{listed_user}
+use Rattle.hub_rules.specs.Prepared.{prepared_line}
+use Rattle.hub_rules.specs.Shares.{About, affected_connection, waiting, stage_after}
 use Rattle.hub_rules.specs.Sights.{Sight, Own}
 
 -- what belongs to the hub
@@ -38,18 +38,8 @@ pub record Facts : Type 0 where
 -- a connection that never joined
 abbrev pub nobody : About
 nobody = record {
-  owner = 0;
-  sid = 0;
-  peer = [];
-  challenge = [];
-  stage = stages.Gone;
-  features = [];
-  fields = [];
-  expected = [];
-  searched = None;
-  owed = [];
-  taken = 0;
-  lags = false;
+  owner = 0; sid = 0; peer = []; challenge = []; stage = stages.Gone; features = []; fields = []; expected = [];
+  searched = None; owed = []; taken = 0; lags = false;
 }
 
 -- before the first call
@@ -63,50 +53,38 @@ newcomer owner sid peer challenge = record nobody { owner = owner; sid = sid; pe
 -- ---- what a decision looks at
 
 abbrev pub user_of : (ℕ → About) → ℕ → Listed
-user_of about c = listed (about c).sid (about c).fields
+user_of about c = listed_user (about c).sid (about c).fields
 
 abbrev pub sight_of : Configured → Facts → Sight
 sight_of setup f = record { setup = setup; users = map (user_of f.about) f.present; bans = f.bans; topic = f.topic }
 
 abbrev pub own_of : About → Own
 own_of a = record {
-  sid = a.sid;
-  peer = a.peer;
-  challenge = a.challenge;
-  stage = a.stage;
-  features = a.features;
-  fields = a.fields;
-  expected = a.expected;
-  searched = a.searched;
+  sid = a.sid; peer = a.peer; challenge = a.challenge; stage = a.stage; features = a.features; fields = a.fields;
+  expected = a.expected; searched = a.searched;
 }
 
 -- what a line of connection c leads to
 abbrev pub effect_of_line : Configured → (List ℕ → List ℕ) → Facts → ℕ → List ℕ → ℕ → Effect
 effect_of_line setup hash f c bytes now =
-    line_effect (sight_of setup f) (own_of (f.about c)) (prepared setup hash (f.about c).challenge bytes) now
+    line_effect (sight_of setup f) (own_of (f.about c)) (prepared_line setup hash (f.about c).challenge bytes) now
 
 -- ---- what an effect does
 
 abbrev pub enters : Change → Bool
-enters (Sender senders.Enters) = true
-enters (Sender (senders.EntersAs entrant)) = true
-enters change = false
-
-abbrev pub newcomer_if : Bool → ℕ → List ℕ
-newcomer_if true c = c ∷ []
-newcomer_if false c = []
+enters change = is_present (stage_after change stages.Gone)
 
 -- the connections after an effect of connection c
 abbrev pub about_after : ℕ → Effect → (ℕ → About) → ℕ → About
-about_after c effect about d = affected (d == c) effect (about d)
+about_after c effect about d = affected_connection (d == c) effect (about d)
 
 -- those whose users are still present, and the one that enters
 abbrev pub present_after : ℕ → Effect → (ℕ → About) → List ℕ → List ℕ
 present_after c effect about present =
-    filter (λ d. is_present (about_after c effect about d).stage) present ++ newcomer_if (enters effect.change) c
+    filter (λ d. is_present (about_after c effect about d).stage) present ++ (if enters effect.change then c ∷ [] else [])
 
 abbrev pub bans_after : Change → List (List ℕ × Ban) → List (List ℕ × Ban)
-bans_after (Hub (shared.Ban banned)) bans = with_ban bans banned.cid (record { seconds = banned.seconds; moment = banned.now })
+bans_after (Hub (shared.Ban banned)) bans = with_ban bans banned.cid banned.ban
 bans_after (Hub (shared.Unban cid)) bans = without_ban bans cid
 bans_after change bans = bans
 
@@ -141,10 +119,10 @@ next_sid f = next_free f.last (map (λ c. (f.about c).sid) f.opened)
 
 -- one connection changes, and no other
 abbrev pub with_one : ℕ → (About → About) → (ℕ → About) → ℕ → About
-with_one c change about d = chosen (d == c) (change (about d)) (about d)
+with_one c change about d = if d == c then change (about d) else about d
 
-unfoldable pub joined : Facts → ℕ → List ℕ → List ℕ → Facts
-joined f owner peer challenge = record f {
+unfoldable pub with_connection : Facts → ℕ → List ℕ → List ℕ → Facts
+with_connection f owner peer challenge = record f {
   joins = f.joins + 1;
   last = next_sid f;
   opened = f.opened ++ (f.joins + 1) ∷ [];
@@ -152,19 +130,19 @@ joined f owner peer challenge = record f {
 }
 
 -- a connection that left
-unfoldable pub closed : ℕ → Facts → Facts
-closed c f = record f { opened = filter (λ d. not (d == c)) f.opened }
+unfoldable pub without_connection : ℕ → Facts → Facts
+without_connection c f = record f { opened = filter (λ d. not (d == c)) f.opened }
 
 -- so many lines are taken
-abbrev pub given : ℕ → About → About
-given count a = record a { taken = a.taken + length (take count (waiting a)) }
+abbrev pub with_lines_taken : ℕ → About → About
+with_lines_taken count a = record a { taken = a.taken + length (take count (waiting a)) }
 
 -- the hub after one call more
 unfoldable pub after : Configured → (List ℕ → List ℕ) → Facts → ℕ → Call → Facts
-after setup hash f caller (Join peer challenge now) = chosen (has_place setup f && has_joins f) (joined f caller peer challenge) f
+after setup hash f caller (Join peer challenge now) = if has_place setup f && has_joins f then with_connection f caller peer challenge else f
 after setup hash f caller (Line c bytes now) = happens c (effect_of_line setup hash f c bytes now) f
-after setup hash f caller (Quit c) = closed c (happens c (departure (f.about c).stage (f.about c).sid) f)
-after setup hash f caller (Take c count) = record f { about = with_one c (given count) f.about }
+after setup hash f caller (Quit c) = without_connection c (happens c (departure (f.about c).stage (f.about c).sid) f)
+after setup hash f caller (Take c count) = record f { about = with_one c (with_lines_taken count) f.about }
 
 -- the hub after a history
 unfoldable pub facts : Configured → (List ℕ → List ℕ) → List Entry → Facts

@@ -1,26 +1,26 @@
--- Why a SUP, a login, a password or an update is denied: its grounds, in the order in which they are looked at (ADC 1.0, "SUP", "INF", "PAS").
-use Rattle.std.specs.Prelude.{ℕ, ◌==◌, ◌&&◌, ◌||◌, not, Bool, true, false, List, [], ◌∷◌, chars, codes, Option, Some, None, is_some}
-use Rattle.std.specs.Option.{unwrap_or}
+-- The grounds on which a SUP, a login, a password or an update is denied, in the order in which they are looked at (ADC 1.0, "SUP", "INF", "PAS").
+use Rattle.std.specs.Prelude.{ℕ, ◌&&◌, ◌||◌, not, Bool, true, false, List, [], ◌∷◌, chars, codes, Option, Some, None, is_some}
+use Rattle.std.specs.Option.{unwrap_or, option_map_or}
 use Rattle.std.specs.Str.{bytes_eq}
-use Rattle.adc_base32.specs.Spelled.{spelled}
+use Rattle.adc_base32.specs.Spelled.{spelled_bytes}
 use Rattle.adc_ids.specs.Nicks.{is_nick}
-use Rattle.inf_fields.specs.Amounts.{number_at}
-use Rattle.inf_fields.specs.Cleaning.{any_address, clean, dotted}
+use Rattle.inf_fields.specs.Amounts.{bad_number}
+use Rattle.inf_fields.specs.Cleaning.{any_address, clean, dotted_decimal}
 use Rattle.inf_fields.specs.Field.{Field, value_of}
-use Rattle.inf_fields.specs.FieldNames.{id_name, private_id_name, nick_name, share_size_name, shared_files_name, address_name}
+use Rattle.inf_fields.specs.FieldNames.{id_name, private_id_name, nick_name, address_name}
 use Rattle.inf_fields.specs.Merging.{fits}
 use Rattle.login_state.specs.declared.deny.Deny.{Deny}
 use Rattle.login_state.specs.declared.deny.Deny.TheVariants as denials
-use Rattle.login_state.specs.declared.deny.InfField.TheVariants as fields
+use Rattle.login_state.specs.declared.deny.Severity.{Severity}
 use Rattle.login_state.specs.declared.deny.Severity.TheVariants.{Fatal, Recoverable}
 use Rattle.login_state.specs.Mentions.{base, tigr}
 use Rattle.login_state.specs.Support.{has_feature}
-use Rattle.operator_acts.specs.Bans.{left}
+use Rattle.operator_acts.specs.Bans.{left_of_bans}
 use Rattle.operator_acts.specs.declared.left.Left.{Left}
 use Rattle.operator_acts.specs.declared.left.Left.TheVariants as lefts
 use Rattle.user_table.specs.Listed.{Listed}
 use Rattle.user_table.specs.Tables.{has_key, has_cid}
-use Rattle.hub_rules.specs.Identities.{given, meaning, nick_in, key_in}
+use Rattle.hub_rules.specs.Identities.{value_or_empty, meaning, nick_in, key_in}
 use Rattle.hub_rules.specs.Sights.{Sight, Own, is_account, is_here, another_has_key}
 
 -- the first that holds decides
@@ -44,45 +44,43 @@ is_empty (b ∷ more) = false
 abbrev pub differs : List ℕ → List ℕ → Bool
 differs value other = not (bytes_eq value other)
 
--- a number that need not be there
-abbrev pub is_bad_amount : List ℕ → Bool
-is_bad_amount value = not (is_empty value || is_some (number_at value))
+-- the fields that are numbers: the first whose value is none
+abbrev pub number_ground : Severity → List Field → Bool × Deny
+number_ground severity u = (is_some (bad_number u), denials.BadField severity (unwrap_or (bad_number u) []))
 
 -- an address that is neither left to the hub nor the one that it sees
 abbrev pub is_wrong_address : List ℕ → List ℕ → Bool
-is_wrong_address peer address = not (is_empty address || bytes_eq address any_address || bytes_eq address (dotted peer))
+is_wrong_address peer address = not (is_empty address || bytes_eq address any_address || bytes_eq address (dotted_decimal peer))
 
 -- a nick that is given must be one
 abbrev pub is_bad_nick : Option (List ℕ) → Bool
-is_bad_nick None = false
-is_bad_nick (Some nick) = not (is_nick (chars (meaning nick)))
+is_bad_nick nick = option_map_or (λ (word : List ℕ). not (is_nick (chars (meaning word)))) nick false
 
 -- ---- entering
 
 abbrev pub is_ever : Left → Bool
 is_ever lefts.Ever = true
-is_ever left = false
+is_ever left_of_bans = false
 
 abbrev pub seconds_of : Left → ℕ
 seconds_of (lefts.For seconds) = seconds
-seconds_of left = 0
+seconds_of left_of_bans = 0
 
 abbrev pub is_timed : Left → Bool
 is_timed (lefts.For seconds) = true
-is_timed left = false
+is_timed left_of_bans = false
 
 -- of a user who is to enter: what may have changed since its login, once its password is right
 unfoldable pub entry_grounds : Sight → ℕ → Listed → List (Bool × Deny)
 entry_grounds hub now user =
-    (is_ever (left hub.bans user.cid now), denials.BannedEver)
-    ∷ (is_timed (left hub.bans user.cid now), denials.BannedFor (seconds_of (left hub.bans user.cid now)))
+    (is_ever (left_of_bans hub.bans user.cid now), denials.BannedEver)
+    ∷ (is_timed (left_of_bans hub.bans user.cid now), denials.BannedFor (seconds_of (left_of_bans hub.bans user.cid now)))
     ∷ (is_here (has_key user.key) hub, denials.NickTaken Fatal)
     ∷ (is_here (has_cid user.cid) hub, denials.CidTaken)
     ∷ []
 
 abbrev pub is_digest : List ℕ → Option (List ℕ) → Bool
-is_digest expected None = false
-is_digest expected (Some digest) = bytes_eq digest expected
+is_digest expected digest = option_map_or (λ (d : List ℕ). bytes_eq d expected) digest false
 
 -- of a password: the digest that it gives
 abbrev pub password_grounds : Sight → Own → ℕ → Option (List ℕ) → Listed → List (Bool × Deny)
@@ -91,18 +89,17 @@ password_grounds hub own now digest user = (not (is_digest own.expected digest),
 -- of a login: the digest of the private identifier, what the words say, the user that they make
 unfoldable pub login_grounds : Sight → Own → ℕ → Option (List ℕ) → List Field → Listed → List (Bool × Deny)
 login_grounds hub own now digest u user =
-    (is_empty (given id_name u), denials.Missing fields.Id)
-    ∷ (is_empty (given private_id_name u), denials.Missing fields.Pid)
-    ∷ (is_empty (given nick_name u), denials.Missing fields.Nick)
-    ∷ (not (is_some (spelled 24 (given id_name u))), denials.BadField Fatal fields.Id)
-    ∷ (not (is_some digest), denials.BadField Fatal fields.Pid)
-    ∷ (is_bad_amount (given share_size_name u), denials.BadField Fatal fields.ShareSize)
-    ∷ (is_bad_amount (given shared_files_name u), denials.BadField Fatal fields.SharedFiles)
-    ∷ (differs (unwrap_or (spelled 24 (given id_name u)) []) (unwrap_or digest []), denials.BadPid)
+    (is_empty (value_or_empty id_name u), denials.Missing id_name)
+    ∷ (is_empty (value_or_empty private_id_name u), denials.Missing private_id_name)
+    ∷ (is_empty (value_or_empty nick_name u), denials.Missing nick_name)
+    ∷ (not (is_some (spelled_bytes 24 (value_or_empty id_name u))), denials.BadField Fatal id_name)
+    ∷ (not (is_some digest), denials.BadField Fatal private_id_name)
+    ∷ number_ground Fatal u
+    ∷ (differs (unwrap_or (spelled_bytes 24 (value_or_empty id_name u)) []) (unwrap_or digest []), denials.BadPid)
     ∷ (not (is_nick (chars (nick_in u))), denials.BadNick Fatal)
-    ∷ (is_ever (left hub.bans user.cid now), denials.BannedEver)
-    ∷ (is_timed (left hub.bans user.cid now), denials.BannedFor (seconds_of (left hub.bans user.cid now)))
-    ∷ (is_wrong_address own.peer (given address_name u), denials.Address Fatal own.peer)
+    ∷ (is_ever (left_of_bans hub.bans user.cid now), denials.BannedEver)
+    ∷ (is_timed (left_of_bans hub.bans user.cid now), denials.BannedFor (seconds_of (left_of_bans hub.bans user.cid now)))
+    ∷ (is_wrong_address own.peer (value_or_empty address_name u), denials.Address Fatal own.peer)
     ∷ (hub.setup.registered_only && not (is_account hub user.key), denials.Registered)
     ∷ (is_here (has_key user.key) hub, denials.NickTaken Fatal)
     ∷ (is_here (has_cid user.cid) hub, denials.CidTaken)
@@ -117,12 +114,11 @@ touches_account hub before afterwards = differs afterwards before && (is_account
 -- of an update by a user who is present: what the words say, and the user that they make
 unfoldable pub update_grounds : Sight → Own → List Field → Listed → List (Bool × Deny)
 update_grounds hub own u user =
-    (differs (unwrap_or (value_of id_name u) (given id_name own.fields)) (given id_name own.fields), denials.BadField Recoverable fields.Id)
-    ∷ (is_bad_amount (given share_size_name u), denials.BadField Recoverable fields.ShareSize)
-    ∷ (is_bad_amount (given shared_files_name u), denials.BadField Recoverable fields.SharedFiles)
+    (differs (unwrap_or (value_of id_name u) (value_or_empty id_name own.fields)) (value_or_empty id_name own.fields), denials.BadField Recoverable id_name)
+    ∷ number_ground Recoverable u
     ∷ (is_bad_nick (value_of nick_name u), denials.BadNick Recoverable)
     ∷ (touches_account hub (key_in own.fields) user.key, denials.Access (codes "BINF"))
-    ∷ (is_wrong_address own.peer (given address_name u), denials.Address Recoverable own.peer)
+    ∷ (is_wrong_address own.peer (value_or_empty address_name u), denials.Address Recoverable own.peer)
     ∷ (not (fits own.fields (clean u own.peer)), denials.Protocol)
     ∷ (another_has_key hub own.sid user.key, denials.NickTaken Recoverable)
     ∷ []

@@ -1,8 +1,8 @@
--- What a history says of the hub and of a connection, each thing by its name.
+-- The words for what a history says of the hub and of a connection.
 use Rattle.std.specs.Prelude.{ℕ, Bool, List, length, map}
 use Rattle.inf_fields.specs.Field.{Field}
 use Rattle.login_state.specs.declared.stage.Stage.{Stage}
-use Rattle.operator_acts.specs.Bans.{left}
+use Rattle.operator_acts.specs.Bans.{left_of_bans}
 use Rattle.operator_acts.specs.declared.left.Left.{Left}
 use Rattle.user_table.specs.declared.totals.Totals.{Totals}
 use Rattle.user_table.specs.Tables.{totals_of}
@@ -31,20 +31,20 @@ abbrev pub sid : Configured → (List ℕ → List ℕ) → List Entry → ℕ �
 sid setup hash h c = (about setup hash h c).sid
 
 -- every line that it was owed
-abbrev pub owed : Configured → (List ℕ → List ℕ) → List Entry → ℕ → List (List ℕ)
-owed setup hash h c = (about setup hash h c).owed
+abbrev pub lines_owed : Configured → (List ℕ → List ℕ) → List Entry → ℕ → List (List ℕ)
+lines_owed setup hash h c = (about setup hash h c).owed
 
 -- how many of them it took
-abbrev pub taken : Configured → (List ℕ → List ℕ) → List Entry → ℕ → ℕ
-taken setup hash h c = (about setup hash h c).taken
+abbrev pub count_taken : Configured → (List ℕ → List ℕ) → List Entry → ℕ → ℕ
+count_taken setup hash h c = (about setup hash h c).taken
 
 -- whether a share did not fit
 abbrev pub lags : Configured → (List ℕ → List ℕ) → List Entry → ℕ → Bool
 lags setup hash h c = (about setup hash h c).lags
 
 -- the connections that joined and did not quit, oldest first
-abbrev pub opened : Configured → (List ℕ → List ℕ) → List Entry → List ℕ
-opened setup hash h = (facts setup hash h).opened
+abbrev pub open_connections : Configured → (List ℕ → List ℕ) → List Entry → List ℕ
+open_connections setup hash h = (facts setup hash h).opened
 
 -- the connections whose users are present, in order of entry
 abbrev pub present : Configured → (List ℕ → List ℕ) → List Entry → List ℕ
@@ -52,7 +52,7 @@ present setup hash h = (facts setup hash h).present
 
 -- what is left of the ban on a client identifier at a moment
 abbrev pub ban : Configured → (List ℕ → List ℕ) → List Entry → List ℕ → ℕ → Left
-ban setup hash h cid now = left (facts setup hash h).bans cid now
+ban setup hash h cid now = left_of_bans (facts setup hash h).bans cid now
 
 abbrev pub topic : Configured → (List ℕ → List ℕ) → List Entry → List ℕ
 topic setup hash h = (facts setup hash h).topic

@@ -1,5 +1,5 @@
--- What each call is answered, and which histories are legal.
-use Rattle.std.specs.Prelude.{◌≡◌, ℕ, ◌+◌, ◌==◌, ◌&&◌, ◌||◌, nat_le, Bool, true, false, List, [], ◌∷◌, length, take}
+-- The reply to each call, and the histories that are legal.
+use Rattle.std.specs.Prelude.{◌≡◌, ℕ, ◌+◌, ◌==◌, ◌&&◌, ◌||◌, nat_le, Bool, true, List, [], ◌∷◌, length, take, if◌then◌else◌}
 use Rattle.std.specs.List.{concat, list_any}
 use Rattle.login_state.specs.declared.stage.Stage.{Stage}
 use Rattle.hub_rules.specs.declared.history.Call.{Call}
@@ -15,17 +15,11 @@ use Rattle.hub_rules.specs.Facts.{Facts, facts, after, has_place, has_joins}
 use Rattle.hub_rules.specs.Shares.{About, waiting}
 
 abbrev pub join_reply : Bool → Bool → ℕ → Reply
-join_reply true true joins = Joined (joins + 1)
-join_reply true false joins = JoinsSpent
-join_reply false counted joins = Full
-
-abbrev pub verdict_if : Bool → Verdict
-verdict_if true = Ended
-verdict_if false = Kept
+join_reply place counted joins = if place then (if counted then Joined (joins + 1) else JoinsSpent) else Full
 
 -- what a connection at this stage is told after a line of its own
 abbrev pub verdict_of : Stage → Verdict
-verdict_of stage = verdict_if (is_over stage)
+verdict_of stage = if is_over stage then Ended else Kept
 
 -- nothing is left after the take, and nothing more will come
 abbrev pub has_ended : ℕ → About → Bool

@@ -7,7 +7,7 @@ use Rattle.hub_rules.specs.declared.history.Entry.{Entry}
 use Rattle.hub_rules.specs.declared.history.Reply.{Reply}
 use Rattle.hub_rules.specs.declared.history.Reply.TheVariants as replies
 use Rattle.hub_rules.specs.Configured.{Configured}
-use Rattle.hub_rules.specs.History.{opened}
+use Rattle.hub_rules.specs.History.{open_connections}
 use Rattle.hub_rules.specs.Legal.{Legal}
 use Rattle.hub_rules.specs.Promises.{is_in}
 
@@ -30,4 +30,4 @@ has_quit c h = list_any (λ (e : Entry). quits c e.call) h
 abbrev pub OpenAreThoseThatStayed : Type 0
 OpenAreThoseThatStayed =
     (setup : Configured) (hash : List ℕ → List ℕ) (h : List Entry) → Legal setup hash h → (c : ℕ)
-    → is_in c (opened setup hash h) ≡ (has_joined c h && not (has_quit c h))
+    → is_in c (open_connections setup hash h) ≡ (has_joined c h && not (has_quit c h))

@@ -1,4 +1,4 @@
--- What every history keeps, in the words of the protocol.
+-- Every history keeps these, in the words of the protocol.
 use Rattle.std.specs.Prelude.{◌≡◌, ℕ, ◌+◌, ◌<◌, ◌≤◌, ◌==◌, Bool, true, false, List, [], ◌∷◌, length}
 use Rattle.std.specs.List.{list_any}
 use Rattle.login_state.specs.declared.stage.Stage.TheVariants.{Normal, Gone}
@@ -7,8 +7,8 @@ use Rattle.hub_rules.specs.declared.history.Call.TheVariants as calls
 use Rattle.hub_rules.specs.declared.history.Entry.{Entry}
 use Rattle.hub_rules.specs.declared.history.Reply.{Reply}
 use Rattle.hub_rules.specs.declared.history.Reply.TheVariants as replies
-use Rattle.hub_rules.specs.Configured.{Configured}
-use Rattle.hub_rules.specs.History.{opened, present, sid, stage, taken}
+use Rattle.hub_rules.specs.Configured.{most_users, Configured}
+use Rattle.hub_rules.specs.History.{open_connections, present, sid, stage, count_taken}
 use Rattle.hub_rules.specs.Legal.{Legal}
 
 abbrev pub is_in : ℕ → List ℕ → Bool
@@ -22,29 +22,29 @@ PresentAreUsers = (setup : Configured) (hash : List ℕ → List ℕ) (h : List 
 
 -- they are open
 abbrev pub UsersAreOpen : Type 0
-UsersAreOpen = (setup : Configured) (hash : List ℕ → List ℕ) (h : List Entry) (c : ℕ) → is_in c (present setup hash h) ≡ true → is_in c (opened setup hash h) ≡ true
+UsersAreOpen = (setup : Configured) (hash : List ℕ → List ℕ) (h : List Entry) (c : ℕ) → is_in c (present setup hash h) ≡ true → is_in c (open_connections setup hash h) ≡ true
 
 -- a connection that never joined, or that quit, is shut out
 abbrev pub OthersAreOut : Type 0
-OthersAreOut = (setup : Configured) (hash : List ℕ → List ℕ) (h : List Entry) (c : ℕ) → is_in c (opened setup hash h) ≡ false → stage setup hash h c ≡ Gone
+OthersAreOut = (setup : Configured) (hash : List ℕ → List ℕ) (h : List Entry) (c : ℕ) → is_in c (open_connections setup hash h) ≡ false → stage setup hash h c ≡ Gone
 
 -- ---- session identifiers
 
 -- two open connections have two identifiers
 abbrev pub SidsDiffer : Type 0
 SidsDiffer =
-    (setup : Configured) (hash : List ℕ → List ℕ) (h : List Entry) → setup.max_users ≤ 900 → (c d : ℕ) → is_in c (opened setup hash h) ≡ true → is_in d (opened setup hash h) ≡ true
+    (setup : Configured) (hash : List ℕ → List ℕ) (h : List Entry) → setup.max_users ≤ most_users → (c d : ℕ) → is_in c (open_connections setup hash h) ≡ true → is_in d (open_connections setup hash h) ≡ true
     → sid setup hash h c ≡ sid setup hash h d → c ≡ d
 
 -- none of them is the first, AAAA, and all have four digits
 abbrev pub SidsAreGiven : Type 0
 SidsAreGiven =
-    (setup : Configured) (hash : List ℕ → List ℕ) (h : List Entry) → setup.max_users ≤ 900 → (c : ℕ) → is_in c (opened setup hash h) ≡ true
+    (setup : Configured) (hash : List ℕ → List ℕ) (h : List Entry) → setup.max_users ≤ most_users → (c : ℕ) → is_in c (open_connections setup hash h) ≡ true
     → (0 < sid setup hash h c) × (sid setup hash h c < 1_048_576)
 
 -- no more connections are open than the hub admits
 abbrev pub FewAreOpen : Type 0
-FewAreOpen = (setup : Configured) (hash : List ℕ → List ℕ) (h : List Entry) → setup.max_users ≤ 900 → length (opened setup hash h) ≤ setup.max_users
+FewAreOpen = (setup : Configured) (hash : List ℕ → List ℕ) (h : List Entry) → setup.max_users ≤ most_users → length (open_connections setup hash h) ≤ setup.max_users
 
 -- ---- takes
 
@@ -64,4 +64,4 @@ taken_in c (e ∷ h) = taken_in c h + lines_taken c e.call e.reply
 
 -- what a connection took is that sum
 abbrev pub TakenIsTheSum : Type 0
-TakenIsTheSum = (setup : Configured) (hash : List ℕ → List ℕ) (h : List Entry) → Legal setup hash h → (c : ℕ) → taken setup hash h c ≡ taken_in c h
+TakenIsTheSum = (setup : Configured) (hash : List ℕ → List ℕ) (h : List Entry) → Legal setup hash h → (c : ℕ) → count_taken setup hash h c ≡ taken_in c h

@@ -8,12 +8,12 @@ use Rattle.user_table.specs.Tables.{amount}
 use Rattle.hub_rules.specs.declared.history.Call.{Call}
 use Rattle.hub_rules.specs.declared.history.Call.TheVariants.{Line}
 use Rattle.hub_rules.specs.declared.history.Entry.{Entry}
-use Rattle.hub_rules.specs.declared.request.Request.{Request}
-use Rattle.hub_rules.specs.declared.request.Request.TheVariants as requests
+use Rattle.login_state.specs.declared.request.Request.{Request}
+use Rattle.login_state.specs.declared.request.Request.TheVariants as requests
 use Rattle.hub_rules.specs.Configured.{Configured}
 use Rattle.hub_rules.specs.Facts.{Facts, facts, own_of, sight_of}
 use Rattle.hub_rules.specs.History.{about, info, present, totals}
-use Rattle.hub_rules.specs.Prepared.{prepared}
+use Rattle.hub_rules.specs.Prepared.{prepared_line}
 use Rattle.hub_rules.specs.Requests.{request_of}
 use Rattle.hub_rules.specs.Said.{accepted_line}
 use Rattle.hub_rules.specs.Sights.{Own}
@@ -34,7 +34,7 @@ moment_if false now = None
 -- the moment of a call that is an accepted search of connection c
 abbrev pub search_in : Configured → (List ℕ → List ℕ) → Facts → ℕ → Call → Option ℕ
 search_in setup hash f c (Line d bytes now) =
-    moment_if ((c == d) && searches (own_of (f.about d)) (accepted_line (sight_of setup f) (own_of (f.about d)) (prepared setup hash (f.about d).challenge bytes) now)) now
+    moment_if ((c == d) && searches (own_of (f.about d)) (accepted_line (sight_of setup f) (own_of (f.about d)) (prepared_line setup hash (f.about d).challenge bytes) now)) now
 search_in setup hash f c call = None
 
 -- the moment of the last of them

@@ -1,11 +1,11 @@
--- What each connection is owed, and what becomes of each, by one effect.
-use Rattle.std.specs.Prelude.{ℕ, ◌==◌, ◌&&◌, ◌||◌, not, Bool, true, false, List, [], ◌++◌, drop, Option, Some, None}
+-- The share of each connection in one effect, and the connection after it.
+use Rattle.std.specs.Prelude.{ℕ, ◌==◌, ◌&&◌, ◌||◌, not, Bool, false, List, [], ◌++◌, drop, Option, Some, if◌then◌else◌, nat_le, length, ◌+◌}
 use Rattle.feature_route.specs.Audiences.{holds}
 use Rattle.inf_fields.specs.Field.{Field}
 use Rattle.inf_fields.specs.Merging.{merged_with}
 use Rattle.login_state.specs.declared.stage.Stage.{Stage}
 use Rattle.login_state.specs.declared.stage.Stage.TheVariants as stages
-use Rattle.outboxes.specs.Backlogs.{Backlog, fits}
+use Rattle.outboxes.specs.Backlogs.{size_of}
 use Rattle.hub_rules.specs.declared.effect.Change.{Change}
 use Rattle.hub_rules.specs.declared.effect.Change.TheVariants.{Hub, Sender}
 use Rattle.hub_rules.specs.declared.effect.Effect.{Effect}
@@ -13,7 +13,7 @@ use Rattle.hub_rules.specs.declared.effect.Hearers.{Hearers}
 use Rattle.hub_rules.specs.declared.effect.Hearers.TheVariants.{Others, Those}
 use Rattle.hub_rules.specs.declared.effect.HubChange.TheVariants as shared
 use Rattle.hub_rules.specs.declared.effect.SenderChange.TheVariants as senders
-use Rattle.hub_rules.specs.Effects.{given_if, is_present}
+use Rattle.hub_rules.specs.Effects.{is_present}
 use Rattle.hub_rules.specs.Identities.{su_in}
 
 -- what belongs to one connection
@@ -38,10 +38,6 @@ pub record About : Type 0 where
   -- whether a share did not fit
   pub lags : Bool
 
-abbrev pub chosen : {A : Type 0} → Bool → A → A → A
-chosen true a b = a
-chosen false a b = b
-
 -- ---- who is owed what
 
 -- how many lines may wait for a connection
@@ -56,16 +52,16 @@ max_bytes = 1_048_576
 abbrev pub waiting : About → List (List ℕ)
 waiting a = drop a.taken a.owed
 
--- what waits for a connection
-abbrev pub backlog_of : About → Backlog
-backlog_of a = record { lines = waiting a; lags = a.lags; cap = max_lines; bytes = max_bytes }
+-- with these lines waiting, there is room for those
+abbrev pub has_room_for : List (List ℕ) → List (List ℕ) → Bool
+has_room_for waiting share = nat_le (length waiting + length share) max_lines && nat_le (size_of waiting + size_of share) max_bytes
 
 abbrev pub has_room : About → List (List ℕ) → Bool
-has_room a share = not a.lags && fits (backlog_of a) share
+has_room a share = not a.lags && has_room_for (waiting a) share
 
 -- A share is added whole or not at all. The first that does not fit makes the connection lag, and then nothing is added any more.
 unfoldable pub owed_with : About → List (List ℕ) → List (List ℕ)
-owed_with a share = chosen (has_room a share) (a.owed ++ share) a.owed
+owed_with a share = if has_room a share then a.owed ++ share else a.owed
 
 unfoldable pub lags_with : About → List (List ℕ) → Bool
 lags_with a share = not (has_room a share) || a.lags
@@ -80,7 +76,7 @@ hears is_caller hearers a = is_present a.stage && hears_those is_caller hearers 
 
 -- what an effect owes a connection: what users hear, and then what the sender of the line alone hears
 abbrev pub owes : Bool → Effect → About → List (List ℕ)
-owes is_caller effect a = given_if (hears is_caller effect.hearers a) effect.others ++ given_if is_caller effect.own
+owes is_caller effect a = (if hears is_caller effect.hearers a then effect.others else []) ++ (if is_caller then effect.own else [])
 
 -- ---- what becomes of a connection
 
@@ -122,14 +118,14 @@ is_removed change own = false
 abbrev pub removed_by : Effect → About → Bool
 removed_by effect a = is_present a.stage && is_removed effect.change a.sid
 
--- What an effect makes of a connection: it is owed its share; it changes where it sent the line; it is shut out where it is the user to be.
-abbrev pub affected : Bool → Effect → About → About
-affected is_caller effect a = record a {
-  stage = chosen (removed_by effect a) stages.Gone (chosen is_caller (stage_after effect.change a.stage) a.stage);
-  features = chosen is_caller (features_after effect.change a.features) a.features;
-  fields = chosen is_caller (fields_after effect.change a.fields) a.fields;
-  expected = chosen is_caller (expected_after effect.change a.expected) a.expected;
-  searched = chosen is_caller (searched_after effect.change a.searched) a.searched;
+-- A connection after an effect: it is owed its share; it changes where it sent the line; it is shut out where it is the user to be.
+abbrev pub affected_connection : Bool → Effect → About → About
+affected_connection is_caller effect a = record a {
+  stage = if removed_by effect a then stages.Gone else if is_caller then stage_after effect.change a.stage else a.stage;
+  features = if is_caller then features_after effect.change a.features else a.features;
+  fields = if is_caller then fields_after effect.change a.fields else a.fields;
+  expected = if is_caller then expected_after effect.change a.expected else a.expected;
+  searched = if is_caller then searched_after effect.change a.searched else a.searched;
   owed = owed_with a (owes is_caller effect a);
   lags = lags_with a (owes is_caller effect a);
 }

@@ -1,4 +1,4 @@
--- What a decision looks at: the hub, the connection that sent the line, and what was prepared of the line.
+-- The things that a decision looks at: the hub, the connection that sent the line, and what was prepared of the line.
 use Rattle.std.specs.Prelude.{ℕ, ◌&&◌, not, Bool, List, Option, is_some}
 use Rattle.std.specs.List.{list_any}
 use Rattle.inf_fields.specs.Field.{Field}
@@ -8,7 +8,7 @@ use Rattle.user_table.specs.Listed.{Listed}
 use Rattle.user_table.specs.Tables.{has_sid, has_key}
 use Rattle.hub_rules.specs.Accounts.{account_with}
 use Rattle.hub_rules.specs.Configured.{Account, Configured}
-use Rattle.hub_rules.specs.Identities.{listed}
+use Rattle.hub_rules.specs.Identities.{listed_user}
 use Rattle.inf_fields.specs.Cleaning.{clean}
 use Rattle.inf_fields.specs.Merging.{merged_with}
 
@@ -57,4 +57,4 @@ another_has_key hub sid key = list_any (λ (user : Listed). has_key key user && 
 
 -- the user that an INF makes of a connection: what is known of it, merged with what may be passed on
 abbrev pub user_after : Own → List Field → Listed
-user_after own u = listed own.sid (merged_with own.fields (clean u own.peer))
+user_after own u = listed_user own.sid (merged_with own.fields (clean u own.peer))

@@ -1,4 +1,4 @@
--- What each call makes of the stage of a connection (ADC 1.0, "States").
+-- The stage of a connection after each call (ADC 1.0, "States").
 use Rattle.std.specs.Prelude.{◌≡◌, ℕ, ◌+◌, ◌==◌, ◌&&◌, Bool, true, false, List, [], ◌∷◌, length, Option, Some, None, Result, Ok, Err, if◌then◌else◌}
 use Rattle.std.specs.Option.{option_or, unwrap_or}
 use Rattle.adc_line.specs.declared.fault.LineFault.{LineFault}
@@ -13,18 +13,18 @@ use Rattle.login_state.specs.declared.fault.SupFault.{SupFault}
 use Rattle.login_state.specs.declared.stage.Stage.{Stage}
 use Rattle.login_state.specs.declared.stage.Stage.TheVariants as stages
 use Rattle.login_state.specs.Denials.{is_fatal}
-use Rattle.login_state.specs.SupportAnswers.{applied}
+use Rattle.login_state.specs.SupportAnswers.{support_after}
 use Rattle.hub_rules.specs.declared.history.Call.{Call}
 use Rattle.hub_rules.specs.declared.history.Call.TheVariants.{Join, Line, Quit, Take}
 use Rattle.hub_rules.specs.declared.history.Entry.{Entry}
-use Rattle.hub_rules.specs.declared.request.Request.{Request}
-use Rattle.hub_rules.specs.declared.request.Request.TheVariants as requests
+use Rattle.login_state.specs.declared.request.Request.{Request}
+use Rattle.login_state.specs.declared.request.Request.TheVariants as requests
 use Rattle.hub_rules.specs.Configured.{Configured}
-use Rattle.hub_rules.specs.Denied.{denied}
+use Rattle.hub_rules.specs.Denied.{denial_of}
 use Rattle.hub_rules.specs.Effects.{is_over, is_present}
 use Rattle.hub_rules.specs.Facts.{Facts, facts, has_joins, has_place, own_of, sight_of}
 use Rattle.hub_rules.specs.History.{stage}
-use Rattle.hub_rules.specs.Prepared.{prepared}
+use Rattle.hub_rules.specs.Prepared.{prepared_line}
 use Rattle.hub_rules.specs.Requests.{request_of}
 use Rattle.hub_rules.specs.Shares.{is_removed}
 use Rattle.hub_rules.specs.Sights.{Own, PreparedLine, Sight, is_account, user_after}
@@ -39,9 +39,9 @@ abbrev pub entry_stage : Bool → Stage
 entry_stage true = stages.Verify
 entry_stage false = stages.Normal
 
-abbrev pub greeted : Result (List (List ℕ)) SupFault → Option Stage
-greeted (Ok features) = Some stages.Identify
-greeted (Err fault) = None
+abbrev pub stage_after_sup : Result (List (List ℕ)) SupFault → Option Stage
+stage_after_sup (Ok features) = Some stages.Identify
+stage_after_sup (Err fault) = None
 
 abbrev pub logged_in : Sight → Own → Result (List Field) InfFault → Option Stage
 logged_in hub own (Ok u) = Some (entry_stage (is_account hub (user_after own u).key))
@@ -49,7 +49,7 @@ logged_in hub own (Err fault) = None
 
 -- what an accepted line makes of the stage of its connection
 abbrev pub accepted_stage : Sight → Own → Reading → Request → Option Stage
-accepted_stage hub own line requests.Greeting = greeted (applied own.features line.params)
+accepted_stage hub own line requests.Greeting = stage_after_sup (support_after own.features line.params)
 accepted_stage hub own line requests.Login = logged_in hub own (updates.reading line.params)
 accepted_stage hub own line requests.Password = Some stages.Normal
 accepted_stage hub own line request = None
@@ -61,7 +61,7 @@ decided_stage None accepted = accepted
 
 abbrev pub heard_stage : Sight → Own → PreparedLine → ℕ → Result Reading LineFault → Option Stage
 heard_stage hub own line now (Ok reading) =
-    decided_stage (denied hub own line now reading) (accepted_stage hub own reading (request_of own.stage reading.kind reading.command))
+    decided_stage (denial_of hub own line now reading) (accepted_stage hub own reading (request_of own.stage reading.kind reading.command))
 heard_stage hub own line now (Err fault) = gone_if (is_fatal Protocol)
 
 -- what a line makes of the stage of its connection
@@ -83,7 +83,7 @@ shuts_out setup hash f c call = is_present (f.about c).stage && is_removed (chan
 abbrev pub call_stage : Configured → (List ℕ → List ℕ) → Facts → ℕ → Call → Option Stage
 call_stage setup hash f c (Join peer challenge now) = only_if (has_place setup f && has_joins f && (c == (f.joins + 1))) (Some stages.Protocol)
 call_stage setup hash f c (Line d bytes now) =
-    only_if (c == d) (line_stage (sight_of setup f) (own_of (f.about d)) (prepared setup hash (f.about d).challenge bytes) now)
+    only_if (c == d) (line_stage (sight_of setup f) (own_of (f.about d)) (prepared_line setup hash (f.about d).challenge bytes) now)
 call_stage setup hash f c (Quit d) = only_if (c == d) (Some stages.Gone)
 call_stage setup hash f c (Take d count) = None
 

@@ -1,28 +1,29 @@
 -- The messages that the hub itself writes, each with its line feed (ADC 1.0, "Actions"; ADC-EXT, "PING" and "UCMD").
-use Rattle.std.specs.Prelude.{ℕ, ◌==◌, List, [], ◌∷◌, ◌++◌, codes, length, Option, Some, None, if◌then◌else◌}
+use Rattle.std.specs.Prelude.{ℕ, ◌==◌, List, [], ◌∷◌, ◌++◌, codes, length, Option, if◌then◌else◌}
+use Rattle.std.specs.Option.{option_map_or}
 use Rattle.std.specs.Fmt.{decimal}
 use Rattle.adc_base32.specs.Sids.{sid_text}
 use Rattle.adc_base32.specs.Spelled.{spelling}
-use Rattle.adc_line.specs.Escapes.{escaped}
-use Rattle.inf_fields.specs.Field.{Field, printed}
+use Rattle.adc_line.specs.Escapes.{escaped_text}
+use Rattle.inf_fields.specs.Field.{Field, printed_fields}
 use Rattle.user_table.specs.declared.totals.Totals.{Totals}
 use Rattle.hub_rules.specs.Configured.{Account, Configured, MenuEntry}
 
 -- a message is its text and a line feed
-abbrev pub ended : List ℕ → List ℕ
-ended text = text ++ 10 ∷ []
+abbrev pub with_line_feed : List ℕ → List ℕ
+with_line_feed text = text ++ 10 ∷ []
 
 -- what the hub supports
 unfoldable pub support_line : List ℕ
-support_line = ended (codes "ISUP ADBASE ADTIGR ADPING ADUCMD")
+support_line = with_line_feed (codes "ISUP ADBASE ADTIGR ADPING ADUCMD")
 
 -- the client's session identifier
 unfoldable pub identifier_line : ℕ → List ℕ
-identifier_line sid = ended (codes "ISID " ++ sid_text sid)
+identifier_line sid = with_line_feed (codes "ISID " ++ sid_text sid)
 
 -- the topic, where there is one
 abbrev pub topic_field : List ℕ → List ℕ
-topic_field topic = if length topic == 0 then [] else codes " DE" ++ escaped topic
+topic_field topic = if length topic == 0 then [] else codes " DE" ++ escaped_text topic
 
 -- what a client hears that asked about the hub: how many users are present and what they share, how many may come, how long the hub is open
 abbrev pub ping_fields : Totals → ℕ → ℕ → List ℕ
@@ -32,50 +33,47 @@ ping_fields totals max_users seconds =
 
 -- the hub itself
 unfoldable pub hub_line : Configured → List ℕ → List ℕ → List ℕ
-hub_line setup topic ping = ended (codes "IINF CT32 NI" ++ escaped setup.name ++ codes " VEadc-hub\\s1.0" ++ topic_field topic ++ ping)
+hub_line setup topic ping = with_line_feed (codes "IINF CT32 NI" ++ escaped_text setup.name ++ codes " VEadc-hub\\s1.0" ++ topic_field topic ++ ping)
 
 -- a new topic
 unfoldable pub topic_line : List ℕ → List ℕ
-topic_line topic = ended (codes "IINF DE" ++ escaped topic)
+topic_line topic = with_line_feed (codes "IINF DE" ++ escaped_text topic)
 
 -- the challenge with which a password is to be hashed
 unfoldable pub challenge_line : List ℕ → List ℕ
-challenge_line challenge = ended (codes "IGPA " ++ spelling challenge)
+challenge_line challenge = with_line_feed (codes "IGPA " ++ spelling challenge)
 
 -- what the hub says of a client: 4 is an operator, 2 a registered user
 abbrev pub client_type : Option Account → List ℕ
-client_type None = []
-client_type (Some account) = if account.operator then codes " CT4" else codes " CT2"
+client_type account = option_map_or (λ (a : Account). if a.operator then codes " CT4" else codes " CT2") account []
 
 -- a user, with what the hub says of it
 unfoldable pub user_line : ℕ → List Field → Option Account → List ℕ
-user_line sid fields account = ended (codes "BINF " ++ sid_text sid ++ printed fields ++ client_type account)
+user_line sid fields account = with_line_feed (codes "BINF " ++ sid_text sid ++ printed_fields fields ++ client_type account)
 
 -- what changes of a user
 unfoldable pub update_line : ℕ → List Field → List ℕ
-update_line sid fields = ended (codes "BINF " ++ sid_text sid ++ printed fields)
+update_line sid fields = with_line_feed (codes "BINF " ++ sid_text sid ++ printed_fields fields)
 
 abbrev pub menu_item : Option (List ℕ) → List ℕ
-menu_item (Some text) = codes " TT" ++ escaped text
-menu_item None = codes " SP1"
+menu_item text = option_map_or (λ (t : List ℕ). codes " TT" ++ escaped_text t) text (codes " SP1")
 
 -- an entry for the client's menus
 unfoldable pub menu_line : MenuEntry → List ℕ
-menu_line entry = ended (codes "ICMD " ++ escaped entry.name ++ codes " CT" ++ decimal entry.context ++ menu_item entry.text)
+menu_line entry = with_line_feed (codes "ICMD " ++ escaped_text entry.name ++ codes " CT" ++ decimal entry.context ++ menu_item entry.text)
 
 -- how long a user is shut out: for good, for so many seconds, or only for now
 abbrev pub ban_field : Option ℕ → List ℕ
-ban_field None = []
-ban_field (Some seconds) = if seconds == 0 then codes " TL-1" else codes " TL" ++ decimal seconds
+ban_field seconds = option_map_or (λ (n : ℕ). if n == 0 then codes " TL-1" else codes " TL" ++ decimal n) seconds []
 
 abbrev pub reason_field : List ℕ → List ℕ
-reason_field reason = if length reason == 0 then [] else codes " MS" ++ escaped reason
+reason_field reason = if length reason == 0 then [] else codes " MS" ++ escaped_text reason
 
 -- an operator shut a user out
 unfoldable pub removal_line : ℕ → ℕ → Option ℕ → List ℕ → List ℕ
 removal_line target operator seconds reason =
-    ended (codes "IQUI " ++ sid_text target ++ codes " ID" ++ sid_text operator ++ ban_field seconds ++ reason_field reason)
+    with_line_feed (codes "IQUI " ++ sid_text target ++ codes " ID" ++ sid_text operator ++ ban_field seconds ++ reason_field reason)
 
 -- an operator's command was carried out
 unfoldable pub done_line : List ℕ
-done_line = ended (codes "ISTA 000 Done")
+done_line = with_line_feed (codes "ISTA 000 Done")

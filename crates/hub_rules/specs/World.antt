@@ -1,4 +1,4 @@
--- What operators did to the hub, act by act.
+-- The acts of operators on the hub, one by one.
 use Rattle.std.specs.Prelude.{◌≡◌, ℕ, List, [], ◌∷◌, ◌++◌}
 use Rattle.operator_acts.specs.BanHistory.{BanAct, Banned, Unbanned, last_ban}
 use Rattle.operator_acts.specs.Bans.{left_of}
@@ -12,13 +12,13 @@ use Rattle.hub_rules.specs.Configured.{Configured}
 use Rattle.hub_rules.specs.Facts.{Facts, facts, effect_of_line}
 use Rattle.hub_rules.specs.History.{ban, topic}
 
--- what a line changes; other calls change nothing by an effect of which an act of an operator could be
+-- what a line changes; no other call is an act of an operator
 abbrev pub change_of : Configured → (List ℕ → List ℕ) → Facts → Call → Change
 change_of setup hash f (Line c bytes now) = (effect_of_line setup hash f c bytes now).change
 change_of setup hash f call = Nothing
 
 abbrev pub ban_act_of : Change → List BanAct
-ban_act_of (Hub (shared.Ban banned)) = Banned banned.cid (record { seconds = banned.seconds; moment = banned.now }) ∷ []
+ban_act_of (Hub (shared.Ban banned)) = Banned banned.cid banned.ban ∷ []
 ban_act_of (Hub (shared.Unban cid)) = Unbanned cid ∷ []
 ban_act_of change = []
 

@@ -5,6 +5,7 @@ use adc_ids::{Cid, Nick};
 use feature_route::{Audience, FeatureSet};
 use inf_fields::Update;
 use login_state::Features;
+use operator_acts::Ban;
 use outboxes::Batch;
 use std::alloc::{AllocError, Global};
 use std::marker::Model;
@@ -52,16 +53,14 @@ pub enum SenderChange {
 }
 
 /// A user whom an operator shuts out for a time.
-#[derive(Clone, Copy, Debug)]
+#[derive(Debug, Drop)]
 pub struct Banned {
     /// The session identifier.
     pub sid: Sid,
     /// The client identifier, which is shut out.
     pub cid: Cid,
-    /// The number of seconds for which it is shut out; 0 is for good.
-    pub seconds: u32,
-    /// The moment from which on it is, in seconds.
-    pub now: u64,
+    /// The ban on that identifier.
+    pub ban: Ban,
 }
 
 /// The hub's topic.
@@ -117,7 +116,7 @@ pub enum Change {
     Nothing,
     /// The connection that sent the line changes.
     Sender(SenderChange),
-    /// What all connections share changes.
+    /// The hub itself changes, for all connections.
     Hub(HubChange),
 }
 

@@ -3,10 +3,8 @@
 
 mod effect;
 mod history;
-mod request;
 
 pub use effect::{
     Banned, Change, Effect, Entrant, Hearers, HubChange, Revision, SenderChange, Topic,
 };
 pub use history::{Call, Entry, Reply, Verdict};
-pub use request::Request;

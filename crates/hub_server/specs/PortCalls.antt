@@ -1,4 +1,4 @@
--- What each call that a session makes of its port is to the hub.
+-- The calls of the hub that the calls of a session on its port are.
 use Rattle.std.specs.Prelude.{◌≡◌, ◌⊎◌, ℕ, List}
 use Rattle.adc_sessions.specs.Events.{PortCall, handed, took, refused}
 use Rattle.hub_rules.specs.Configured.{Configured}

@@ -1,7 +1,7 @@
 ghost use Rattle.std.specs.Prelude.{◌≡◌, Some, IfOk};
 
 use crate::accepted::Accepted;
-use crate::clock::moment;
+use crate::connection::moment;
 use crate::free_slot::{FreeSlot, OfHub};
 use crate::server::Server;
 use adc_sessions::{Peer, Starter};

@@ -1,12 +1,11 @@
 ghost use Rattle.std.specs.Prelude.{◌≡◌, IfOk};
-ghost use Rattle.hub_rules.specs.Prepared.{prepared};
+ghost use Rattle.hub_rules.specs.Prepared.{prepared_line};
 
-use crate::clock::moment;
 use crate::free_slot::{FreeSlot, OfHub};
 use crate::server::Server;
-use crate::slot_bell::SlotBell;
-use adc_sessions::Port;
-use connection_slots::Wakers;
+use adc_sessions::{Bell, Port};
+use connection_slots::{Throttle, Wakers};
+use futures::task::Context;
 use hub_core::{LineRefused, Prepared, Setup, TakeRefused, Taken, Touched, Verdict, prepare};
 use hub_shared::Pass;
 use session_hash::SessionHash;
@@ -100,15 +99,15 @@ fn wake_touched(wakers: &Wakers, touched: Touched, slot: usize) {
 }
 
 /// Makes a line ready for the hub with this setup and this hash, and for who was challenged by this.
-#[tactic(auto, unfolding(hub_rules::specs::Prepared::prepared))]
-fn ready<H: SessionHash>(
+#[tactic(auto, unfolding(hub_rules::specs::Prepared::prepared_line))]
+fn prepare_line<H: SessionHash>(
     alloc: Global,
     setup: &Setup,
     hash: &H,
     challenge: [u8; 24],
     line: &[u8],
 ) -> Result<Prepared, LineRefused>
-    ensures prepared { IfOk result (λ ready. ready ≡ prepared setup.now (H.digest_of hash.now) challenge ready.bytes) }
+    ensures prepared { IfOk result (λ ready. ready ≡ prepared_line setup.now (H.digest_of hash.now) challenge ready.bytes) }
     ensures bytes { IfOk result (λ ready. ready.bytes ≡ line.now) }
 {
     prepare(alloc, setup, hash, challenge, line)
@@ -131,7 +130,7 @@ impl<B: OfHub<H>, H: SessionHash, R: Wait + Clock> Port for Connection<'_, B, H,
             self.server.shared.wakers.call_for_help(self.slot);
         }
         let server = self.server;
-        let prepared = ready(alloc, server.setup, server.hash, self.challenge, line)?;
+        let prepared = prepare_line(alloc, server.setup, server.hash, self.challenge, line)?;
         let now = moment(server.rt);
         let verdict = server
             .hub
@@ -144,7 +143,7 @@ impl<B: OfHub<H>, H: SessionHash, R: Wait + Clock> Port for Connection<'_, B, H,
         self.wake_owed();
         let server = self.server;
         // What others say while the hub is asked may not be among what it gives.
-        let said = server.shared.wakers.said();
+        let said = server.shared.wakers.broadcasts();
         let taken = server.hub.take(server.rt, &mut self.pass, count, out)?;
         let has_more = taken.lines >= count as u64;
         let wakers = &server.shared.wakers;
@@ -165,5 +164,47 @@ impl<B: OfHub<H>, H: SessionHash, R: Wait + Clock> Port for Connection<'_, B, H,
         let visitor = server.hub.quit(server.rt, pass);
         wake_touched(&server.shared.wakers, visitor.touched(), slot);
         FreeSlot::new(visitor, slot)
+    }
+}
+
+/// The bell of a session: the waker of its slot.
+#[derive(Drop)]
+pub struct SlotBell<'a> {
+    wakers: &'a Wakers,
+    slot: usize,
+    throttle: Throttle,
+}
+
+impl<'a> SlotBell<'a> {
+    /// Makes the bell of the session of this slot.
+    pub fn new(wakers: &'a Wakers, slot: usize) -> SlotBell<'a> {
+        SlotBell {
+            wakers,
+            slot,
+            throttle: Throttle::new(),
+        }
+    }
+}
+
+impl Bell for SlotBell<'_> {
+    fn ring(&self) {
+        self.wakers.wake_slot(self.slot);
+    }
+
+    fn wait(&mut self, cx: &mut Context<'_>) -> bool {
+        self.wakers.wait(self.slot, cx)
+    }
+
+    fn may_hand(&mut self) -> bool {
+        self.wakers.may_send(self.slot, &mut self.throttle)
+    }
+}
+
+/// Gives the moment of a call, in seconds since 1970; 0 where the clock cannot be read. Settings are read with an opening
+/// on the same clock.
+pub fn moment<R: Clock>(rt: &R) -> u64 {
+    match rt.since_1970() {
+        Ok(time) => time.as_secs(),
+        Err(_) => 0,
     }
 }

@@ -4,24 +4,19 @@
 mod accepted;
 mod acceptor;
 mod bind;
-mod clock;
 mod connection;
 mod free_slot;
 mod listener;
 mod serve;
 mod server;
-mod slot_bell;
-mod slot_task;
 mod task;
 mod tasks;
 mod time_task;
 
 pub use bind::Bind;
-pub use clock::moment;
-pub use connection::Connection;
+pub use connection::{Connection, SlotBell, moment};
 pub use free_slot::{FreeSlot, OfHub};
 pub use listener::{Listener, Listens};
 pub use serve::{serve_at, serve_for_journal, serve_on};
 pub use server::Server;
-pub use slot_bell::SlotBell;
-pub use slot_task::cause_of;
+pub use task::cause_of;

@@ -133,7 +133,7 @@ impl<R: Wait + Clock, L: Log, I: Listens> Incoming for Listener<'_, R, L, I> {
             match self.socket.poll_accept(cx) {
                 Poll::Ready(Ok(accepted)) => {
                     let (stream, address) = accepted;
-                    return Poll::Ready(come(stream, &address));
+                    return Poll::Ready(accept_ipv4(stream, &address));
                 }
                 Poll::Ready(Err(error)) => {
                     if !self.goes_on(&error) {
@@ -151,7 +151,7 @@ impl<R: Wait + Clock, L: Log, I: Listens> Incoming for Listener<'_, R, L, I> {
 }
 
 /// Gives a stream and its peer, which has an IPv4 address, as what is listened at has.
-fn come(stream: TcpStream, address: &SocketAddr) -> io::Result<(TcpStream, Peer)> {
+fn accept_ipv4(stream: TcpStream, address: &SocketAddr) -> io::Result<(TcpStream, Peer)> {
     match address {
         SocketAddr::V4(address) => {
             let peer = Peer {

@@ -5,7 +5,7 @@ ghost use Rattle.hub_shared.specs.declared.about.About.{About};
 
 use crate::acceptor::Acceptor;
 use crate::bind::Bind;
-use crate::clock::moment;
+use crate::connection::moment;
 use crate::free_slot::{FreeSlot, OfHub};
 use crate::listener::{Listener, Listens};
 use crate::server::Server;

@@ -1,4 +1,4 @@
--- What a reader answers: a value, as contracts see it, or the key that is at fault.
+-- The answer of a reader: a value, as contracts see it, or the key that is at fault.
 use Rattle.std.specs.Prelude.{◌≡◌, ℕ, List, Result, Ok, Err}
 use Rattle.std.specs.Borrow.{Bor}
 use Rattle.hub_settings.specs.declared.fault.Refusal.{Refusal}

@@ -1,4 +1,4 @@
--- What is promised of reading a settings file.
+-- The promise of reading a settings file.
 use Rattle.std.specs.Prelude.{◌≡◌, ℕ, List, Option, Some, None, Result, Ok, Err}
 use Rattle.std.specs.declared.net.socket_addr.SocketAddrV4.{SocketAddrV4}
 use Rattle.toml.specs.Data.{Members}

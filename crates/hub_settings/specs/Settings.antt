@@ -1,4 +1,4 @@
--- What a settings file says.
+-- The settings that a file says.
 use Rattle.std.specs.Prelude.{◌≡◌, ℕ, ◌==◌, List, [], ◌∷◌, codes, length, Option, Some, None, Result, Ok, Err, if◌then◌else◌}
 use Rattle.std.specs.Option.{ok_or}
 use Rattle.std.specs.Str.{bytes_eq}
@@ -7,7 +7,8 @@ use Rattle.std.specs.declared.net.socket_addr.SocketAddrV4.{SocketAddrV4}
 use Rattle.toml.specs.Data.{Members, get_member}
 use Rattle.hub_rules.specs.Configured as hub
 use Rattle.hub_rules.specs.Configured.{Configured}
-use Rattle.hub_setup.specs.Settings.{hub_with, most_users}
+use Rattle.hub_rules.specs.Configured.{most_users}
+use Rattle.hub_setup.specs.Settings.{hub_with}
 use Rattle.hub_settings.specs.declared.hash_name.HashName.{HashName}
 use Rattle.hub_settings.specs.declared.hash_name.HashName.TheVariants.{Tiger, First24}
 use Rattle.hub_settings.specs.declared.plain_keys.PlainKeys.{PlainKeys}

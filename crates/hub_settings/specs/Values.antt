@@ -1,4 +1,4 @@
--- What the value at a key says; a key that is not there has its default.
+-- The value at a key; a key that is not there has its default.
 use Rattle.std.specs.Prelude.{ℕ, ℤ, pos, nat_le, ◌&&◌, Bool, false, List, Option, Some, None, Result, if◌then◌else◌}
 use Rattle.std.specs.Option.{ok_or, option_and_then}
 use Rattle.toml.specs.Data.{Data, Members, as_str, as_bool, as_integer, get_member}

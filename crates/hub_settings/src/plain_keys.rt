@@ -1,5 +1,5 @@
 ghost use Rattle.std.specs.Prelude.{◌≡◌, ◌≤◌, length};
-ghost use Rattle.hub_setup.specs.Settings.{most_users};
+ghost use Rattle.hub_rules.specs.Configured.{most_users};
 
 use crate::hash_name::HashName;
 use hub_setup::Options;

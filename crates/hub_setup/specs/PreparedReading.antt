@@ -1,4 +1,4 @@
--- What a prepared line says to one who reads it.
+-- A prepared line as a reader of it sees it.
 use Rattle.std.specs.Prelude.{◌≡◌, ◌≢◌, ℕ, List, length, Ok, Err}
 use Rattle.adc_line.specs.declared.fault.LineFault.{LineFault}
 use Rattle.adc_line.specs.Lines.{reading}

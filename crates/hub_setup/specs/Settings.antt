@@ -1,10 +1,10 @@
--- What settings make of a hub, and what is refused of them.
+-- The hub that settings make, and the settings that are refused.
 use Rattle.std.specs.Prelude.{◌≡◌, ◌≢◌, ◌==◌, ◌||◌, ◌&&◌, ℕ, Bool, true, false, not, nat_lt, List, [], ◌∷◌, chars, map, length, Option, Some, None, Result, Ok, Err, if◌then◌else◌}
 use Rattle.std.specs.List.{list_all, list_any}
 use Rattle.std.specs.Str.{bytes_eq}
 use Rattle.adc_ids.specs.Nicks.{is_nick}
 use Rattle.hub_rules.specs.Configured as hub
-use Rattle.hub_rules.specs.Configured.{Configured}
+use Rattle.hub_rules.specs.Configured.{most_users, Configured}
 use Rattle.hub_rules.specs.Identities.{key_of}
 use Rattle.hub_setup.specs.declared.options.Account.{Account}
 use Rattle.hub_setup.specs.declared.options.MenuEntry.{MenuEntry}
@@ -16,10 +16,7 @@ use Rattle.hub_setup.specs.declared.refused.ListRefused.TheVariants as lists
 use Rattle.hub_setup.specs.declared.refused.SetupRefused.{SetupRefused}
 use Rattle.hub_setup.specs.declared.refused.SetupRefused.TheVariants as refusals
 
--- the most connections, registered users and entries of the menu that a hub may have
-abbrev pub most_users : ℕ
-most_users = 900
-
+-- the most registered users and entries of the menu that a hub may have
 abbrev pub most_accounts : ℕ
 most_accounts = 32
 
@@ -110,26 +107,13 @@ or_refused entry (Err lists.Limit) next = Err refusals.Limit
 or_refused entry (Err lists.Entry) next = Err entry
 
 -- what these options make, or the first of their faults
-unfoldable pub configured : Options → Result Configured SetupRefused
-configured o =
+unfoldable pub configured_hub : Options → Result Configured SetupRefused
+configured_hub o =
     if is_past_limit o then Err refusals.Limit
     else if length o.name.now == 0 then Err refusals.Name
     else or_refused refusals.Account (accounts_of (map account_text o.accounts.now)) (λ accounts.
     or_refused refusals.Command (menu_of (map entry_of o.commands.now)) (λ menu.
     Ok (hub_with o accounts menu)))
-
--- the hub of this name with nothing that settings may add, for 512 users, opened at moment 0
-abbrev pub plain_hub : List ℕ → Configured
-plain_hub name = record {
-  name = name;
-  topic = [];
-  accounts = [];
-  menu = [];
-  registered_only = false;
-  search_interval = 0;
-  max_users = 512;
-  opening = 0;
-}
 
 -- `view` of a list is what is wanted, or the fault is the one that is wanted; want of memory says nothing
 abbrev pub Gives : {X Y : Type 0} → (X → Y) → Result X ListRefused → Result Y ListRefused → Type 0

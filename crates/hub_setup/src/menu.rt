@@ -7,7 +7,7 @@ ghost use Rattle.hub_setup.specs.Settings.{Gives, entry_of, is_command, menu_of,
 
 use crate::options::{MOST_COMMANDS, MenuEntry, MenuItem};
 use crate::refused::ListRefused;
-use crate::texts::ended;
+use crate::texts::with_line_feed;
 use adc_line::escape;
 use bytes::Bytes;
 use outboxes::Batch;
@@ -162,7 +162,7 @@ fn menu_line(alloc: Global, entry: &MenuEntry<'_>) -> Result<Bytes, AllocError>
     line.extend_from_slice(b" CT")?;
     line.extend_from_slice(format!(in alloc; "{context}")?.as_bytes())?;
     push_item(alloc, &mut line, &entry.item)?;
-    ended(line)
+    with_line_feed(line)
 }
 
 /// Adds what the entry stands for.

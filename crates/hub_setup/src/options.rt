@@ -1,5 +1,6 @@
 ghost use Rattle.std.specs.Prelude.{◌≡◌, ◌≢◌, [], Ok, length};
-ghost use Rattle.hub_setup.specs.Settings.{configured, hub_with, plain_hub};
+ghost use Rattle.hub_rules.specs.Configured.{plain_hub};
+ghost use Rattle.hub_setup.specs.Settings.{configured_hub, hub_with};
 
 /// The most registered users that a hub may have.
 pub const MOST_ACCOUNTS: usize = 32;
@@ -65,12 +66,12 @@ pub struct Options<'a> {
 impl<'a> Options<'a> {
     /// Gives the options of a hub of this name with nothing that settings may add, for 512 users, that opens at moment 0.
     /// An empty name is kept, and refused by `Setup::new`.
-    #[tactic(auto, unfolding(crate::specs::Settings::configured, crate::specs::Settings::accounts_of, crate::specs::Settings::are_distinct, crate::specs::Settings::menu_of))]
+    #[tactic(auto, unfolding(crate::specs::Settings::configured_hub, crate::specs::Settings::accounts_of, crate::specs::Settings::are_distinct, crate::specs::Settings::menu_of))]
     pub fn named(name: &'a str) -> Options<'a>
         ensures hub { hub_with result [] [] ≡ plain_hub name.entry.now }
         ensures accounts { result.accounts.now ≡ [] }
         ensures commands { result.commands.now ≡ [] }
-        ensures configured { length name.entry.now ≢ 0 → configured result ≡ Ok (plain_hub name.entry.now) }
+        ensures configured { length name.entry.now ≢ 0 → configured_hub result ≡ Ok (plain_hub name.entry.now) }
     {
         Options {
             name,

@@ -1,11 +1,12 @@
 ghost use Rattle.std.specs.Prelude.{◌≡◌, Ok, IfOk, map};
 ghost use Rattle.std.specs.Map.Iter.{deref};
 ghost use Rattle.std.specs.Option.{option_copied};
+ghost use Rattle.std.specs.Result.{result_ok};
 ghost use Rattle.std.specs.String.{string_bytes};
 ghost use Rattle.adc_line.specs.Lines as lines;
 ghost use Rattle.inf_fields.specs.Updates as updates;
 ghost use Rattle.hub_rules.specs.Identities.{key_in, nick_in};
-ghost use Rattle.hub_rules.specs.Prepared.{owner_digest, password_digest, password_of, prepared, update_in, update_of};
+ghost use Rattle.hub_rules.specs.Prepared.{owner_digest, password_digest, password_of, prepared_line, update_of};
 ghost use Rattle.hub_setup.specs.PreparedReading.{IsSaid};
 
 use crate::accounts::Registered;
@@ -66,7 +67,7 @@ impl Model for Prepared {
 /// challenge (ADC 1.0, "GPA"). Takes no lock.
 ///
 /// Refused only where memory runs out (`Memory`).
-#[tactic(auto, unfolding(hub_rules::specs::Prepared::prepared))]
+#[tactic(auto, unfolding(hub_rules::specs::Prepared::prepared_line))]
 pub fn prepare<H: SessionHash>(
     alloc: Global,
     setup: &Setup,
@@ -74,7 +75,7 @@ pub fn prepare<H: SessionHash>(
     challenge: [u8; 24],
     bytes: &[u8],
 ) -> Result<Prepared, LineRefused>
-    ensures { IfOk result (λ line. line ≡ prepared setup.now (H.digest_of hash.now) challenge bytes.now) }
+    ensures { IfOk result (λ line. line ≡ prepared_line setup.now (H.digest_of hash.now) challenge bytes.now) }
 {
     let line = match Line::parse(alloc, bytes) {
         Ok(line) => line,
@@ -120,7 +121,7 @@ fn words_of(alloc: Global, line: &Line) -> Result<Vec<&str>, AllocError>
 }
 
 fn update_in(alloc: Global, words: &[&str]) -> Result<Option<Update>, AllocError>
-    ensures { IfOk result (λ update. update ≡ update_in (updates.reading (map deref words.now))) }
+    ensures { IfOk result (λ update. update ≡ result_ok (updates.reading (map deref words.now))) }
 {
     match Update::read(alloc, words) {
         Ok(update) => Ok(Some(update)),

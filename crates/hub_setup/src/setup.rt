@@ -2,7 +2,8 @@ ghost use Rattle.std.specs.Prelude.{◌≡◌, ◌≢◌, ◌≤◌, ◌++◌, l
 ghost use Rattle.std.specs.Option.{option_copied};
 ghost use Rattle.hub_rules.specs.Accounts.{account_with};
 ghost use Rattle.hub_rules.specs.Texts.{menu_line};
-ghost use Rattle.hub_setup.specs.Settings.{configured, hub_with, is_past_limit, most_users, IsConfigured, IsNamedWithinLimits};
+ghost use Rattle.hub_rules.specs.Configured.{most_users};
+ghost use Rattle.hub_setup.specs.Settings.{configured_hub, hub_with, is_past_limit, IsConfigured, IsNamedWithinLimits};
 
 use crate::accounts::{Accounts, Registered};
 use crate::menu::Menu;
@@ -29,7 +30,7 @@ impl Model for Setup {
     ghost use Rattle.std.specs.Prelude.{◌≤◌};
     ghost use Rattle.std.specs.String.{string_bytes};
     ghost use Rattle.hub_rules.specs.Configured.{Configured};
-    ghost use Rattle.hub_setup.specs.Settings.{most_users};
+    ghost use Rattle.hub_rules.specs.Configured.{most_users};
 
     ghost Value = { Configured };
 
@@ -55,9 +56,9 @@ impl Setup {
     /// each above 32: ADC 1.0, "INF"), a password is empty, or two nicks have one normal form C. Then `Command`: a menu
     /// entry has no name or a context that is not 1 to 15 (ADC-EXT, "UCMD"). `Memory` where memory runs out before a fault
     /// that is looked for later was found.
-    #[tactic(auto, unfolding(crate::specs::Settings::configured))]
+    #[tactic(auto, unfolding(crate::specs::Settings::configured_hub))]
     pub fn new(alloc: Global, options: &Options<'_>) -> Result<Setup, SetupRefused>
-        ensures exact { IsConfigured result (configured options.now) }
+        ensures exact { IsConfigured result (configured_hub options.now) }
         ensures memory { IfErr result (λ fault. fault ≡ SetupRefused.Memory → IsNamedWithinLimits options.now) }
     {
         if is_past_limit(options) {

@@ -1,7 +1,7 @@
 ghost use Rattle.std.specs.Prelude.{◌≡◌, ◌++◌, IfOk, OnOk};
 ghost use Rattle.std.specs.String.{string_bytes};
 ghost use Rattle.login_state.specs.Denials as denials;
-ghost use Rattle.hub_rules.specs.Texts.{challenge_line, done_line, ended, hub_line, identifier_line, ping_fields, support_line, topic_field, topic_line};
+ghost use Rattle.hub_rules.specs.Texts.{challenge_line, done_line, with_line_feed, hub_line, identifier_line, ping_fields, support_line, topic_field, topic_line};
 
 use crate::setup::Setup;
 use adc_base32::{Sid, encode24};
@@ -41,7 +41,7 @@ pub fn hub_line(alloc: Global, setup: &Setup, topic: &str, ping: &str) -> Result
     line.extend_from_slice(b" VEadc-hub\\s1.0")?;
     push_topic(alloc, &mut line, topic)?;
     line.extend_from_slice(ping.as_bytes())?;
-    ended(line)
+    with_line_feed(line)
 }
 
 /// Adds the topic, where there is one.
@@ -79,7 +79,7 @@ pub fn topic_line(alloc: Global, topic: &str) -> Result<Bytes, AllocError>
     let mut line = Vec::with_capacity(alloc, word.len().saturating_add(8))?;
     line.extend_from_slice(b"IINF DE")?;
     line.extend_from_slice(word.as_bytes())?;
-    ended(line)
+    with_line_feed(line)
 }
 
 /// Writes the challenge with which a client is to hash its password, with the line feed (ADC 1.0, "GPA"). Refused only
@@ -91,7 +91,7 @@ pub fn challenge_line(alloc: Global, challenge: [u8; 24]) -> Result<Bytes, Alloc
     let mut line = Vec::with_capacity(alloc, 45)?;
     line.extend_from_slice(b"IGPA ")?;
     line.extend_from_slice(&encode24(&challenge))?;
-    ended(line)
+    with_line_feed(line)
 }
 
 /// Writes that a command of an operator was carried out, with the line feed (ADC 1.0, "STA"). Takes no memory.
@@ -104,12 +104,12 @@ pub fn done_line(_alloc: Global) -> Result<Bytes, AllocError>
 
 /// Writes a message as it came, with a line feed: it is passed on unchanged. Refused only where memory runs out.
 pub fn passed_line(alloc: Global, line: &Line) -> Result<Bytes, AllocError>
-    ensures { IfOk result (λ passed. passed ≡ ended line.now.text) }
+    ensures { IfOk result (λ passed. passed ≡ with_line_feed line.now.text) }
 {
     let text = line.text();
     let mut passed = Vec::with_capacity(alloc, text.len().saturating_add(1))?;
     passed.extend_from_slice(text.as_bytes())?;
-    ended(passed)
+    with_line_feed(passed)
 }
 
 /// Writes why a line is refused, with the line feed (ADC 1.0, "STA"). Refused only where memory runs out.
@@ -120,8 +120,8 @@ pub fn denial_line(alloc: Global, deny: Deny) -> Result<Bytes, AllocError>
 }
 
 /// Makes a message of its text and a line feed.
-pub(crate) fn ended(text: Vec<u8>) -> Result<Bytes, AllocError>
-    ensures { IfOk result (λ line. line ≡ ended text.items) }
+pub(crate) fn with_line_feed(text: Vec<u8>) -> Result<Bytes, AllocError>
+    ensures { IfOk result (λ line. line ≡ with_line_feed text.items) }
 {
     let mut text = text;
     text.extend_from_slice(b"\n")?;

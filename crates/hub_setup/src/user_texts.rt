@@ -4,7 +4,7 @@ ghost use Rattle.std.specs.Option.{option_copied};
 ghost use Rattle.hub_rules.specs.Texts.{ban_field, client_type, reason_field, removal_line, update_line, user_line};
 
 use crate::accounts::Registered;
-use crate::texts::ended;
+use crate::texts::with_line_feed;
 use adc_base32::Sid;
 use adc_line::escape;
 use bytes::Bytes;
@@ -28,7 +28,7 @@ pub fn user_line(
     line.extend_from_slice(&sid.text())?;
     line.extend_from_slice(text.as_bytes())?;
     line.extend_from_slice(client_type(account))?;
-    ended(line)
+    with_line_feed(line)
 }
 
 /// Gives what the hub says of a user.
@@ -58,7 +58,7 @@ pub fn update_line(alloc: Global, sid: Sid, update: &Update) -> Result<Bytes, Al
     line.extend_from_slice(b"BINF ")?;
     line.extend_from_slice(&sid.text())?;
     line.extend_from_slice(text.as_bytes())?;
-    ended(line)
+    with_line_feed(line)
 }
 
 /// Writes that an operator shut a user out: for good where `seconds` is 0, for so many seconds, or only for now where there
@@ -81,7 +81,7 @@ pub fn removal_line(
     line.extend_from_slice(&operator.text())?;
     push_ban(alloc, &mut line, seconds)?;
     push_reason(alloc, &mut line, reason)?;
-    ended(line)
+    with_line_feed(line)
 }
 
 /// Adds for how long the user is shut out.

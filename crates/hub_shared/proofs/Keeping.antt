@@ -1,15 +1,15 @@
 -- A call changes neither who joined a connection nor the challenge that it was given.
-use Rattle.std.proofs.Common.{◌≡◌, ◌∙◌, sym, ap, refl, ℕ, ◌+◌, ◌≤◌, Bool, true, false, ◌&&◌, ◌||◌, ◌==◌, List, [], ◌∷◌, ◌++◌, arith}
+use Rattle.std.proofs.Common.{◌≡◌, ◌∙◌, sym, ap, refl, ℕ, ◌+◌, ◌≤◌, Bool, true, false, ◌&&◌, ◌||◌, ◌==◌, List, [], ◌∷◌, ◌++◌, arith, cond}
 use Rattle.std.proofs.lemmas.Bool.{false≢true, eqb-true, eq-eqb}
 use Rattle.hub_rules.specs.declared.effect.Effect.{Effect}
 use Rattle.hub_rules.specs.declared.history.Call.{Call}
 use Rattle.hub_rules.specs.declared.history.Call.TheVariants.{Join, Line, Quit, Take}
 use Rattle.hub_rules.specs.Configured.{Configured}
 use Rattle.hub_rules.specs.Effects.{departure}
-use Rattle.hub_rules.specs.Facts.{Facts, after, joined, closed, happens, given, has_place, has_joins, newcomer, next_sid, effect_of_line}
+use Rattle.hub_rules.specs.Facts.{Facts, after, with_connection, without_connection, happens, with_lines_taken, has_place, has_joins, newcomer, next_sid, effect_of_line}
 use Rattle.hub_rules.specs.Legal.{join_reply, reply}
 use Rattle.hub_rules.specs.Opening.{joins_as, quits}
-use Rattle.hub_rules.specs.Shares.{About, chosen}
+use Rattle.hub_rules.specs.Shares.{About}
 use Rattle.hub_invariants.proofs.Members.{has, has-append}
 use Rattle.hub_invariants.proofs.Sound.{or-true}
 use Rattle.hub_shared.specs.Connections.{challenge_of}
@@ -31,24 +31,24 @@ happens-same : (c : ℕ) (effect : Effect) (f : Facts) (d : ℕ) → Same ((happ
 unfolding happens
 happens-same c effect f d = record { owner = refl; challenge = refl }
 
-given-same : (count : ℕ) (a : About) (is : Bool) → Same (chosen is (given count a) a) a
+given-same : (count : ℕ) (a : About) (is : Bool) → Same (cond is (with_lines_taken count a) a) a
 given-same count a true = record { owner = refl; challenge = refl }
 given-same count a false = record { owner = refl; challenge = refl }
 
 -- ---- a call
 
 newcomer-same : (f : Facts) (owner : ℕ) (peer challenge : List ℕ) (d : ℕ) (is : Bool) → (d == (f.joins + 1)) ≡ is → d ≤ f.joins
-    → Same (chosen is (newcomer owner (next_sid f) peer challenge) (f.about d)) (f.about d)
+    → Same (cond is (newcomer owner (next_sid f) peer challenge) (f.about d)) (f.about d)
 newcomer-same f owner peer challenge d true is below = let e : d ≡ f.joins + 1 = eqb-true d (f.joins + 1) is in absurd (omega (arith, e, below))
 newcomer-same f owner peer challenge d false is below = same (f.about d)
 
-join-same : (f : Facts) (owner : ℕ) (peer challenge : List ℕ) (d : ℕ) (accepted : Bool) → d ≤ f.joins → Same ((chosen accepted (joined f owner peer challenge) f).about d) (f.about d)
-unfolding joined
+join-same : (f : Facts) (owner : ℕ) (peer challenge : List ℕ) (d : ℕ) (accepted : Bool) → d ≤ f.joins → Same ((cond accepted (with_connection f owner peer challenge) f).about d) (f.about d)
+unfolding with_connection
 join-same f owner peer challenge d true below = newcomer-same f owner peer challenge d (d == (f.joins + 1)) refl below
 join-same f owner peer challenge d false below = same (f.about d)
 
-closed-same : (c : ℕ) (f : Facts) (d : ℕ) → Same ((closed c f).about d) (f.about d)
-unfolding closed
+closed-same : (c : ℕ) (f : Facts) (d : ℕ) → Same ((without_connection c f).about d) (f.about d)
+unfolding without_connection
 closed-same c f d = same (f.about d)
 
 pub after-same : (setup : Configured) (hash : List ℕ → List ℕ) (f : Facts) (caller : ℕ) (call : Call) (d : ℕ) → d ≤ f.joins → Same ((after setup hash f caller call).about d) (f.about d)
@@ -77,14 +77,14 @@ other-way : (c d : ℕ) → (c == d) ≡ true → (d == c) ≡ true
 other-way c d is = eq-eqb d c (sym (eqb-true c d is))
 
 new-join : (f : Facts) (caller : ℕ) (peer challenge : List ℕ) (now c : ℕ) (place counted : Bool) → joins_as c (join_reply place counted f.joins) ≡ true
-    → IsNew f (chosen (place && counted) (joined f caller peer challenge) f) caller (Join peer challenge now) c
-unfolding joined
+    → IsNew f (cond (place && counted) (with_connection f caller peer challenge) f) caller (Join peer challenge now) c
+unfolding with_connection
 new-join f caller peer challenge now c true true is = record {
   next = sym (eqb-true (f.joins + 1) c is);
   counted = refl;
   there = new-there f c is;
-  owner = ap (λ b. (chosen b (newcomer caller (next_sid f) peer challenge) (f.about c)).owner) (other-way (f.joins + 1) c is);
-  challenge = ap (λ b. (chosen b (newcomer caller (next_sid f) peer challenge) (f.about c)).challenge) (other-way (f.joins + 1) c is);
+  owner = ap (λ b. (cond b (newcomer caller (next_sid f) peer challenge) (f.about c)).owner) (other-way (f.joins + 1) c is);
+  challenge = ap (λ b. (cond b (newcomer caller (next_sid f) peer challenge) (f.about c)).challenge) (other-way (f.joins + 1) c is);
   no_quit = λ d. refl;
 }
 new-join f caller peer challenge now c true false is = absurd (false≢true is)

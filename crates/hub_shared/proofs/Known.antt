@@ -1,4 +1,4 @@
--- What a caller's own calls say of its connections holds in the whole history.
+-- Connections by a caller's own calls: what these say holds in the whole history.
 use Rattle.std.proofs.Common.{◌≡◌, ◌∙◌, sym, ap, ap₂, refl, subst, ℕ, ◌≤◌, Bool, true, false, not, ◌&&◌, ◌||◌, ◌==◌, cond, List, [], ◌∷◌, arith}
 use Rattle.std.proofs.lemmas.Bool.{false≢true, eqb-true, eq-eqb}
 use Rattle.hub_rules.specs.declared.history.Call.{Call}
@@ -132,11 +132,11 @@ known-by : (setup : Configured) (hash : List ℕ → List ℕ) (e : Entry) (h : 
 known-by setup hash e h p c legal before true is there = known-mine setup hash e h p c legal (eqb-true e.caller p is) before (joins_as c e.reply) refl there
 known-by setup hash e h p c legal before false is there = known-other setup hash e h p c legal is (before there)
 
-pub known : (setup : Configured) (hash : List ℕ → List ℕ) (h : List Entry) → Legal setup hash h → (p c : ℕ) → has_joined c (entries_of p h) ≡ true
+pub is-known : (setup : Configured) (hash : List ℕ → List ℕ) (h : List Entry) → Legal setup hash h → (p c : ℕ) → has_joined c (entries_of p h) ≡ true
     → Known setup hash p c (entries_of p h) h
-known setup hash [] legal p c there = absurd (false≢true there)
-known setup hash (e ∷ h) legal p c there =
-    known-by setup hash e h p c legal (known setup hash h (legal-before setup hash e h legal) p c) (e.caller == p) refl there
+is-known setup hash [] legal p c there = absurd (false≢true there)
+is-known setup hash (e ∷ h) legal p c there =
+    known-by setup hash e h p c legal (is-known setup hash h (legal-before setup hash e h legal) p c) (e.caller == p) refl there
 
 -- a caller may make calls of its open connections, each of which has the challenge of its join
 pub record Mine (setup : Configured) (hash : List ℕ → List ℕ) (p c : ℕ) (mine h : List Entry) : Type 0 where
@@ -147,7 +147,7 @@ stays-mine : (setup : Configured) (hash : List ℕ → List ℕ) (h : List Entry
     → Mine setup hash p c (entries_of p h) h
 stays-mine setup hash h legal p c stays =
     let parts = both (has_joined c (entries_of p h)) (not (has_quit c (entries_of p h))) stays in
-    let k = known setup hash h legal p c parts.0 in
+    let k = is-known setup hash h legal p c parts.0 in
     record {
       may = (open_are_those_that_stayed setup hash h legal c ∙ ap₂ (λ a b. a && not b) k.joined (k.quit ∙ not-true (has_quit c (entries_of p h)) parts.1), k.owner);
       challenge = k.challenge;

@@ -18,7 +18,7 @@ use Rattle.hub_rules.specs.declared.history.Verdict.{Verdict}
 use Rattle.hub_rules.specs.Configured.{Configured}
 use Rattle.hub_rules.specs.Facts.{facts}
 use Rattle.hub_rules.specs.Legal.{IsOpenFor, MayCall}
-use Rattle.hub_rules.specs.Prepared.{prepared}
+use Rattle.hub_rules.specs.Prepared.{prepared_line}
 use Rattle.hub_rules.specs.Sights.{PreparedLine}
 use Rattle.hub_shared.specs.declared.about.About.{About}
 use Rattle.hub_shared.specs.Callers.{HubState, PassState, hub_of, pass_of}
@@ -27,21 +27,21 @@ use Rattle.hub_shared.specs.Connections.{challenge_in, entries_of, has_stayed}
 use Rattle.hub_shared.proofs.Known.{is-mine}
 
 -- a hub has a seat for each connection that its caller's own calls show open
-pub seated : (setup : Configured) (hash : List ℕ → List ℕ) (h mine : List Entry) (core : CoreState) (p c : ℕ) → StandsAt setup hash h core → entries_of p h ≡ mine
+pub has-seat : (setup : Configured) (hash : List ℕ → List ℕ) (h mine : List Entry) (core : CoreState) (p c : ℕ) → StandsAt setup hash h core → entries_of p h ≡ mine
     → has_stayed c mine ≡ true → IsSeated c core
 unfolding Stands
-seated setup hash h mine core p c at are stays =
+has-seat setup hash h mine core p c at are stays =
     ap (λ (s : CoreState). has_seat c s.seats) at.stands ∙ seated-open c (facts setup hash h).about (facts setup hash h).opened
     ∙ (is-mine setup hash h mine p c at.legal are stays).may.0
 
 -- a line of one's own connection, made ready with the challenge of its join
 pub line-stands : (setup : Configured) (hash : List ℕ → List ℕ) (h mine : List Entry) (core new : CoreState) (p c : ℕ) (line : PreparedLine) (now : ℕ) (verdict : Verdict)
     → StandsAt setup hash h core → entries_of p h ≡ mine → has_stayed c mine ≡ true
-    → line ≡ prepared setup hash (challenge_in c mine) line.bytes → LineMoves core c line now verdict new
+    → line ≡ prepared_line setup hash (challenge_in c mine) line.bytes → LineMoves core c line now verdict new
     → StandsAt setup hash (entry p (Line c line.bytes now) (Said verdict) ∷ h) new
 line-stands setup hash h mine core new p c line now verdict at are stays is_line moves =
     let own = is-mine setup hash h mine p c at.legal are stays in
-    moves setup hash h p at own.may (is_line ∙ ap (λ x. prepared setup hash x line.bytes) (sym own.challenge))
+    moves setup hash h p at own.may (is_line ∙ ap (λ x. prepared_line setup hash x line.bytes) (sym own.challenge))
 
 -- another call of one's own connection
 pub own-call : (setup : Configured) (hash : List ℕ → List ℕ) (h mine : List Entry) (core new : CoreState) (p c : ℕ) (call : Call) (reply : Reply)
@@ -82,7 +82,7 @@ module _ {H : Type 0} where
 
   -- a line that was made ready as the call asks
   pub ready : (digest_of : H → List ℕ → List ℕ) (lock : LockState (About H)) (hub : HubState H) (seat : SeatState Entry (About H)) (c : ℕ) (pass : PassState H)
-      → hub_of lock ≡ hub → pass_of seat c ≡ pass → (line : PreparedLine) → line ≡ prepared hub.setup (digest_of hub.hash) pass.challenge line.bytes
-      → line ≡ prepared lock.about.setup.value (digest_of lock.about.hash.value) (challenge_in c seat.mine) line.bytes
+      → hub_of lock ≡ hub → pass_of seat c ≡ pass → (line : PreparedLine) → line ≡ prepared_line hub.setup (digest_of hub.hash) pass.challenge line.bytes
+      → line ≡ prepared_line lock.about.setup.value (digest_of lock.about.hash.value) (challenge_in c seat.mine) line.bytes
   ready digest_of lock hub seat c pass is_hub is_pass line is =
-      is ∙ ap₂ (λ (h : HubState H) (p : PassState H). prepared h.setup (digest_of h.hash) p.challenge line.bytes) (sym is_hub) (sym is_pass)
+      is ∙ ap₂ (λ (h : HubState H) (p : PassState H). prepared_line h.setup (digest_of h.hash) p.challenge line.bytes) (sym is_hub) (sym is_pass)

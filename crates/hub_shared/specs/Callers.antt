@@ -1,16 +1,10 @@
--- What contracts see of a hub, of its host, and of those who call it.
+-- A hub, its host and its callers, as contracts see them.
 use Rattle.std.specs.Prelude.{◌≡◌, ℕ, ◌==◌, true, false, List, []}
-use Rattle.one_history.specs.States.{Home, HostState as HostSeat, LockState, SeatState, home_of}
+use Rattle.one_history.specs.States.{Caller, Home, HostState as HostSeat, LockState, SeatState, caller_of, home_of}
 use Rattle.hub_rules.specs.declared.history.Entry.{Entry}
 use Rattle.hub_rules.specs.Configured.{Configured}
 use Rattle.hub_shared.specs.declared.about.About.{About}
 use Rattle.hub_shared.specs.Connections.{challenge_in, has_stayed}
-
--- a caller: its number, the beginning of the history that it has seen, and its own entries
-pub record Caller : Type 0 where
-  pub number : ℕ
-  pub seen : List Entry
-  pub mine : List Entry
 
 -- a hub: which one it is, its setup, and the value of its hash
 pub record HubState (H : Type 0) : Type 0 where
@@ -26,17 +20,17 @@ pub record HostState (H : Type 0) : Type 0 where
 -- a caller without a connection
 pub record VisitorState (H : Type 0) : Type 0 where
   pub home : Home (About H)
-  pub caller : Caller
+  pub caller : Caller Entry
 
 -- a caller with its connection, and the challenge that came with the join
 pub record PassState (H : Type 0) : Type 0 where
   pub home : Home (About H)
-  pub caller : Caller
+  pub caller : Caller Entry
   pub connection : ℕ
   pub challenge : List ℕ
 
 -- a caller that has seen nothing and made nothing
-abbrev pub new_caller : ℕ → Caller
+abbrev pub new_caller : ℕ → Caller Entry
 new_caller number = record { number = number; seen = []; mine = [] }
 
 module _ {H : Type 0} where
@@ -44,9 +38,6 @@ module _ {H : Type 0} where
 
   abbrev pub hub_of : LockState (About H) → HubState H
   hub_of lock = record { home = home_of lock; setup = lock.about.setup.value; hash = lock.about.hash.value }
-
-  abbrev pub caller_of : SeatState Entry (About H) → Caller
-  caller_of seat = record { number = seat.number; seen = seat.seen; mine = seat.mine }
 
   abbrev pub visitor_of : SeatState Entry (About H) → VisitorState H
   visitor_of seat = record { home = seat.home; caller = caller_of seat }

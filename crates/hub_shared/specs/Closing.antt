@@ -1,4 +1,4 @@
--- What is known once all visitors came back to the host.
+-- The knowledge of the host once all visitors came back.
 use Rattle.std.specs.Prelude.{◌≡◌, ℕ, false, List, [], map}
 use Rattle.std.specs.List.{All, Contains}
 use Rattle.one_history.specs.Histories.{Begins}
@@ -11,9 +11,6 @@ use Rattle.hub_shared.specs.Callers.{VisitorState}
 use Rattle.hub_shared.specs.Connections.{entries_of, has_stayed}
 
 module _ {H : Type 0} where
-  abbrev pub numbers_of : List (VisitorState H) → List ℕ
-  numbers_of visitors = map (λ (v : VisitorState H). v.caller.number) visitors
-
   -- There is one history, the log: it is legal, it begins with all that each visitor had seen, each visitor's entries in it are its
   -- own, and it has no entry of anybody else. So many joins were accepted in it, and nobody is present after it.
   pub record Settled (setup : Configured) (hash : List ℕ → List ℕ) (visitors : List (VisitorState H)) (joins : ℕ) : Type 0 where
@@ -21,7 +18,7 @@ module _ {H : Type 0} where
     pub legal : Legal setup hash log
     pub begins : All (λ (v : VisitorState H). Begins log v.caller.seen) visitors
     pub own : All (λ (v : VisitorState H). entries_of v.caller.number log ≡ v.caller.mine) visitors
-    pub only : All (λ (e : Entry). Contains (numbers_of visitors) e.caller) log
+    pub only : All (λ (e : Entry). Contains (map (λ (v : VisitorState H). v.caller.number) visitors) e.caller) log
     pub counted : joins ≡ (facts setup hash log).joins
     pub nobody : present setup hash log ≡ []
 

@@ -1,4 +1,4 @@
--- What the calls of one caller say of its connections. Histories are written newest first.
+-- The connections of one caller, by its calls. Histories are written newest first.
 use Rattle.std.specs.Prelude.{ℕ, ◌&&◌, not, cond, Bool, List, [], ◌∷◌}
 use Rattle.one_history.specs.Histories.{entries}
 use Rattle.hub_rules.specs.declared.history.Call.{Call}

@@ -1,18 +1,74 @@
-ghost use Rattle.std.specs.Prelude.{◌≡◌, ◌≤◌, ◌++◌, IfOk, OnOk, OnErr};
+ghost use Rattle.std.specs.Prelude.{◌≡◌, ◌≤◌, ◌++◌, IfOk, OnOk, OnErr, ◌∷◌, false};
 ghost use Rattle.hub_core.specs.Promises.{seen_of};
 ghost use Rattle.hub_rules.specs.History.{view};
-ghost use Rattle.hub_rules.specs.Prepared.{prepared};
+ghost use Rattle.hub_rules.specs.Prepared.{prepared_line};
 ghost use Rattle.hub_shared.specs.Calls.{SaysLine, Saw, TakesLines, behind};
+ghost use Rattle.hub_core.specs.Moves.{StandsAt};
+ghost use Rattle.hub_rules.specs.Legal.{Legal};
+ghost use Rattle.hub_shared.specs.Connections.{entries_of};
+ghost use Rattle.one_history.specs.States.{IsHolderAt};
+ghost use Rattle.hub_shared.specs.Callers.{pass_of, IsPass};
 
-use crate::entered::enter;
+use crate::about::{HubLock, HubSeat};
 use crate::hub::Hub;
-use crate::pass::Pass;
-use hub_core::{LineRefused, Look, Prepared, TakeRefused, Taken, Touched, Verdict};
+use hub_core::{Conn, Core, LineRefused, Look, Prepared, TakeRefused, Taken, Touched, Verdict};
+use hub_rules::Entry;
+use one_history::Told;
 use session_hash::SessionHash;
 use std::alloc::Global;
-use std::marker::Brand;
+use std::marker::{Brand, Model, PhantomData};
 use std::snapshot::Snapshot;
 use std::sync::Wait;
+
+/// A caller of a hub with its connection. Contracts see the caller's number, the beginning of the history that it has
+/// seen, its own entries in it, the connection, and the challenge that came with its join.
+pub struct Pass<H> {
+    pub(crate) seat: HubSeat<H>,
+    pub(crate) connection: Conn,
+    pub(crate) touched: Touched,
+}
+
+impl<H> Model for Pass<H> {
+    ghost use Rattle.hub_shared.specs.Callers.{PassState, pass_of, IsPass};
+
+    ghost Value = { PassState H };
+
+    ghost view = { λ p. pass_of p.seat p.connection };
+
+    ghost invariant = { λ p. IsPass p.seat p.connection };
+}
+
+impl<H> Pass<H> {
+    /// Names whom the pass's last call concerned: to whose connections it gave lines, or whom it shut out. A hint for those
+    /// who wake what waits for lines: it may name somebody too many, and no promise rests on it. It takes no memory. After
+    /// a join, a take, a look or a refusal it names nobody.
+    pub fn touched(&self) -> Touched {
+        self.touched
+    }
+
+    pub(crate) fn into_parts(self) -> (HubSeat<H>, Conn)
+        ensures shown { pass_of result.0 result.1 ≡ self }
+        ensures pass { IsPass result.0 result.1 }
+    {
+        let Pass {
+            seat,
+            connection,
+            touched: _,
+        } = self;
+        (seat, connection)
+    }
+}
+
+impl<H> Drop for Pass<H> {
+    fn drop(self) {
+        let Pass {
+            seat,
+            connection: _,
+            touched: _,
+        } = self;
+        drop(seat);
+    }
+}
 
 impl<H: SessionHash> Hub<H> {
     /// Handles a line of the pass's connection, at a moment in seconds. It may wait for the lock.
@@ -29,7 +85,7 @@ impl<H: SessionHash> Hub<H> {
         now: u64,
     ) -> Result<Verdict, LineRefused>
         requires here { pass.old.home ≡ self.now.home }
-        requires prepared { line.now ≡ prepared self.now.setup (H.digest_of self.now.hash) pass.old.challenge line.now.bytes }
+        requires prepared { line.now ≡ prepared_line self.now.setup (H.digest_of self.now.hash) pass.old.challenge line.now.bytes }
         ensures same { pass.new ≡ record pass.old { caller = pass.new.caller } }
         ensures made { IfOk result (λ verdict. SaysLine self.now.setup (H.digest_of self.now.hash) pass.old line.now.bytes now verdict pass.new.caller) }
         ensures refused { OnErr result (Saw self.now.setup (H.digest_of self.now.hash) pass.old.caller pass.new.caller) }
@@ -100,4 +156,47 @@ impl<H: SessionHash> Hub<H> {
         self.lock.put_back(&mut pass.seat, core);
         look
     }
+}
+
+// The step by which an entry is written into the history.
+// The entry that is made. The proof of a call picks it.
+pub(crate) trait Names {
+    ghost use Rattle.hub_rules.specs.declared.history.Entry.{Entry};
+
+    ghost entry: { Entry };
+}
+
+impl Names for Brand {
+    ghost use Rattle.hub_rules.specs.declared.history.Call.TheVariants.{Quit};
+    ghost use Rattle.hub_rules.specs.declared.history.Reply.TheVariants.{Left};
+
+    ghost entry = { record { caller = 0; call = Quit 0; reply = Left } };
+}
+
+struct Entered<B> {
+    named: PhantomData<B>,
+}
+
+impl<B: Names> Told<Entry> for Entered<B> {
+    ghost entry = { B.entry };
+}
+
+// Gives the hub back with the entry. What the entry is made of is in the note, for the pick.
+pub(crate) fn enter<B: Names, H: SessionHash, N>(
+    lock: &HubLock<H>,
+    seat: &mut HubSeat<H>,
+    core: Core,
+    note: &N,
+)
+    requires holds { IsHolderAt lock.now seat.old }
+    requires mine { B.entry.caller ≡ seat.old.number }
+    requires stands { StandsAt lock.now.about.setup.value (H.digest_of lock.now.about.hash.value) (B.entry ∷ seat.old.seen) core }
+    ensures seat { let seen = B.entry ∷ seat.old.seen in
+        let mine = B.entry ∷ seat.old.mine in
+        seat.new ≡ record seat.old { seen = seen; mine = mine; holds = false } }
+    ensures legal { Legal lock.now.about.setup.value (H.digest_of lock.now.about.hash.value) seat.new.seen }
+    ensures own { entries_of seat.new.number seat.new.seen ≡ seat.new.mine }
+{
+    let _ = note;
+    lock.give::<Entered<B>>(seat, core);
 }

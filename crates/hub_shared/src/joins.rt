@@ -3,9 +3,8 @@ ghost use Rattle.hub_rules.specs.declared.history.Call.TheVariants.{Join, Quit};
 ghost use Rattle.hub_rules.specs.declared.history.Reply.TheVariants.{Joined, Left};
 ghost use Rattle.hub_shared.specs.Calls.{Made, Refused};
 
-use crate::entered::enter;
+use crate::calls::{Pass, enter};
 use crate::hub::Hub;
-use crate::pass::Pass;
 use crate::visitor::Visitor;
 use hub_core::JoinRefused;
 use session_hash::SessionHash;

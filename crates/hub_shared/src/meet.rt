@@ -1,8 +1,8 @@
 ghost use Rattle.std.specs.Prelude.{◌≡◌};
 ghost use Rattle.hub_shared.specs.Calls.{Saw};
 
+use crate::calls::Pass;
 use crate::hub::Hub;
-use crate::pass::Pass;
 use session_hash::SessionHash;
 
 impl<H: SessionHash> Hub<H> {

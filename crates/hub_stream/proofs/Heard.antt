@@ -1,4 +1,4 @@
--- What a run has heard after some reads.
+-- The lines of a run after some reads.
 use Rattle.std.proofs.Common.{◌≡◌, ◌∙◌, sym, ap, refl, subst, ℕ, ◌+◌, ◌<◌, ◌≤◌, Bool, true, false, zero-le, List, [], ◌∷◌, ◌++◌, length, take, map, arith, append-nil, append_assoc, take_all, length-append, length-take, inl, inr}
 use Rattle.std.specs.Prelude.{Option}
 use Rattle.std.specs.List.{concat}
@@ -8,7 +8,7 @@ use Rattle.std.proofs.lemmas.List.{map-append}
 use Rattle.std.proofs.lemmas.List.Concat.{flat_map-append}
 use Rattle.std.proofs.lemmas.List.Elements.{All-nil, All-append}
 use Rattle.adc_line.specs.Frames.{is_lf}
-use Rattle.adc_line.specs.Stream.{lines, joined, IsLine}
+use Rattle.adc_line.specs.Stream.{lines, joined_lines, IsLine}
 use Rattle.adc_line.proofs.FrameLemmas.{lines-more}
 use Rattle.hub_core.specs.CoreState.{CoreState}
 use Rattle.hub_rules.specs.declared.history.Entry.{Entry}
@@ -68,8 +68,8 @@ module _ (setup : Configured) (hash : List ℕ → List ℕ) (unread left held h
   lines_sent = ap lines heard.cut.whole ∙ lines_of_cut heard.sent rest heard.cut.are_lines ∙ ap (λ xs. heard.sent ++ xs) heard.none ∙ append-nil heard.sent
 
   -- and behind them is the rest
-  rest_heard : heard.read ≡ joined (lines heard.read) ++ rest
-  rest_heard = heard.cut.whole ∙ ap (λ xs. joined xs ++ rest) (sym lines_sent)
+  rest_heard : heard.read ≡ joined_lines (lines heard.read) ++ rest
+  rest_heard = heard.cut.whole ∙ ap (λ xs. joined_lines xs ++ rest) (sym lines_sent)
 
   -- a read that gave nothing, or failed
   module _ (now : Option (List ℕ)) (consumed : Consumes unread now heard.read) where
@@ -101,8 +101,8 @@ module _ (setup : Configured) (hash : List ℕ → List ℕ) (unread left held h
     consumed_more : Consumes unread now (heard.read ++ piece)
     consumed_more = Consumes-trans unread left now heard.read piece heard.consumed gave
 
-    whole_more : heard.read ++ piece ≡ joined heard.sent ++ (rest ++ piece)
-    whole_more = ap (λ xs. xs ++ piece) heard.cut.whole ∙ append_assoc (joined heard.sent) rest piece
+    whole_more : heard.read ++ piece ≡ joined_lines heard.sent ++ (rest ++ piece)
+    whole_more = ap (λ xs. xs ++ piece) heard.cut.whole ∙ append_assoc (joined_lines heard.sent) rest piece
 
     lines_more : lines (heard.read ++ piece) ≡ heard.sent ++ lines (rest ++ piece)
     lines_more = ap lines whole_more ∙ lines_of_cut heard.sent (rest ++ piece) heard.cut.are_lines
@@ -120,7 +120,7 @@ module _ (setup : Configured) (hash : List ℕ → List ℕ) (unread left held h
         way = goes.1;
         ready = goes.2;
         cut = record {
-          whole = whole_more ∙ ap (λ xs. joined heard.sent ++ xs) hears.1.whole ∙ simp (flat_map-append, append_assoc);
+          whole = whole_more ∙ ap (λ xs. joined_lines heard.sent ++ xs) hears.1.whole ∙ simp (flat_map-append, append_assoc);
           are_lines = All-append IsLine heard.sent hears.0 heard.cut.are_lines hears.1.are_lines;
         };
         none = hears.2;

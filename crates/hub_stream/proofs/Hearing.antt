@@ -10,12 +10,12 @@ use Rattle.adc_line.specs.declared.framer.Next.{Next}
 use Rattle.adc_line.specs.declared.framer.Next.TheVariants.{Line, TooLong}
 use Rattle.adc_line.specs.Frames.{lf, max_line, HasNoLf}
 use Rattle.adc_line.specs.NextLine.{IsNext, IsFirstLine}
-use Rattle.adc_line.specs.Stream.{lines, joined, IsLine}
+use Rattle.adc_line.specs.Stream.{lines, joined_lines, IsLine}
 use Rattle.adc_line.proofs.FrameLemmas.{lines-line}
 use Rattle.hub_core.specs.CoreState.{CoreState}
 use Rattle.hub_rules.specs.Configured.{Configured}
 use Rattle.hub_stream.specs.Runs.{join, says}
-use Rattle.hub_stream.specs.Serving.{IsCutOff, continued, GoesOn, BreaksOff, IsCutInto, StopsHearing, IsInAnswering}
+use Rattle.hub_stream.specs.Serving.{IsCutOff, run_after, GoesOn, BreaksOff, IsCutInto, StopsHearing, IsInAnswering}
 use Rattle.hub_stream.specs.declared.fault.RunFault.{RunFault}
 use Rattle.hub_stream.specs.declared.fault.RunFault.TheVariants as faults
 use Rattle.hub_stream.proofs.Refusals.{refused_by}
@@ -23,18 +23,18 @@ use Rattle.hub_stream.proofs.Takes.{cut_off}
 use Rattle.hub_stream.proofs.Lines.{cut_before}
 
 -- the lines of bytes that are cut are those that were cut off, and those of the rest
-pub lines_of_cut : (sent : List (List ℕ)) (rest : List ℕ) → All IsLine sent → lines (joined sent ++ rest) ≡ sent ++ lines rest
+pub lines_of_cut : (sent : List (List ℕ)) (rest : List ℕ) → All IsLine sent → lines (joined_lines sent ++ rest) ≡ sent ++ lines rest
 lines_of_cut [] rest are = refl
 lines_of_cut (line ∷ sent) rest are =
     let first : IsLine line = All-head IsLine line sent are in
     ap lines (simp append_assoc)
-    ∙ lines-line line (joined sent ++ rest) first.0 first.1
+    ∙ lines-line line (joined_lines sent ++ rest) first.0 first.1
     ∙ ap (λ more. line ∷ more) (lines_of_cut sent rest (All-tail IsLine line sent are))
 
 -- one line more is cut off
 cut_more : (bytes : List ℕ) (sent : List (List ℕ)) (rest out left : List ℕ) → IsCutInto bytes sent rest → rest ≡ out ++ lf ∷ left → IsLine out → IsCutInto bytes (sent ++ out ∷ []) left
 cut_more bytes sent rest out left cut same line = record {
-  whole = cut.whole ∙ ap (λ xs. joined sent ++ xs) same ∙ simp (flat_map-append, append_assoc);
+  whole = cut.whole ∙ ap (λ xs. joined_lines sent ++ xs) same ∙ simp (flat_map-append, append_assoc);
   are_lines = All-push IsLine sent out cut.are_lines line;
 }
 
@@ -60,7 +60,7 @@ goes_further : (setup : Configured) (hash : List ℕ → List ℕ) (more further
     → GoesOn setup hash more first old mid before holds → GoesOn setup hash further second mid new holds now → GoesOn setup hash (more ++ further) second old new before now
 goes_further setup hash more further first second old mid new before holds now one two run way ready =
     let a = one run way ready in
-    let b = two (continued run more a.0) a.1 a.2 in
+    let b = two (run_after run more a.0) a.1 a.2 in
     (b.0, record { alone = b.1.alone; calls = b.1.calls ∙ ap (λ xs. join ∷ map says xs) (append_assoc run.sent more further); in_turn = b.1.in_turn; written = b.1.written }, b.2, b.3)
 
 -- whatever was said of more
@@ -80,7 +80,7 @@ module _ (setup : Configured) (hash : List ℕ → List ℕ) (bytes rest : List 
         a.0,
         subst (λ (due : List (List ℕ)). IsCutOff setup hash run.held due a.0 holds)
             (append_assoc run.sent heard.0 (lines rest) ∙ ap (λ xs. run.sent ++ xs) (sym lines_heard))
-            (cut_before setup hash run.held (run.sent ++ heard.0) (lines rest) a.0 holds (cut_off setup hash (continued run heard.0 a.0) mid holds a.1)),
+            (cut_before setup hash run.held (run.sent ++ heard.0) (lines rest) a.0 holds (cut_off setup hash (run_after run heard.0 a.0) mid holds a.1)),
       )
 
   -- and then a line
@@ -96,7 +96,7 @@ module _ (setup : Configured) (hash : List ℕ → List ℕ) (bytes rest : List 
     pub hears_part : (now : Option (List ℕ)) → BreaksOff setup hash (out ∷ []) mid holds now → BreaksOff setup hash (lines bytes) old before now
     hears_part now breaks run way ready =
         let a = heard.2 run way ready in
-        let b = breaks (continued run heard.0 a.0) a.1 a.2 in
+        let b = breaks (run_after run heard.0 a.0) a.1 a.2 in
         let all : lines bytes ≡ heard.0 ++ out ∷ lines left = lines_heard ∙ ap (λ xs. heard.0 ++ xs) (ap lines a_line.0 ∙ lines-line out left a_line.1 a_line.2) in
         let grouped : ((run.sent ++ heard.0) ++ out ∷ []) ++ lines left ≡ run.sent ++ (heard.0 ++ out ∷ lines left) = simp append_assoc in (
           b.0,

@@ -1,6 +1,6 @@
 -- The one caller joins an empty hub.
 use Rattle.std.proofs.Common.{◌≡◌, ◌∙◌, sym, ap, refl, subst, ℕ, ◌≤◌, true, false, List, [], ◌∷◌, length, take, arith}
-use Rattle.std.specs.Prelude.{not, nat_le, ◌&&◌, Err}
+use Rattle.std.specs.Prelude.{not, nat_le, ◌&&◌, Err, cond}
 use Rattle.std.specs.List.{concat}
 use Rattle.std.specs.Io.KnownBytes.{Appends}
 use Rattle.std.proofs.lemmas.Bool.Decides.{nat_tests}
@@ -14,9 +14,8 @@ use Rattle.hub_rules.specs.declared.history.Entry.{Entry}
 use Rattle.hub_rules.specs.declared.history.Reply.{Reply}
 use Rattle.hub_rules.specs.declared.history.Reply.TheVariants.{Joined, Full, JoinsSpent}
 use Rattle.hub_rules.specs.Configured.{Configured}
-use Rattle.hub_rules.specs.Facts.{Facts, after, facts, joined, start}
+use Rattle.hub_rules.specs.Facts.{Facts, after, facts, with_connection, start}
 use Rattle.hub_rules.specs.Legal.{Legal, join_reply, reply}
-use Rattle.hub_rules.specs.Shares.{chosen}
 use Rattle.hub_stream.specs.Runs.{first, join, zeros}
 use Rattle.hub_stream.specs.Serving.{IsAlone, Starts, taken_in}
 
@@ -37,14 +36,14 @@ module _ (setup : Configured) (hash : List ℕ → List ℕ) (old new : CoreStat
 
   -- the hub with the connection alone on it
   abbrev with_first : Facts
-  with_first = joined (start setup) first (127 ∷ 0 ∷ 0 ∷ 1 ∷ []) zeros
+  with_first = with_connection (start setup) first (127 ∷ 0 ∷ 0 ∷ 1 ∷ []) zeros
 
   facts_joined : facts setup hash (asking ∷ []) ≡ with_first
   unfolding facts after
-  facts_joined = ap (λ b. chosen (not b && true) with_first (start setup)) (has_room setup.max_users admits)
+  facts_joined = ap (λ b. cond (not b && true) with_first (start setup)) (has_room setup.max_users admits)
 
   join_alone : IsAlone setup hash (asking ∷ []) new
-  unfolding joined
+  unfolding with_connection
   join_alone = record {
     stands = stands_joined;
     own = All-cons (λ (e : Entry). e.caller ≡ first) asking [] refl (All-nil (λ (e : Entry). e.caller ≡ first));
@@ -54,11 +53,11 @@ module _ (setup : Configured) (hash : List ℕ → List ℕ) (old new : CoreStat
   }
 
   join_taken : taken_in setup hash (asking ∷ []) ≡ []
-  unfolding joined
+  unfolding with_connection
   join_taken = ap (λ (f : Facts). concat (take (f.about first).taken (f.about first).owed)) facts_joined
 
   join_owed : ((facts setup hash (asking ∷ [])).about first).taken ≡ length ((facts setup hash (asking ∷ [])).about first).owed
-  unfolding joined
+  unfolding with_connection
   join_owed = ap (λ (f : Facts). (f.about first).taken) facts_joined ∙ sym (ap (λ (f : Facts). length (f.about first).owed) facts_joined)
 
   pub join_starts : Starts setup hash new

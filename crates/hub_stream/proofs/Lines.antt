@@ -9,11 +9,11 @@ use Rattle.hub_core.specs.State.{IsSeated}
 use Rattle.hub_rules.specs.declared.history.Entry.{Entry}
 use Rattle.hub_rules.specs.declared.history.Verdict.{Verdict}
 use Rattle.hub_rules.specs.Configured.{Configured}
-use Rattle.hub_rules.specs.Prepared.{prepared}
+use Rattle.hub_rules.specs.Prepared.{prepared_line}
 use Rattle.hub_rules.specs.Sights.{PreparedLine}
 use Rattle.hub_stream.specs.Runs.{first, join, says, zeros, IsCaughtUp}
-use Rattle.hub_stream.specs.Serving.{Run, IsUnderWay, IsReady, IsCutOff, continued, CatchesUp, FallsShort, GoesOn, BreaksOff}
-use Rattle.hub_stream.proofs.Steps.{said, line_alone, line_written}
+use Rattle.hub_stream.specs.Serving.{Run, IsUnderWay, IsReady, IsCutOff, run_after, CatchesUp, FallsShort, GoesOn, BreaksOff}
+use Rattle.hub_stream.proofs.Steps.{said_entry, line_alone, line_written}
 use Rattle.hub_stream.proofs.Takes.{SomeRuns, running_seated, cut_off}
 
 module _ (setup : Configured) (hash : List ℕ → List ℕ) where
@@ -38,13 +38,13 @@ module _ (setup : Configured) (hash : List ℕ → List ℕ) where
 
   -- a line of connection c, whichever its number is, that was made ready for it
   module _ (old mid : CoreState) (holds : Option (List ℕ)) (connection : ℕ) (bytes : List ℕ) (line : PreparedLine) (verdict : Verdict)
-      (is_first : connection ≡ first) (is_ready : line ≡ prepared setup hash zeros bytes) (moves : LineMoves old connection line 0 verdict mid) where
+      (is_first : connection ≡ first) (is_ready : line ≡ prepared_line setup hash zeros bytes) (moves : LineMoves old connection line 0 verdict mid) where
     heard : LineMoves old first line 0 verdict mid
     heard = subst (λ (c : ℕ). LineMoves old c line 0 verdict mid) is_first moves
 
     -- the run goes on, and has not caught up
     said_way : (run : Run) → IsUnderWay setup hash run old holds → IsCaughtUp setup hash run.history
-        → IsUnderWay setup hash (continued run (bytes ∷ []) (said bytes verdict ∷ run.history)) mid holds
+        → IsUnderWay setup hash (run_after run (bytes ∷ []) (said_entry bytes verdict ∷ run.history)) mid holds
     said_way run way ready = record {
       alone = line_alone setup hash run.history old mid way.alone bytes line verdict is_ready heard;
       calls = ap (λ calls. calls ++ says bytes ∷ []) way.calls ∙ ap (λ calls. join ∷ calls) (sym (map_push says run.sent bytes));
@@ -53,12 +53,12 @@ module _ (setup : Configured) (hash : List ℕ → List ℕ) where
     }
 
     pub said_running : IsReady setup hash old holds → SomeRuns mid holds
-    said_running ready = (setup, hash, (continued ready.0 (bytes ∷ []) (said bytes verdict ∷ ready.0.history), said_way ready.0 ready.1 ready.2))
+    said_running ready = (setup, hash, (run_after ready.0 (bytes ∷ []) (said_entry bytes verdict ∷ ready.0.history), said_way ready.0 ready.1 ready.2))
 
     module _ (new : CoreState) (now : Option (List ℕ)) where
       -- what the line was owed was written
       pub said_whole : (ended : Bool) → CatchesUp setup hash ended mid new holds now → GoesOn setup hash (bytes ∷ []) ended old new holds now
-      said_whole ended catches run way ready = catches (continued run (bytes ∷ []) (said bytes verdict ∷ run.history)) (said_way run way ready)
+      said_whole ended catches run way ready = catches (run_after run (bytes ∷ []) (said_entry bytes verdict ∷ run.history)) (said_way run way ready)
 
       pub said_short : FallsShort setup hash mid holds now → BreaksOff setup hash (bytes ∷ []) old holds now
-      said_short short run way ready = short (continued run (bytes ∷ []) (said bytes verdict ∷ run.history)) (said_way run way ready)
+      said_short short run way ready = short (run_after run (bytes ∷ []) (said_entry bytes verdict ∷ run.history)) (said_way run way ready)

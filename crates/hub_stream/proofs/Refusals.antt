@@ -1,4 +1,4 @@
--- What holds where a call was refused.
+-- Facts after a call that was refused.
 use Rattle.std.proofs.Common.{◌≡◌, sym, subst}
 use Rattle.std.specs.Prelude.{Result, Ok, Err, IfErr, OnErr}
 use Rattle.std.specs.Result.{IsErrAnd}

@@ -1,11 +1,11 @@
--- What the calls of the one caller do to its history.
+-- The calls of the one caller, as entries of its history.
 use Rattle.std.proofs.Common.{◌≡◌, ◌∙◌, sym, ap, ap₂, refl, subst, ℕ, ◌+◌, ◌<◌, ◌≤◌, Bool, true, false, ◌&&◌, ◌||◌, List, [], ◌∷◌, ◌++◌, length, take, drop, map, arith, append-nil, length-take, length-drop, inl, inr}
 use Rattle.std.proofs.lemmas.Bool.{false≢true}
 use Rattle.std.proofs.lemmas.List.{take-append-le, take-append-drop}
 use Rattle.std.proofs.lemmas.List.Elements.{All-cons}
 use Rattle.std.proofs.lemmas.List.Folds.{concat-append}
 use Rattle.std.specs.List.{All, concat, list_any}
-use Rattle.std.specs.Prelude.{◌==◌, ◌⊎◌}
+use Rattle.std.specs.Prelude.{◌==◌, ◌⊎◌, cond}
 use Rattle.hub_core.specs.CoreState.{CoreState}
 use Rattle.hub_core.specs.Moves.{LineMoves, Moves, StandsAt, entry}
 use Rattle.hub_core.specs.Seats.{seat_of}
@@ -19,10 +19,10 @@ use Rattle.hub_rules.specs.declared.history.Reply.TheVariants.{Said, Took}
 use Rattle.hub_rules.specs.declared.history.Verdict.{Verdict}
 use Rattle.hub_rules.specs.Configured.{Configured}
 use Rattle.hub_rules.specs.Effects.{is_over}
-use Rattle.hub_rules.specs.Facts.{Facts, after, effect_of_line, facts, given, happens}
+use Rattle.hub_rules.specs.Facts.{Facts, after, effect_of_line, facts, with_lines_taken, happens}
 use Rattle.hub_rules.specs.Legal.{Legal, has_ended, is_open, reply}
-use Rattle.hub_rules.specs.Prepared.{prepared}
-use Rattle.hub_rules.specs.Shares.{About, affected, chosen, has_room, owed_with, owes, waiting}
+use Rattle.hub_rules.specs.Prepared.{prepared_line}
+use Rattle.hub_rules.specs.Shares.{About, affected_connection, has_room, owed_with, owes, waiting}
 use Rattle.hub_rules.specs.Sights.{PreparedLine}
 use Rattle.hub_invariants.proofs.Calls.{sound_of}
 use Rattle.hub_invariants.proofs.Kept.{given-bytes}
@@ -51,21 +51,21 @@ pub record IsKept (a b : About) : Type 0 where
   pub challenge : b.challenge ≡ a.challenge
   pub taken : take b.taken b.owed ≡ take a.taken a.owed
 
-taken-kept : (room : Bool) (taken : ℕ) (owed share : List (List ℕ)) → taken ≤ length owed → take taken (chosen room (owed ++ share) owed) ≡ take taken owed
+taken-kept : (room : Bool) (taken : ℕ) (owed share : List (List ℕ)) → taken ≤ length owed → take taken (cond room (owed ++ share) owed) ≡ take taken owed
 taken-kept true taken owed share within = take-append-le taken owed share within
 taken-kept false taken owed share within = refl
 
-affected-kept : (effect : Effect) (a : About) → a.taken ≤ length a.owed → IsKept a (affected true effect a)
+affected-kept : (effect : Effect) (a : About) → a.taken ≤ length a.owed → IsKept a (affected_connection true effect a)
 unfolding owed_with
 affected-kept effect a within =
     record { owner = refl; challenge = refl; taken = taken-kept (has_room a (owes true effect a)) a.taken a.owed (owes true effect a) within }
 
 -- a take that gave fewer lines than it might leaves none
-given-all : (count : ℕ) (a : About) → a.taken ≤ length a.owed → length (take count (waiting a)) < count → (given count a).taken ≡ length (given count a).owed
+given-all : (count : ℕ) (a : About) → a.taken ≤ length a.owed → length (take count (waiting a)) < count → (with_lines_taken count a).taken ≡ length (with_lines_taken count a).owed
 given-all count a h few = omega (arith, length-take count (drop a.taken a.owed), length-drop a.taken a.owed)
 
 -- so many wait no more
-given-waits : (count : ℕ) (a : About) → length (waiting (given count a)) + length (take count (waiting a)) ≡ length (waiting a)
+given-waits : (count : ℕ) (a : About) → length (waiting (with_lines_taken count a)) + length (take count (waiting a)) ≡ length (waiting a)
 given-waits count a =
     omega (arith, length-take count (drop a.taken a.owed), length-drop a.taken a.owed, length-drop (a.taken + length (take count (drop a.taken a.owed))) a.owed)
 
@@ -74,9 +74,9 @@ pub taken-front : (a : About) → concat a.owed ≡ concat (take a.taken a.owed)
 taken-front a = ap concat (sym (take-append-drop a.taken a.owed)) ∙ concat-append (take a.taken a.owed) (drop a.taken a.owed)
 
 -- the connection has a seat
-pub seated : (setup : Configured) (hash : List ℕ → List ℕ) (h : List Entry) (core : CoreState) → IsAlone setup hash h core → IsSeated first core
+pub has-seat : (setup : Configured) (hash : List ℕ → List ℕ) (h : List Entry) (core : CoreState) → IsAlone setup hash h core → IsSeated first core
 unfolding Stands
-seated setup hash h core alone =
+has-seat setup hash h core alone =
     ap (λ (c : CoreState). list_any (λ seat. seat.number == first) c.seats) alone.stands.stands
     ∙ ap (λ opened. list_any (λ seat. seat.number == first) (map (seat_of (facts setup hash h).about) opened)) alone.opened
 
@@ -85,8 +85,8 @@ open_first : (f : Facts) → f.opened ≡ first ∷ [] → is_open first f ≡ t
 open_first f e = ap (λ opened. list_any (λ d. d == first) opened) e
 
 -- a prepared line is of its bytes
-pub prepared-bytes : (setup : Configured) (hash : List ℕ → List ℕ) (challenge bytes : List ℕ) → (prepared setup hash challenge bytes).bytes ≡ bytes
-unfolding prepared
+pub prepared-bytes : (setup : Configured) (hash : List ℕ → List ℕ) (challenge bytes : List ℕ) → (prepared_line setup hash challenge bytes).bytes ≡ bytes
+unfolding prepared_line
 prepared-bytes setup hash challenge bytes = refl
 
 -- the caller takes lines
@@ -94,8 +94,8 @@ abbrev pub took : ℕ → List ℕ → ℕ → Bool → Entry
 took count bytes lines ended = entry first (Take first count) (Took bytes lines ended)
 
 -- the caller sends a line
-abbrev pub said : List ℕ → Verdict → Entry
-said line verdict = entry first (says line) (Said verdict)
+abbrev pub said_entry : List ℕ → Verdict → Entry
+said_entry line verdict = entry first (says line) (Said verdict)
 
 module _ (setup : Configured) (hash : List ℕ → List ℕ) (h : List Entry) (old new : CoreState) (alone : IsAlone setup hash h old) where
   -- the history with a call more is that of the one caller
@@ -111,7 +111,7 @@ module _ (setup : Configured) (hash : List ℕ → List ℕ) (h : List Entry) (o
     stands_taken : StandsAt setup hash (took count bytes lines ended ∷ h) new
     stands_taken = moves setup hash h first alone.stands (open_first (facts setup hash h) alone.opened, alone.owner)
 
-    about_taken : about_first setup hash (took count bytes lines ended ∷ h) ≡ given count (about_first setup hash h)
+    about_taken : about_first setup hash (took count bytes lines ended ∷ h) ≡ with_lines_taken count (about_first setup hash h)
     unfolding facts after
     about_taken = refl
 
@@ -162,7 +162,7 @@ module _ (setup : Configured) (hash : List ℕ → List ℕ) (h : List Entry) (o
     pub take_waits : length (waiting (about_first setup hash (took count bytes lines ended ∷ h))) + lines ≡ length (waiting (about_first setup hash h))
     take_waits =
         subst (λ (a : About). length (waiting a) + lines ≡ length (waiting (about_first setup hash h))) (sym about_taken)
-        (subst (λ (n : ℕ). length (waiting (given count (about_first setup hash h))) + n ≡ length (waiting (about_first setup hash h))) (sym lines_taken)
+        (subst (λ (n : ℕ). length (waiting (with_lines_taken count (about_first setup hash h))) + n ≡ length (waiting (about_first setup hash h))) (sym lines_taken)
         (given-waits count (about_first setup hash h)))
 
     -- fewer lines than were asked for were the last
@@ -172,34 +172,34 @@ module _ (setup : Configured) (hash : List ℕ → List ℕ) (h : List Entry) (o
         (given-all count (about_first setup hash h) within (subst (λ (n : ℕ). n < count) lines_taken few))
 
   -- after a line that was made ready for the connection
-  module _ (bytes : List ℕ) (line : PreparedLine) (verdict : Verdict) (ready : line ≡ prepared setup hash zeros bytes) (moves : LineMoves old first line 0 verdict new) where
+  module _ (bytes : List ℕ) (line : PreparedLine) (verdict : Verdict) (ready : line ≡ prepared_line setup hash zeros bytes) (moves : LineMoves old first line 0 verdict new) where
     same_bytes : line.bytes ≡ bytes
     same_bytes = ap (λ (l : PreparedLine). l.bytes) ready ∙ prepared-bytes setup hash zeros bytes
 
-    is_ready : line ≡ prepared setup hash (about_first setup hash h).challenge line.bytes
-    is_ready = ready ∙ ap₂ (prepared setup hash) (sym alone.challenge) (sym same_bytes)
+    is_ready : line ≡ prepared_line setup hash (about_first setup hash h).challenge line.bytes
+    is_ready = ready ∙ ap₂ (prepared_line setup hash) (sym alone.challenge) (sym same_bytes)
 
-    stands_said : StandsAt setup hash (said bytes verdict ∷ h) new
+    stands_said : StandsAt setup hash (said_entry bytes verdict ∷ h) new
     stands_said =
-        subst (λ (xs : List ℕ). StandsAt setup hash (said xs verdict ∷ h) new) same_bytes
+        subst (λ (xs : List ℕ). StandsAt setup hash (said_entry xs verdict ∷ h) new) same_bytes
         (moves setup hash h first alone.stands (open_first (facts setup hash h) alone.opened, alone.owner) is_ready)
 
     -- what the line leads to
     abbrev effect_said : Effect
     effect_said = effect_of_line setup hash (facts setup hash h) first bytes 0
 
-    about_said : about_first setup hash (said bytes verdict ∷ h) ≡ affected true effect_said (about_first setup hash h)
+    about_said : about_first setup hash (said_entry bytes verdict ∷ h) ≡ affected_connection true effect_said (about_first setup hash h)
     unfolding facts after happens
     about_said = refl
 
-    opened_said : (facts setup hash (said bytes verdict ∷ h)).opened ≡ (facts setup hash h).opened
+    opened_said : (facts setup hash (said_entry bytes verdict ∷ h)).opened ≡ (facts setup hash h).opened
     unfolding facts after happens
     opened_said = refl
 
-    kept_said : IsKept (about_first setup hash h) (about_first setup hash (said bytes verdict ∷ h))
+    kept_said : IsKept (about_first setup hash h) (about_first setup hash (said_entry bytes verdict ∷ h))
     kept_said = subst (λ (a : About). IsKept (about_first setup hash h) a) (sym about_said) (affected-kept effect_said (about_first setup hash h) within)
 
-    pub line_alone : IsAlone setup hash (said bytes verdict ∷ h) new
+    pub line_alone : IsAlone setup hash (said_entry bytes verdict ∷ h) new
     line_alone = record {
       stands = stands_said;
       own = own_more (says bytes) (Said verdict);
@@ -209,5 +209,5 @@ module _ (setup : Configured) (hash : List ℕ → List ℕ) (h : List Entry) (o
     }
 
     -- nothing is taken by it
-    pub line_written : taken_in setup hash (said bytes verdict ∷ h) ≡ taken_in setup hash h
+    pub line_written : taken_in setup hash (said_entry bytes verdict ∷ h) ≡ taken_in setup hash h
     line_written = ap concat kept_said.taken

@@ -18,7 +18,7 @@ use Rattle.hub_rules.specs.Shares.{waiting}
 use Rattle.flushed_writes.specs.Parts.{AppendsFront}
 use Rattle.hub_stream.specs.Runs.{first}
 use Rattle.hub_stream.specs.Serving.{IsAlone, Run, IsUnderWay, IsRunning, IsCutOff, about_first, at_history, taken_in, CatchesUp, FallsShort}
-use Rattle.hub_stream.proofs.Steps.{seated, took, take_alone, take_written, take_asked, take_over, take_waits, take_all_waiting, taken-front}
+use Rattle.hub_stream.proofs.Steps.{has-seat, took, take_alone, take_written, take_asked, take_over, take_waits, take_all_waiting, taken-front}
 
 -- whatever run was under way is so
 abbrev pub TakesOn : CoreState → CoreState → Option (List ℕ) → Option (List ℕ) → Type 0
@@ -41,7 +41,7 @@ takes_running old new before now running takes =
 -- the connection has a seat
 pub running_seated : (core : CoreState) (holds : Option (List ℕ)) (connection : ℕ) → connection ≡ first → SomeRuns core holds → IsSeated connection core
 running_seated core holds connection is_first running =
-    subst (λ (c : ℕ). IsSeated c core) (sym is_first) (seated running.0 running.1 running.2.0.history core running.2.1.alone)
+    subst (λ (c : ℕ). IsSeated c core) (sym is_first) (has-seat running.0 running.1 running.2.0.history core running.2.1.alone)
 
 -- a run that is under way, cut off
 pub cut_off : (setup : Configured) (hash : List ℕ → List ℕ) (run : Run) (core : CoreState) (holds : Option (List ℕ))

@@ -1,4 +1,4 @@
--- What was done before a run ended by a fault.
+-- The calls that were made before a run ended by a fault.
 use Rattle.std.specs.Prelude.{ℕ, ◌≤◌, List, length, Option}
 use Rattle.hub_rules.specs.declared.history.Entry.{Entry}
 use Rattle.hub_rules.specs.Configured.{Configured}

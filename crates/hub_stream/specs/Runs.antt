@@ -1,14 +1,14 @@
--- What a hub for one connection reads and writes. Its history has one caller, and is written newest first.
+-- The bytes that a hub for one connection reads and writes. Its history has one caller, and is written newest first.
 use Rattle.std.specs.Prelude.{◌≡◌, ◌⊎◌, ℕ, ◌+◌, ◌<◌, true, List, [], ◌∷◌, ◌++◌, length, take, map, replicate, Option}
 use Rattle.std.specs.List.{All, concat}
 use Rattle.std.specs.Io.KnownBytes.{Appends, Consumes, IsAtEnd}
 use Rattle.adc_line.specs.Frames.{max_line, HasNoLf}
-use Rattle.adc_line.specs.Stream.{lines, joined, IsLine}
+use Rattle.adc_line.specs.Stream.{lines, joined_lines, IsLine}
 use Rattle.hub_rules.specs.declared.history.Call.{Call}
 use Rattle.hub_rules.specs.declared.history.Call.TheVariants.{Join, Line, Quit, Take}
 use Rattle.hub_rules.specs.declared.history.Entry.{Entry}
 use Rattle.hub_rules.specs.Configured.{Configured}
-use Rattle.hub_rules.specs.History.{lags, owed, stage, taken}
+use Rattle.hub_rules.specs.History.{lags, lines_owed, stage, count_taken}
 use Rattle.hub_rules.specs.Legal.{Legal}
 use Rattle.login_state.specs.declared.stage.Stage.TheVariants.{Gone}
 
@@ -29,20 +29,20 @@ abbrev pub says : List ℕ → Call
 says line = Line first line 0
 
 -- a call, takes left out
-abbrev pub asked : Call → List Call
-asked (Join peer challenge now) = Join peer challenge now ∷ []
-asked (Line connection line now) = Line connection line now ∷ []
-asked (Quit connection) = Quit connection ∷ []
-asked (Take connection count) = []
+abbrev pub calls_but_takes : Call → List Call
+calls_but_takes (Join peer challenge now) = Join peer challenge now ∷ []
+calls_but_takes (Line connection line now) = Line connection line now ∷ []
+calls_but_takes (Quit connection) = Quit connection ∷ []
+calls_but_takes (Take connection count) = []
 
 -- the calls of a history, oldest first, takes left out
 abbrev pub asked_in : List Entry → List Call
 asked_in [] = []
-asked_in (e ∷ h) = asked_in h ++ asked e.call
+asked_in (e ∷ h) = asked_in h ++ calls_but_takes e.call
 
 -- the bytes of all lines that the connection is owed
 abbrev pub owed_in : Configured → (List ℕ → List ℕ) → List Entry → List ℕ
-owed_in setup hash h = concat (owed setup hash h first)
+owed_in setup hash h = concat (lines_owed setup hash h first)
 
 -- the connection was shut out
 abbrev pub IsGone : Configured → (List ℕ → List ℕ) → List Entry → Type 0
@@ -58,7 +58,7 @@ IsOver setup hash h = IsGone setup hash h ⊎ Lags setup hash h
 
 -- nothing that the connection is owed waits any more
 abbrev pub IsCaughtUp : Configured → (List ℕ → List ℕ) → List Entry → Type 0
-IsCaughtUp setup hash h = taken setup hash h first ≡ length (owed setup hash h first)
+IsCaughtUp setup hash h = count_taken setup hash h first ≡ length (lines_owed setup hash h first)
 
 -- of a line, that this holds
 abbrev pub OfLine : Call → Type 0 → Type 0
@@ -97,7 +97,7 @@ pub record IsAnsweredInPart (setup : Configured) (hash : List ℕ → List ℕ) 
 
 -- behind its lines a stream has a rest, in which a line may begin
 abbrev pub IsWellCut : List ℕ → Type 0
-IsWellCut read = (rest : List ℕ) × (read ≡ joined (lines read) ++ rest) × IsLine rest
+IsWellCut read = (rest : List ℕ) × (read ≡ joined_lines (lines read) ++ rest) × IsLine rest
 
 -- all was answered, and the reader was at its end and no line too long, or nothing more will come from the hub
 abbrev pub IsServed : Configured → (List ℕ → List ℕ) → Option (List ℕ) → Option (List ℕ) → Option (List ℕ) → Option (List ℕ) → Type 0
@@ -108,4 +108,4 @@ IsServed setup hash unread left held holds =
 -- behind its lines a stream has over 65,536 bytes without a line feed
 abbrev pub IsTooLong : List ℕ → Type 0
 IsTooLong read =
-    (rest : List ℕ) × (read ≡ joined (lines read) ++ rest) × (max_line < length rest) × HasNoLf (take (max_line + 1) rest)
+    (rest : List ℕ) × (read ≡ joined_lines (lines read) ++ rest) × (max_line < length rest) × HasNoLf (take (max_line + 1) rest)

@@ -1,9 +1,9 @@
--- What the steps of a run keep true.
+-- Invariants of the steps of a run.
 use Rattle.std.specs.Prelude.{◌≡◌, ℕ, ◌+◌, ◌<◌, Bool, true, false, List, [], ◌∷◌, ◌++◌, length, take, map, Option}
 use Rattle.std.specs.List.{All, concat}
 use Rattle.std.specs.Io.KnownBytes.{Appends}
 use Rattle.adc_line.specs.Frames.{max_line, HasNoLf}
-use Rattle.adc_line.specs.Stream.{lines, joined, IsLine}
+use Rattle.adc_line.specs.Stream.{lines, joined_lines, IsLine}
 use Rattle.hub_core.specs.CoreState.{CoreState}
 use Rattle.hub_core.specs.Moves.{StandsAt}
 use Rattle.hub_rules.specs.declared.history.Entry.{Entry}
@@ -57,8 +57,8 @@ abbrev pub at_history : Run → List Entry → Run
 at_history run h = record { held = run.held; sent = run.sent; history = h }
 
 -- the run after more lines, with this history
-abbrev pub continued : Run → List (List ℕ) → List Entry → Run
-continued run more h = record { held = run.held; sent = run.sent ++ more; history = h }
+abbrev pub run_after : Run → List (List ℕ) → List Entry → Run
+run_after run more h = record { held = run.held; sent = run.sent ++ more; history = h }
 
 -- only the first of the lines `due` were handed over, and only the front of what the connection is owed was written
 pub record IsCutOff (setup : Configured) (hash : List ℕ → List ℕ) (held : Option (List ℕ)) (due : List (List ℕ)) (h : List Entry) (holds : Option (List ℕ)) : Type 0 where
@@ -87,7 +87,7 @@ FallsShort setup hash old before now =
 abbrev pub GoesOn : Configured → (List ℕ → List ℕ) → List (List ℕ) → Bool → CoreState → CoreState → Option (List ℕ) → Option (List ℕ) → Type 0
 GoesOn setup hash more ended old new before now =
     (run : Run) → IsUnderWay setup hash run old before → IsCaughtUp setup hash run.history
-    → (h : List Entry) × IsUnderWay setup hash (continued run more h) new now × IsCaughtUp setup hash h × (ended ≡ true → IsOver setup hash h)
+    → (h : List Entry) × IsUnderWay setup hash (run_after run more h) new now × IsCaughtUp setup hash h × (ended ≡ true → IsOver setup hash h)
 
 -- whatever run was ready was cut off within these lines
 abbrev pub BreaksOff : Configured → (List ℕ → List ℕ) → List (List ℕ) → CoreState → Option (List ℕ) → Option (List ℕ) → Type 0
@@ -97,7 +97,7 @@ BreaksOff setup hash more old before now =
 
 -- the bytes are these lines, each with its line feed, and then the rest
 pub record IsCutInto (bytes : List ℕ) (sent : List (List ℕ)) (rest : List ℕ) : Type 0 where
-  pub whole : bytes ≡ joined sent ++ rest
+  pub whole : bytes ≡ joined_lines sent ++ rest
   pub are_lines : All IsLine sent
 
 -- all lines of the bytes were handled; the rest has none

@@ -1,4 +1,4 @@
--- What steps and runs promise, by what a session holds before and after, and by what its reader and writer tell of themselves.
+-- Promises of steps and runs, by what a session holds before and after, and by what its reader and writer tell of themselves.
 use Rattle.std.specs.Prelude.{ℕ, Bool, List, [], ◌∷◌, ◌++◌, Option}
 use Rattle.hub_rules.specs.Configured.{Configured}
 use Rattle.hub_stream.specs.declared.fault.RunFault.{RunFault}

@@ -7,7 +7,7 @@ use std::net::Ipv4Addr;
 /// The number of seconds for which equal warnings are counted together.
 const MINUTE: u64 = 60;
 
-/// What equal warnings have in common: the peer's IPv4 address, where one is known, and the cause.
+/// The kind of equal warnings: the peer's IPv4 address, where one is known, and the cause.
 #[derive(Clone, Copy, Debug, Default, PartialEq, Eq)]
 pub struct Subject {
     /// The peer's address.
@@ -19,7 +19,7 @@ pub struct Subject {
 /// A warning that was said, and the number of equal ones since, of which nothing was said yet.
 #[derive(Clone, Copy, Debug, Default, PartialEq, Eq)]
 pub struct Counted {
-    /// What they have in common.
+    /// The kind of all of them.
     pub subject: Subject,
     /// The second in which the first was said, since 1970.
     pub since: u64,

@@ -1,4 +1,4 @@
-//! What a server says of itself to those who run it: warnings with time, address and cause, of which equal ones are counted
+//! Lines of a server to those who run it: warnings with time, address and cause, of which equal ones are counted
 //! together, and a line at its start and at its end. No part knows a hub.
 #![tactic(auto)]
 

@@ -9,7 +9,7 @@ use arrayvec::ArrayVec;
 /// The number of subjects that are counted at a time.
 pub const PLACES: usize = 64;
 
-/// What became of a warning.
+/// The outcome of a warning.
 #[derive(Clone, Copy, Debug, PartialEq, Eq)]
 pub enum Told {
     /// It is counted, and nothing is said of it now.

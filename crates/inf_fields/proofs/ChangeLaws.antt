@@ -5,15 +5,15 @@ use Rattle.std.specs.Option.{unwrap_or}
 use Rattle.std.specs.Str.{bytes_eq}
 use Rattle.std.proofs.lemmas.Bool.{cases_Bool, cond-true, cond-false}
 use Rattle.std.proofs.lemmas.List.Elements.{filter-append}
-use Rattle.inf_fields.specs.Changes.{removed, put, changed, changed_to, all_changed}
+use Rattle.inf_fields.specs.Changes.{without_first, put, changed_fields, changed_to, all_changed}
 use Rattle.inf_fields.specs.Field.{Field, field, is_called, value_of, has_name, besides}
-use Rattle.inf_fields.specs.Merging.{is_empty_value, leave, latest, settled, merged_with}
+use Rattle.inf_fields.specs.Merging.{is_empty_value, leave, latest, settled_fields, merged_with}
 use Rattle.inf_fields.proofs.Changes.{Apart, Apart-changed, changed-merged, has_name-changed, settled-lacks, value_of-lacks, lacks-here, lacks-behind, has-here, has-behind}
 use Rattle.inf_fields.proofs.MergingLaws.{settled-append, settled-settled, settled-stays, settled-goes, besides-has, besides-lacks}
 use Rattle.inf_fields.proofs.NameLemmas.{same_bytes, bytes_eq-flip, has_name-besides}
 
 -- updates that do the same to each name do the same to fields
-settled-agree : (us vs : List (List Field)) → ((n : List ℕ) → leave us n ≡ leave vs n) → ((n v : List ℕ) → latest us n v ≡ latest vs n v) → (xs : List Field) → settled us xs ≡ settled vs xs
+settled-agree : (us vs : List (List Field)) → ((n : List ℕ) → leave us n ≡ leave vs n) → ((n v : List ℕ) → latest us n v ≡ latest vs n v) → (xs : List Field) → settled_fields us xs ≡ settled_fields vs xs
 settled-agree us vs leaves lasts [] = refl
 settled-agree us vs leaves lasts (x ∷ xs) =
     elim (cases_Bool (leave us x.name)) [
@@ -24,7 +24,7 @@ settled-agree us vs leaves lasts (x ∷ xs) =
     ]
 
 -- the first field of an update alone, and then the others
-settled-split : (f : Field) (u xs : List Field) → has_name f.name u ≡ false → settled ((f ∷ u) ∷ []) xs ≡ settled (u ∷ []) (settled ((f ∷ []) ∷ []) xs)
+settled-split : (f : Field) (u xs : List Field) → has_name f.name u ≡ false → settled_fields ((f ∷ u) ∷ []) xs ≡ settled_fields (u ∷ []) (settled_fields ((f ∷ []) ∷ []) xs)
 settled-split f u xs lacks = settled-agree ((f ∷ u) ∷ []) ((f ∷ []) ∷ u ∷ []) leaves lasts xs ∙ settled-settled ((f ∷ []) ∷ []) (u ∷ []) xs
   where
     no_more : (n : List ℕ) → bytes_eq n f.name ≡ true → value_of n u ≡ None
@@ -46,43 +46,43 @@ settled-split f u xs lacks = settled-agree ((f ∷ u) ∷ []) ((f ∷ []) ∷ u 
     lasts n v = lasts_by v (bytes_eq n f.name) (value_of n u) (no_more n)
 
 -- a change of one field leaves what others there are of other names
-besides-changed : (f : Field) (xs u : List Field) → has_name f.name u ≡ false → besides (changed f xs) u ≡ besides xs u
+besides-changed : (f : Field) (xs u : List Field) → has_name f.name u ≡ false → besides (changed_fields f xs) u ≡ besides xs u
 besides-changed f xs [] lacks = refl
 besides-changed f xs (x ∷ u) lacks =
     let same = has_name-changed f x.name xs (bytes_eq-flip x.name f.name ∙ lacks-here f.name x u lacks) in
     let rest = besides-changed f xs u (lacks-behind f.name x u lacks) in
     elim (cases_Bool (has_name x.name xs)) [
-      | inl has ↦ besides-has (changed f xs) x u (same ∙ has) ∙ rest ∙ sym (besides-has xs x u has)
-      | inr hasnt ↦ besides-lacks (changed f xs) x u (same ∙ hasnt) ∙ ap (λ fs. x ∷ fs) rest ∙ sym (besides-lacks xs x u hasnt)
+      | inl has ↦ besides-has (changed_fields f xs) x u (same ∙ has) ∙ rest ∙ sym (besides-has xs x u has)
+      | inr hasnt ↦ besides-lacks (changed_fields f xs) x u (same ∙ hasnt) ∙ ap (λ fs. x ∷ fs) rest ∙ sym (besides-lacks xs x u hasnt)
     ]
 
-pub merged_with-step : (f : Field) (u xs : List Field) → has_name f.name u ≡ false → Apart xs → merged_with xs (f ∷ u) ≡ merged_with (changed f xs) u
+pub merged_with-step : (f : Field) (u xs : List Field) → has_name f.name u ≡ false → Apart xs → merged_with xs (f ∷ u) ≡ merged_with (changed_fields f xs) u
 unfolding merged_with
 merged_with-step f u xs lacks h =
     let first = (f ∷ []) ∷ [] in
     let others = besides xs u in
     settled-split f u (xs ++ besides xs (f ∷ u)) lacks
-    ∙ ap (settled (u ∷ []))
-    (ap (λ fs. settled first (xs ++ fs)) (filter-append (λ x. not (has_name x.name xs)) (f ∷ []) u) ∙ ap (settled first) (sym (append_assoc xs (besides xs (f ∷ [])) others))
+    ∙ ap (settled_fields (u ∷ []))
+    (ap (λ fs. settled_fields first (xs ++ fs)) (filter-append (λ x. not (has_name x.name xs)) (f ∷ []) u) ∙ ap (settled_fields first) (sym (append_assoc xs (besides xs (f ∷ [])) others))
     ∙ settled-append first (xs ++ besides xs (f ∷ [])) others
     ∙ ap₂ ◌++◌ (sym (changed-merged f xs h)) (settled-lacks f others (has_name-besides f.name xs u ∙ ap (λ b. not (has_name f.name xs) && b) lacks ∙ never (not (has_name f.name xs))))
-    ∙ ap (λ fs. changed f xs ++ fs) (sym (besides-changed f xs u lacks)))
+    ∙ ap (λ fs. changed_fields f xs ++ fs) (sym (besides-changed f xs u lacks)))
   where
     never : (b : Bool) → (b && false) ≡ false
     never true = refl
     never false = refl
 
-settled-none : (xs : List Field) → settled ([] ∷ []) xs ≡ xs
+settled-none : (xs : List Field) → settled_fields ([] ∷ []) xs ≡ xs
 settled-none [] = refl
 settled-none (x ∷ xs) = ap (λ fs. x ∷ fs) (settled-none xs)
 
 pub merged_with-none : (xs : List Field) → merged_with xs [] ≡ xs
 unfolding merged_with
-merged_with-none xs = ap (settled ([] ∷ [])) (append-nil xs) ∙ settled-none xs
+merged_with-none xs = ap (settled_fields ([] ∷ [])) (append-nil xs) ∙ settled-none xs
 
 pub all_changed-merged : (u xs : List Field) → Apart u → Apart xs → all_changed u xs ≡ merged_with xs u
 all_changed-merged [] xs h k = sym (merged_with-none xs)
-all_changed-merged (f ∷ u) xs h k = all_changed-merged u (changed f xs) h.1 (Apart-changed f xs k) ∙ sym (merged_with-step f u xs h.0 k)
+all_changed-merged (f ∷ u) xs h k = all_changed-merged u (changed_fields f xs) h.1 (Apart-changed f xs k) ∙ sym (merged_with-step f u xs h.0 k)
 
 -- ---- how many fields
 
@@ -115,14 +115,14 @@ length-changed [] name (x ∷ xs) =
       | inl yes' ↦
           let f = field name [] in
           let there = has-here name x xs yes' in
-          let gone = cond-true _ xs (x ∷ removed name xs) yes' in
+          let gone = cond-true _ xs (x ∷ without_first name xs) yes' in
           let bare : length xs + 1 ≡ length (x ∷ xs) + 0 = omega arith in
           ap₂ (λ (fs : List Field) b. length fs + loss b []) gone there ∙ bare ∙ ap (λ b. length (x ∷ xs) + gain b []) (sym there)
       | inr no' ↦
           let behind = has-behind name x xs no' in
           let rest = length-changed [] name xs in
-          let kept = cond-false _ xs (x ∷ removed name xs) no' in
-          let bare : length (x ∷ removed name xs) + loss (has_name name xs) [] ≡ length (x ∷ xs) + gain (has_name name xs) [] = omega (arith, rest) in
+          let kept = cond-false _ xs (x ∷ without_first name xs) no' in
+          let bare : length (x ∷ without_first name xs) + loss (has_name name xs) [] ≡ length (x ∷ xs) + gain (has_name name xs) [] = omega (arith, rest) in
           ap₂ (λ (fs : List Field) b. length fs + loss b []) kept behind ∙ bare ∙ ap (λ b. length (x ∷ xs) + gain b []) (sym behind)
     ]
 length-changed (b ∷ more) name (x ∷ xs) =
@@ -141,12 +141,12 @@ length-changed (b ∷ more) name (x ∷ xs) =
           ap₂ (λ (fs : List Field) t. length fs + loss t (b ∷ more)) kept behind ∙ bare ∙ ap (λ t. length (x ∷ xs) + gain t (b ∷ more)) (sym behind)
     ]
 
-gains-changed : (f : Field) (xs u : List Field) → has_name f.name u ≡ false → gains (changed f xs) u ≡ gains xs u
+gains-changed : (f : Field) (xs u : List Field) → has_name f.name u ≡ false → gains (changed_fields f xs) u ≡ gains xs u
 gains-changed f xs [] lacks = refl
 gains-changed f xs (x ∷ u) lacks =
     ap₂ (λ b n. gain b x.value + n) (has_name-changed f x.name xs (bytes_eq-flip x.name f.name ∙ lacks-here f.name x u lacks)) (gains-changed f xs u (lacks-behind f.name x u lacks))
 
-losses-changed : (f : Field) (xs u : List Field) → has_name f.name u ≡ false → losses (changed f xs) u ≡ losses xs u
+losses-changed : (f : Field) (xs u : List Field) → has_name f.name u ≡ false → losses (changed_fields f xs) u ≡ losses xs u
 losses-changed f xs [] lacks = refl
 losses-changed f xs (x ∷ u) lacks =
     ap₂ (λ b n. loss b x.value + n) (has_name-changed f x.name xs (bytes_eq-flip x.name f.name ∙ lacks-here f.name x u lacks)) (losses-changed f xs u (lacks-behind f.name x u lacks))
@@ -154,7 +154,7 @@ losses-changed f xs (x ∷ u) lacks =
 pub length-merged_with : (u xs : List Field) → Apart u → Apart xs → length (merged_with xs u) + losses xs u ≡ length xs + gains xs u
 length-merged_with [] xs h k = ap (λ fs. length fs + 0) (merged_with-none xs)
 length-merged_with (f ∷ u) xs h k =
-    let rest = length-merged_with u (changed f xs) h.1 (Apart-changed f xs k) in
+    let rest = length-merged_with u (changed_fields f xs) h.1 (Apart-changed f xs k) in
     let step = ap length (merged_with-step f u xs h.0 k) in
     let one = length-changed f.value f.name xs in
     omega (arith, rest, step, one, gains-changed f xs u h.0, losses-changed f xs u h.0)

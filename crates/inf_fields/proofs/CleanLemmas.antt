@@ -1,10 +1,10 @@
--- What a hub passes on of an update, field by field.
+-- The part of an update that a hub passes on, field by field.
 use Rattle.std.proofs.Common.{◌≡◌, ℕ, Bool, true, false, ◌||◌, List, [], ◌∷◌, ◌++◌, map, cond, refl, sym, ap, ap₂, ◌∙◌, inl, inr, subst, append_assoc, append-nil}
 use Rattle.std.specs.Prelude.{String, if◌then◌else◌}
 use Rattle.std.specs.String.{string_bytes}
 use Rattle.std.proofs.lemmas.Bool.{cases_Bool, cond-true, cond-false, not_from_true, not_from_false, or_parts}
 use Rattle.inf_fields.specs.Changes.{put}
-use Rattle.inf_fields.specs.Cleaning.{asks_for_address, clean, dotted, is_held_back, with_address}
+use Rattle.inf_fields.specs.Cleaning.{asks_for_address, clean, dotted_decimal, is_held_back, with_address}
 use Rattle.inf_fields.specs.Field.{Field, field, is_called, has_name}
 use Rattle.inf_fields.specs.Stored.{fields_of}
 use Rattle.inf_fields.proofs.Changes.{Apart, has-here, has-behind, lacks-here, lacks-behind}
@@ -72,7 +72,7 @@ passed-held_back update peer passed entries rest name value h more held =
     )
 
 pub passed-more : {A : Type 0} (update : List Field) (peer : List ℕ) (passed new : List Field) (entries rest : List (List ℕ × String A)) (name : List ℕ) (value : String A) (out address : List ℕ)
-    → Passed update peer passed entries → entries ≡ (name, value) ∷ rest → is_held_back (field name (string_bytes value)) ≡ false → address ≡ dotted peer
+    → Passed update peer passed entries → entries ≡ (name, value) ∷ rest → is_held_back (field name (string_bytes value)) ≡ false → address ≡ dotted_decimal peer
     → out ≡ cond (asks_for_address (field name (string_bytes value))) address (string_bytes value) → new ≡ put (field name out) passed → Passed update peer new rest
 passed-more update peer passed new entries rest name value out address h more passes at is puts =
     let f = field name (string_bytes value) in
@@ -86,7 +86,7 @@ passed-more update peer passed new entries rest name value out address h more pa
       subst Apart (sym (ap (λ fs. fs ++ fields_of rest) last ∙ append_assoc passed (field name out ∷ []) (fields_of rest))) (Apart-value passed (fields_of rest) f out apart),
     )
   where
-    by : (b : Bool) → field name (cond b (dotted peer) (string_bytes value)) ≡ (if b then field name (dotted peer) else field name (string_bytes value))
+    by : (b : Bool) → field name (cond b (dotted_decimal peer) (string_bytes value)) ≡ (if b then field name (dotted_decimal peer) else field name (string_bytes value))
     by true = refl
     by false = refl
 

@@ -1,4 +1,4 @@
--- What a map of names and values says as fields.
+-- The fields of a map of names and values.
 use Rattle.std.proofs.Common.{◌≡◌, ℕ, suc, false, List, [], ◌∷◌, ◌++◌, length, refl, sym, ap, ◌∙◌, inl, inr, append_assoc, append-nil}
 use Rattle.std.specs.Prelude.{Option, Some, None, String, is_some}
 use Rattle.std.specs.List.{IsDistinct, AllByRecursion}
@@ -9,8 +9,8 @@ use Rattle.std.specs.String.{string_bytes}
 use Rattle.std.proofs.lemmas.Bool.{cases_Bool, cond-true, cond-false}
 use Rattle.std.proofs.lemmas.Map.Keys.{IsDistinct-head, IsDistinct-tail}
 use Rattle.indexmap.specs.IndexMap.{insert_entry, shift_remove_entry}
-use Rattle.inf_fields.specs.Changes.{put, removed}
-use Rattle.inf_fields.specs.Field.{field, value_of, has_name, printed, printed_field}
+use Rattle.inf_fields.specs.Changes.{put, without_first}
+use Rattle.inf_fields.specs.Field.{field, value_of, has_name, printed_fields, printed_field}
 use Rattle.inf_fields.specs.Stored.{fields_of}
 use Rattle.inf_fields.proofs.Changes.{Apart}
 
@@ -34,7 +34,7 @@ fields_of-insert name value (e ∷ more) =
           ∙ ap (λ fs. field e.0 (string_bytes e.1) ∷ fs) (fields_of-insert name value more) ∙ sym (cond-false _ _ _ no')
     ]
 
-pub fields_of-remove : {A : Type 0} (name : List ℕ) (entries : List (List ℕ × String A)) → fields_of (shift_remove_entry (bytes_eq name) entries) ≡ removed name (fields_of entries)
+pub fields_of-remove : {A : Type 0} (name : List ℕ) (entries : List (List ℕ × String A)) → fields_of (shift_remove_entry (bytes_eq name) entries) ≡ without_first name (fields_of entries)
 fields_of-remove name [] = refl
 fields_of-remove name (e ∷ more) =
     elim (cases_Bool (bytes_eq name e.0)) [
@@ -64,15 +64,15 @@ has_name-fields name entries = sym (is_some-map string_bytes (lookup (bytes_eq n
 -- ---- printing
 
 pub printed-step : {A : Type 0} (text longer all : List ℕ) (entries rest : List (List ℕ × String A)) (name : List ℕ) (value : String A)
-    → text ++ printed (fields_of entries) ≡ all → entries ≡ (name, value) ∷ rest → longer ≡ text ++ printed_field (field name (string_bytes value)) → longer ++ printed (fields_of rest) ≡ all
-unfolding printed
+    → text ++ printed_fields (fields_of entries) ≡ all → entries ≡ (name, value) ∷ rest → longer ≡ text ++ printed_field (field name (string_bytes value)) → longer ++ printed_fields (fields_of rest) ≡ all
+unfolding printed_fields
 printed-step text longer all entries rest name value h more e =
-    ap (λ t. t ++ printed (fields_of rest)) e ∙ append_assoc text (printed_field (field name (string_bytes value))) (printed (fields_of rest))
-    ∙ sym (ap (λ es. text ++ printed (fields_of es)) more) ∙ h
+    ap (λ t. t ++ printed_fields (fields_of rest)) e ∙ append_assoc text (printed_field (field name (string_bytes value))) (printed_fields (fields_of rest))
+    ∙ sym (ap (λ es. text ++ printed_fields (fields_of es)) more) ∙ h
 
-pub printed-end : {A : Type 0} (text all : List ℕ) (entries : List (List ℕ × String A)) → text ++ printed (fields_of entries) ≡ all → entries ≡ [] → text ≡ all
-unfolding printed
-printed-end text all entries h none = sym (append-nil text) ∙ sym (ap (λ es. text ++ printed (fields_of es)) none) ∙ h
+pub printed-end : {A : Type 0} (text all : List ℕ) (entries : List (List ℕ × String A)) → text ++ printed_fields (fields_of entries) ≡ all → entries ≡ [] → text ≡ all
+unfolding printed_fields
+printed-end text all entries h none = sym (append-nil text) ∙ sym (ap (λ es. text ++ printed_fields (fields_of es)) none) ∙ h
 
 pub length-fields : {A : Type 0} (entries : List (List ℕ × String A)) → length (fields_of entries) ≡ length entries
 length-fields [] = refl

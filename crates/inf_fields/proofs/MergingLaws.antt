@@ -7,18 +7,18 @@ use Rattle.std.proofs.lemmas.List.{map-append}
 use Rattle.std.proofs.lemmas.List.Elements.{filter-append}
 use Rattle.std.proofs.lemmas.List.Folds.{list_all-append}
 use Rattle.inf_fields.specs.Field.{Field, field, value_of, has_name, besides}
-use Rattle.inf_fields.specs.Merging.{is_empty_value, leave, latest, settled, followed_by, merged, merged_with, last_value, if_filled}
+use Rattle.inf_fields.specs.Merging.{is_empty_value, leave, latest, settled_fields, followed_by, merged_fields, merged_with, last_value, if_filled}
 use Rattle.inf_fields.proofs.NameLemmas.{value_of-append, value_of-filter, value_of-map, value_of-besides, has_name-append, has_name-besides}
 
 -- ---- what updates leave of fields
 
-pub settled-append : (updates : List (List Field)) (xs ys : List Field) → settled updates (xs ++ ys) ≡ settled updates xs ++ settled updates ys
+pub settled-append : (updates : List (List Field)) (xs ys : List Field) → settled_fields updates (xs ++ ys) ≡ settled_fields updates xs ++ settled_fields updates ys
 settled-append updates xs ys =
     ap (map (λ (f : Field). field f.name (latest updates f.name f.value))) (filter-append (λ (f : Field). leave updates f.name) xs ys)
     ∙ map-append (λ (f : Field). field f.name (latest updates f.name f.value)) (filter (λ f. leave updates f.name) xs) (filter (λ f. leave updates f.name) ys)
 
 pub value_of-settled : (name : List ℕ) (updates : List (List Field)) (xs : List Field)
-    → value_of name (settled updates xs) ≡ option_map (latest updates name) (cond (leave updates name) (value_of name xs) None)
+    → value_of name (settled_fields updates xs) ≡ option_map (latest updates name) (cond (leave updates name) (value_of name xs) None)
 value_of-settled name updates xs =
     value_of-map (latest updates) name (filter (λ f. leave updates f.name) xs) ∙ ap (option_map (latest updates name)) (value_of-filter (leave updates) name xs)
 
@@ -27,7 +27,7 @@ is_some-settled false h o = refl
 is_some-settled true h None = refl
 is_some-settled true h (Some x) = refl
 
-pub has_name-settled : (name : List ℕ) (updates : List (List Field)) (xs : List Field) → has_name name (settled updates xs) ≡ (leave updates name && has_name name xs)
+pub has_name-settled : (name : List ℕ) (updates : List (List Field)) (xs : List Field) → has_name name (settled_fields updates xs) ≡ (leave updates name && has_name name xs)
 has_name-settled name updates xs = ap is_some (value_of-settled name updates xs) ∙ is_some-settled (leave updates name) (latest updates name) (value_of name xs)
 
 latest-append : (us vs : List (List Field)) (name value : List ℕ) → latest (us ++ vs) name value ≡ latest vs name (latest us name value)
@@ -36,16 +36,16 @@ latest-append (u ∷ us) vs name value = latest-append us vs name (unwrap_or (va
 
 -- a field that updates leave is there with its last value
 pub settled-stays : (updates : List (List Field)) (x : Field) (xs : List Field) → leave updates x.name ≡ true
-    → settled updates (x ∷ xs) ≡ field x.name (latest updates x.name x.value) ∷ settled updates xs
+    → settled_fields updates (x ∷ xs) ≡ field x.name (latest updates x.name x.value) ∷ settled_fields updates xs
 settled-stays updates x xs stays =
     ap (map (λ (f : Field). field f.name (latest updates f.name f.value))) (cond-true _ (x ∷ filter (λ f. leave updates f.name) xs) (filter (λ f. leave updates f.name) xs) stays)
 
 -- and one that they empty is not
-pub settled-goes : (updates : List (List Field)) (x : Field) (xs : List Field) → leave updates x.name ≡ false → settled updates (x ∷ xs) ≡ settled updates xs
+pub settled-goes : (updates : List (List Field)) (x : Field) (xs : List Field) → leave updates x.name ≡ false → settled_fields updates (x ∷ xs) ≡ settled_fields updates xs
 settled-goes updates x xs goes =
     ap (map (λ (f : Field). field f.name (latest updates f.name f.value))) (cond-false _ (x ∷ filter (λ f. leave updates f.name) xs) (filter (λ f. leave updates f.name) xs) goes)
 
-pub settled-settled : (us vs : List (List Field)) (xs : List Field) → settled (us ++ vs) xs ≡ settled vs (settled us xs)
+pub settled-settled : (us vs : List (List Field)) (xs : List Field) → settled_fields (us ++ vs) xs ≡ settled_fields vs (settled_fields us xs)
 settled-settled us vs [] = refl
 settled-settled us vs (x ∷ xs) =
     let both = list_all-append (λ u. not (is_empty_value (value_of x.name u))) us vs in
@@ -55,12 +55,12 @@ settled-settled us vs (x ∷ xs) =
           elim (cases_Bool (leave vs x.name)) [
             | inl also ↦
                 settled-stays (us ++ vs) x xs (both ∙ ap₂ ◌&&◌ stays also) ∙ ap₂ (λ v fs. field x.name v ∷ fs) (latest-append us vs x.name x.value) (settled-settled us vs xs)
-                ∙ sym (ap (settled vs) first ∙ settled-stays vs (field x.name (latest us x.name x.value)) (settled us xs) also)
+                ∙ sym (ap (settled_fields vs) first ∙ settled-stays vs (field x.name (latest us x.name x.value)) (settled_fields us xs) also)
             | inr goes ↦
                 settled-goes (us ++ vs) x xs (both ∙ ap₂ ◌&&◌ stays goes) ∙ settled-settled us vs xs
-                ∙ sym (ap (settled vs) first ∙ settled-goes vs (field x.name (latest us x.name x.value)) (settled us xs) goes)
+                ∙ sym (ap (settled_fields vs) first ∙ settled-goes vs (field x.name (latest us x.name x.value)) (settled_fields us xs) goes)
           ]
-      | inr goes ↦ settled-goes (us ++ vs) x xs (both ∙ ap (λ b. b && leave vs x.name) goes) ∙ settled-settled us vs xs ∙ sym (ap (settled vs) (settled-goes us x xs goes))
+      | inr goes ↦ settled-goes (us ++ vs) x xs (both ∙ ap (λ b. b && leave vs x.name) goes) ∙ settled-settled us vs xs ∙ sym (ap (settled_fields vs) (settled-goes us x xs goes))
     ]
 
 -- ---- what others do not have
@@ -75,7 +75,7 @@ pub besides-nil : (xs : List Field) → besides [] xs ≡ xs
 besides-nil [] = refl
 besides-nil (x ∷ xs) = ap (λ fs. x ∷ fs) (besides-nil xs)
 
-pub besides-settled : (updates : List (List Field)) (others xs : List Field) → besides (settled updates others) (settled updates xs) ≡ settled updates (besides others xs)
+pub besides-settled : (updates : List (List Field)) (others xs : List Field) → besides (settled_fields updates others) (settled_fields updates xs) ≡ settled_fields updates (besides others xs)
 besides-settled updates others [] = refl
 besides-settled updates others (x ∷ xs) =
     let has = has_name-settled x.name updates others in
@@ -83,19 +83,19 @@ besides-settled updates others (x ∷ xs) =
     elim (cases_Bool (leave updates x.name)) [
       | inl stays ↦
           let there = field x.name (latest updates x.name x.value) in
-          ap (besides (settled updates others)) (settled-stays updates x xs stays)
+          ap (besides (settled_fields updates others)) (settled-stays updates x xs stays)
           ∙ (elim (cases_Bool (has_name x.name others)) [
             | inl yes' ↦
-                besides-has (settled updates others) there (settled updates xs) (has ∙ ap₂ ◌&&◌ stays yes') ∙ rest ∙ sym (ap (settled updates) (besides-has others x xs yes'))
+                besides-has (settled_fields updates others) there (settled_fields updates xs) (has ∙ ap₂ ◌&&◌ stays yes') ∙ rest ∙ sym (ap (settled_fields updates) (besides-has others x xs yes'))
             | inr no' ↦
-                besides-lacks (settled updates others) there (settled updates xs) (has ∙ ap₂ ◌&&◌ stays no') ∙ ap (λ fs. there ∷ fs) rest
-                ∙ sym (ap (settled updates) (besides-lacks others x xs no') ∙ settled-stays updates x (besides others xs) stays)
+                besides-lacks (settled_fields updates others) there (settled_fields updates xs) (has ∙ ap₂ ◌&&◌ stays no') ∙ ap (λ fs. there ∷ fs) rest
+                ∙ sym (ap (settled_fields updates) (besides-lacks others x xs no') ∙ settled-stays updates x (besides others xs) stays)
           ])
       | inr goes ↦
-          ap (besides (settled updates others)) (settled-goes updates x xs goes) ∙ rest
+          ap (besides (settled_fields updates others)) (settled-goes updates x xs goes) ∙ rest
           ∙ (elim (cases_Bool (has_name x.name others)) [
-            | inl yes' ↦ sym (ap (settled updates) (besides-has others x xs yes'))
-            | inr no' ↦ sym (ap (settled updates) (besides-lacks others x xs no') ∙ settled-goes updates x (besides others xs) goes)
+            | inl yes' ↦ sym (ap (settled_fields updates) (besides-has others x xs yes'))
+            | inr no' ↦ sym (ap (settled_fields updates) (besides-lacks others x xs no') ∙ settled-goes updates x (besides others xs) goes)
           ])
     ]
 
@@ -128,28 +128,28 @@ besides-besides first second (x ∷ xs) =
 
 -- ---- the laws
 
-pub merged-more : (updates : List (List Field)) (u : List Field) → merged (updates ++ u ∷ []) ≡ merged_with (merged updates) u
-unfolding merged merged_with
-merged-more [] u = append-nil (settled (u ∷ []) u) ∙ ap (settled (u ∷ [])) (sym (besides-nil u))
+pub merged-more : (updates : List (List Field)) (u : List Field) → merged_fields (updates ++ u ∷ []) ≡ merged_with (merged_fields updates) u
+unfolding merged_fields merged_with
+merged-more [] u = append-nil (settled_fields (u ∷ []) u) ∙ ap (settled_fields (u ∷ [])) (sym (besides-nil u))
 merged-more (first ∷ later) u =
-    let stands = settled (first ∷ later) first in
-    let rest = merged later in
+    let stands = settled_fields (first ∷ later) first in
+    let rest = merged_fields later in
     let one = u ∷ [] in
     ap₂ followed_by (settled-settled (first ∷ later) one first) (merged-more later u)
-    ∙ ap (λ fs. settled one stands ++ fs) (besides-settled one stands (followed_by rest u))
+    ∙ ap (λ fs. settled_fields one stands ++ fs) (besides-settled one stands (followed_by rest u))
     ∙ sym (settled-append one stands (besides stands (followed_by rest u)))
-    ∙ ap (settled one)
+    ∙ ap (settled_fields one)
     (ap (λ fs. stands ++ fs) (filter-append (λ f. not (has_name f.name stands)) rest (besides rest u) ∙ ap (λ fs. besides stands rest ++ fs) (besides-besides stands rest u))
     ∙ sym (append_assoc stands (besides stands rest) (besides (followed_by stands rest) u)))
 
-merged-from : (done rest : List (List Field)) → fold merged_with (merged done) rest ≡ merged (done ++ rest)
-merged-from done [] = ap merged (sym (append-nil done))
+merged-from : (done rest : List (List Field)) → fold merged_with (merged_fields done) rest ≡ merged_fields (done ++ rest)
+merged-from done [] = ap merged_fields (sym (append-nil done))
 merged-from done (u ∷ rest) =
-    ap (λ fs. fold merged_with fs rest) (sym (merged-more done u)) ∙ merged-from (done ++ u ∷ []) rest ∙ ap merged (append_assoc done (u ∷ []) rest)
+    ap (λ fs. fold merged_with fs rest) (sym (merged-more done u)) ∙ merged-from (done ++ u ∷ []) rest ∙ ap merged_fields (append_assoc done (u ∷ []) rest)
 
 -- updates merged one after another, beginning with no fields
-pub merged-all : (updates : List (List Field)) → fold merged_with [] updates ≡ merged updates
-unfolding merged
+pub merged-all : (updates : List (List Field)) → fold merged_with [] updates ≡ merged_fields updates
+unfolding merged_fields
 merged-all updates = merged-from [] updates
 
 -- what updates said last
@@ -179,13 +179,13 @@ last_of name (u ∷ later) = by (value_of name u) (last_value name later) (leave
     by (Some (b ∷ more)) (Some x) kept h = h
 
 -- A field is there where the last update that names it gives it a value that is not empty, and has that value.
-pub value_of-merged : (name : List ℕ) (updates : List (List Field)) → value_of name (merged updates) ≡ if_filled (last_value name updates)
-unfolding merged
+pub value_of-merged : (name : List ℕ) (updates : List (List Field)) → value_of name (merged_fields updates) ≡ if_filled (last_value name updates)
+unfolding merged_fields
 value_of-merged name [] = refl
 value_of-merged name (u ∷ later) =
-    value_of-append name (settled (u ∷ later) u) (besides (settled (u ∷ later) u) (merged later))
-    ∙ ap (option_or (value_of name (settled (u ∷ later) u))) (value_of-besides name (settled (u ∷ later) u) (merged later))
-    ∙ first_or (value_of name (settled (u ∷ later) u)) (value_of name (merged later))
+    value_of-append name (settled_fields (u ∷ later) u) (besides (settled_fields (u ∷ later) u) (merged_fields later))
+    ∙ ap (option_or (value_of name (settled_fields (u ∷ later) u))) (value_of-besides name (settled_fields (u ∷ later) u) (merged_fields later))
+    ∙ first_or (value_of name (settled_fields (u ∷ later) u)) (value_of name (merged_fields later))
     ∙ ap₂ option_or (value_of-settled name (u ∷ later) u) (value_of-merged name later)
     ∙ in_all (value_of name u) (last_value name later) (leave later name) (latest (u ∷ later) name) (last_of name later) (latest-last (u ∷ later) name)
   where

@@ -1,4 +1,4 @@
--- What fields have under a name, after lists of them are joined, filtered by names or given other values.
+-- The value under a name, after lists of fields are joined, filtered by names or given other values.
 use Rattle.std.proofs.Common.{◌≡◌, ℕ, ◌<◌, arith, Bool, true, false, not, ◌&&◌, ◌||◌, List, [], ◌∷◌, ◌++◌, map, filter, cond, refl, sym, ap, ◌∙◌, inl, inr, true≢false}
 use Rattle.std.specs.Prelude.{Option, Some, None, is_some}
 use Rattle.std.specs.Option.{option_or, option_map}

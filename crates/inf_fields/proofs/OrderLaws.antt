@@ -1,4 +1,4 @@
--- What is known of a user stands in the order of the updates since which it is there, and then of the place in them.
+-- The order of a user's fields: that of the updates since which each is there, and then of the place in them.
 use Rattle.std.proofs.Common.{◌≡◌, ℕ, suc, ◌+◌, Bool, true, false, not, ◌&&◌, ◌||◌, List, [], ◌∷◌, ◌++◌, length, filter, drop, get_or, cond, refl, sym, ap, ap₂, ◌∙◌, inl, inr, zero, subst, append_assoc, add-one, arith}
 use Rattle.std.specs.Prelude.{◌==◌}
 use Rattle.std.specs.List.{flat_map, range_with_len, AllByRecursion}
@@ -6,7 +6,7 @@ use Rattle.std.proofs.Math.Dec.{eqb-suc-suc, eqb-zero-suc}
 use Rattle.std.proofs.lemmas.Bool.{cases_Bool, cond-true, cond-false}
 use Rattle.std.proofs.lemmas.List.Elements.{filter-append}
 use Rattle.inf_fields.specs.Field.{Field, field, has_name, besides}
-use Rattle.inf_fields.specs.Merging.{leave, latest, settled, merged}
+use Rattle.inf_fields.specs.Merging.{leave, latest, settled_fields, merged_fields}
 use Rattle.inf_fields.specs.Order.{start, since, in_order}
 use Rattle.inf_fields.proofs.Changes.{has-here}
 use Rattle.inf_fields.proofs.MergingLaws.{settled-stays, settled-goes, has_name-settled}
@@ -15,7 +15,7 @@ use Rattle.inf_fields.proofs.NameLemmas.{bytes_eq-same, has_name-append}
 -- ---- a test of names passes the same fields before as after updates
 
 module _ (test : List ℕ → Bool) where
-  filter-settled : (updates : List (List Field)) (xs : List Field) → filter (λ f. test f.name) (settled updates xs) ≡ settled updates (filter (λ f. test f.name) xs)
+  filter-settled : (updates : List (List Field)) (xs : List Field) → filter (λ f. test f.name) (settled_fields updates xs) ≡ settled_fields updates (filter (λ f. test f.name) xs)
   filter-settled updates [] = refl
   filter-settled updates (x ∷ xs) =
       let kept = filter (λ f. test f.name) xs in
@@ -25,20 +25,20 @@ module _ (test : List ℕ → Bool) where
         | inl yes' ↦
             elim (cases_Bool (leave updates x.name)) [
               | inl stays ↦
-                  ap (filter (λ f. test f.name)) (settled-stays updates x xs stays) ∙ cond-true _ (there ∷ filter (λ f. test f.name) (settled updates xs)) (filter (λ f. test f.name) (settled updates xs)) yes'
-                  ∙ ap (λ fs. there ∷ fs) rest ∙ sym (ap (settled updates) (cond-true _ (x ∷ kept) kept yes') ∙ settled-stays updates x kept stays)
+                  ap (filter (λ f. test f.name)) (settled-stays updates x xs stays) ∙ cond-true _ (there ∷ filter (λ f. test f.name) (settled_fields updates xs)) (filter (λ f. test f.name) (settled_fields updates xs)) yes'
+                  ∙ ap (λ fs. there ∷ fs) rest ∙ sym (ap (settled_fields updates) (cond-true _ (x ∷ kept) kept yes') ∙ settled-stays updates x kept stays)
               | inr goes ↦
                   ap (filter (λ f. test f.name)) (settled-goes updates x xs goes) ∙ rest
-                  ∙ sym (ap (settled updates) (cond-true _ (x ∷ kept) kept yes') ∙ settled-goes updates x kept goes)
+                  ∙ sym (ap (settled_fields updates) (cond-true _ (x ∷ kept) kept yes') ∙ settled-goes updates x kept goes)
             ]
         | inr no' ↦
             (elim (cases_Bool (leave updates x.name)) [
               | inl stays ↦
                   ap (filter (λ f. test f.name)) (settled-stays updates x xs stays)
-                  ∙ cond-false _ (there ∷ filter (λ f. test f.name) (settled updates xs)) (filter (λ f. test f.name) (settled updates xs)) no'
+                  ∙ cond-false _ (there ∷ filter (λ f. test f.name) (settled_fields updates xs)) (filter (λ f. test f.name) (settled_fields updates xs)) no'
               | inr goes ↦ ap (filter (λ f. test f.name)) (settled-goes updates x xs goes)
             ])
-            ∙ rest ∙ sym (ap (settled updates) (cond-false _ (x ∷ kept) kept no'))
+            ∙ rest ∙ sym (ap (settled_fields updates) (cond-false _ (x ∷ kept) kept no'))
       ]
 
 -- ---- the first update
@@ -62,7 +62,7 @@ start-first : (name : List ℕ) (u : List Field) (later : List (List Field)) →
 start-first name u later has stays = cond-true _ 0 (suc (start name later)) (ap₂ ◌&&◌ has stays)
 
 since-first : (u : List Field) (later : List (List Field)) (xs : List Field) → AllByRecursion (λ (f : Field). has_name f.name u ≡ true) xs
-    → settled (u ∷ later) (filter (λ f. start f.name (u ∷ later) == 0) xs) ≡ settled (u ∷ later) xs
+    → settled_fields (u ∷ later) (filter (λ f. start f.name (u ∷ later) == 0) xs) ≡ settled_fields (u ∷ later) xs
 since-first u later [] own = refl
 since-first u later (x ∷ xs) own =
     let all = u ∷ later in
@@ -70,12 +70,12 @@ since-first u later (x ∷ xs) own =
     let rest = since-first u later xs own.1 in
     elim (cases_Bool (leave all x.name)) [
       | inl stays ↦
-          ap (settled all) (cond-true _ (x ∷ kept) kept (ap (λ n. n == 0) (start-first x.name u later own.0 stays))) ∙ settled-stays all x kept stays
+          ap (settled_fields all) (cond-true _ (x ∷ kept) kept (ap (λ n. n == 0) (start-first x.name u later own.0 stays))) ∙ settled-stays all x kept stays
           ∙ ap (λ fs. field x.name (latest all x.name x.value) ∷ fs) rest ∙ sym (settled-stays all x xs stays)
       | inr goes ↦
           (elim (cases_Bool (start x.name all == 0)) [
-            | inl first ↦ ap (settled all) (cond-true _ (x ∷ kept) kept first) ∙ settled-goes all x kept goes
-            | inr other ↦ ap (settled all) (cond-false _ (x ∷ kept) kept other)
+            | inl first ↦ ap (settled_fields all) (cond-true _ (x ∷ kept) kept first) ∙ settled-goes all x kept goes
+            | inr other ↦ ap (settled_fields all) (cond-false _ (x ∷ kept) kept other)
           ])
           ∙ rest ∙ sym (settled-goes all x xs goes)
     ]
@@ -120,13 +120,13 @@ filter-both p q r both (x ∷ xs) =
     never true = refl
     never false = refl
 
-since-later : (u : List Field) (later : List (List Field)) (i : ℕ) → since (u ∷ later) (i + 1) ≡ besides (settled (u ∷ later) u) (since later i)
+since-later : (u : List Field) (later : List (List Field)) (i : ℕ) → since (u ∷ later) (i + 1) ≡ besides (settled_fields (u ∷ later) u) (since later i)
 since-later u later i =
     let all = u ∷ later in
-    let first = settled all u in
+    let first = settled_fields all u in
     let here = get_or later i [] in
-    ap (λ n. settled (drop n all) (filter (λ f. start f.name all == i + 1) (get_or all n []))) (add-one i)
-    ∙ ap (settled (drop i later))
+    ap (λ n. settled_fields (drop n all) (filter (λ f. start f.name all == i + 1) (get_or all n []))) (add-one i)
+    ∙ ap (settled_fields (drop i later))
     (filter-both (λ n. not (has_name n first)) (λ n. start n later == i) (λ n. start n all == i + 1)
     (λ n. start-later n u later i ∙ ap (λ b. not b && (start n later == i)) (sym (has_name-settled n all u)))
     here)
@@ -142,11 +142,11 @@ besides-flat_map : (others : List Field) (g : ℕ → List Field) (ns : List ℕ
 besides-flat_map others g [] = refl
 besides-flat_map others g (n ∷ ns) = filter-append (λ f. not (has_name f.name others)) (g n) (flat_map g ns) ∙ ap (λ fs. besides others (g n) ++ fs) (besides-flat_map others g ns)
 
-pub merged-in_order : (updates : List (List Field)) → merged updates ≡ in_order updates
-unfolding merged
+pub merged-in_order : (updates : List (List Field)) → merged_fields updates ≡ in_order updates
+unfolding merged_fields
 merged-in_order [] = refl
 merged-in_order (u ∷ later) =
-    let first = settled (u ∷ later) u in
+    let first = settled_fields (u ∷ later) u in
     ap₂ ◌++◌ (sym (since-first u later u (has_own-name [] u)))
     (ap (besides first) (merged-in_order later) ∙ besides-flat_map first (since later) (range_with_len 0 (length later))
     ∙ sym (flat_map-next (since (u ∷ later)) (λ i. besides first (since later i)) (since-later u later) 0 (length later)))

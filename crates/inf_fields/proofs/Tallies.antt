@@ -1,4 +1,4 @@
--- How many fields an update adds and takes away, counted over its entries.
+-- The count of fields that an update adds and takes away, entry by entry.
 use Rattle.std.proofs.Common.{◌≡◌, ℕ, suc, ◌+◌, ◌≤◌, ◌<◌, ◌^◌, Bool, true, false, List, [], ◌∷◌, length, refl, sym, ap, ◌∙◌, inl, inr, arith}
 use Rattle.std.specs.Prelude.{String, ◌==◌, nat_le}
 use Rattle.std.specs.String.{string_bytes}

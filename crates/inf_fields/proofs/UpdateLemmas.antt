@@ -102,8 +102,8 @@ named-field word f e = by (is_named word) e
     by true e = (refl, cc)
     by false e = cc
 
-pub unnamed : (word : List ℕ) → None ≡ cond (is_named word) (Some (field_in word)) None → is_named word ≡ false
-unnamed word e = by (is_named word) e
+pub none-is-unnamed : (word : List ℕ) → None ≡ cond (is_named word) (Some (field_in word)) None → is_named word ≡ false
+none-is-unnamed word e = by (is_named word) e
   where
     by : (b : Bool) → None ≡ cond b (Some (field_in word)) None → b ≡ false
     by true e = cc
@@ -121,7 +121,7 @@ read-step words i word f old new lt at h names puts =
 
 pub reading-unnamed : (words : List (List ℕ)) (i : ℕ) (word : List ℕ) → i < length words → get_or words i [] ≡ word → None ≡ cond (is_named word) (Some (field_in word)) None → reading words ≡ Err BadName
 unfolding reading
-reading-unnamed words i word lt at none = cond-false _ _ _ (list_all_at is_named words i [] lt (ap is_named at ∙ unnamed word none))
+reading-unnamed words i word lt at none = cond-false _ _ _ (list_all_at is_named words i [] lt (ap is_named at ∙ none-is-unnamed word none))
 
 pub reading-many : (words : List (List ℕ)) (fields : List Field) → (fields ≡ update words) × (list_all is_named words ≡ true) → 40 < length fields → reading words ≡ Err TooMany
 unfolding reading

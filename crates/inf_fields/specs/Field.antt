@@ -31,5 +31,5 @@ abbrev pub printed_field : Field → List ℕ
 printed_field f = 32 ∷ (f.name ++ f.value)
 
 -- how fields stand in a message, one after another
-unfoldable pub printed : List Field → List ℕ
-printed fields = flat_map printed_field fields
+unfoldable pub printed_fields : List Field → List ℕ
+printed_fields fields = flat_map printed_field fields

@@ -1,4 +1,4 @@
--- What may name a field (ADC 1.0, "Message syntax"), and the names that a hub asks for (ADC 1.0, "INF").
+-- The names of fields (ADC 1.0, "Message syntax"), and those that a hub asks for (ADC 1.0, "INF").
 use Rattle.std.specs.Prelude.{ℕ, ◌==◌, ◌&&◌, Bool, List, [], ◌∷◌, length, slice_index}
 use Rattle.adc_line.specs.Header.{is_letter, is_letter_or_digit}
 
@@ -25,6 +25,10 @@ share_size_name = 83 ∷ 83 ∷ []
 -- SF: how many files are shared
 abbrev pub shared_files_name : List ℕ
 shared_files_name = 83 ∷ 70 ∷ []
+
+-- the fields that are numbers, in the order in which they are looked at
+abbrev pub number_names : List (List ℕ)
+number_names = share_size_name ∷ shared_files_name ∷ []
 
 -- I4: the address in version 4 of the internet protocol
 abbrev pub address_name : List ℕ

@@ -1,4 +1,4 @@
--- What is known of a user after updates, oldest first (ADC 1.0, "INF"): another value takes the place of the one before, and an empty one takes the field away.
+-- The fields of a user after updates, oldest first (ADC 1.0, "INF"): another value takes the place of the one before, and an empty one takes the field away.
 use Rattle.std.specs.Prelude.{ℕ, Bool, true, false, not, List, [], ◌∷◌, ◌++◌, map, filter, Option, Some, None, Result}
 use Rattle.std.specs.List.{list_all}
 use Rattle.std.specs.Option.{unwrap_or, option_or}
@@ -21,8 +21,8 @@ latest [] name value = value
 latest (u ∷ later) name value = latest later name (unwrap_or (value_of name u) value)
 
 -- what updates leave of fields, in place, with the values that they have then
-abbrev pub settled : List (List Field) → List Field → List Field
-settled updates fields = map (λ f. field f.name (latest updates f.name f.value)) (filter (λ f. leave updates f.name) fields)
+abbrev pub settled_fields : List (List Field) → List Field → List Field
+settled_fields updates fields = map (λ f. field f.name (latest updates f.name f.value)) (filter (λ f. leave updates f.name) fields)
 
 -- fields, and behind them the others of more
 abbrev pub followed_by : List Field → List Field → List Field
@@ -31,13 +31,13 @@ followed_by fields more = fields ++ besides fields more
 -- The fields after updates, each with the last value that it was given. They stand in the order of the updates since which they are there, and then of
 -- the place in that update. A field is there since the first update that names it after the last one that emptied it. So what the first update
 -- names and neither it nor a later one empties stands first, and the rest is as the later updates have it.
-unfoldable pub merged : List (List Field) → List Field
-merged [] = []
-merged (u ∷ later) = followed_by (settled (u ∷ later) u) (merged later)
+unfoldable pub merged_fields : List (List Field) → List Field
+merged_fields [] = []
+merged_fields (u ∷ later) = followed_by (settled_fields (u ∷ later) u) (merged_fields later)
 
 -- the fields after one update more: it renews those that are there or takes them away, and its other fields that are not empty come last
 unfoldable pub merged_with : List Field → List Field → List Field
-merged_with fields u = settled (u ∷ []) (followed_by fields u)
+merged_with fields u = settled_fields (u ∷ []) (followed_by fields u)
 
 -- the same, where they are not too many
 abbrev pub merging : List Field → List Field → Result (List Field) InfFault

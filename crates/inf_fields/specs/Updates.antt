@@ -1,4 +1,4 @@
--- What the words of an INF message update (ADC 1.0, "INF"), where each is a name of two characters and a value.
+-- The update that the words of an INF message say (ADC 1.0, "INF"), where each is a name of two characters and a value.
 use Rattle.std.specs.Prelude.{ℕ, ◌&&◌, Bool, nat_le, List, [], ◌∷◌, length, take, drop, slice_index, Result, Ok, Err, if◌then◌else◌}
 use Rattle.std.specs.List.{list_all}
 use Rattle.std.specs.Option.{unwrap_or}

@@ -1,7 +1,7 @@
 ghost use Rattle.std.specs.Prelude.{◌≡◌};
 ghost use Rattle.std.specs.Char.{is_ascii_digit};
 ghost use Rattle.std.specs.List.{list_all};
-ghost use Rattle.inf_fields.specs.Amounts.{is_short_number, number_at};
+ghost use Rattle.inf_fields.specs.Amounts.{is_bad_number, is_short_number, number_at};
 
 /// Reads the number that a value of SS (bytes shared) or SF (files shared) spells: 1 to 20 decimal digits, and below 2 to
 /// the 64th. `None` for any other value. Takes no memory (ADC 1.0, "INF").
@@ -13,6 +13,16 @@ pub fn shared_amount(value: &str) -> Option<u64>
         return None;
     }
     value.parse().ok()
+}
+
+/// Tests whether the value of a field that is a number is none. It may be empty. Takes no memory.
+pub(crate) fn is_bad_number(value: &str) -> bool
+    ensures { result ≡ is_bad_number value.now }
+{
+    match value.as_bytes() {
+        [] => false,
+        [_, ..] => shared_amount(value).is_none(),
+    }
 }
 
 fn is_short_number(digits: &[u8]) -> bool

@@ -3,8 +3,8 @@ ghost use Rattle.std.specs.Option.{option_copied};
 ghost use Rattle.std.specs.Str.{bytes_eq};
 ghost use Rattle.std.specs.String.{string_bytes};
 ghost use Rattle.indexmap.specs.IndexMap.{IsUnique, spare};
-ghost use Rattle.inf_fields.specs.Changes.{all_changed, changed, put};
-ghost use Rattle.inf_fields.specs.Field.{field, printed, printed_field, value_of};
+ghost use Rattle.inf_fields.specs.Changes.{all_changed, changed_fields, put};
+ghost use Rattle.inf_fields.specs.Field.{field, printed_fields, printed_field, value_of};
 ghost use Rattle.inf_fields.specs.Stored.{fields_of};
 
 use crate::name::FieldName;
@@ -72,7 +72,7 @@ pub(crate) fn change_all(entries: &mut Entries, pairs: Vec<(FieldName, String)>)
 
 fn change(entries: &mut Entries, name: FieldName, value: String)
     requires { 0 < spare entries.old }
-    ensures fields { fields_of entries.new.entries ≡ changed (field name (string_bytes value)) (fields_of entries.old.entries) }
+    ensures fields { fields_of entries.new.entries ≡ changed_fields (field name (string_bytes value)) (fields_of entries.old.entries) }
     ensures room { spare entries.old ≤ spare entries.new + 1 }
 {
     let text = value.as_str();
@@ -85,7 +85,7 @@ fn change(entries: &mut Entries, name: FieldName, value: String)
 
 /// Writes each entry with a blank before it, one after another.
 pub(crate) fn print(alloc: Global, entries: &Entries) -> Result<String, AllocError>
-    ensures { IfOk result (λ text. string_bytes text ≡ printed (fields_of entries.now.entries)) }
+    ensures { IfOk result (λ text. string_bytes text ≡ printed_fields (fields_of entries.now.entries)) }
 {
     let mut text = String::new(alloc);
     for (name, value) in entries {

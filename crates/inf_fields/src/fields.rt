@@ -1,7 +1,7 @@
 ghost use Rattle.std.specs.Prelude.{◌≡◌, ◌≢◌, [], IfErr, IfOk, IfSome, IsTrue, OnErr, OnOk};
 ghost use Rattle.std.specs.Option.{option_copied};
 ghost use Rattle.std.specs.String.{string_bytes};
-ghost use Rattle.inf_fields.specs.Field.{printed, value_of};
+ghost use Rattle.inf_fields.specs.Field.{printed_fields, value_of};
 ghost use Rattle.inf_fields.specs.Gives.{GivesChange};
 ghost use Rattle.inf_fields.specs.Merging.{fits, merged_with, merging};
 
@@ -92,7 +92,7 @@ impl Fields {
     /// Writes the fields in order as they stand in a message, each with a blank before it (ADC 1.0, "INF"). Refused only
     /// where memory runs out.
     pub fn print(&self, alloc: Global) -> Result<String, InfFault>
-        ensures text { IfOk result (λ text. string_bytes text ≡ printed self.now) }
+        ensures text { IfOk result (λ text. string_bytes text ≡ printed_fields self.now) }
         ensures fault { IfErr result (λ fault. fault ≡ InfFault.Memory) }
     {
         Ok(print(alloc, &self.entries)?)

@@ -11,7 +11,7 @@ mod name;
 mod parameter;
 mod update;
 
-pub use address::dotted;
+pub use address::dotted_decimal;
 pub use amount::shared_amount;
 pub use fault::InfFault;
 pub use fields::Fields;

@@ -1,5 +1,6 @@
 pub mod Firsts
 pub mod Mentioned
 pub mod Sightings
+pub mod SignedWords
 pub mod LineByLine
 pub mod StatusParts

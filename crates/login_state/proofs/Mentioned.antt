@@ -13,43 +13,43 @@ use Rattle.std.proofs.lemmas.Map.Keys.{IsDistinct-push}
 use Rattle.std.proofs.lemmas.Slice.Eq.{bytes_eq-Decides}
 use Rattle.login_state.specs.declared.feature.Mention.{Mention}
 use Rattle.login_state.specs.declared.feature.Mention.TheVariants.{Adds, Removes}
-use Rattle.login_state.specs.Support.{speaks_of, is_mentioned, has_feature, IsLastAdded, unless_mentioned, added, supported, unmentioned, supported_after, said, all_said, features_of}
+use Rattle.login_state.specs.Support.{speaks_of, is_mentioned, has_feature, IsLastAdded, features_added, features_left, without_mentioned, supported_after, mentions_in, all_said, features_of}
 
 -- what is mentioned again is not added
 unless-later : (a b : Bool) (feature : List ℕ) (later : List Mention) → is_mentioned feature later ≡ b
-    → unless_mentioned (a || b) feature ≡ unmentioned later (unless_mentioned a feature)
+    → cond (a || b) [] (feature ∷ []) ≡ without_mentioned later (cond a [] (feature ∷ []))
 unless-later true b feature later e = refl
 unless-later false true feature later e = ap (λ t. cond (not t) (feature ∷ []) []) (sym e)
 unless-later false false feature later e = ap (λ t. cond (not t) (feature ∷ []) []) (sym e)
 
-added-append : (mention : Mention) (mentions later : List Mention) → added mention (mentions ++ later) ≡ unmentioned later (added mention mentions)
+added-append : (mention : Mention) (mentions later : List Mention) → features_added mention (mentions ++ later) ≡ without_mentioned later (features_added mention mentions)
 added-append (Removes feature) mentions later = refl
 added-append (Adds feature) mentions later =
-    ap (λ t. unless_mentioned t feature) (list_any-append (speaks_of feature) mentions later)
+    ap (λ t. cond t [] (feature ∷ [])) (list_any-append (speaks_of feature) mentions later)
     ∙ unless-later (is_mentioned feature mentions) (is_mentioned feature later) feature later refl
 
 -- what earlier mentions left stays, unless it is mentioned later
-pub supported-append : (mentions later : List Mention) → supported (mentions ++ later) ≡ supported later ++ unmentioned later (supported mentions)
-unfolding supported
-supported-append [] later = sym (append-nil (supported later))
+pub supported-append : (mentions later : List Mention) → features_left (mentions ++ later) ≡ features_left later ++ without_mentioned later (features_left mentions)
+unfolding features_left
+supported-append [] later = sym (append-nil (features_left later))
 supported-append (mention ∷ mentions) later =
-    ap (λ features. features ++ added mention (mentions ++ later)) (supported-append mentions later)
-    ∙ append_assoc (supported later) (unmentioned later (supported mentions)) (added mention (mentions ++ later))
-    ∙ ap (λ features. supported later ++ features)
-    (ap (λ features. unmentioned later (supported mentions) ++ features) (added-append mention mentions later)
-    ∙ sym (filter-append (λ feature. not (is_mentioned feature later)) (supported mentions) (added mention mentions)))
+    ap (λ features. features ++ features_added mention (mentions ++ later)) (supported-append mentions later)
+    ∙ append_assoc (features_left later) (without_mentioned later (features_left mentions)) (features_added mention (mentions ++ later))
+    ∙ ap (λ features. features_left later ++ features)
+    (ap (λ features. without_mentioned later (features_left mentions) ++ features) (added-append mention mentions later)
+    ∙ sym (filter-append (λ feature. not (is_mentioned feature later)) (features_left mentions) (features_added mention mentions)))
 
 -- no SUP, no feature
 pub features_of-nil : features_of [] ≡ []
-unfolding supported
+unfolding features_left
 features_of-nil = refl
 
 -- one SUP more
-pub features_of-push : (lines : List (List (List ℕ))) (words : List (List ℕ)) → features_of (lines ++ words ∷ []) ≡ supported_after (features_of lines) (said words)
+pub features_of-push : (lines : List (List (List ℕ))) (words : List (List ℕ)) → features_of (lines ++ words ∷ []) ≡ supported_after (features_of lines) (mentions_in words)
 unfolding supported_after
 features_of-push lines words =
-    ap supported (flat_map-append said lines (words ∷ []) ∙ ap (λ more. all_said lines ++ more) (append-nil (said words)))
-    ∙ supported-append (all_said lines) (said words)
+    ap features_left (flat_map-append mentions_in lines (words ∷ []) ∙ ap (λ more. all_said lines ++ more) (append-nil (mentions_in words)))
+    ∙ supported-append (all_said lines) (mentions_in words)
 
 -- a longer list ends with the same mention
 earlier-last : (feature : List ℕ) (mention : Mention) (mentions : List Mention) → IsLastAdded feature mentions → IsLastAdded feature (mention ∷ mentions)
@@ -74,73 +74,73 @@ or_false false = refl
 
 -- an addition that is mentioned no more is the last one
 last-added : (feature other : List ℕ) (later : List Mention) (again : Bool) → is_mentioned other later ≡ again
-    → has_feature feature (unless_mentioned again other) ≡ true → IsLastAdded feature (Adds other ∷ later)
+    → has_feature feature (cond again [] (other ∷ [])) ≡ true → IsLastAdded feature (Adds other ∷ later)
 last-added feature other later true e h = absurd (false≢true h)
 last-added feature other later false e h =
     let same : feature ≡ other = (bytes_eq-Decides feature other).0 (sym (or_false (bytes_eq feature other)) ∙ h) in
     ([], later, ap (λ f. Adds f ∷ later) (sym same), ap (λ f. is_mentioned f later) same ∙ e)
 
-added-is_last : (feature : List ℕ) (mention : Mention) (later : List Mention) → has_feature feature (added mention later) ≡ true → IsLastAdded feature (mention ∷ later)
+added-is_last : (feature : List ℕ) (mention : Mention) (later : List Mention) → has_feature feature (features_added mention later) ≡ true → IsLastAdded feature (mention ∷ later)
 added-is_last feature (Removes other) later h = absurd (false≢true h)
 added-is_last feature (Adds other) later h = last-added feature other later (is_mentioned other later) refl h
 
 -- by whether a later mention left the feature already
 last-by : (feature : List ℕ) (mention : Mention) (later : List Mention) (already : Bool)
-    → (already ≡ true → IsLastAdded feature later) → (already || has_feature feature (added mention later)) ≡ true → IsLastAdded feature (mention ∷ later)
+    → (already ≡ true → IsLastAdded feature later) → (already || has_feature feature (features_added mention later)) ≡ true → IsLastAdded feature (mention ∷ later)
 last-by feature mention later true before h = earlier-last feature mention later (before refl)
 last-by feature mention later false before h = added-is_last feature mention later h
 
-pub last-from_has : (feature : List ℕ) (mentions : List Mention) → has_feature feature (supported mentions) ≡ true → IsLastAdded feature mentions
-unfolding supported
+pub last-from_has : (feature : List ℕ) (mentions : List Mention) → has_feature feature (features_left mentions) ≡ true → IsLastAdded feature mentions
+unfolding features_left
 last-from_has feature [] h = absurd (false≢true h)
 last-from_has feature (mention ∷ later) h =
-    last-by feature mention later (has_feature feature (supported later)) (last-from_has feature later)
-    (sym (list_any-append (bytes_eq feature) (supported later) (added mention later)) ∙ h)
+    last-by feature mention later (has_feature feature (features_left later)) (last-from_has feature later)
+    (sym (list_any-append (bytes_eq feature) (features_left later) (features_added mention later)) ∙ h)
 
-has-added : (feature : List ℕ) (later : List Mention) → is_mentioned feature later ≡ false → has_feature feature (supported (Adds feature ∷ later)) ≡ true
-unfolding supported
+has-added : (feature : List ℕ) (later : List Mention) → is_mentioned feature later ≡ false → has_feature feature (features_left (Adds feature ∷ later)) ≡ true
+unfolding features_left
 has-added feature later e =
-    ap (λ again. has_feature feature (supported later ++ unless_mentioned again feature)) e
-    ∙ list_any-append (bytes_eq feature) (supported later) (feature ∷ [])
-    ∙ ap (λ same. has_feature feature (supported later) || (same || false)) (nat_list_eq_equiv.refl feature)
-    ∙ or_true (has_feature feature (supported later))
+    ap (λ again. has_feature feature (features_left later ++ cond again [] (feature ∷ []))) e
+    ∙ list_any-append (bytes_eq feature) (features_left later) (feature ∷ [])
+    ∙ ap (λ same. has_feature feature (features_left later) || (same || false)) (nat_list_eq_equiv.refl feature)
+    ∙ or_true (has_feature feature (features_left later))
 
-pub has-from_last : (feature : List ℕ) (mentions : List Mention) → IsLastAdded feature mentions → has_feature feature (supported mentions) ≡ true
+pub has-from_last : (feature : List ℕ) (mentions : List Mention) → IsLastAdded feature mentions → has_feature feature (features_left mentions) ≡ true
 has-from_last feature mentions found =
     let later : List Mention = Adds feature ∷ found.1 in
-    ap (λ all. has_feature feature (supported all)) found.2
+    ap (λ all. has_feature feature (features_left all)) found.2
     ∙ ap (has_feature feature) (supported-append found.0 later)
-    ∙ list_any-append (bytes_eq feature) (supported later) (unmentioned later (supported found.0))
-    ∙ ap (λ b. b || has_feature feature (unmentioned later (supported found.0))) (has-added feature found.1 found.3)
+    ∙ list_any-append (bytes_eq feature) (features_left later) (without_mentioned later (features_left found.0))
+    ∙ ap (λ b. b || has_feature feature (without_mentioned later (features_left found.0))) (has-added feature found.1 found.3)
 
-absent-unless : (feature other : List ℕ) (again : Bool) → bytes_eq feature other ≡ false → has_feature feature (unless_mentioned again other) ≡ false
+absent-unless : (feature other : List ℕ) (again : Bool) → bytes_eq feature other ≡ false → has_feature feature (cond again [] (other ∷ [])) ≡ false
 absent-unless feature other true e = refl
 absent-unless feature other false e = ap (λ same. same || false) e
 
-absent-added : (feature : List ℕ) (mention : Mention) (later : List Mention) → speaks_of feature mention ≡ false → has_feature feature (added mention later) ≡ false
+absent-added : (feature : List ℕ) (mention : Mention) (later : List Mention) → speaks_of feature mention ≡ false → has_feature feature (features_added mention later) ≡ false
 absent-added feature (Removes other) later e = refl
 absent-added feature (Adds other) later e = absent-unless feature other (is_mentioned other later) e
 
 -- what is not mentioned is not there
-absent : (feature : List ℕ) (mentions : List Mention) → is_mentioned feature mentions ≡ false → has_feature feature (supported mentions) ≡ false
-unfolding supported
+absent : (feature : List ℕ) (mentions : List Mention) → is_mentioned feature mentions ≡ false → has_feature feature (features_left mentions) ≡ false
+unfolding features_left
 absent feature [] h = refl
 absent feature (mention ∷ later) h =
-    list_any-append (bytes_eq feature) (supported later) (added mention later)
-    ∙ ap (λ b. b || has_feature feature (added mention later)) (absent feature later (no_right (speaks_of feature mention) (is_mentioned feature later) h))
+    list_any-append (bytes_eq feature) (features_left later) (features_added mention later)
+    ∙ ap (λ b. b || has_feature feature (features_added mention later)) (absent feature later (no_right (speaks_of feature mention) (is_mentioned feature later) h))
     ∙ absent-added feature mention later (no_left (speaks_of feature mention) (is_mentioned feature later) h)
 
 distinct-more : (features : List (List ℕ)) (other : List ℕ) (again : Bool) → IsDistinct bytes_eq features
-    → (again ≡ false → has_feature other features ≡ false) → IsDistinct bytes_eq (features ++ unless_mentioned again other)
+    → (again ≡ false → has_feature other features ≡ false) → IsDistinct bytes_eq (features ++ cond again [] (other ∷ []))
 distinct-more features other true apart away = subst (IsDistinct bytes_eq) (sym (append-nil features)) apart
 distinct-more features other false apart away = IsDistinct-push nat_list_eq_equiv features other apart (away refl)
 
-distinct-added : (mention : Mention) (later : List Mention) → IsDistinct bytes_eq (supported later) → IsDistinct bytes_eq (supported later ++ added mention later)
-distinct-added (Removes feature) later apart = subst (IsDistinct bytes_eq) (sym (append-nil (supported later))) apart
-distinct-added (Adds feature) later apart = distinct-more (supported later) feature (is_mentioned feature later) apart (absent feature later)
+distinct-added : (mention : Mention) (later : List Mention) → IsDistinct bytes_eq (features_left later) → IsDistinct bytes_eq (features_left later ++ features_added mention later)
+distinct-added (Removes feature) later apart = subst (IsDistinct bytes_eq) (sym (append-nil (features_left later))) apart
+distinct-added (Adds feature) later apart = distinct-more (features_left later) feature (is_mentioned feature later) apart (absent feature later)
 
 -- no feature stands there twice
-pub supported-distinct : (mentions : List Mention) → IsDistinct bytes_eq (supported mentions)
-unfolding supported IsDistinct
+pub supported-distinct : (mentions : List Mention) → IsDistinct bytes_eq (features_left mentions)
+unfolding features_left IsDistinct
 supported-distinct [] = tt
 supported-distinct (mention ∷ later) = distinct-added mention later (supported-distinct later)

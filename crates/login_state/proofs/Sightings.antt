@@ -12,7 +12,7 @@ use Rattle.std.proofs.lemmas.List.Elements.{filter-append, filter_agree}
 use Rattle.std.proofs.lemmas.Map.Text.{is_eq-slice_cmp}
 use Rattle.login_state.specs.declared.feature.Mention.{Mention}
 use Rattle.login_state.specs.Seen.{unseen}
-use Rattle.login_state.specs.Support.{speaks_of, is_mentioned, added, supported, unmentioned}
+use Rattle.login_state.specs.Support.{speaks_of, is_mentioned, features_added, features_left, without_mentioned}
 use Rattle.login_state.proofs.Mentioned.{supported-append}
 
 -- the set after an insertion has one feature more
@@ -56,21 +56,21 @@ one mention feature = or_false (speaks_of feature mention)
 pub names-step : (s t : List ℕ → Bool) (mention : Mention) (left all : List Mention) (names now whole : List (List ℕ))
     → ((feature : List ℕ) → t feature ≡ (s feature || speaks_of feature mention))
     → all ≡ left ++ mention ∷ []
-    → names ++ unseen s (supported all) ≡ whole
-    → now ≡ names ++ unseen s (added mention [])
-    → now ++ unseen t (supported left) ≡ whole
-unfolding supported
+    → names ++ unseen s (features_left all) ≡ whole
+    → now ≡ names ++ unseen s (features_added mention [])
+    → now ++ unseen t (features_left left) ≡ whole
+unfolding features_left
 names-step s t mention left all names now whole more parts so_far is_now =
     let spoken : List ℕ → Bool = λ feature. speaks_of feature mention in
-    let rest : unseen t (supported left) ≡ unseen s (unmentioned (mention ∷ []) (supported left)) =
-    filter_agree (λ x. not (t x)) (λ x. not (s x || spoken x)) (λ x. ap not (more x)) (supported left)
-    ∙ unseen-twice s spoken (supported left)
-    ∙ ap (unseen s) (filter_agree (λ x. not (spoken x)) (λ x. not (is_mentioned x (mention ∷ []))) (λ x. ap not (sym (one mention x))) (supported left)) in
-    ap (λ now. now ++ unseen t (supported left)) is_now
-    ∙ append_assoc names (unseen s (added mention [])) (unseen t (supported left))
-    ∙ ap (λ more. names ++ (unseen s (added mention []) ++ more)) rest
-    ∙ ap (λ more. names ++ more) (sym (filter-append (λ x. not (s x)) (added mention []) (unmentioned (mention ∷ []) (supported left))))
-    ∙ ap (λ features. names ++ unseen s features) (sym (ap supported parts ∙ supported-append left (mention ∷ [])))
+    let rest : unseen t (features_left left) ≡ unseen s (without_mentioned (mention ∷ []) (features_left left)) =
+    filter_agree (λ x. not (t x)) (λ x. not (s x || spoken x)) (λ x. ap not (more x)) (features_left left)
+    ∙ unseen-twice s spoken (features_left left)
+    ∙ ap (unseen s) (filter_agree (λ x. not (spoken x)) (λ x. not (is_mentioned x (mention ∷ []))) (λ x. ap not (sym (one mention x))) (features_left left)) in
+    ap (λ now. now ++ unseen t (features_left left)) is_now
+    ∙ append_assoc names (unseen s (features_added mention [])) (unseen t (features_left left))
+    ∙ ap (λ more. names ++ (unseen s (features_added mention []) ++ more)) rest
+    ∙ ap (λ more. names ++ more) (sym (filter-append (λ x. not (s x)) (features_added mention []) (without_mentioned (mention ∷ []) (features_left left))))
+    ∙ ap (λ features. names ++ unseen s features) (sym (ap features_left parts ∙ supported-append left (mention ∷ [])))
     ∙ so_far
 
 -- what was seen and what is mentioned in the rest: one mention less
@@ -98,14 +98,14 @@ unseen-none s none [] = refl
 unseen-none s none (x ∷ xs) = ap (λ b. cond (not b) (x ∷ unseen s xs) (unseen s xs)) (none x) ∙ ap (λ more. x ∷ more) (unseen-none s none xs)
 
 -- no mention is left
-pub names-whole : (s : List ℕ → Bool) (left : List Mention) (names whole : List (List ℕ)) → length left ≡ 0 → names ++ unseen s (supported left) ≡ whole → names ≡ whole
-unfolding supported
+pub names-whole : (s : List ℕ → Bool) (left : List Mention) (names whole : List (List ℕ)) → length left ≡ 0 → names ++ unseen s (features_left left) ≡ whole → names ≡ whole
+unfolding features_left
 names-whole s [] names whole none so_far = sym (append-nil names) ∙ so_far
 names-whole s (mention ∷ left) names whole none so_far = absurd (omega (arith, none))
 
 -- what was seen is what is mentioned
 pub unseen-unmentioned : (s : List ℕ → Bool) (mentions : List Mention) (before : List (List ℕ)) → ((feature : List ℕ) → s feature ≡ is_mentioned feature mentions)
-    → unseen s before ≡ unmentioned mentions before
+    → unseen s before ≡ without_mentioned mentions before
 unseen-unmentioned s mentions before same = filter_agree (λ x. not (s x)) (λ x. not (is_mentioned x mentions)) (λ x. ap not (same x)) before
 
 -- all that were there before were looked at

@@ -1,4 +1,4 @@
--- What checks in a written order answer: the first denial.
+-- The answer of checks in a written order: the first denial.
 use Rattle.std.specs.Prelude.{◌≡◌, List, [], ◌∷◌, ◌++◌, Option, Some, None}
 use Rattle.std.specs.List.{All}
 use Rattle.login_state.specs.declared.checks.Check.{Check}

@@ -1,21 +1,11 @@
 -- The status messages by which lines are refused (ADC 1.0, "STA").
-use Rattle.std.specs.Prelude.{ℕ, Bool, true, false, List, [], ◌∷◌, ◌++◌, codes}
+use Rattle.std.specs.Prelude.{ℕ, ◌==◌, Bool, slice_index, List, [], ◌∷◌, ◌++◌, codes}
 use Rattle.std.specs.Fmt.{decimal}
 use Rattle.login_state.specs.declared.deny.Deny.{Deny}
 use Rattle.login_state.specs.declared.deny.Deny.TheVariants.{Protocol, WrongSid, BadStage, NoBase, NoHash, Missing, BadField, BadPid, BadNick, BannedEver, BannedFor, Address, Registered, NickTaken, CidTaken, Password, Access, SearchSoon, BadCommand, NoUser, NoBan, BansFull}
-use Rattle.login_state.specs.declared.deny.InfField.{InfField}
-use Rattle.login_state.specs.declared.deny.InfField.TheVariants.{Id, Pid, Nick, ShareSize, SharedFiles}
 use Rattle.login_state.specs.declared.deny.Severity.{Severity}
 use Rattle.login_state.specs.declared.deny.Severity.TheVariants.{Recoverable, Fatal}
-use Rattle.inf_fields.specs.Cleaning.{dotted}
-
--- the name of a field of an INF
-abbrev pub field_name : InfField → List ℕ
-field_name Id = codes "ID"
-field_name Pid = codes "PD"
-field_name Nick = codes "NI"
-field_name ShareSize = codes "SS"
-field_name SharedFiles = codes "SF"
+use Rattle.inf_fields.specs.Cleaning.{dotted_decimal}
 
 -- the message, without its line feed
 unfoldable pub denial_text : Deny → List ℕ
@@ -24,16 +14,16 @@ denial_text WrongSid = codes "ISTA 240 Wrong\\sSID"
 denial_text (BadStage word) = codes "ISTA 144 Invalid\\sstate FC" ++ word
 denial_text NoBase = codes "ISTA 245 Feature\\smissing FCBASE"
 denial_text NoHash = codes "ISTA 247 No\\scommon\\shash"
-denial_text (Missing field) = codes "ISTA 243 INF\\sfield\\smissing FM" ++ field_name field
-denial_text (BadField Recoverable field) = codes "ISTA 143 INF\\sfield\\sbad FB" ++ field_name field
-denial_text (BadField Fatal field) = codes "ISTA 243 INF\\sfield\\sbad FB" ++ field_name field
+denial_text (Missing field) = codes "ISTA 243 INF\\sfield\\smissing FM" ++ field
+denial_text (BadField Recoverable field) = codes "ISTA 143 INF\\sfield\\sbad FB" ++ field
+denial_text (BadField Fatal field) = codes "ISTA 243 INF\\sfield\\sbad FB" ++ field
 denial_text BadPid = codes "ISTA 227 Invalid\\sPID"
 denial_text (BadNick Recoverable) = codes "ISTA 121 Invalid\\snick"
 denial_text (BadNick Fatal) = codes "ISTA 221 Invalid\\snick"
 denial_text BannedEver = codes "ISTA 231 Banned"
 denial_text (BannedFor seconds) = codes "ISTA 232 Banned TL" ++ decimal seconds
-denial_text (Address Recoverable peer) = codes "ISTA 146 Wrong\\saddress I4" ++ dotted peer
-denial_text (Address Fatal peer) = codes "ISTA 246 Wrong\\saddress I4" ++ dotted peer
+denial_text (Address Recoverable peer) = codes "ISTA 146 Wrong\\saddress I4" ++ dotted_decimal peer
+denial_text (Address Fatal peer) = codes "ISTA 246 Wrong\\saddress I4" ++ dotted_decimal peer
 denial_text Registered = codes "ISTA 226 Registered\\susers\\sonly"
 denial_text (NickTaken Recoverable) = codes "ISTA 122 Nick\\staken"
 denial_text (NickTaken Fatal) = codes "ISTA 222 Nick\\staken"
@@ -50,35 +40,6 @@ denial_text BansFull = codes "ISTA 100 Ban\\slist\\sfull"
 abbrev pub denial_line : Deny → List ℕ
 denial_line deny = denial_text deny ++ 10 ∷ []
 
--- how severe a denial is: the first digit of its number
-abbrev pub severity_of : Deny → Severity
-severity_of Protocol = Recoverable
-severity_of WrongSid = Fatal
-severity_of (BadStage word) = Recoverable
-severity_of NoBase = Fatal
-severity_of NoHash = Fatal
-severity_of (Missing field) = Fatal
-severity_of (BadField severity field) = severity
-severity_of BadPid = Fatal
-severity_of (BadNick severity) = severity
-severity_of BannedEver = Fatal
-severity_of (BannedFor seconds) = Fatal
-severity_of (Address severity peer) = severity
-severity_of Registered = Fatal
-severity_of (NickTaken severity) = severity
-severity_of CidTaken = Fatal
-severity_of Password = Fatal
-severity_of (Access word) = Recoverable
-severity_of SearchSoon = Recoverable
-severity_of BadCommand = Recoverable
-severity_of NoUser = Recoverable
-severity_of NoBan = Recoverable
-severity_of BansFull = Recoverable
-
-abbrev pub is_severe : Severity → Bool
-is_severe Recoverable = false
-is_severe Fatal = true
-
--- whether a denial shuts the connection out
+-- whether a denial shuts the connection out: the first digit of its number, behind `ISTA `, is a 2
 abbrev pub is_fatal : Deny → Bool
-is_fatal deny = is_severe (severity_of deny)
+is_fatal deny = slice_index (denial_text deny) 5 == 50

@@ -1,6 +1,6 @@
-pub mod Stages
-pub mod Commands
+pub mod Requests
 pub mod Mentions
+pub mod Signs
 pub mod Support
 pub mod Seen
 pub mod SupportAnswers

@@ -1,5 +1,5 @@
--- What the words of a SUP say (ADC 1.0, "SUP"): each adds a feature or removes it.
-use Rattle.std.specs.Prelude.{ℕ, ◌==◌, ◌&&◌, not, List, [], ◌∷◌, length, slice_index, codes, Option, Some, None, if◌then◌else◌}
+-- The words of a SUP (ADC 1.0, "SUP"): each adds a feature or removes it.
+use Rattle.std.specs.Prelude.{ℕ, not, List, [], ◌∷◌, take, drop, codes, Option, Some, None, if◌then◌else◌}
 use Rattle.std.specs.Option.{option_map, option_and_then}
 use Rattle.std.specs.Str.{bytes_eq}
 use Rattle.adc_line.specs.Header.{is_feature_name}
@@ -30,19 +30,11 @@ feature_named name =
     else if bytes_eq name (codes "UCM0") then Some ucmd
     else Some name
 
--- what two characters before a feature's name say of it: `AD` or `RM`
-unfoldable pub signed : ℕ → ℕ → List ℕ → Option Mention
-signed first second feature =
-    if first == 65 && second == 68 then Some (Adds feature)
-    else if first == 82 && second == 77 then Some (Removes feature)
-    else None
-
--- what a word says of a feature
+-- what a word says of a feature: `AD` and its name, or `RM` and its name
 unfoldable pub mention_at : List ℕ → Option Mention
 mention_at word =
-    if length word == 6
-    then option_and_then (λ (feature : List ℕ). signed (slice_index word 0) (slice_index word 1) feature)
-    (feature_named (slice_index word 2 ∷ slice_index word 3 ∷ slice_index word 4 ∷ slice_index word 5 ∷ []))
+    if bytes_eq (take 2 word) (codes "AD") then option_map (λ (feature : List ℕ). Adds feature) (feature_named (drop 2 word))
+    else if bytes_eq (take 2 word) (codes "RM") then option_map (λ (feature : List ℕ). Removes feature) (feature_named (drop 2 word))
     else None
 
 -- what words say of features, where each says something

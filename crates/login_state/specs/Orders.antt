@@ -1,14 +1,14 @@
 -- The checks of each command, in the order in which they are looked at (ADC 1.0, "SUP", "INF", "PAS").
 use Rattle.std.specs.Prelude.{ℕ, List, [], ◌∷◌, Option}
+use Rattle.inf_fields.specs.FieldNames.{id_name, nick_name, private_id_name}
 use Rattle.login_state.specs.declared.asks.EntryAsk.{EntryAsk}
 use Rattle.login_state.specs.declared.asks.InfAsk.{InfAsk}
 use Rattle.login_state.specs.declared.asks.UpdateAsk.{UpdateAsk}
 use Rattle.login_state.specs.declared.deny.Deny.{Deny}
 use Rattle.login_state.specs.declared.deny.Deny.TheVariants.{NoBase, NoHash}
-use Rattle.login_state.specs.declared.deny.InfField.TheVariants.{Id, Pid, Nick, ShareSize, SharedFiles}
 use Rattle.login_state.specs.declared.deny.Severity.TheVariants.{Recoverable, Fatal}
 use Rattle.login_state.specs.Mentions.{base, tigr}
-use Rattle.login_state.specs.Rules.{wrong_words, missing, bad_required, bad_field, foreign_pid, bad_nick_of_login, banned, wrong_address, unregistered, nick_taken, cid_taken, foreign_id, bad_nick, account_touched, too_many_fields, unless_supported, wrong_password}
+use Rattle.login_state.specs.Rules.{wrong_words, missing, bad_required, bad_field, foreign_pid, bad_nick_of_login, ban_denial, wrong_address, registration_denial, nick_taken, cid_taken, foreign_id, bad_nick, account_touched, too_many_fields, unless_supported, wrong_password}
 
 -- after a SUP, by the features that are left
 abbrev pub sup_rules : List (List ℕ) → List (Option Deny)
@@ -18,18 +18,17 @@ sup_rules features = unless_supported features base NoBase ∷ unless_supported 
 abbrev pub inf_rules : InfAsk → List (Option Deny)
 inf_rules ask =
     wrong_words ask.words
-    ∷ missing ask.id Id
-    ∷ missing ask.pid Pid
-    ∷ missing ask.nick Nick
-    ∷ bad_required ask.id Id
-    ∷ bad_required ask.pid Pid
-    ∷ bad_field Fatal ask.share_size ShareSize
-    ∷ bad_field Fatal ask.shared_files SharedFiles
+    ∷ missing ask.id id_name
+    ∷ missing ask.pid private_id_name
+    ∷ missing ask.nick nick_name
+    ∷ bad_required ask.id id_name
+    ∷ bad_required ask.pid private_id_name
+    ∷ bad_field Fatal ask.bad_number
     ∷ foreign_pid ask.identity
     ∷ bad_nick_of_login ask.nick
-    ∷ banned ask.entry.ban
+    ∷ ban_denial ask.entry.ban
     ∷ wrong_address Fatal ask.address
-    ∷ unregistered ask.admission
+    ∷ registration_denial ask.admission
     ∷ nick_taken Fatal ask.entry.nick_claim
     ∷ cid_taken ask.entry.cid_claim
     ∷ []
@@ -39,8 +38,7 @@ abbrev pub update_rules : UpdateAsk → List (Option Deny)
 update_rules ask =
     wrong_words ask.words
     ∷ foreign_id ask.identity
-    ∷ bad_field Recoverable ask.share_size ShareSize
-    ∷ bad_field Recoverable ask.shared_files SharedFiles
+    ∷ bad_field Recoverable ask.bad_number
     ∷ bad_nick ask.nick
     ∷ account_touched ask.account
     ∷ wrong_address Recoverable ask.address
@@ -54,4 +52,4 @@ pass_rules expected given = wrong_password expected given ∷ []
 
 -- of a client that wants to enter, once its password was right
 abbrev pub entry_rules : EntryAsk → List (Option Deny)
-entry_rules ask = banned ask.ban ∷ nick_taken Fatal ask.nick_claim ∷ cid_taken ask.cid_claim ∷ []
+entry_rules ask = ban_denial ask.ban ∷ nick_taken Fatal ask.nick_claim ∷ cid_taken ask.cid_claim ∷ []

@@ -1,10 +1,9 @@
 -- Each check by itself: what is denied for what was found (ADC 1.0, "INF", "PAS", "SUP").
 use Rattle.std.specs.Prelude.{ℕ, Bool, true, false, List, codes, Option, Some, None}
 use Rattle.std.specs.Str.{bytes_eq}
+use Rattle.inf_fields.specs.FieldNames.{id_name}
 use Rattle.login_state.specs.declared.deny.Deny.{Deny}
 use Rattle.login_state.specs.declared.deny.Deny.TheVariants as denials
-use Rattle.login_state.specs.declared.deny.InfField.{InfField}
-use Rattle.login_state.specs.declared.deny.InfField.TheVariants.{Id}
 use Rattle.login_state.specs.declared.deny.Severity.{Severity}
 use Rattle.login_state.specs.declared.deny.Severity.TheVariants.{Recoverable, Fatal}
 use Rattle.login_state.specs.declared.findings.Account.{Account}
@@ -31,19 +30,20 @@ abbrev pub wrong_words : Validity → Option Deny
 wrong_words Bad = Some denials.Protocol
 wrong_words Good = None
 
-abbrev pub missing : Required → InfField → Option Deny
+abbrev pub missing : Required → List ℕ → Option Deny
 missing required.Missing field = Some (denials.Missing field)
 missing required.Bad field = None
 missing required.Good field = None
 
-abbrev pub bad_required : Required → InfField → Option Deny
+abbrev pub bad_required : Required → List ℕ → Option Deny
 bad_required required.Missing field = None
 bad_required required.Bad field = Some (denials.BadField Fatal field)
 bad_required required.Good field = None
 
-abbrev pub bad_field : Severity → Validity → InfField → Option Deny
-bad_field severity Bad field = Some (denials.BadField severity field)
-bad_field severity Good field = None
+-- the first of the fields that are numbers whose value is none
+abbrev pub bad_field : Severity → Option (List ℕ) → Option Deny
+bad_field severity None = None
+bad_field severity (Some field) = Some (denials.BadField severity field)
 
 -- the identifier of a login is not the hash of the private one
 abbrev pub foreign_pid : Identity → Option Deny
@@ -53,7 +53,7 @@ foreign_pid Foreign = Some denials.BadPid
 -- the identifier of an update is not the user's own
 abbrev pub foreign_id : Identity → Option Deny
 foreign_id Own = None
-foreign_id Foreign = Some (denials.BadField Recoverable Id)
+foreign_id Foreign = Some (denials.BadField Recoverable id_name)
 
 abbrev pub bad_nick_of_login : Required → Option Deny
 bad_nick_of_login required.Missing = None
@@ -64,18 +64,18 @@ abbrev pub bad_nick : Validity → Option Deny
 bad_nick Bad = Some (denials.BadNick Recoverable)
 bad_nick Good = None
 
-abbrev pub banned : Ban → Option Deny
-banned bans.Free = None
-banned bans.Ever = Some denials.BannedEver
-banned (bans.For seconds) = Some (denials.BannedFor seconds)
+abbrev pub ban_denial : Ban → Option Deny
+ban_denial bans.Free = None
+ban_denial bans.Ever = Some denials.BannedEver
+ban_denial (bans.For seconds) = Some (denials.BannedFor seconds)
 
 abbrev pub wrong_address : Severity → Address → Option Deny
 wrong_address severity Right = None
 wrong_address severity (Wrong peer) = Some (denials.Address severity peer)
 
-abbrev pub unregistered : Admission → Option Deny
-unregistered Admitted = None
-unregistered RegisteredOnly = Some denials.Registered
+abbrev pub registration_denial : Admission → Option Deny
+registration_denial Admitted = None
+registration_denial RegisteredOnly = Some denials.Registered
 
 abbrev pub account_touched : Account → Option Deny
 account_touched Untouched = None

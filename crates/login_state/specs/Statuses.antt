@@ -1,12 +1,11 @@
 -- The parts of a status message (ADC 1.0, "STA"): the digit of its severity, the number of its error and a text, what its flag says.
-use Rattle.std.specs.Prelude.{ℕ, List, [], codes}
+use Rattle.std.specs.Prelude.{ℕ, List, [], codes, Bool, true, false}
 use Rattle.std.specs.Fmt.{decimal}
 use Rattle.login_state.specs.declared.deny.Deny.{Deny}
 use Rattle.login_state.specs.declared.deny.Deny.TheVariants.{Protocol, WrongSid, BadStage, NoBase, NoHash, Missing, BadField, BadPid, BadNick, BannedEver, BannedFor, Address, Registered, NickTaken, CidTaken, Password, Access, SearchSoon, BadCommand, NoUser, NoBan, BansFull}
 use Rattle.login_state.specs.declared.deny.Severity.{Severity}
 use Rattle.login_state.specs.declared.deny.Severity.TheVariants.{Recoverable, Fatal}
-use Rattle.login_state.specs.Denials.{field_name}
-use Rattle.inf_fields.specs.Cleaning.{dotted}
+use Rattle.inf_fields.specs.Cleaning.{dotted_decimal}
 
 abbrev pub severity_digit : Severity → List ℕ
 severity_digit Recoverable = codes "1"
@@ -38,9 +37,31 @@ error_text BansFull = codes "00 Ban\\slist\\sfull"
 
 abbrev pub detail : Deny → List ℕ
 detail (BadStage word) = word
-detail (Missing field) = field_name field
-detail (BadField severity field) = field_name field
+detail (Missing field) = field
+detail (BadField severity field) = field
 detail (BannedFor seconds) = decimal seconds
-detail (Address severity peer) = dotted peer
+detail (Address severity peer) = dotted_decimal peer
 detail (Access word) = word
 detail deny = []
+
+-- how severe a denial is
+abbrev pub severity_of : Deny → Severity
+severity_of WrongSid = Fatal
+severity_of NoBase = Fatal
+severity_of NoHash = Fatal
+severity_of (Missing field) = Fatal
+severity_of (BadField severity field) = severity
+severity_of BadPid = Fatal
+severity_of (BadNick severity) = severity
+severity_of BannedEver = Fatal
+severity_of (BannedFor seconds) = Fatal
+severity_of (Address severity peer) = severity
+severity_of Registered = Fatal
+severity_of (NickTaken severity) = severity
+severity_of CidTaken = Fatal
+severity_of Password = Fatal
+severity_of deny = Recoverable
+
+abbrev pub is_severe : Severity → Bool
+is_severe Recoverable = false
+is_severe Fatal = true

@@ -1,5 +1,5 @@
 -- Which features a client supports (ADC 1.0, "SUP"): those whose last mention adds them.
-use Rattle.std.specs.Prelude.{◌≡◌, ℕ, Bool, true, false, not, List, [], ◌∷◌, ◌++◌}
+use Rattle.std.specs.Prelude.{◌≡◌, ℕ, Bool, true, false, not, List, [], ◌∷◌, ◌++◌, if◌then◌else◌}
 use Rattle.std.specs.List.{list_any, filter, filter_map, flat_map}
 use Rattle.std.specs.Str.{bytes_eq}
 use Rattle.login_state.specs.declared.feature.Mention.{Mention}
@@ -22,37 +22,32 @@ abbrev pub IsLastAdded : List ℕ → List Mention → Type 0
 IsLastAdded feature mentions =
     (before : List Mention) × (after : List Mention) × (mentions ≡ before ++ Adds feature ∷ after) × (is_mentioned feature after ≡ false)
 
--- a feature, unless it is mentioned again
-abbrev pub unless_mentioned : Bool → List ℕ → List (List ℕ)
-unless_mentioned true feature = []
-unless_mentioned false feature = feature ∷ []
-
 -- what a mention adds, if it is the last of its feature
-abbrev pub added : Mention → List Mention → List (List ℕ)
-added (Adds feature) later = unless_mentioned (is_mentioned feature later) feature
-added (Removes feature) later = []
+abbrev pub features_added : Mention → List Mention → List (List ℕ)
+features_added (Adds feature) later = if is_mentioned feature later then [] else feature ∷ []
+features_added (Removes feature) later = []
 
 -- the features whose last mention adds them, the latest of these mentions first
-unfoldable pub supported : List Mention → List (List ℕ)
-supported [] = []
-supported (mention ∷ later) = supported later ++ added mention later
+unfoldable pub features_left : List Mention → List (List ℕ)
+features_left [] = []
+features_left (mention ∷ later) = features_left later ++ features_added mention later
 
 -- those that are not mentioned
-abbrev pub unmentioned : List Mention → List (List ℕ) → List (List ℕ)
-unmentioned mentions features = filter (λ feature. not (is_mentioned feature mentions)) features
+abbrev pub without_mentioned : List Mention → List (List ℕ) → List (List ℕ)
+without_mentioned mentions features = filter (λ feature. not (is_mentioned feature mentions)) features
 
 -- the same where some were supported before: those that are not mentioned stay
 unfoldable pub supported_after : List (List ℕ) → List Mention → List (List ℕ)
-supported_after before mentions = supported mentions ++ unmentioned mentions before
+supported_after before mentions = features_left mentions ++ without_mentioned mentions before
 
 -- what the words of a SUP say
-unfoldable pub said : List (List ℕ) → List Mention
-said words = filter_map mention_at words
+unfoldable pub mentions_in : List (List ℕ) → List Mention
+mentions_in words = filter_map mention_at words
 
 -- what the words of several say, one after another
 abbrev pub all_said : List (List (List ℕ)) → List Mention
-all_said lines = flat_map said lines
+all_said lines = flat_map mentions_in lines
 
 -- the features of a client that sent these SUP: those whose last mention in any of them adds them
 abbrev pub features_of : List (List (List ℕ)) → List (List ℕ)
-features_of lines = supported (all_said lines)
+features_of lines = features_left (all_said lines)

@@ -1,8 +1,8 @@
 ghost use Rattle.std.specs.Prelude.{◌≡◌, ◌++◌, IfOk, OnOk};
-ghost use Rattle.login_state.specs.Denials.{denial_line, field_name, severity_of, is_fatal};
-ghost use Rattle.login_state.specs.Statuses.{severity_digit, error_text, detail};
+ghost use Rattle.login_state.specs.Denials.{denial_line, is_fatal};
+ghost use Rattle.login_state.specs.Statuses.{severity_digit, error_text, detail, severity_of};
 
-use inf_fields::dotted;
+use inf_fields::dotted_decimal;
 use std::alloc::{AllocError, Global};
 
 /// The severity of a status (ADC 1.0, "STA").
@@ -12,21 +12,6 @@ pub enum Severity {
     Recoverable,
     /// 2: the connection is shut out.
     Fatal,
-}
-
-/// A field of an INF of which a denial can speak (ADC 1.0, "INF").
-#[derive(Clone, Copy, Debug, PartialEq, Eq)]
-pub enum InfField {
-    /// ID, the client's identifier.
-    Id,
-    /// PD, the private identifier.
-    Pid,
-    /// NI, the nick.
-    Nick,
-    /// SS, how many bytes are shared.
-    ShareSize,
-    /// SF, how many files are shared.
-    SharedFiles,
 }
 
 /// The reasons for which a line is refused (ADC 1.0, "STA"). The severity stands where a login and an update differ in it.
@@ -42,10 +27,10 @@ pub enum Deny {
     NoBase,
     /// 247: the client does not support TIGR.
     NoHash,
-    /// 243 FM: a field is missing or empty.
-    Missing(InfField),
-    /// 143 or 243, FB: a field is no value of its kind.
-    BadField(Severity, InfField),
+    /// 243 FM: a field, whose name stands here, is missing or empty.
+    Missing([u8; 2]),
+    /// 143 or 243, FB: a field, whose name stands here, is no value of its kind.
+    BadField(Severity, [u8; 2]),
     /// 227: the identifier is not the hash of the private one.
     BadPid,
     /// 121 or 221: the nick is none.
@@ -76,21 +61,6 @@ pub enum Deny {
     NoBan,
     /// 100: as many identifiers are shut out as can be.
     BansFull,
-}
-
-impl InfField {
-    /// Gives the two characters of its name.
-    pub fn name(self) -> [u8; 2]
-        ensures { result ≡ field_name self }
-    {
-        match self {
-            InfField::Id => *b"ID",
-            InfField::Pid => *b"PD",
-            InfField::Nick => *b"NI",
-            InfField::ShareSize => *b"SS",
-            InfField::SharedFiles => *b"SF",
-        }
-    }
 }
 
 impl Deny {
@@ -125,6 +95,7 @@ impl Deny {
     }
 
     /// Tests whether it shuts the connection out.
+    #[tactic(auto, using(crate::proofs::StatusParts::fatal_by_severity))]
     pub fn is_fatal(self) -> bool
         ensures { result ≡ is_fatal self }
     {
@@ -184,12 +155,14 @@ impl Deny {
         match self {
             Deny::BadStage(word) => line.extend_from_slice(&word),
             Deny::Access(word) => line.extend_from_slice(&word),
-            Deny::Missing(field) => line.extend_from_slice(&field.name()),
-            Deny::BadField(_, field) => line.extend_from_slice(&field.name()),
+            Deny::Missing(name) => line.extend_from_slice(&name),
+            Deny::BadField(_, name) => line.extend_from_slice(&name),
             Deny::BannedFor(seconds) => {
                 line.extend_from_slice(format!(in alloc; "{seconds}")?.as_bytes())
             }
-            Deny::Address(_, peer) => line.extend_from_slice(dotted(alloc, peer)?.as_bytes()),
+            Deny::Address(_, peer) => line.extend_from_slice(dotted_decimal(
+                alloc, peer,
+            )?.as_bytes()),
             _ => Ok(()),
         }
     }

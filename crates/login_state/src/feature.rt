@@ -1,5 +1,6 @@
 ghost use Rattle.std.specs.Prelude.{◌≡◌};
-ghost use Rattle.login_state.specs.Mentions.{base, tigr, ping, ucmd, feature_named, signed, mention_at};
+ghost use Rattle.login_state.specs.Signs.{read_mention, mention_with_sign};
+ghost use Rattle.login_state.specs.Mentions.{base, tigr, ping, ucmd, feature_named, mention_at};
 
 use adc_line::is_feature_name;
 use std::marker::Model;
@@ -52,7 +53,7 @@ impl Feature {
     /// Gives the feature of a name, a letter A to Z and three letters or digits, where it is one. `BAS0` and `UCM0` are
     /// early names of BASE and UCMD.
     #[tactic(auto, unfolding(crate::specs::Mentions::feature_named))]
-    pub fn named(name: [u8; 4]) -> Option<Feature>
+    pub fn of_name(name: [u8; 4]) -> Option<Feature>
         ensures { result ≡ feature_named name }
     {
         if !is_feature_name(&name) {
@@ -85,20 +86,25 @@ pub enum Mention {
 }
 
 /// Reads a word: `AD` or `RM`, and a feature's name.
-#[tactic(auto, unfolding(crate::specs::Mentions::mention_at))]
 pub(crate) fn mention_at(word: &[u8]) -> Option<Mention>
     ensures { result ≡ mention_at word.now }
+{
+    read_mention(word)
+}
+
+fn read_mention(word: &[u8]) -> Option<Mention>
+    ensures { result ≡ read_mention word.now }
 {
     let [first, second, a, b, c, d] = word else {
         return None;
     };
-    let feature = Feature::named([*a, *b, *c, *d])?;
-    signed(*first, *second, feature)
+    let feature = Feature::of_name([*a, *b, *c, *d])?;
+    mention_of(*first, *second, feature)
 }
 
-#[tactic(auto, unfolding(crate::specs::Mentions::signed))]
-fn signed(first: u8, second: u8, feature: Feature) -> Option<Mention>
-    ensures { result ≡ signed first second feature }
+#[tactic(auto, unfolding(crate::specs::Signs::mention_with_sign))]
+fn mention_of(first: u8, second: u8, feature: Feature) -> Option<Mention>
+    ensures { result ≡ mention_with_sign first second feature }
 {
     match (first, second) {
         (b'A', b'D') => Some(Mention::Adds(feature)),

@@ -1,8 +1,8 @@
 ghost use Rattle.std.specs.Prelude.{◌≡◌, ℕ, List, [], ◌∷◌, ◌++◌, ◌↔◌, ◌||◌, false, not, IfOk, OnOk, IsTrue};
 ghost use Rattle.adc_line.specs.WordsLeft.{words_left};
 ghost use Rattle.login_state.specs.Seen.{is_in, unseen};
-ghost use Rattle.login_state.specs.Support.{has_feature, is_mentioned, speaks_of, added, features_of, all_said, said, supported, supported_after, IsLastAdded};
-ghost use Rattle.login_state.specs.SupportAnswers.{are_mentions, applied, Gives, GoesOnLineByLine};
+ghost use Rattle.login_state.specs.Support.{has_feature, is_mentioned, speaks_of, features_added, features_of, all_said, mentions_in, features_left, supported_after, IsLastAdded};
+ghost use Rattle.login_state.specs.SupportAnswers.{are_mentions, support_after, Gives, GoesOnLineByLine};
 ghost use Rattle.std.specs.List.{IsDistinct};
 ghost use Rattle.std.specs.Str.{bytes_eq};
 
@@ -52,15 +52,15 @@ impl Features {
     /// Refused with the first of these that applies: `Bad` where a word is no mention of a feature, `TooMany` where more
     /// than 64 features are left after the whole line. `Memory` comes last.
     pub fn apply(&self, alloc: Global, words: Words<'_>) -> Result<Features, SupFault>
-        ensures exact { Gives result (applied self.now (words_left words.entry)) }
+        ensures exact { Gives result (support_after self.now (words_left words.entry)) }
         ensures line_by_line { GoesOnLineByLine self.now (words_left words.entry) result }
     {
         self.read(alloc, words)
     }
 
-    #[tactic(auto, unfolding(crate::specs::SupportAnswers::applied))]
+    #[tactic(auto, unfolding(crate::specs::SupportAnswers::support_after))]
     fn read(&self, alloc: Global, words: Words<'_>) -> Result<Features, SupFault>
-        ensures { Gives result (applied self.now (words_left words.entry)) }
+        ensures { Gives result (support_after self.now (words_left words.entry)) }
     {
         if !are_mentions(words) {
             return Err(SupFault::Bad);
@@ -105,9 +105,9 @@ fn are_mentions(words: Words<'_>) -> bool
 }
 
 /// Reads the words, one after another.
-#[tactic(auto, unfolding(crate::specs::Support::said))]
+#[tactic(auto, unfolding(crate::specs::Support::mentions_in))]
 fn mentions(alloc: Global, words: Words<'_>) -> Result<Vec<Mention>, AllocError>
-    ensures { IfOk result (λ mentions. mentions.items ≡ said (words_left words.entry)) }
+    ensures { IfOk result (λ mentions. mentions.items ≡ mentions_in (words_left words.entry)) }
 {
     let mut mentions = Vec::new(alloc);
     for word in words {
@@ -145,7 +145,7 @@ fn last_added(
     seen: &mut BTreeSet<[u8; 4]>,
 ) -> Result<Vec<Feature>, AllocError>
     requires { (feature : List ℕ) → is_in seen.old feature ≡ false }
-    ensures names { IfOk result (λ names. names.items ≡ supported mentions.items) }
+    ensures names { IfOk result (λ names. names.items ≡ features_left mentions.items) }
     ensures seen { OnOk result ((feature : List ℕ) → is_in seen.new feature ≡ is_mentioned feature mentions.items) }
 {
     let mut names = Vec::new(alloc);
@@ -162,7 +162,7 @@ fn note(
     seen: &mut BTreeSet<[u8; 4]>,
     mention: Mention,
 ) -> Result<(), AllocError>
-    ensures names { OnOk result (names.new.items ≡ names.old.items ++ unseen (is_in seen.old) (added mention [])) }
+    ensures names { OnOk result (names.new.items ≡ names.old.items ++ unseen (is_in seen.old) (features_added mention [])) }
     ensures seen { OnOk result ((other : List ℕ) → is_in seen.new other ≡ (is_in seen.old other || speaks_of other mention)) }
 {
     match mention {

@@ -3,21 +3,21 @@
 
 mod asks;
 mod checks;
-mod commands;
 mod deny;
 mod fault;
 mod feature;
 mod features;
 mod findings;
+mod request;
 mod rules;
 mod stage;
 
 pub use asks::{EntryAsk, InfAsk, UpdateAsk};
 pub use checks::{Check, check_entry, check_inf, check_pass, check_sup, check_update};
-pub use commands::is_hub_command;
-pub use deny::{Deny, InfField, Severity};
+pub use deny::{Deny, Severity};
 pub use fault::SupFault;
 pub use feature::Feature;
 pub use features::Features;
 pub use findings::{Account, Address, Admission, Ban, Claim, Identity, Required, Size, Validity};
+pub use request::Request;
 pub use stage::Stage;

@@ -1,10 +1,11 @@
 ghost use Rattle.std.specs.Prelude.{◌≡◌};
-ghost use Rattle.login_state.specs.Rules.{wrong_words, missing, bad_required, bad_field, foreign_pid, bad_nick_of_login, banned, wrong_address, unregistered, nick_taken, cid_taken, foreign_id, bad_nick, account_touched, too_many_fields};
+ghost use Rattle.login_state.specs.Rules.{wrong_words, missing, bad_required, bad_field, foreign_pid, bad_nick_of_login, ban_denial, wrong_address, registration_denial, nick_taken, cid_taken, foreign_id, bad_nick, account_touched, too_many_fields};
 
-use crate::deny::{Deny, InfField, Severity};
+use crate::deny::{Deny, Severity};
 use crate::findings::{
     Account, Address, Admission, Ban, Claim, Identity, Required, Size, Validity,
 };
+use inf_fields::FieldName;
 
 pub(crate) fn wrong_words(words: Validity) -> Option<Deny>
     ensures { result ≡ wrong_words words }
@@ -15,30 +16,30 @@ pub(crate) fn wrong_words(words: Validity) -> Option<Deny>
     }
 }
 
-pub(crate) fn missing(found: Required, field: InfField) -> Option<Deny>
+pub(crate) fn missing(found: Required, field: FieldName) -> Option<Deny>
     ensures { result ≡ missing found field }
 {
     match found {
-        Required::Missing => Some(Deny::Missing(field)),
+        Required::Missing => Some(Deny::Missing(field.bytes())),
         Required::Bad | Required::Good => None,
     }
 }
 
-pub(crate) fn bad_required(found: Required, field: InfField) -> Option<Deny>
+pub(crate) fn bad_required(found: Required, field: FieldName) -> Option<Deny>
     ensures { result ≡ bad_required found field }
 {
     match found {
-        Required::Bad => Some(Deny::BadField(Severity::Fatal, field)),
+        Required::Bad => Some(Deny::BadField(Severity::Fatal, field.bytes())),
         Required::Missing | Required::Good => None,
     }
 }
 
-pub(crate) fn bad_field(severity: Severity, found: Validity, field: InfField) -> Option<Deny>
-    ensures { result ≡ bad_field severity found field }
+pub(crate) fn bad_field(severity: Severity, bad: Option<FieldName>) -> Option<Deny>
+    ensures { result ≡ bad_field severity bad }
 {
-    match found {
-        Validity::Bad => Some(Deny::BadField(severity, field)),
-        Validity::Good => None,
+    match bad {
+        Some(field) => Some(Deny::BadField(severity, field.bytes())),
+        None => None,
     }
 }
 
@@ -57,7 +58,7 @@ pub(crate) fn foreign_id(identity: Identity) -> Option<Deny>
     ensures { result ≡ foreign_id identity }
 {
     match identity {
-        Identity::Foreign => Some(Deny::BadField(Severity::Recoverable, InfField::Id)),
+        Identity::Foreign => Some(Deny::BadField(Severity::Recoverable, FieldName::id().bytes())),
         Identity::Own => None,
     }
 }
@@ -80,8 +81,8 @@ pub(crate) fn bad_nick(nick: Validity) -> Option<Deny>
     }
 }
 
-pub(crate) fn banned(ban: Ban) -> Option<Deny>
-    ensures { result ≡ banned ban }
+pub(crate) fn ban_denial(ban: Ban) -> Option<Deny>
+    ensures { result ≡ ban_denial ban }
 {
     match ban {
         Ban::Free => None,
@@ -99,8 +100,8 @@ pub(crate) fn wrong_address(severity: Severity, address: Address) -> Option<Deny
     }
 }
 
-pub(crate) fn unregistered(admission: Admission) -> Option<Deny>
-    ensures { result ≡ unregistered admission }
+pub(crate) fn registration_denial(admission: Admission) -> Option<Deny>
+    ensures { result ≡ registration_denial admission }
 {
     match admission {
         Admission::RegisteredOnly => Some(Deny::Registered),

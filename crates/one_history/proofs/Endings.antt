@@ -7,9 +7,9 @@ use lib.ListN.{get_elem?}
 use Rattle.atomic_table.specs.Table.{Final, Seen}
 use Rattle.atomic_table.specs.Seated.{TableId}
 use Rattle.one_history.specs.Histories.{Begins, entries}
-use Rattle.one_history.specs.States.{HostState, Gone}
+use Rattle.one_history.specs.States.{HostState, Caller}
 use Rattle.one_history.specs.Rule.{Kept}
-use Rattle.one_history.specs.Seats.{host_of, gone_in}
+use Rattle.one_history.specs.Seats.{host_of, callers_in}
 use Rattle.one_history.specs.Settled.{numbers, Settles}
 use Rattle.one_history.specs.declared.view.View.{View}
 use Rattle.one_history.specs.declared.view.Claim.{Claim}
@@ -17,13 +17,13 @@ use Rattle.one_history.proofs.Seating.{Ends, closes}
 use Rattle.one_history.proofs.Seats.{gathered_count}
 
 module _ {E : Type 0} where
-  all_gone : (P : Gone E → Type 0) (cs : List (Claim E)) → All (λ c. P record { number = c.number; seen = c.since; mine = c.mine }) cs → All P (gone_in cs)
+  all_gone : (P : Caller E → Type 0) (cs : List (Claim E)) → All (λ c. P record { number = c.number; seen = c.since; mine = c.mine }) cs → All P (callers_in cs)
   all_gone P [] all = All-nil P
   all_gone P (c ∷ cs) all =
       let Q : Claim E → Type 0 = λ d. P record { number = d.number; seen = d.since; mine = d.mine } in
-      All-cons P record { number = c.number; seen = c.since; mine = c.mine } (gone_in cs) (All-head Q c cs all) (all_gone P cs (All-tail Q c cs all))
+      All-cons P record { number = c.number; seen = c.since; mine = c.mine } (callers_in cs) (All-head Q c cs all) (all_gone P cs (All-tail Q c cs all))
 
-  numbers_gone : (cs : List (Claim E)) → map (λ (c : Claim E). c.number) cs ≡ numbers (gone_in cs)
+  numbers_gone : (cs : List (Claim E)) → map (λ (c : Claim E). c.number) cs ≡ numbers (callers_in cs)
   numbers_gone [] = refl
   numbers_gone (c ∷ cs) = ap (λ ps. c.number ∷ ps) (numbers_gone cs)
 

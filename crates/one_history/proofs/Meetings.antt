@@ -1,4 +1,4 @@
--- What two callers learn when their seats are one for a moment.
+-- The knowledge of two callers whose seats are one for a moment.
 use Rattle.std.proofs.Common.{◌≡◌, ℕ, Option, Some, List, [], ◌∷◌, ◌++◌, sym, ap, ◌∙◌, subst, false}
 use Rattle.std.proofs.lemmas.List.Elements.{All-head, All-tail}
 use Rattle.std.specs.List.{All}

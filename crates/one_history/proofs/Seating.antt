@@ -49,7 +49,7 @@ few_of p (c ∷ cs) =
     (λ same. omega (arith, is_of-same p c same, few_of p cs))
     (λ other. omega (arith, is_of-other p c other, few_of p cs))
 
--- What the end shows: the value, and one legal history at which it stands. It has the entries of the callers whom the host gathered, and no others
+-- The end shows the value, and one legal history at which it stands. It has the entries of the callers whom the host gathered, and no others
 pub record Ends {T E A : Type 0} (by : E → ℕ) (legal : List E → Type 0) (stands : T → List E → Type 0) (v : View E A) (xs : List (Option T)) : Type 0 where
   pub log : List E
   pub value : T

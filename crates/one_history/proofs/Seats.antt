@@ -7,12 +7,12 @@ use Rattle.atomic_table.specs.Seated.{TableId}
 use Rattle.one_history.specs.Histories.{entries}
 use Rattle.one_history.specs.Claims.{claim, added, Agrees}
 use Rattle.one_history.specs.States.{LockState, Home, SeatState, HostState, IsHolderAt, IsIdleAt}
-use Rattle.one_history.specs.Seats.{seat_of, host_of, IsIdle, number_in, mine_in, gone_in, carried, IsSeat, HasValue, IsUnchanged, IsReady}
+use Rattle.one_history.specs.Seats.{seat_of, host_of, IsIdle, number_in, mine_in, callers_in, carried, IsSeat, HasValue, IsUnchanged, IsReady}
 use Rattle.one_history.specs.Plays.{Seizes, with_entry}
 use Rattle.one_history.specs.declared.view.View.{View}
 use Rattle.one_history.specs.declared.view.Claim.{Claim}
 
-pub length-gone : {E : Type 0} (cs : List (Claim E)) → length (gone_in cs) ≡ length cs
+pub length-gone : {E : Type 0} (cs : List (Claim E)) → length (callers_in cs) ≡ length cs
 length-gone [] = refl
 length-gone (c ∷ cs) = ap suc (length-gone cs)
 

@@ -1,4 +1,4 @@
--- What each step tells its caller, and how views are cut in two and put together.
+-- The knowledge that each step gives its caller, and how views are cut in two and put together.
 use Rattle.std.specs.Prelude.{◌≡◌, ◌≢◌, ℕ, ◌+◌, true, false, Option, Some, List, [], ◌∷◌, ◌++◌}
 use Rattle.atomic_table.specs.Table.{Me, Step}
 use Rattle.one_history.specs.Histories.{Begins, longer}

@@ -1,8 +1,8 @@
--- How what a seat knows shows as the state that contracts see.
+-- The knowledge of a seat, as the state that contracts see.
 use Rattle.std.specs.Prelude.{◌≡◌, ℕ, Bool, true, false, Option, Some, None, List, [], ◌∷◌, length}
 use Rattle.atomic_table.specs.Table.{Me}
 use Rattle.atomic_table.specs.Seated.{TableId}
-use Rattle.one_history.specs.States.{SeatState, HostState, Gone}
+use Rattle.one_history.specs.States.{SeatState, HostState, Caller}
 use Rattle.one_history.specs.declared.view.View.{View}
 use Rattle.one_history.specs.declared.view.Claim.{Claim}
 
@@ -19,16 +19,16 @@ module _ {E : Type 0} where
   mine_in [] = []
   mine_in (c ∷ cs) = c.mine
 
-  abbrev pub gone_in : List (Claim E) → List (Gone E)
-  gone_in [] = []
-  gone_in (c ∷ cs) = record { number = c.number; seen = c.since; mine = c.mine } ∷ gone_in cs
+  abbrev pub callers_in : List (Claim E) → List (Caller E)
+  callers_in [] = []
+  callers_in (c ∷ cs) = record { number = c.number; seen = c.since; mine = c.mine } ∷ callers_in cs
 
 module _ {E A : Type 0} where
   abbrev pub seat_of : TableId → View E A → SeatState E A
   seat_of z v = record { home = record { table = z; about = v.about }; number = number_in v.claims; seen = v.seen; mine = mine_in v.claims; holds = v.busy }
 
   abbrev pub host_of : TableId → View E A → HostState E A
-  host_of z v = record { home = record { table = z; about = v.about }; admitted = v.count; gathered = gone_in v.claims }
+  host_of z v = record { home = record { table = z; about = v.about }; admitted = v.count; gathered = callers_in v.claims }
 
 module _ {T : Type 0} where
   -- the slots that a seat has: the one slot, whose value is outside, where it holds

@@ -1,4 +1,4 @@
--- What a contract sees of a lock, of a caller's seat and of the host: plain data, which names no field of theirs.
+-- A lock, a caller's seat and the host, as contracts see them: plain data, which names no field of theirs.
 use Rattle.std.specs.Prelude.{◌≡◌, ℕ, Bool, true, false, Option, Some, List, [], map}
 use Rattle.atomic_table.specs.Seated.{TableId}
 
@@ -23,8 +23,8 @@ pub record SeatState (E A : Type 0) : Type 0 where
   pub mine : List E
   pub holds : Bool
 
--- a caller that has given its seat back
-pub record Gone (E : Type 0) : Type 0 where
+-- a caller: its number, the beginning of the history that it has seen, and its own entries
+pub record Caller (E : Type 0) : Type 0 where
   pub number : ℕ
   pub seen : List E
   pub mine : List E
@@ -33,7 +33,7 @@ pub record Gone (E : Type 0) : Type 0 where
 pub record HostState (E A : Type 0) : Type 0 where
   pub home : Home A
   pub admitted : ℕ
-  pub gathered : List (Gone E)
+  pub gathered : List (Caller E)
 
 module _ {E A : Type 0} where
   -- a seat whose caller has seen nothing and made nothing
@@ -44,12 +44,12 @@ module _ {E A : Type 0} where
   abbrev pub first_host : LockState A → HostState E A
   first_host l = record { home = home_of l; admitted = 0; gathered = [] }
 
-  abbrev pub gone : SeatState E A → Gone E
-  gone s = record { number = s.number; seen = s.seen; mine = s.mine }
+  abbrev pub caller_of : SeatState E A → Caller E
+  caller_of s = record { number = s.number; seen = s.seen; mine = s.mine }
 
   -- the callers whose seats these have
-  abbrev pub callers_of : {S : Type 0} → (S → SeatState E A) → List S → List (Gone E)
-  callers_of seat all = map (λ s. gone (seat s)) all
+  abbrev pub callers_of : {S : Type 0} → (S → SeatState E A) → List S → List (Caller E)
+  callers_of seat all = map (λ s. caller_of (seat s)) all
 
   -- the seat belongs to this lock and doesn't hold the value
   abbrev pub IsIdleAt : LockState A → SeatState E A → Type 0

@@ -34,7 +34,7 @@ impl<T: Recorded<E, A>, E, A> Lock<T, E, A> {
             Settles T.by (T.legal self.about) (T.stands self.about value) all) }
         ensures back { IfErr result (λ r. (r.lock ≡ self) × (r.host ≡ host) × (r.seats.items ≡ seats.items)) }
     {
-        if host.admitted().checked_sub(host.gathered()) != Some(seats.len() as u64) {
+        if host.admitted().checked_sub(host.gathered_seats()) != Some(seats.len() as u64) {
             return Err(NotAlone {
                 lock: self,
                 host,

@@ -1,12 +1,11 @@
 ghost use Rattle.std.specs.Prelude.{◌≡◌, ℕ, ◌+◌, ◌^◌, ◌<◌, ◌∷◌, length};
-ghost use Rattle.one_history.specs.States.{home_of, newcomer, gone, IsIdleAt};
+ghost use Rattle.one_history.specs.States.{home_of, newcomer, caller_of, IsIdleAt};
 ghost use Rattle.one_history.specs.Seats.{host_of, IsIdle};
 
-use crate::lock::Lock;
+use crate::lock::{Lock, Place};
 use crate::rule::Recorded;
 use crate::seat::Seat;
 use crate::steps::{Admits, Gathers};
-use crate::word::Place;
 use std::marker::Model;
 
 /// The one seat that admits callers and takes their seats back. Contracts see how many it has
@@ -37,7 +36,7 @@ impl<T, E, A> Host<T, E, A> {
     }
 
     /// Counts those who have given their seats back.
-    pub fn gathered(&self) -> u64
+    pub fn gathered_seats(&self) -> u64
         ensures { result ≡ length self.now.gathered }
     {
         self.gathered
@@ -76,7 +75,7 @@ impl<T: Recorded<E, A>, E, A> Host<T, E, A> {
         requires here { self.old.home ≡ home_of lock.now }
         requires idle { IsIdleAt lock.now seat }
         requires room { length self.old.gathered + 1 < 2 ^ 64 }
-        ensures { self.new ≡ record self.old { gathered = gone seat ∷ self.old.gathered } }
+        ensures { self.new ≡ record self.old { gathered = caller_of seat ∷ self.old.gathered } }
     {
         lock.table
             .shared

@@ -10,7 +10,6 @@ mod rule;
 mod seat;
 mod steps;
 mod view;
-mod word;
 
 pub use close::NotAlone;
 pub use host::Host;

@@ -1,14 +1,17 @@
-ghost use Rattle.std.specs.Prelude.{◌≡◌, true, false, ◌∷◌};
+ghost use Rattle.std.specs.Prelude.{◌≡◌, true, false, ◌∷◌, ◌<◌, [], length, MatchBool, Some};
 ghost use Rattle.one_history.specs.Histories.{Begins, entries};
 ghost use Rattle.one_history.specs.States.{IsIdleAt, IsHolderAt};
-ghost use Rattle.one_history.specs.Seats.{IsOne};
+ghost use Rattle.one_history.specs.Seats.{IsOne, IsIdle, IsReady, IsUnchanged};
+ghost use Rattle.one_history.specs.Rule.{Fair};
+ghost use Rattle.one_history.specs.Plays.{Seizes, with_entry, without_entry};
 
 use crate::rule::{OneHistory, Recorded, Told};
 use crate::seat::Seat;
+use crate::steps::{Gives, PutsBack, Takes};
 use crate::view::View;
-use crate::word::{release, release_with, seize};
-use atomic_table::Table;
+use atomic_table::{Shared, Table};
 use std::alloc::Global;
+use std::hint::spin_loop;
 use std::marker::Model;
 use std::sync::Wait;
 
@@ -91,5 +94,129 @@ impl<T: Recorded<E, A> + Drop, E, A> Drop for Lock<T, E, A> {
     fn drop(self) {
         let Lock { table } = self;
         drop(table);
+    }
+}
+
+// The word: 0 free, 1 taken, 2 taken while other threads sleep until it is given back.
+// The table as threads share it, and a seat at it.
+pub(crate) type Board<T, E, A> = Shared<Option<T>, View<E, A>, A, OneHistory>;
+
+pub(crate) type Place<T, E, A> = atomic_table::Seat<Option<T>, View<E, A>>;
+
+pub(crate) const FREE: u64 = 0;
+
+const TAKEN: u64 = 1;
+
+const AWAITED: u64 = 2;
+
+// The looks of a thread at the word before it sleeps. Most holders are done sooner than a sleep
+// and a wake take.
+const LOOKS: u32 = 100;
+
+// Takes the word, and with it the slot. Sleeps while another seat has them.
+pub(crate) fn seize<T: Recorded<E, A>, E, A, R: Wait>(
+    rt: &R,
+    board: &Board<T, E, A>,
+    place: &mut Place<T, E, A>,
+)
+    requires one { IsOne board.now.table_id }
+    requires here { place.old.table_id ≡ board.now.table_id }
+    requires idle { IsIdle place.old.me }
+    requires caller { 0 < length place.old.me.0.claims }
+    ensures same { (place.new.table_id ≡ place.old.table_id) × (place.new.id ≡ place.old.id) }
+    ensures seized { Seizes T.by T.legal T.stands place.old.me place.new.me }
+{
+    if watch(board, place) {
+        return;
+    }
+    for _ in rt.forever() {
+        if claim(board, place) {
+            return;
+        }
+        board.park(rt, 0, AWAITED as u32);
+    }
+    unreachable!()
+}
+
+// Takes the word where it is found free within a bounded number of looks.
+fn watch<T: Recorded<E, A>, E, A>(board: &Board<T, E, A>, place: &mut Place<T, E, A>) -> bool
+    requires one { IsOne board.now.table_id }
+    requires here { place.old.table_id ≡ board.now.table_id }
+    requires idle { IsIdle place.old.me }
+    requires caller { 0 < length place.old.me.0.claims }
+    ensures same { (place.new.table_id ≡ place.old.table_id) × (place.new.id ≡ place.old.id) }
+    ensures seized { let seized = Seizes T.by T.legal T.stands place.old.me place.new.me in
+        MatchBool result seized (place.new.me ≡ place.old.me) }
+{
+    if attempt(board, place) {
+        return true;
+    }
+    for _ in 0..LOOKS {
+        spin_loop();
+        if board.peek(0) == FREE && attempt(board, place) {
+            return true;
+        }
+    }
+    false
+}
+
+// Takes the word if it is free.
+fn attempt<T: Recorded<E, A>, E, A>(board: &Board<T, E, A>, place: &mut Place<T, E, A>) -> bool
+    requires one { IsOne board.now.table_id }
+    requires here { place.old.table_id ≡ board.now.table_id }
+    requires idle { IsIdle place.old.me }
+    requires caller { 0 < length place.old.me.0.claims }
+    ensures same { (place.new.table_id ≡ place.old.table_id) × (place.new.id ≡ place.old.id) }
+    ensures seized { let seized = Seizes T.by T.legal T.stands place.old.me place.new.me in
+        MatchBool result seized (place.new.me ≡ place.old.me) }
+{
+    board.compare_exchange::<Takes>(place, 0, FREE, TAKEN) == FREE
+}
+
+// Takes the word if it is free. Where it is taken, whoever gives it back is told that somebody waits.
+fn claim<T: Recorded<E, A>, E, A>(board: &Board<T, E, A>, place: &mut Place<T, E, A>) -> bool
+    requires one { IsOne board.now.table_id }
+    requires here { place.old.table_id ≡ board.now.table_id }
+    requires idle { IsIdle place.old.me }
+    requires caller { 0 < length place.old.me.0.claims }
+    ensures same { (place.new.table_id ≡ place.old.table_id) × (place.new.id ≡ place.old.id) }
+    ensures seized { let seized = Seizes T.by T.legal T.stands place.old.me place.new.me in
+        MatchBool result seized (place.new.me ≡ place.old.me) }
+{
+    board.swap::<Takes>(place, 0, AWAITED) == FREE
+}
+
+// Gives the word and the slot back with an entry.
+pub(crate) fn release_with<B: Told<E>, T: Recorded<E, A>, E, A>(
+    board: &Board<T, E, A>,
+    place: &mut Place<T, E, A>,
+)
+    requires one { IsOne board.now.table_id }
+    requires here { place.old.table_id ≡ board.now.table_id }
+    requires ready { IsReady T.by T.legal T.stands B.entry place.old.me }
+    ensures same { (place.new.table_id ≡ place.old.table_id) × (place.new.id ≡ place.old.id) }
+    ensures added { place.new.me ≡ with_entry B.entry place.old.me }
+    ensures fair { (a : A) → place.old.me.0.about ≡ Some a → Fair T.by (T.legal a) place.new.me.0 }
+{
+    wake_after(board, board.swap::<Gives<B>>(place, 0, FREE));
+}
+
+// Gives both back unchanged.
+pub(crate) fn release<T: Recorded<E, A>, E, A>(board: &Board<T, E, A>, place: &mut Place<T, E, A>)
+    requires one { IsOne board.now.table_id }
+    requires here { place.old.table_id ≡ board.now.table_id }
+    requires ready { IsUnchanged T.stands place.old.me }
+    ensures same { (place.new.table_id ≡ place.old.table_id) × (place.new.id ≡ place.old.id) }
+    ensures returned { place.new.me ≡ without_entry place.old.me }
+{
+    wake_after(board, board.swap::<PutsBack>(place, 0, FREE));
+}
+
+// Wakes one thread, where the word said that some sleep.
+fn wake_after<T: Recorded<E, A>, E, A>(board: &Board<T, E, A>, found: u64)
+    requires { IsOne board.now.table_id }
+{
+    if found == AWAITED {
+        board.wake_one(0);
     }
 }

@@ -5,11 +5,10 @@ ghost use Rattle.one_history.specs.Rule.{Fair};
 ghost use Rattle.one_history.specs.Plays.{paired};
 ghost use Rattle.one_history.specs.Seats.{IsOne, IsIdle};
 
-use crate::lock::Lock;
+use crate::lock::{Board, Lock, Place};
 use crate::rule::Recorded;
 use crate::seat::Seat;
 use crate::steps::{Looks, Meets};
-use crate::word::{Board, Place};
 
 impl<T: Recorded<E, A>, E, A> Lock<T, E, A> {
     /// Lets two callers compare what they have seen. Both seats come back, in the order given. Each

@@ -2,9 +2,8 @@ ghost use Rattle.std.specs.Prelude.{◌≡◌, ◌∷◌, [], Some, IfOk, IfErr}
 ghost use Rattle.one_history.specs.States.{first_host};
 
 use crate::host::Host;
-use crate::lock::Lock;
+use crate::lock::{FREE, Lock};
 use crate::rule::Recorded;
-use crate::word::FREE;
 use atomic_table::{Refused, Table};
 use std::alloc::{AllocFailed, Global};
 
@@ -22,7 +21,7 @@ impl<T: Recorded<E, A>, E, A> Lock<T, E, A> {
         ensures host { IfOk result (λ r. r.1 ≡ first_host r.0) }
         ensures back { IfErr result (λ r. r.value ≡ value) }
     {
-        let slots = filled(alloc, value)?;
+        let slots = slot_with(alloc, value)?;
         match Table::new(alloc, &[FREE], slots, about) {
             Ok((table, place)) => Ok((
                 Lock { table },
@@ -33,14 +32,14 @@ impl<T: Recorded<E, A>, E, A> Lock<T, E, A> {
                 },
             )),
             Err(Refused { slots }) => Err(AllocFailed {
-                value: emptied(slots),
+                value: value_in_slot(slots),
             }),
         }
     }
 }
 
 // Makes the one slot, with the value.
-fn filled<T>(alloc: Global, value: T) -> Result<Vec<Option<T>>, AllocFailed<T>>
+fn slot_with<T>(alloc: Global, value: T) -> Result<Vec<Option<T>>, AllocFailed<T>>
     ensures ok { IfOk result (λ slots. slots.items ≡ Some value ∷ []) }
     ensures back { IfErr result (λ r. r.value ≡ value) }
 {
@@ -56,7 +55,7 @@ fn filled<T>(alloc: Global, value: T) -> Result<Vec<Option<T>>, AllocFailed<T>>
 }
 
 // Gives the value of the one slot.
-fn emptied<T>(mut slots: Vec<Option<T>>) -> T
+fn value_in_slot<T>(mut slots: Vec<Option<T>>) -> T
     requires { (value : T) × (slots.items ≡ Some value ∷ []) }
     ensures { slots.items ≡ Some result ∷ [] }
 {

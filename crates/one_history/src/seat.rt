@@ -1,7 +1,7 @@
 ghost use Rattle.std.specs.Prelude.{◌≡◌};
 ghost use Rattle.one_history.specs.Seats.{seat_of, IsSeat};
 
-use crate::word::Place;
+use crate::lock::Place;
 use std::marker::Model;
 
 /// A caller's seat at a lock. It has no bytes. Contracts see the caller's number, the beginning of

@@ -1,4 +1,4 @@
--- How a text is cut into its words, and its words make the text again.
+-- The cut of a text into words, which make the text again.
 use Rattle.std.proofs.Common.{◌≡◌, ◌∙◌, sym, ap, ap₂, ℕ, ◌<◌, ◌≤◌, List, [], ◌∷◌, length, Option, Some, None, Ok, Bor, not, arith}
 use Rattle.std.specs.Prelude.{ok_or, option_copied, unwrap_or}
 use Rattle.std.specs.List.{before_first, after_first, position_or_len}

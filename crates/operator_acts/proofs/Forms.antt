@@ -1,7 +1,8 @@
 -- The forms of acts, word by word.
 use Rattle.std.proofs.Common.{◌≡◌, ◌∙◌, sym, ap, refl, subst, ℕ, ◌≤◌, true, false, List, [], ◌∷◌, length, Option, Some, None, Result, Ok, Err, Bor, arith}
-use Rattle.std.specs.Prelude.{chars, is_some, IsErrAnd, ok_or, option_copied}
+use Rattle.std.specs.Prelude.{chars, is_some, IsErrAnd, ok_or, option_copied, option_map}
 use Rattle.std.proofs.lemmas.Bool.{false≢true}
+use Rattle.adc_base32.specs.Spelled.{spelled_bytes}
 use Rattle.adc_ids.specs.declared.nick.NickFault.{NickFault}
 use Rattle.adc_ids.specs.declared.nick.NickFault.TheVariants as nicks
 use Rattle.adc_ids.specs.Nicks.{is_nick}
@@ -59,6 +60,9 @@ unban-by word (x ∷ xs) some = refl
 pub unban-some : (ws : List (List ℕ)) (word : List ℕ) (more : Option (Bor (List ℕ))) → ws ≡ word ∷ words_after (option_copied more) → is_some more ≡ true → unban_of ws ≡ None
 unban-some ws word None are there = absurd (false≢true there)
 unban-some ws word (Some text) are there = ap unban_of are ∙ unban-by word (words text.now) (some-word text.now)
+
+pub unban-read : (ws : List (List ℕ)) (word cid : List ℕ) → ws ≡ word ∷ [] → spelled_bytes 24 word ≡ Some cid → unban_of ws ≡ Some (acts.Unban cid)
+unban-read ws word cid are spelt = ap unban_of are ∙ ap (λ o. option_map (λ (bytes : List ℕ). acts.Unban bytes) o) spelt
 
 -- a fault passed on by `?`
 pub passed-on : (answer : Result Act ActFault) (fault : NickFault) (said : Option Act) → IsErrAnd answer (λ made. made ≡ fault_of fault) → Gives (Err (fault_of fault)) said → Gives answer said

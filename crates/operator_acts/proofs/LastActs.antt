@@ -3,7 +3,7 @@ use Rattle.std.proofs.Common.{◌≡◌, ◌∙◌, ap, refl, ℕ, Bool, true, f
 use Rattle.std.specs.Prelude.{filter, fold, is_some}
 use Rattle.std.specs.List.{last_or}
 use Rattle.operator_acts.specs.declared.ban.Ban.{Ban}
-use Rattle.operator_acts.specs.Bans.{ban_on, left, left_of}
+use Rattle.operator_acts.specs.Bans.{ban_on, left_of_bans, left_of}
 use Rattle.operator_acts.specs.BanHistory.{BanAct, Banned, Unbanned, is_on, last_act, last_ban, ban_by, act_on, bans_after, LeftByLastAct, HeldByLastAct}
 use Rattle.operator_acts.proofs.Entries.{equal-bytes, ban_on-with_ban, ban_on-without_ban}
 
@@ -48,7 +48,7 @@ pub ban_on-after : (acts : List BanAct) (cid : List ℕ) → ban_on (bans_after 
 ban_on-after acts cid = ban_on-fold acts [] cid ∙ since-none (last_act cid acts)
 
 pub left-by_last_act : LeftByLastAct
-unfolding left
+unfolding left_of_bans
 left-by_last_act acts cid now = ap (λ ban. left_of ban now) (ban_on-after acts cid)
 
 pub held-by_last_act : HeldByLastAct

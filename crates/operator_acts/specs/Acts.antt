@@ -1,9 +1,9 @@
--- What an operator's text asks of the hub: the words of the text are what stands between its blanks.
+-- The act that an operator's text asks for: the words of the text are what stands between its blanks.
 use Rattle.std.specs.Prelude.{ℕ, ◌==◌, ◌&&◌, nat_le, nat_lt, bytes_eq, chars, Bool, true, false, List, [], ◌∷◌, length, Option, Some, None, option_map, if◌then◌else◌}
 use Rattle.std.specs.List.{slice_split, join_with_byte}
 use Rattle.std.specs.Str.{all_ascii_digits}
 use Rattle.std.specs.Str.Parse.{digits_value}
-use Rattle.adc_base32.specs.Spelled.{spelled}
+use Rattle.adc_base32.specs.Spelled.{spelled_bytes}
 use Rattle.adc_ids.specs.Nicks.{is_nick}
 use Rattle.operator_acts.specs.declared.act.Act.{Act}
 use Rattle.operator_acts.specs.declared.act.Act.TheVariants as acts
@@ -75,7 +75,7 @@ ban_of (nick ∷ seconds ∷ reason) = ban_by (nick_at nick) (seconds_at seconds
 -- `!unban CID`, and nothing else
 abbrev pub unban_of : List (List ℕ) → Option Act
 unban_of [] = None
-unban_of (cid ∷ []) = option_map (λ (bytes : List ℕ). acts.Unban bytes) (spelled 24 cid)
+unban_of (cid ∷ []) = option_map (λ (bytes : List ℕ). acts.Unban bytes) (spelled_bytes 24 cid)
 unban_of (cid ∷ _ ∷ more) = None
 
 -- `!topic [text]`

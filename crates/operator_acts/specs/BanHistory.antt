@@ -1,8 +1,8 @@
--- What a list of accepted bans and unbans leaves: of each client identifier the last act on it.
+-- The bans that a list of accepted bans and unbans leaves: of each client identifier the last act on it.
 use Rattle.std.specs.Prelude.{◌≡◌, ℕ, Bool, List, [], fold, filter, bytes_eq, Option, Some, None, is_some}
 use Rattle.std.specs.List.{last_or}
 use Rattle.operator_acts.specs.declared.ban.Ban.{Ban}
-use Rattle.operator_acts.specs.Bans.{with_ban, without_ban, ban_on, left, left_of}
+use Rattle.operator_acts.specs.Bans.{with_ban, without_ban, ban_on, left_of_bans, left_of}
 
 -- an accepted act: a ban on a client identifier, or its end
 pub data BanAct : Type 0 where
@@ -41,7 +41,7 @@ bans_after acts = fold act_on [] acts
 
 -- what is left is what the last act on the client identifier leaves
 abbrev pub LeftByLastAct : Type 0
-LeftByLastAct = (acts : List BanAct) (cid : List ℕ) (now : ℕ) → left (bans_after acts) cid now ≡ left_of (last_ban cid acts) now
+LeftByLastAct = (acts : List BanAct) (cid : List ℕ) (now : ℕ) → left_of_bans (bans_after acts) cid now ≡ left_of (last_ban cid acts) now
 
 -- the client identifiers with a ban are those whose last act is one
 abbrev pub HeldByLastAct : Type 0

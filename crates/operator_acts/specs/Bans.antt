@@ -1,5 +1,5 @@
 -- The bans that are held: each with the client identifier that it is on, in the order of their bytes, each once.
-use Rattle.std.specs.Prelude.{◌≡◌, ℕ, ◌+◌, ◌-◌, ◌^◌, ◌==◌, ◌&&◌, nat_le, nat_lt, min, not, Bool, true, false, List, length, filter, Option, Some, None, is_some}
+use Rattle.std.specs.Prelude.{◌≡◌, ℕ, ◌+◌, ◌-◌, ◌^◌, ◌==◌, ◌&&◌, nat_le, nat_lt, min, not, Bool, true, false, List, length, filter, Option, Some, None, is_some, if◌then◌else◌}
 use Rattle.std.specs.declared.cmp.Ordering.{Ordering}
 use Rattle.std.specs.Ordering.{nat_cmp}
 use Rattle.std.specs.Cmp.Lexicographic.{slice_cmp}
@@ -44,19 +44,14 @@ WhyRefused refusals.Full bans cid = is_full bans cid ≡ true
 abbrev pub end_of : Ban → ℕ
 end_of ban = min (ban.moment + ban.seconds) (2 ^ 64 - 1)
 
-abbrev pub for_a_time : Bool → ℕ → Left
-for_a_time true seconds = For seconds
-for_a_time false seconds = Free
-
-abbrev pub by_seconds : Bool → Ban → ℕ → Left
-by_seconds true ban now = Ever
-by_seconds false ban now = for_a_time (nat_lt now (end_of ban)) (end_of ban - now)
-
 -- what is left of a ban: one of 0 seconds is for good, another refuses before its end
 abbrev pub left_of : Option Ban → ℕ → Left
 left_of None now = Free
-left_of (Some ban) now = by_seconds (ban.seconds == 0) ban now
+left_of (Some ban) now =
+    if ban.seconds == 0 then Ever
+    else if nat_lt now (end_of ban) then For (end_of ban - now)
+    else Free
 
 -- what is left of the ban on a client identifier
-unfoldable pub left : List (List ℕ × Ban) → List ℕ → ℕ → Left
-left bans cid now = left_of (ban_on bans cid) now
+unfoldable pub left_of_bans : List (List ℕ × Ban) → List ℕ → ℕ → Left
+left_of_bans bans cid now = left_of (ban_on bans cid) now

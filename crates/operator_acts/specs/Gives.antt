@@ -1,4 +1,4 @@
--- What a call that reads an act answers.
+-- The answer of a call that reads an act.
 use Rattle.std.specs.Prelude.{◌≡◌, true, Option, Some, None, Result, Ok, Err, is_some}
 use Rattle.adc_ids.specs.declared.nick.NickFault.{NickFault}
 use Rattle.adc_ids.specs.declared.nick.NickFault.TheVariants as nicks

@@ -14,7 +14,7 @@ pub struct Ban {
 
 impl Ban {
     /// Gives what is left of it at a moment.
-    pub(crate) fn left(&self, now: u64) -> Left
+    pub(crate) fn left_at(&self, now: u64) -> Left
         ensures { result ≡ left_of (Some self.now) now }
     {
         if self.seconds == 0 {

@@ -1,5 +1,5 @@
 ghost use Rattle.std.specs.Prelude.{◌≡◌, ◌≤◌, [], OnOk, OnErr, IfErr, false, is_some, length};
-ghost use Rattle.operator_acts.specs.Bans.{WhyRefused, ban_on, is_full, left, max_bans, with_ban, without_ban};
+ghost use Rattle.operator_acts.specs.Bans.{WhyRefused, ban_on, is_full, left_of_bans, max_bans, with_ban, without_ban};
 
 use crate::ban::Ban;
 use crate::fault::BanRefused;
@@ -54,13 +54,23 @@ impl Bans {
         ensures refused { IfErr result (λ refused. WhyRefused refused self.old cid) }
         ensures unchanged { OnErr result (self.new ≡ self.old) }
     {
-        if self.held.len() >= MAX_BANS && !self.held.contains_key(&cid) {
-            return Err(BanRefused::Full);
-        }
         let ban = Ban {
             seconds,
             moment: now,
         };
+        self.put(cid, ban)
+    }
+
+    /// Holds a ban on a client identifier, in the place of one that is held on it. It is refused as by [`Bans::add`].
+    pub fn put(&mut self, cid: Cid, ban: Ban) -> Result<(), BanRefused>
+        ensures ok { OnOk result (self.new ≡ with_ban self.old cid ban) }
+        ensures room { OnOk result (is_full self.old cid ≡ false) }
+        ensures refused { IfErr result (λ refused. WhyRefused refused self.old cid) }
+        ensures unchanged { OnErr result (self.new ≡ self.old) }
+    {
+        if self.held.len() >= MAX_BANS && !self.held.contains_key(&cid) {
+            return Err(BanRefused::Full);
+        }
         match self.held.insert(cid, ban) {
             Ok(_) => Ok(()),
             Err(_) => Err(BanRefused::Memory),
@@ -78,12 +88,12 @@ impl Bans {
     /// Gives what is left at the moment `now` of the ban on a client identifier. A ban of s seconds from a
     /// moment m on, with s above 0, refuses at moments below m + s, which is at most 2^64 - 1. It takes
     /// no memory.
-    #[tactic(auto, unfolding(crate::specs::Bans::left))]
+    #[tactic(auto, unfolding(crate::specs::Bans::left_of_bans))]
     pub fn left(&self, cid: Cid, now: u64) -> Left
-        ensures { result ≡ left self.now cid now }
+        ensures { result ≡ left_of_bans self.now cid now }
     {
         match self.held.get(&cid) {
-            Some(ban) => ban.left(now),
+            Some(ban) => ban.left_at(now),
             None => Left::Free,
         }
     }

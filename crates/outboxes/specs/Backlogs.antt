@@ -1,4 +1,4 @@
--- What waits for a connection, and what becomes of it.
+-- The lines that wait for a connection, and what becomes of them.
 use Rattle.std.specs.Prelude.{ℕ, ◌+◌, ◌&&◌, nat_le, Bool, true, false, List, [], ◌++◌, length, if◌then◌else◌}
 use Rattle.std.specs.List.{sum_by}
 
@@ -17,8 +17,8 @@ empty_backlog cap bytes = record { lines = []; lags = false; cap = cap; bytes = 
 abbrev pub with_lines : Backlog → List (List ℕ) → Backlog
 with_lines o lines = record { lines = lines; lags = o.lags; cap = o.cap; bytes = o.bytes }
 
-abbrev pub marked : Backlog → Backlog
-marked o = record { lines = o.lines; lags = true; cap = o.cap; bytes = o.bytes }
+abbrev pub marked_lagging : Backlog → Backlog
+marked_lagging o = record { lines = o.lines; lags = true; cap = o.cap; bytes = o.bytes }
 
 -- how many bytes the lines have together
 abbrev pub size_of : List (List ℕ) → ℕ
@@ -29,8 +29,8 @@ abbrev pub fits : Backlog → List (List ℕ) → Bool
 fits o share = nat_le (length o.lines + length share) o.cap && nat_le (size_of o.lines + size_of share) o.bytes
 
 -- a share goes in whole or not at all, and nothing goes in from the first on that does not fit
-unfoldable pub given : Backlog → List (List ℕ) → Backlog
-given o share =
+unfoldable pub backlog_after : Backlog → List (List ℕ) → Backlog
+backlog_after o share =
     if o.lags then o
     else if fits o share then with_lines o (o.lines ++ share)
-    else marked o
+    else marked_lagging o

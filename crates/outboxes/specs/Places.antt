@@ -1,7 +1,7 @@
 -- Which line each place of an outbox stands for.
 use Rattle.std.specs.Prelude.{ℕ, List}
-use Rattle.outboxes.specs.declared.place.Place.{Place}
-use Rattle.outboxes.specs.declared.place.Place.TheVariants.{Line, Quit}
+use Rattle.outboxes.specs.declared.outbox.Place.{Place}
+use Rattle.outboxes.specs.declared.outbox.Place.TheVariants.{Line, Quit}
 use Rattle.outboxes.specs.Quits.{quit_line}
 
 abbrev pub line_of : Place → List ℕ

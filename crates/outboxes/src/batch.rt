@@ -2,7 +2,7 @@ ghost use Rattle.std.specs.Prelude.{◌≡◌, ◌↔◌, ◌≤◌, ◌<◌, []
 ghost use Rattle.std.specs.Option.{option_to_list};
 ghost use Rattle.outboxes.specs.Backlogs.{size_of};
 
-use crate::place::size_within;
+use crate::outbox::size_within;
 use crate::refused::PushRefused;
 use bytes::Bytes;
 use std::alloc::{AllocError, Global};
@@ -64,7 +64,7 @@ impl Batch {
         ensures err { OnErr result (self.new ≡ self.old) }
     {
         if self.first.is_none() {
-            *self = other.shared()?;
+            *self = other.share()?;
             return Ok(());
         }
         let start = self.rest.len();
@@ -77,7 +77,7 @@ impl Batch {
     }
 
     /// Makes another batch of the same lines.
-    fn shared(&self) -> Result<Batch, AllocError>
+    fn share(&self) -> Result<Batch, AllocError>
         ensures { IfOk result (λ batch. batch ≡ self.now) }
     {
         let mut rest = Vec::new(*self.rest.allocator());

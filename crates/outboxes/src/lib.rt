@@ -3,12 +3,10 @@
 
 mod batch;
 mod outbox;
-mod place;
 mod refused;
 mod taken;
 
 pub use batch::Batch;
-pub use outbox::Outbox;
-pub use place::PLACE_BYTES;
+pub use outbox::{Outbox, PLACE_BYTES, quit_line};
 pub use refused::{OutboxRefused, PushRefused, TakeRefused};
 pub use taken::Taken;

@@ -1,4 +1,4 @@
--- How often a connection may search.
+-- The interval between the searches of a connection.
 use Rattle.std.specs.Prelude.{ℕ, ◌-◌, nat_le, Bool, true, Option, Some, None}
 
 -- at the moment `now`, where `last` is the moment of the last search that was let through: the first always, and a later one

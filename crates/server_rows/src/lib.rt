@@ -10,6 +10,8 @@ mod flaky;
 #[cfg(test)]
 mod gate;
 #[cfg(test)]
+mod histories;
+#[cfg(test)]
 mod listening;
 #[cfg(test)]
 mod over_memory;

@@ -1,4 +1,4 @@
--- How a message is made up to whole blocks of 64 bytes.
+-- The filling of a message up to whole blocks of 64 bytes.
 use Rattle.std.specs.Prelude.{◌≡◌, ◌⊎◌, ℕ, ◌+◌, ◌-◌, ◌*◌, ◌/◌, ◌%◌, ◌^◌, List, ◌∷◌, ◌++◌, length, replicate}
 use Rattle.std.specs.Int.{w64, to_le_bytes}
 
@@ -7,8 +7,8 @@ use Rattle.std.specs.Int.{w64, to_le_bytes}
 abbrev pub padding : ℕ → List ℕ
 padding n = 1 ∷ replicate ((119 - n % 64) % 64) 0 ++ to_le_bytes w64 (n * 8 % 2 ^ 64)
 
-abbrev pub padded : List ℕ → List ℕ
-padded message = message ++ padding (length message)
+abbrev pub with_padding : List ℕ → List ℕ
+with_padding message = message ++ padding (length message)
 
 -- how many blocks that makes
 abbrev pub block_count : ℕ → ℕ

@@ -1,8 +1,8 @@
 ghost use Rattle.std.specs.Prelude.{◌≡◌, ◌+◌, ◌≤◌, ◌/◌, ◌%◌, ◌++◌, length, take, drop, replicate};
 ghost use Rattle.arrayvec.specs.ArrayVec.{array_vec_len};
-ghost use Rattle.session_hash.specs.Padding.{padding, padded, block_count, IsTail};
+ghost use Rattle.session_hash.specs.Padding.{padding, with_padding, block_count, IsTail};
 ghost use Rattle.session_hash.specs.Tables.{words_from};
-ghost use Rattle.session_hash.specs.Tiger.{tiger, absorbed, compressed, compressed_twice, bytes_of};
+ghost use Rattle.session_hash.specs.Tiger.{tiger, registers_after, compress, compressed_twice, bytes_of};
 
 use crate::tiger::{Registers, compress};
 use crate::words::block_words;
@@ -35,7 +35,7 @@ fn bytes_of(registers: Registers) -> [u8; 24]
 /// Takes in a message: its whole blocks as they lie, and then its rest with the padding.
 fn absorb(tables: &[u64], message: &[u8]) -> Registers
     requires { length tables.now ≡ 1024 }
-    ensures { result ≡ absorbed tables.now (padded message.now) (block_count (length message.now)) }
+    ensures { result ≡ registers_after tables.now (with_padding message.now) (block_count (length message.now)) }
 {
     let registers = absorb_whole(tables, message);
     let rest = &message[BLOCK * (message.len() / BLOCK)..];
@@ -46,7 +46,7 @@ fn absorb(tables: &[u64], message: &[u8]) -> Registers
 /// Takes in the whole blocks of a message.
 fn absorb_whole(tables: &[u64], message: &[u8]) -> Registers
     requires { length tables.now ≡ 1024 }
-    ensures { result ≡ absorbed tables.now (padded message.now) (length message.now / 64) }
+    ensures { result ≡ registers_after tables.now (with_padding message.now) (length message.now / 64) }
 {
     let mut registers = Registers::START;
     for place in 0..message.len() / BLOCK {
@@ -60,7 +60,7 @@ fn absorb_whole(tables: &[u64], message: &[u8]) -> Registers
 fn absorb_tail(tables: &[u64], registers: Registers, tail: &[u8]) -> Registers
     requires tables { length tables.now ≡ 1024 }
     requires blocks { IsTail (length tail.now) }
-    ensures one { length tail.now ≡ 64 → result ≡ compressed tables.now registers (words_from 8 tail.now) }
+    ensures one { length tail.now ≡ 64 → result ≡ compress tables.now registers (words_from 8 tail.now) }
     ensures two { length tail.now ≡ 128 → result ≡ compressed_twice tables.now registers tail.now }
 {
     if tail.len() == BLOCK {

@@ -1,6 +1,6 @@
 ghost use Rattle.std.specs.Prelude.{◌≡◌, ◌<◌, ◌^◌, length, bit_xor};
 ghost use Rattle.session_hash.specs.Tables.{entry};
-ghost use Rattle.session_hash.specs.Tiger.{even_entries, odd_entries, turned, pass, crossed, added, less_key, less_up, less_down, first_half, second_half, passes, fed_forward, compressed};
+ghost use Rattle.session_hash.specs.Tiger.{even_entries, odd_entries, round_of, pass, with_xor, with_sum, less_key, less_up, less_down, first_half, second_half, passes, fed_forward, compress};
 ghost use Rattle.session_hash.specs.Words.{add64, sub64, mul64, not_up, not_down, byte_of};
 
 /// The words of the four tables together.
@@ -26,10 +26,10 @@ impl Registers {
 /// Takes one block of eight words into the registers: three passes with the key schedule between
 /// them, and the registers as they were taken into the result. `tables` has 1,024 words, the four
 /// tables of 256 words one after another.
-#[tactic(auto, unfolding(crate::specs::Tiger::compressed))]
+#[tactic(auto, unfolding(crate::specs::Tiger::compress))]
 pub fn compress(tables: &[u64], registers: Registers, block: [u64; 8]) -> Registers
     requires { length tables.now ≡ 1024 }
-    ensures { result ≡ compressed tables.now registers block }
+    ensures { result ≡ compress tables.now registers block }
 {
     feed_forward(registers, passes(tables, registers, block))
 }
@@ -77,10 +77,10 @@ fn pass(tables: &[u64], registers: Registers, block: [u64; 8], factor: u64) -> R
 
 /// Makes one round, after which the registers are turned: the next takes b, c, a for a, b, c.
 #[inline(always)]
-#[tactic(auto, unfolding(crate::specs::Tiger::turned))]
+#[tactic(auto, unfolding(crate::specs::Tiger::round_of))]
 fn turn(tables: &[u64], r: Registers, word: u64, factor: u64) -> Registers
     requires { length tables.now ≡ 1024 }
-    ensures { result ≡ turned tables.now r word factor }
+    ensures { result ≡ round_of tables.now r word factor }
 {
     let c = r.c ^ word;
     Registers {
@@ -167,13 +167,13 @@ fn first_half(x: [u64; 8]) -> [u64; 8]
     ensures { result ≡ first_half x }
 {
     let x = less_key(x, 0, 7, 0xA5A5_A5A5_A5A5_A5A5);
-    let x = crossed(x, 1, 0);
-    let x = added(x, 2, 1);
+    let x = with_xor(x, 1, 0);
+    let x = with_sum(x, 2, 1);
     let x = less_up(x, 3, 2, 1);
-    let x = crossed(x, 4, 3);
-    let x = added(x, 5, 4);
+    let x = with_xor(x, 4, 3);
+    let x = with_sum(x, 5, 4);
     let x = less_down(x, 6, 5, 4);
-    crossed(x, 7, 6)
+    with_xor(x, 7, 6)
 }
 
 /// Makes the second half of the key schedule.
@@ -182,33 +182,33 @@ fn first_half(x: [u64; 8]) -> [u64; 8]
 fn second_half(x: [u64; 8]) -> [u64; 8]
     ensures { result ≡ second_half x }
 {
-    let x = added(x, 0, 7);
+    let x = with_sum(x, 0, 7);
     let x = less_up(x, 1, 0, 7);
-    let x = crossed(x, 2, 1);
-    let x = added(x, 3, 2);
+    let x = with_xor(x, 2, 1);
+    let x = with_sum(x, 3, 2);
     let x = less_down(x, 4, 3, 2);
-    let x = crossed(x, 5, 4);
-    let x = added(x, 6, 5);
+    let x = with_xor(x, 5, 4);
+    let x = with_sum(x, 6, 5);
     less_key(x, 7, 6, 0x0123_4567_89AB_CDEF)
 }
 
 #[inline(always)]
-#[tactic(auto, unfolding(crate::specs::Tiger::crossed))]
-fn crossed(mut x: [u64; 8], i: usize, j: usize) -> [u64; 8]
+#[tactic(auto, unfolding(crate::specs::Tiger::with_xor))]
+fn with_xor(mut x: [u64; 8], i: usize, j: usize) -> [u64; 8]
     requires i { i < 8 }
     requires j { j < 8 }
-    ensures { result ≡ crossed i j x }
+    ensures { result ≡ with_xor i j x }
 {
     x[i] ^= x[j];
     x
 }
 
 #[inline(always)]
-#[tactic(auto, unfolding(crate::specs::Tiger::added))]
-fn added(mut x: [u64; 8], i: usize, j: usize) -> [u64; 8]
+#[tactic(auto, unfolding(crate::specs::Tiger::with_sum))]
+fn with_sum(mut x: [u64; 8], i: usize, j: usize) -> [u64; 8]
     requires i { i < 8 }
     requires j { j < 8 }
-    ensures { result ≡ added i j x }
+    ensures { result ≡ with_sum i j x }
 {
     x[i] = add(x[i], x[j]);
     x

@@ -1,4 +1,4 @@
--- What a report says of the text of a settings file.
+-- The report on the text of a settings file.
 use Rattle.std.specs.Prelude.{ℕ, List, Option, Some, None, Ok, Err}
 use Rattle.hub_settings.specs.Reading.{IsRead}
 use Rattle.hub_settings.specs.Settings.{ServerSettings}

@@ -1,4 +1,4 @@
--- What a summary says of settings.
+-- The summary of settings.
 use Rattle.std.specs.Prelude.{◌≡◌, ◌+◌}
 use Rattle.hub_settings.specs.Settings.{ServerSettings}
 use Rattle.settings_report.specs.declared.summary.Summary.{Summary}

@@ -56,13 +56,13 @@ impl Finding<'_> {
     /// Tells what stands there, in words.
     pub(crate) fn words(&self, alloc: Global) -> Result<String, AllocError> {
         match self.found {
-            Found::Value(value) => shown(alloc, value),
+            Found::Value(value) => value_text(alloc, value),
             Found::Secret(value) => kind(alloc, value),
             Found::Unknown => String::from_str(alloc, "an unknown key"),
             Found::Nothing => String::from_str(alloc, "nothing"),
             Found::Surplus => String::from_str(alloc, "one more"),
             Found::Twice(value) => {
-                let mut words = shown(alloc, value)?;
+                let mut words = value_text(alloc, value)?;
                 words.push_str(" once more")?;
                 Ok(words)
             }
@@ -71,7 +71,7 @@ impl Finding<'_> {
 }
 
 /// A value as it is written; of a list or a table only that it is one.
-fn shown(alloc: Global, value: &Value) -> Result<String, AllocError> {
+fn value_text(alloc: Global, value: &Value) -> Result<String, AllocError> {
     match value {
         Value::Array(_) | Value::Table(_) => kind(alloc, value),
         _ => format!(in alloc; "{value}").map_err(|_| AllocError),

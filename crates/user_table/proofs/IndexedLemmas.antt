@@ -1,7 +1,7 @@
 -- Indexes that answer what a walk would find still do after an entry, an exit, an update and a change of nick.
 use Rattle.std.proofs.Common.{◌≡◌, ℕ, eqb, Bool, true, false, cond, not, List, [], ◌∷◌, ◌++◌, map, refl, sym, ap, ◌∙◌, subst, inl, inr, true≢false}
 use Rattle.std.specs.Prelude.{Option, Some, None, is_some, is_err, Result, Ok, Err, IsTrue, OnOk, OnErr}
-use Rattle.std.specs.List.{IsDistinct}
+use Rattle.std.specs.List.{IsDistinct, find}
 use Rattle.std.specs.Option.{option_map, unwrap_or}
 use Rattle.std.specs.Str.{bytes_eq}
 use Rattle.std.proofs.lemmas.Bool.{cases_Bool, cond-false}
@@ -9,12 +9,12 @@ use Rattle.std.proofs.lemmas.Bool.Decides.{Decides-eqb}
 use Rattle.std.proofs.lemmas.Option.{none-some}
 use Rattle.inf_fields.specs.Field.{Field}
 use Rattle.user_table.specs.declared.refused.TableRefused.TheVariants.{NickTaken}
-use Rattle.user_table.specs.Changes.{AreDistinct, fits_user, held_by_other, is_other, renewed, takes_update}
+use Rattle.user_table.specs.Changes.{AreDistinct, fits_user, held_by_other, is_other, users_after_update, takes_update}
 use Rattle.user_table.specs.IndexedView.{AreIndexed}
 use Rattle.user_table.specs.Indexes.{IsSetAt, sid_at, sid_of}
 use Rattle.user_table.specs.Listed.{Listed}
 use Rattle.user_table.specs.Renaming.{renamed_if, with_key}
-use Rattle.user_table.specs.Tables.{first_who, has_sid, has_key, user_by_cid, user_by_key, user_by_sid, with_update, without_sid, updated, updated_if}
+use Rattle.user_table.specs.Tables.{has_sid, has_key, user_by_cid, user_by_key, user_by_sid, with_update, without_sid, updated_user, updated_if}
 use Rattle.user_table.proofs.PlaceLemmas.{first-nobody, nobody-filter}
 use Rattle.user_table.proofs.TableLemmas.{no-users, distinct-entered, distinct-without}
 use Rattle.user_table.proofs.RenewalLemmas.{distinct-renewed}
@@ -28,7 +28,6 @@ abbrev pub Index : Type 0
 Index = List (List ℕ × ℕ)
 
 pub indexed-none : AreIndexed [] [] []
-unfolding first_who
 indexed-none = record { distinct = no-users; by_key = λ key. refl; by_cid = λ cid. refl }
 
 none-there : (o : Option Listed) → o ≡ None → is_some o ≡ false
@@ -132,7 +131,7 @@ indexed-both-undone key cid sid users nicks nicks' nicks'' cids cids' cids'' are
 pub nobody-by-index : (found : Option Listed) (sid : Option ℕ) → sid ≡ sid_of found → sid ≡ None → found ≡ None
 nobody-by-index found sid is none = no-sid found (sym none ∙ is)
 
-by-index : (test : Listed → Bool) (users : List Listed) (sid : ℕ) (found : Option Listed) → IsDistinct eqb (map own_sid users) → first_who test users ≡ found
+by-index : (test : Listed → Bool) (users : List Listed) (sid : ℕ) (found : Option Listed) → IsDistinct eqb (map own_sid users) → find test users ≡ found
     → Some sid ≡ sid_of found → user_by_sid sid users ≡ found
 by-index test users sid None distinct is e = absurd (none-some sid (sym e))
 by-index test users sid (Some user) distinct is e =
@@ -140,27 +139,26 @@ by-index test users sid (Some user) distinct is e =
     ap (λ k. user_by_sid k users) same ∙ found-again test users user distinct is
 
 -- whom an index names is whom a walk finds
-pub found-by-index : (test : Listed → Bool) (users : List Listed) (sid : ℕ) → IsDistinct eqb (map own_sid users) → Some sid ≡ sid_of (first_who test users)
-    → user_by_sid sid users ≡ first_who test users
-found-by-index test users sid distinct e = by-index test users sid (first_who test users) distinct refl e
+pub found-by-index : (test : Listed → Bool) (users : List Listed) (sid : ℕ) → IsDistinct eqb (map own_sid users) → Some sid ≡ sid_of (find test users)
+    → user_by_sid sid users ≡ find test users
+found-by-index test users sid distinct e = by-index test users sid (find test users) distinct refl e
 
 -- where nobody leaves all stay
 pub nobody-left : (sid : ℕ) (users : List Listed) → user_by_sid sid users ≡ None → without_sid sid users ≡ users
 nobody-left sid users none = nobody-filter (has_sid sid) users (first-nobody (has_sid sid) users none)
 
 -- the user who is updated
-pub user-updated : (sid : ℕ) (update : List Field) (users : List Listed) → user_by_sid sid (with_update sid update None users) ≡ option_map (updated update None) (user_by_sid sid users)
-unfolding first_who
+pub user-updated : (sid : ℕ) (update : List Field) (users : List Listed) → user_by_sid sid (with_update sid update None users) ≡ option_map (updated_user update None) (user_by_sid sid users)
 user-updated sid update [] = refl
 user-updated sid update (user ∷ users) =
     let rest = with_update sid update None users in
     elim (cases_Bool (has_sid sid user)) [
       | inl yes' ↦
-          ap (λ b. first_who (has_sid sid) (updated_if b update None user ∷ rest)) yes' ∙ first-is (has_sid sid) (updated update None user) rest yes'
-          ∙ sym (ap (option_map (updated update None)) (first-is (has_sid sid) user users yes'))
+          ap (λ b. find (has_sid sid) (updated_if b update None user ∷ rest)) yes' ∙ first-is (has_sid sid) (updated_user update None user) rest yes'
+          ∙ sym (ap (option_map (updated_user update None)) (first-is (has_sid sid) user users yes'))
       | inr no' ↦
-          ap (λ b. first_who (has_sid sid) (updated_if b update None user ∷ rest)) no' ∙ first-later (has_sid sid) user rest no' ∙ user-updated sid update users
-          ∙ sym (ap (option_map (updated update None)) (first-later (has_sid sid) user users no'))
+          ap (λ b. find (has_sid sid) (updated_if b update None user ∷ rest)) no' ∙ first-later (has_sid sid) user rest no' ∙ user-updated sid update users
+          ∙ sym (ap (option_map (updated_user update None)) (first-later (has_sid sid) user users no'))
     ]
 
 pub taken-user : (update : List Field) (found : Option Listed) → IsTrue (fits_user update found) → (user : Listed) × (found ≡ Some user)
@@ -172,7 +170,7 @@ pub user-renewed : (sid : ℕ) (update : List Field) (users : List Listed) → I
     → (user : Listed) × (user_by_sid sid (with_update sid update None users) ≡ Some user)
 user-renewed sid update users takes =
     let user = taken-user update (user_by_sid sid users) takes in
-    (updated update None user.0, user-updated sid update users ∙ ap (option_map (updated update None)) user.1)
+    (updated_user update None user.0, user-updated sid update users ∙ ap (option_map (updated_user update None)) user.1)
 
 -- a key that nobody has is nobody's after an update without a nick
 pub still-free : (sid : ℕ) (update : List Field) (key : List ℕ) (users : List Listed) → user_by_key key users ≡ None → user_by_key key (with_update sid update None users) ≡ None
@@ -210,7 +208,7 @@ same-sid a b e =
     ]
 
 own-found : (sid : ℕ) (update : List Field) (key : List ℕ) (users : List Listed) (found : Option Listed) → IsDistinct eqb (map own_sid users)
-    → user_by_key key users ≡ found → Some sid ≡ sid_of found → renewed sid update (Some key) users ≡ Ok (with_update sid update None users)
+    → user_by_key key users ≡ found → Some sid ≡ sid_of found → users_after_update sid update (Some key) users ≡ Ok (with_update sid update None users)
 own-found sid update key users None distinct is e = absurd (none-some sid (sym e))
 own-found sid update key users (Some user) distinct is e =
     let same : sid ≡ user.sid = ap (λ (o : Option ℕ). unwrap_or o sid) e in
@@ -220,5 +218,5 @@ own-found sid update key users (Some user) distinct is e =
 
 -- who is given the key that they have is updated as without a nick
 pub renewed-own : (sid : ℕ) (update : List Field) (key : List ℕ) (users : List Listed) → IsDistinct eqb (map own_sid users)
-    → Some sid ≡ sid_of (user_by_key key users) → renewed sid update (Some key) users ≡ Ok (with_update sid update None users)
+    → Some sid ≡ sid_of (user_by_key key users) → users_after_update sid update (Some key) users ≡ Ok (with_update sid update None users)
 renewed-own sid update key users distinct e = own-found sid update key users (user_by_key key users) distinct refl e

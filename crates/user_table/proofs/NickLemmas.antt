@@ -1,4 +1,4 @@
--- Whom an index by nick finds after a change of nick, and what a change of nick makes of the users.
+-- An index by nick and the users, after a change of nick.
 use Rattle.std.proofs.Common.{◌≡◌, ℕ, eqb, Bool, true, false, cond, List, [], ◌∷◌, map, refl, sym, ap, ap₂, ◌∙◌, subst, inl, inr}
 use Rattle.std.specs.Prelude.{Option, Some, None}
 use Rattle.std.specs.List.{IsDistinct}
@@ -11,8 +11,8 @@ use Rattle.inf_fields.specs.Field.{Field}
 use Rattle.inf_fields.specs.Merging.{merged_with}
 use Rattle.user_table.specs.Indexes.{sid_of}
 use Rattle.user_table.specs.Listed.{Listed}
-use Rattle.user_table.specs.Renaming.{renamed, renamed_if, with_key}
-use Rattle.user_table.specs.Tables.{has_sid, has_key, user_by_sid, user_by_key, with_update, updated, updated_if}
+use Rattle.user_table.specs.Renaming.{with_other_key, renamed_if, with_key}
+use Rattle.user_table.specs.Tables.{has_sid, has_key, user_by_sid, user_by_key, with_update, updated_user, updated_if}
 use Rattle.user_table.proofs.PlaceLemmas.{Nobody, nobody-first, nobody-map}
 use Rattle.user_table.proofs.DistinctLemmas.{differ-flip}
 use Rattle.user_table.proofs.SidLemmas.{has_by, sid_by, same-some, first-is, first-later, others-apart, others-differ, head-differs, tail-distinct, no-key, found-again}
@@ -32,14 +32,14 @@ differs-flip x y e = differ-flip bytes_eq bytes_eq-Decides x y e
 -- the user who is renamed stands first
 renamed-first : (sid : ℕ) (key : List ℕ) (user : Listed) (users : List Listed) (other : List ℕ) → user.sid ≡ sid → bytes_eq user.key key ≡ false
     → IsDistinct bytes_eq (map own_key (user ∷ users))
-    → sid_by own_key (renamed key user ∷ users) other ≡ cond (bytes_eq user.key other) None (cond (bytes_eq key other) (Some sid) (sid_by own_key (user ∷ users) other))
+    → sid_by own_key (with_other_key key user ∷ users) other ≡ cond (bytes_eq user.key other) None (cond (bytes_eq key other) (Some sid) (sid_by own_key (user ∷ users) other))
 renamed-first sid key user users other is free d =
     elim (cases_Bool (bytes_eq key other)) [
       | inl yes' ↦
           let apart : bytes_eq user.key other ≡ false = subst (λ k. bytes_eq user.key k ≡ false) ((bytes_eq-Decides key other).0 yes') free in
-          ap sid_of (first-is (has_by own_key other) (renamed key user) users yes') ∙ ap Some is ∙ sym (cond-false _ _ _ apart ∙ cond-true _ _ _ yes')
+          ap sid_of (first-is (has_by own_key other) (with_other_key key user) users yes') ∙ ap Some is ∙ sym (cond-false _ _ _ apart ∙ cond-true _ _ _ yes')
       | inr no' ↦
-          ap sid_of (first-later (has_by own_key other) (renamed key user) users no')
+          ap sid_of (first-later (has_by own_key other) (with_other_key key user) users no')
           ∙ elim (cases_Bool (bytes_eq user.key other)) [
             | inl same ↦ no-key own_key other users (others-differ own_key other user users d same) ∙ sym (cond-true _ _ _ same)
             | inr differs ↦ ap sid_of (sym (first-later (has_by own_key other) user users differs)) ∙ sym (cond-false _ _ _ differs ∙ cond-false _ _ _ no')
@@ -79,7 +79,7 @@ sid-renamed sid key (user ∷ users) before other s d e n =
 -- an update and then a change of nick are an update with a nick
 both-in-turn : (sid : ℕ) (update : List Field) (key : List ℕ) (user : Listed) (b : Bool) → has_sid sid user ≡ b
     → renamed_if (has_sid sid (updated_if b update None user)) key (updated_if b update None user) ≡ updated_if b update (Some key) user
-both-in-turn sid update key user true e = ap (λ c. renamed_if c key (updated update None user)) e
+both-in-turn sid update key user true e = ap (λ c. renamed_if c key (updated_user update None user)) e
 both-in-turn sid update key user false e = ap (λ c. renamed_if c key user) e
 
 pub updated-renamed : (sid : ℕ) (update : List Field) (key : List ℕ) (users : List Listed) → with_key sid key (with_update sid update None users) ≡ with_update sid update (Some key) users

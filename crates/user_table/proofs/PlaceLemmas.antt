@@ -1,4 +1,5 @@
--- What the place of a user says: who stands there, and what becomes of the list there.
+-- The place of a user: who stands there, and what becomes of the list there.
+use Rattle.std.specs.List.{find}
 use Rattle.std.proofs.Common.{◌≡◌, ℕ, zero, suc, ◌+◌, ◌<◌, arith, Bool, true, false, not, List, [], ◌∷◌, ◌++◌, length, map, filter, take, drop, refl, sym, ap, ◌∙◌, inl, inr, slice_index_or, slice_set}
 use Rattle.std.specs.Prelude.{Option, Some, None}
 use Rattle.std.proofs.lemmas.Bool.{cases_Bool, cond-true, cond-false}
@@ -6,7 +7,6 @@ use Rattle.std.proofs.lemmas.Option.{none-some}
 use Rattle.std.specs.Option.{unwrap_or}
 use Rattle.user_table.specs.Listed.{Listed}
 use Rattle.user_table.specs.Places.{place_from}
-use Rattle.user_table.specs.Tables.{first_who}
 
 -- the first user who passes a test stands at this place
 abbrev pub IsFirst : (Listed → Bool) → List Listed → ℕ → Type 0
@@ -45,13 +45,11 @@ place-none test start (user ∷ users) e =
       | inr no' ↦ (no', place-none test (start + 1) users (sym (cond-false _ _ _ no') ∙ e))
     ]
 
-pub nobody-first : (test : Listed → Bool) (users : List Listed) → Nobody test users → first_who test users ≡ None
-unfolding first_who
+pub nobody-first : (test : Listed → Bool) (users : List Listed) → Nobody test users → find test users ≡ None
 nobody-first test [] n = refl
 nobody-first test (user ∷ users) n = cond-false _ _ _ n.0 ∙ nobody-first test users n.1
 
-pub first-nobody : (test : Listed → Bool) (users : List Listed) → first_who test users ≡ None → Nobody test users
-unfolding first_who
+pub first-nobody : (test : Listed → Bool) (users : List Listed) → find test users ≡ None → Nobody test users
 first-nobody test [] e = tt
 first-nobody test (user ∷ users) e =
     elim (cases_Bool (test user)) [
@@ -59,8 +57,7 @@ first-nobody test (user ∷ users) e =
       | inr no' ↦ (no', first-nobody test users (sym (cond-false _ _ _ no') ∙ e))
     ]
 
-pub first-here : (test : Listed → Bool) (users : List Listed) (place : ℕ) (d : Listed) → IsFirst test users place → first_who test users ≡ Some (slice_index_or users place d)
-unfolding first_who
+pub first-here : (test : Listed → Bool) (users : List Listed) (place : ℕ) (d : Listed) → IsFirst test users place → find test users ≡ Some (slice_index_or users place d)
 first-here test [] place d f = elim f [ ]
 first-here test (user ∷ users) zero d f = cond-true _ _ _ f
 first-here test (user ∷ users) (suc place) d f = cond-false _ _ _ f.0 ∙ first-here test users place d f.1

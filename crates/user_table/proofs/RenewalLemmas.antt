@@ -1,7 +1,7 @@
 -- Users whose keys differ still do when one of them has a key that nobody else has.
 use Rattle.std.proofs.Common.{◌≡◌, ℕ, eqb, Bool, true, false, not, ◌&&◌, List, [], ◌∷◌, map, refl, sym, ap, ◌∙◌, subst, inl, inr}
 use Rattle.std.specs.Prelude.{Option, Some, None}
-use Rattle.std.specs.List.{IsDistinct, AllByRecursion}
+use Rattle.std.specs.List.{IsDistinct, AllByRecursion, find}
 use Rattle.std.specs.Str.{bytes_eq}
 use Rattle.std.proofs.lemmas.Bool.{cases_Bool, cond-true, cond-false}
 use Rattle.std.proofs.lemmas.Bool.Decides.{Decides-eqb}
@@ -9,7 +9,7 @@ use Rattle.std.proofs.lemmas.Slice.Eq.{bytes_eq-Decides}
 use Rattle.inf_fields.specs.Field.{Field}
 use Rattle.user_table.specs.Changes.{AreDistinct, held_by_other, is_other}
 use Rattle.user_table.specs.Listed.{Listed}
-use Rattle.user_table.specs.Tables.{first_who, has_sid, has_key, user_by_key, with_update, updated_if}
+use Rattle.user_table.specs.Tables.{has_sid, has_key, user_by_key, with_update, updated_if}
 use Rattle.user_table.proofs.PlaceLemmas.{Nobody, nobody-map}
 use Rattle.user_table.proofs.DistinctLemmas.{all-nobody, nobody-all}
 
@@ -26,18 +26,18 @@ no-rivals sid key (user ∷ users) n = (ap (λ b. not (has_sid sid user) && b) n
 
 rivals : (sid : ℕ) (key : List ℕ) (users : List Listed) → IsDistinct bytes_eq (map (λ (user : Listed). user.key) users)
     → is_other sid (user_by_key key users) ≡ false → Nobody (is_rival sid key) users
-unfolding IsDistinct first_who
+unfolding IsDistinct
 rivals sid key [] d e = tt
 rivals sid key (user ∷ users) d e =
     elim (cases_Bool (has_key key user)) [
       | inl yes' ↦
-          let mine : not (has_sid sid user) ≡ false = sym (ap (is_other sid) (cond-true (has_key key user) (Some user) (first_who (has_key key) users) yes')) ∙ e in (
+          let mine : not (has_sid sid user) ≡ false = sym (ap (is_other sid) (cond-true (has_key key user) (Some user) (find (has_key key) users) yes')) ∙ e in (
             ap (λ b. b && has_key key user) mine,
             no-rivals sid key users (all-nobody bytes_eq bytes_eq-Decides (λ (u : Listed). u.key) user.key key users ((bytes_eq-Decides user.key key).0 yes') d.0),
           )
       | inr no' ↦ (
         ap (λ b. not (has_sid sid user) && b) no' ∙ and-false (not (has_sid sid user)),
-        rivals sid key users d.1 (sym (ap (is_other sid) (cond-false (has_key key user) (Some user) (first_who (has_key key) users) no')) ∙ e),
+        rivals sid key users d.1 (sym (ap (is_other sid) (cond-false (has_key key user) (Some user) (find (has_key key) users) no')) ∙ e),
       )
     ]
 

@@ -1,4 +1,4 @@
--- What a map of users by session identifier says of the list of its users.
+-- A map of users by session identifier, and the list of its users.
 use Rattle.std.proofs.Common.{◌≡◌, ℕ, eqb, Bool, true, false, not, List, [], ◌∷◌, ◌++◌, map, refl, sym, ap, ap₂, ◌∙◌, subst, inl, inr}
 use Rattle.std.specs.Prelude.{Some}
 use Rattle.std.specs.List.{IsDistinct}
@@ -7,7 +7,7 @@ use Rattle.std.proofs.lemmas.Bool.{cases_Bool, cond-true, cond-false}
 use Rattle.std.proofs.lemmas.Bool.Decides.{Decides-eqb}
 use Rattle.user_table.specs.Listed.{Listed}
 use Rattle.user_table.specs.RosterView.{AreSeated}
-use Rattle.user_table.specs.Tables.{first_who, has_sid, user_by_sid, without_sid}
+use Rattle.user_table.specs.Tables.{has_sid, user_by_sid, without_sid}
 use Rattle.user_table.proofs.PlaceLemmas.{changed_by, nobody-filter, nobody-map}
 use Rattle.user_table.proofs.DistinctLemmas.{differ-flip}
 use Rattle.user_table.proofs.NickLemmas.{own_sid}
@@ -21,7 +21,6 @@ module _ (sid : ℕ) (entry : ℕ × Listed) (seated : entry.0 ≡ entry.1.sid) 
   own-no e = subst (λ k. eqb k sid ≡ false) seated (differ-flip eqb Decides-eqb sid entry.0 e)
 
 pub lookup-seated : (sid : ℕ) (entries : List (ℕ × Listed)) → AreSeated entries → lookup (eqb sid) entries ≡ user_by_sid sid (values_of entries)
-unfolding first_who
 lookup-seated sid [] s = refl
 lookup-seated sid (entry ∷ entries) s =
     elim (cases_Bool (eqb sid entry.0)) [

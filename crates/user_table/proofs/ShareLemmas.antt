@@ -1,4 +1,4 @@
--- What users share together, with one user more, one less and one who shares otherwise; no sum is too large.
+-- The amounts that users share together, with one user more, one less and one who shares otherwise; no sum is too large.
 use Rattle.std.proofs.Common.{◌≡◌, ℕ, suc, ◌+◌, ◌-◌, ◌*◌, ◌<◌, ◌≤◌, ◌^◌, ◌&&◌, Bool, List, [], ◌∷◌, ◌++◌, length, refl, sym, ap, ◌∙◌, subst, inl, inr, arith}
 use Rattle.std.specs.Prelude.{Option, Some, None, nat_lt}
 use Rattle.std.specs.List.{sum_by}
@@ -16,7 +16,7 @@ use Rattle.inf_fields.specs.FieldNames.{share_size_name, shared_files_name}
 use Rattle.user_table.specs.declared.totals.Totals.{Totals}
 use Rattle.user_table.specs.declared.totals.Shared.{Shared}
 use Rattle.user_table.specs.Listed.{Listed}
-use Rattle.user_table.specs.Shares.{shared_by, raised, lowered}
+use Rattle.user_table.specs.Shares.{shared_by, totals_with, totals_without}
 use Rattle.user_table.specs.Tables.{amount, totals_of}
 
 abbrev pub ss_of : Listed → ℕ
@@ -65,7 +65,7 @@ pub sf-fits : (users : List Listed) (a : ℕ) → length users < 2 ^ 64 → a < 
 sf-fits users a counted small = one-more-fits (sum_by sf_of users) (length users) a (sum-few sf_of (λ u. amount-small shared_files_name u.fields) users) counted small
 
 -- one user more
-pub totals-pushed : (users : List Listed) (user : Listed) → totals_of (users ++ user ∷ []) ≡ raised (shared_by user) (totals_of users)
+pub totals-pushed : (users : List Listed) (user : Listed) → totals_of (users ++ user ∷ []) ≡ totals_with (shared_by user) (totals_of users)
 totals-pushed users user =
     let count = length-append users (user ∷ []) in
     let ss = sum_by_push ss_of users user in
@@ -121,7 +121,7 @@ unchanged s t n e some = omega arith
 
 -- one user less
 pub totals-removed : (test : ℕ → Bool) (entries : List (ℕ × Listed)) (user : Listed) → lookup test entries ≡ Some user
-    → totals_of (values_of (remove_entry test entries)) ≡ lowered (shared_by user) (totals_of (values_of entries))
+    → totals_of (values_of (remove_entry test entries)) ≡ totals_without (shared_by user) (totals_of (values_of entries))
 totals-removed test entries user e =
     let count = less _ _ _ (length-removed test entries user e) in
     let ss = less _ _ _ (part ss_of test entries user e) in
@@ -130,7 +130,7 @@ totals-removed test entries user e =
 
 -- a user who shares otherwise
 pub totals-set : (test : ℕ → Bool) (entries : List (ℕ × Listed)) (before after : Listed) → lookup test entries ≡ Some before
-    → totals_of (values_of (set_value test entries after)) ≡ raised (shared_by after) (lowered (shared_by before) (totals_of (values_of entries)))
+    → totals_of (values_of (set_value test entries after)) ≡ totals_with (shared_by after) (totals_without (shared_by before) (totals_of (values_of entries)))
 totals-set test entries before after e =
     let count = unchanged _ _ _ (length-set test entries after) (length-removed test entries before e) in
     let ss = replaced _ _ _ _ (sum_by-set_value ss_of test entries before after e) (part-below ss_of test entries before e) in
@@ -141,12 +141,12 @@ less-fits : (s b a : ℕ) → s + a < 2 ^ 128 → s - b + a < 2 ^ 128
 less-fits s b a e = omega arith
 
 -- after one is taken away there is room for another
-pub ss-fits-again : (users : List Listed) (totals lower : Totals) (b a : Shared) (user : Listed) → totals ≡ totals_of users → lower ≡ lowered b totals
+pub ss-fits-again : (users : List Listed) (totals lower : Totals) (b a : Shared) (user : Listed) → totals ≡ totals_of users → lower ≡ totals_without b totals
     → a ≡ shared_by user → totals.users < 2 ^ 64 → lower.ss + a.ss < 2 ^ 128
 ss-fits-again users totals lower b a user is low shared counted =
     rw (low, shared, is) (less-fits (sum_by ss_of users) b.ss (ss_of user) (ss-fits users (ss_of user) (subst (λ (t : Totals). t.users < 2 ^ 64) is counted) (amount-small share_size_name user.fields)))
 
-pub sf-fits-again : (users : List Listed) (totals lower : Totals) (b a : Shared) (user : Listed) → totals ≡ totals_of users → lower ≡ lowered b totals
+pub sf-fits-again : (users : List Listed) (totals lower : Totals) (b a : Shared) (user : Listed) → totals ≡ totals_of users → lower ≡ totals_without b totals
     → a ≡ shared_by user → totals.users < 2 ^ 64 → lower.sf + a.sf < 2 ^ 128
 sf-fits-again users totals lower b a user is low shared counted =
     rw (low, shared, is) (less-fits (sum_by sf_of users) b.sf (sf_of user) (sf-fits users (sf_of user) (subst (λ (t : Totals). t.users < 2 ^ 64) is counted) (amount-small shared_files_name user.fields)))

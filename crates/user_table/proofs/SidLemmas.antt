@@ -1,7 +1,7 @@
--- Whom an index finds by a key, after an entry, an exit, an update and a change of nick.
+-- An index by a key, after an entry, an exit, an update and a change of nick.
 use Rattle.std.proofs.Common.{◌≡◌, ℕ, eqb, Bool, true, false, cond, not, List, [], ◌∷◌, ◌++◌, map, filter, refl, sym, ap, ◌∙◌, subst, inl, inr}
 use Rattle.std.specs.Prelude.{Option, Some, None}
-use Rattle.std.specs.List.{IsDistinct, AllByRecursion}
+use Rattle.std.specs.List.{IsDistinct, AllByRecursion, find}
 use Rattle.std.specs.Option.{unwrap_or}
 use Rattle.std.specs.Str.{bytes_eq}
 use Rattle.std.proofs.lemmas.Bool.{cases_Bool, cond-true, cond-false}
@@ -10,7 +10,7 @@ use Rattle.std.proofs.lemmas.Option.{none-some}
 use Rattle.std.proofs.lemmas.Slice.Eq.{bytes_eq-Decides}
 use Rattle.user_table.specs.Indexes.{sid_of}
 use Rattle.user_table.specs.Listed.{Listed}
-use Rattle.user_table.specs.Tables.{first_who, has_sid, user_by_sid, without_sid}
+use Rattle.user_table.specs.Tables.{has_sid, user_by_sid, without_sid}
 use Rattle.user_table.proofs.PlaceLemmas.{Nobody, nobody-first, first-nobody, nobody-filter}
 use Rattle.user_table.proofs.DistinctLemmas.{all-nobody, differ-flip}
 
@@ -20,7 +20,7 @@ has_by f key user = bytes_eq (f user) key
 
 -- the session identifier of the first user who has a key by f
 abbrev pub sid_by : (Listed → List ℕ) → List Listed → List ℕ → Option ℕ
-sid_by f users key = sid_of (first_who (has_by f key) users)
+sid_by f users key = sid_of (find (has_by f key) users)
 
 pub same-some : (x y : Listed) → Some x ≡ Some y → x ≡ y
 same-some x y e = ap (λ o. unwrap_or o x) e
@@ -29,19 +29,17 @@ pub no-sid : (o : Option Listed) → None ≡ sid_of o → o ≡ None
 no-sid None e = refl
 no-sid (Some x) e = absurd (none-some x.sid e)
 
-pub first-is : (test : Listed → Bool) (user : Listed) (users : List Listed) → test user ≡ true → first_who test (user ∷ users) ≡ Some user
-unfolding first_who
+pub first-is : (test : Listed → Bool) (user : Listed) (users : List Listed) → test user ≡ true → find test (user ∷ users) ≡ Some user
 first-is test user users e = cond-true _ _ _ e
 
-pub first-later : (test : Listed → Bool) (user : Listed) (users : List Listed) → test user ≡ false → first_who test (user ∷ users) ≡ first_who test users
-unfolding first_who
+pub first-later : (test : Listed → Bool) (user : Listed) (users : List Listed) → test user ≡ false → find test (user ∷ users) ≡ find test users
 first-later test user users e = cond-false _ _ _ e
 
-first-last : (test : Listed → Bool) (users : List Listed) (last : Listed) → Nobody test users → first_who test (users ++ last ∷ []) ≡ first_who test (last ∷ [])
+first-last : (test : Listed → Bool) (users : List Listed) (last : Listed) → Nobody test users → find test (users ++ last ∷ []) ≡ find test (last ∷ [])
 first-last test [] last n = refl
 first-last test (user ∷ users) last n = first-later test user (users ++ last ∷ []) n.0 ∙ first-last test users last n.1
 
-first-before : (test : Listed → Bool) (users : List Listed) (last : Listed) → test last ≡ false → first_who test (users ++ last ∷ []) ≡ first_who test users
+first-before : (test : Listed → Bool) (users : List Listed) (last : Listed) → test last ≡ false → find test (users ++ last ∷ []) ≡ find test users
 first-before test [] last e = first-later test last [] e
 first-before test (user ∷ users) last e =
     elim (cases_Bool (test user)) [
@@ -50,12 +48,12 @@ first-before test (user ∷ users) last e =
     ]
 
 -- after an entry the new key finds who entered, and each other key whom it found
-pub sid-entered : (f : Listed → List ℕ) (users : List Listed) (last : Listed) (key : List ℕ) → first_who (has_by f (f last)) users ≡ None
+pub sid-entered : (f : Listed → List ℕ) (users : List Listed) (last : Listed) (key : List ℕ) → find (has_by f (f last)) users ≡ None
     → sid_by f (users ++ last ∷ []) key ≡ cond (bytes_eq (f last) key) (Some last.sid) (sid_by f users key)
 sid-entered f users last key none =
     elim (cases_Bool (bytes_eq (f last) key)) [
       | inl yes' ↦
-          let nobody = first-nobody (has_by f key) users (subst (λ k. first_who (has_by f k) users ≡ None) ((bytes_eq-Decides (f last) key).0 yes') none) in
+          let nobody = first-nobody (has_by f key) users (subst (λ k. find (has_by f k) users ≡ None) ((bytes_eq-Decides (f last) key).0 yes') none) in
           ap sid_of (first-last (has_by f key) users last nobody ∙ first-is (has_by f key) last [] yes') ∙ sym (cond-true _ _ _ yes')
       | inr no' ↦ ap sid_of (first-before (has_by f key) users last no') ∙ sym (cond-false _ _ _ no')
     ]
@@ -80,8 +78,7 @@ others-differ f key user users d e = all-nobody bytes_eq bytes_eq-Decides f (f u
 
 -- whom a look-up by session identifier finds in the rest has another key than the first
 later-differs : (f : Listed → List ℕ) (test : Listed → Bool) (x : List ℕ) (users : List Listed) (found : Listed)
-    → AllByRecursion (λ z. bytes_eq x z ≡ false) (map f users) → first_who test users ≡ Some found → bytes_eq x (f found) ≡ false
-unfolding first_who
+    → AllByRecursion (λ z. bytes_eq x z ≡ false) (map f users) → find test users ≡ Some found → bytes_eq x (f found) ≡ false
 later-differs f test x [] found a e = absurd (none-some found e)
 later-differs f test x (user ∷ users) found a e =
     elim (cases_Bool (test user)) [
@@ -90,7 +87,7 @@ later-differs f test x (user ∷ users) found a e =
     ]
 
 pub head-differs : (f : Listed → List ℕ) (test : Listed → Bool) (user : Listed) (users : List Listed) (found : Listed)
-    → IsDistinct bytes_eq (map f (user ∷ users)) → first_who test users ≡ Some found → bytes_eq (f user) (f found) ≡ false
+    → IsDistinct bytes_eq (map f (user ∷ users)) → find test users ≡ Some found → bytes_eq (f user) (f found) ≡ false
 unfolding IsDistinct
 head-differs f test user users found d e = later-differs f test (f user) users found d.0 e
 
@@ -114,7 +111,6 @@ kept-in test user users e = cond-true (not (test user)) (user ∷ without_by tes
 pub sid-left : (f : Listed → List ℕ) (sid : ℕ) (users : List Listed) (gone : Listed) (key : List ℕ)
     → IsDistinct eqb (map (λ (u : Listed). u.sid) users) → IsDistinct bytes_eq (map f users) → user_by_sid sid users ≡ Some gone
     → sid_by f (without_sid sid users) key ≡ cond (bytes_eq (f gone) key) None (sid_by f users key)
-unfolding first_who
 sid-left f sid [] gone key s d e = absurd (none-some gone e)
 sid-left f sid (user ∷ users) gone key s d e =
     elim (cases_Bool (has_sid sid user)) [
@@ -159,8 +155,8 @@ sid-kept f change same-key same-sid test (user ∷ users) key =
 
 -- whom any look-up finds is found by session identifier
 pub found-again : (test : Listed → Bool) (users : List Listed) (found : Listed) → IsDistinct eqb (map (λ (u : Listed). u.sid) users)
-    → first_who test users ≡ Some found → user_by_sid found.sid users ≡ Some found
-unfolding first_who IsDistinct
+    → find test users ≡ Some found → user_by_sid found.sid users ≡ Some found
+unfolding IsDistinct
 found-again test [] found d e = absurd (none-some found e)
 found-again test (user ∷ users) found d e =
     elim (cases_Bool (test user)) [

@@ -1,4 +1,4 @@
--- What an entry, an exit and an update make of the users who are present.
+-- The present users after an entry, an exit and an update.
 use Rattle.std.proofs.Common.{◌≡◌, ℕ, suc, ◌+◌, ◌<◌, eqb, Bool, true, false, not, List, [], ◌∷◌, ◌++◌, length, take, drop, refl, sym, subst, true≢false, arith, slice_index_or, slice_set}
 use Rattle.std.specs.Prelude.{Option, Some, None, Result, Ok, Err, is_some, IsTrue, OnOk, if◌then◌else◌}
 use Rattle.std.specs.List.{IsDistinct}
@@ -9,7 +9,7 @@ use Rattle.inf_fields.specs.Merging.{fits}
 use Rattle.user_table.specs.Changes.{AreDistinct, fits_user, takes_update}
 use Rattle.user_table.specs.Listed.{Listed}
 use Rattle.user_table.specs.Places.{place_from}
-use Rattle.user_table.specs.Tables.{has_sid, has_cid, has_key, user_by_sid, user_by_cid, user_by_key, without_sid, with_update, updated, updated_if}
+use Rattle.user_table.specs.Tables.{has_sid, has_cid, has_key, user_by_sid, user_by_cid, user_by_key, without_sid, with_update, updated_user, updated_if}
 use Rattle.user_table.proofs.PlaceLemmas.{IsFirst, AreApart, place-found, place-none, nobody-first, first-nobody, first-here, first-below, nobody-filter, first-filter, first-map}
 use Rattle.user_table.proofs.DistinctLemmas.{apart-by, distinct-append, distinct-filter}
 
@@ -38,7 +38,7 @@ place-removed sid users place d e = first-filter (has_sid sid) users place (firs
 
 pub place-changed : (sid : ℕ) (update : List Field) (key : Option (List ℕ)) (users : List Listed) (place : ℕ) (d : Listed) → AreDistinct users
     → place_from (has_sid sid) 0 users ≡ Some place
-    → slice_set users place (updated update key (slice_index_or users place d)) ≡ with_update sid update key users
+    → slice_set users place (updated_user update key (slice_index_or users place d)) ≡ with_update sid update key users
 place-changed sid update key users place d are e =
     first-map (λ b user. updated_if b update key user) (λ _. refl) (has_sid sid) users place d (first-at sid users place e) (sids-apart sid users are)
 

@@ -1,4 +1,4 @@
--- What an entry and an update make of the users who are present, and when they are refused.
+-- The present users after an entry and an update, and when these are refused.
 use Rattle.std.specs.Prelude.{◌≡◌, ℕ, ◌++◌, not, eqb, encode_utf8_all, Bool, false, List, [], ◌∷◌, map, Option, Some, None, is_some, Result, Ok, Err, if◌then◌else◌}
 use Rattle.std.specs.List.{IsDistinct}
 use Rattle.std.specs.Str.{bytes_eq}
@@ -31,8 +31,8 @@ abbrev pub cid_taken : List ℕ → List Listed → Bool
 cid_taken cid users = is_some (user_by_cid cid users)
 
 -- the users once another has entered: behind all others, where neither nick nor client identifier is taken
-abbrev pub entered : Listed → List Listed → Result (List Listed) TableRefused
-entered user users =
+abbrev pub users_after_entry : Listed → List Listed → Result (List Listed) TableRefused
+users_after_entry user users =
     if nick_taken user.key users
     then Err NickTaken
     else (if cid_taken user.cid users then Err CidTaken else Ok (users ++ user ∷ []))
@@ -48,8 +48,8 @@ held_by_other sid None users = false
 held_by_other sid (Some key) users = is_other sid (user_by_key key users)
 
 -- the users once one of them is updated, and has the key that is given, where no other user has it
-abbrev pub renewed : ℕ → List Field → Option (List ℕ) → List Listed → Result (List Listed) TableRefused
-renewed sid update key users = if held_by_other sid key users then Err NickTaken else Ok (with_update sid update key users)
+abbrev pub users_after_update : ℕ → List Field → Option (List ℕ) → List Listed → Result (List Listed) TableRefused
+users_after_update sid update key users = if held_by_other sid key users then Err NickTaken else Ok (with_update sid update key users)
 
 abbrev pub fits_user : List Field → Option Listed → Bool
 fits_user update None = false

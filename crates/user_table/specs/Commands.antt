@@ -1,8 +1,8 @@
--- How commands on the users who are present are answered in turn, and what they leave.
+-- Commands on the users who are present: their answers in turn, and what they leave.
 use Rattle.std.specs.Prelude.{◌≡◌, ◌⊎◌, ℕ, Bool, true, false, chars, string_bytes, List, [], ◌∷◌, Option, Some, None, is_some, Result, Ok, Err, IsOk, slice_get}
 use Rattle.std.specs.Option.{option_and_then, option_map}
 use Rattle.std.specs.Str.{bytes_eq}
-use Rattle.adc_line.specs.Escapes.{unescaped}
+use Rattle.adc_line.specs.Escapes.{unescaped_text}
 use Rattle.inf_fields.specs.Field.{Field, value_of}
 use Rattle.inf_fields.specs.FieldNames.{nick_name}
 use Rattle.user_table.specs.declared.command.Answer.{Answer}
@@ -11,14 +11,14 @@ use Rattle.user_table.specs.declared.command.Command.{Command}
 use Rattle.user_table.specs.declared.command.Command.TheVariants.{Insert, Remove, MergeInfo, BySid, ByCid, ByNick, At, Count}
 use Rattle.user_table.specs.declared.refused.TableRefused.{TableRefused}
 use Rattle.user_table.specs.declared.refused.TableRefused.TheVariants.{Memory}
-use Rattle.user_table.specs.Changes.{entered, given_key, key_of, renewed, takes_update}
+use Rattle.user_table.specs.Changes.{users_after_entry, given_key, key_of, users_after_update, takes_update}
 use Rattle.user_table.specs.Indexes.{sid_of}
 use Rattle.user_table.specs.Listed.{Listed}
 use Rattle.user_table.specs.Tables.{totals_of, user_by_cid, user_by_key, user_by_sid, without_sid}
 
 -- the key of the nick that an update says, where its field NI spells a text
 abbrev pub said_key : List Field → Option (List ℕ)
-said_key update = option_map (λ (text : List ℕ). key_of (chars text)) (option_and_then unescaped (value_of nick_name update))
+said_key update = option_map (λ (text : List ℕ). key_of (chars text)) (option_and_then unescaped_text (value_of nick_name update))
 
 abbrev pub is_key : List ℕ → Option (List ℕ) → Bool
 is_key key None = false
@@ -34,17 +34,17 @@ abbrev pub left_by : Result (List Listed) TableRefused → List Listed → List 
 left_by (Ok after) users = after
 left_by (Err refused) users = users
 
-abbrev pub told : Result (List Listed) TableRefused → Answer
-told (Ok after) = Done
-told (Err refused) = Refused refused
+abbrev pub answer_of : Result (List Listed) TableRefused → Answer
+answer_of (Ok after) = Done
+answer_of (Err refused) = Refused refused
 
 -- a change is answered as it is wanted, or memory ran out and nothing changed
 abbrev pub IsChange : Result (List Listed) TableRefused → List Listed → Answer → List Listed → Type 0
-IsChange wanted users answer after = ((answer ≡ Refused Memory) × (after ≡ users)) ⊎ ((answer ≡ told wanted) × (after ≡ left_by wanted users))
+IsChange wanted users answer after = ((answer ≡ Refused Memory) × (after ≡ users)) ⊎ ((answer ≡ answer_of wanted) × (after ≡ left_by wanted users))
 
 -- memory counts for an entry only where nothing else refuses it
 abbrev pub IsEntry : Result (List Listed) TableRefused → List Listed → Answer → List Listed → Type 0
-IsEntry wanted users answer after = ((answer ≡ Refused Memory) × (after ≡ users) × IsOk wanted) ⊎ ((answer ≡ told wanted) × (after ≡ left_by wanted users))
+IsEntry wanted users answer after = ((answer ≡ Refused Memory) × (after ≡ users) × IsOk wanted) ⊎ ((answer ≡ answer_of wanted) × (after ≡ left_by wanted users))
 
 -- nothing is changed
 abbrev pub IsLookUp : Answer → List Listed → Answer → List Listed → Type 0
@@ -52,13 +52,13 @@ IsLookUp wanted users answer after = (answer ≡ wanted) × (after ≡ users)
 
 abbrev pub IsInserted : Bool → Listed → List Listed → Answer → List Listed → Type 0
 IsInserted true user users answer after = IsLookUp Skipped users answer after
-IsInserted false user users answer after = IsEntry (entered user users) users answer after
+IsInserted false user users answer after = IsEntry (users_after_entry user users) users answer after
 
 -- by whether there is room for the update, and whether it says the nick: memory may run out before the latter is known
 abbrev pub IsMerged : Bool → Bool → ℕ → List Field → Option (List ℕ) → List Listed → Answer → List Listed → Type 0
 IsMerged false says sid update nick users answer after = IsLookUp Skipped users answer after
 IsMerged true false sid update nick users answer after = IsLookUp Skipped users answer after ⊎ IsLookUp (Refused Memory) users answer after
-IsMerged true true sid update nick users answer after = IsChange (renewed sid update (given_key nick) users) users answer after
+IsMerged true true sid update nick users answer after = IsChange (users_after_update sid update (given_key nick) users) users answer after
 
 -- how a command is answered, and what it leaves
 abbrev pub IsAnswered : List Listed → Command → Answer → List Listed → Type 0

@@ -4,11 +4,11 @@ use Rattle.user_table.specs.Listed.{Listed}
 use Rattle.user_table.specs.Tables.{has_sid}
 
 -- a user with another key
-abbrev pub renamed : List ℕ → Listed → Listed
-renamed key user = record { sid = user.sid; cid = user.cid; key = key; fields = user.fields }
+abbrev pub with_other_key : List ℕ → Listed → Listed
+with_other_key key user = record { sid = user.sid; cid = user.cid; key = key; fields = user.fields }
 
 abbrev pub renamed_if : Bool → List ℕ → Listed → Listed
-renamed_if true key user = renamed key user
+renamed_if true key user = with_other_key key user
 renamed_if false key user = user
 
 -- the user with this session identifier under another key, and the others as they are

@@ -1,4 +1,4 @@
--- What one user shares, and what users share together.
+-- The amounts that one user shares, and that users share together.
 use Rattle.std.specs.Prelude.{◌+◌, ◌-◌}
 use Rattle.inf_fields.specs.FieldNames.{share_size_name, shared_files_name}
 use Rattle.user_table.specs.declared.totals.Totals.{Totals}
@@ -10,9 +10,9 @@ abbrev pub shared_by : Listed → Shared
 shared_by user = record { ss = amount share_size_name user.fields; sf = amount shared_files_name user.fields }
 
 -- the totals with one user more
-abbrev pub raised : Shared → Totals → Totals
-raised shared totals = record { users = totals.users + 1; ss = totals.ss + shared.ss; sf = totals.sf + shared.sf }
+abbrev pub totals_with : Shared → Totals → Totals
+totals_with shared totals = record { users = totals.users + 1; ss = totals.ss + shared.ss; sf = totals.sf + shared.sf }
 
 -- the totals with one user less
-abbrev pub lowered : Shared → Totals → Totals
-lowered shared totals = record { users = totals.users - 1; ss = totals.ss - shared.ss; sf = totals.sf - shared.sf }
+abbrev pub totals_without : Shared → Totals → Totals
+totals_without shared totals = record { users = totals.users - 1; ss = totals.ss - shared.ss; sf = totals.sf - shared.sf }

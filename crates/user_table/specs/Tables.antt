@@ -1,6 +1,6 @@
 -- The users who are present, as a list in order of entry.
 use Rattle.std.specs.Prelude.{ℕ, ◌==◌, not, Bool, true, false, List, [], ◌∷◌, length, map, filter, Option, Some, None, if◌then◌else◌}
-use Rattle.std.specs.List.{sum_by}
+use Rattle.std.specs.List.{sum_by, find}
 use Rattle.std.specs.Option.{option_and_then, unwrap_or}
 use Rattle.std.specs.Str.{bytes_eq}
 use Rattle.inf_fields.specs.Amounts.{number_at}
@@ -9,11 +9,6 @@ use Rattle.inf_fields.specs.FieldNames.{share_size_name, shared_files_name}
 use Rattle.inf_fields.specs.Merging.{merged_with}
 use Rattle.user_table.specs.declared.totals.Totals.{Totals}
 use Rattle.user_table.specs.Listed.{Listed}
-
--- the first user who passes a test
-unfoldable pub first_who : (Listed → Bool) → List Listed → Option Listed
-first_who test [] = None
-first_who test (user ∷ users) = if test user then Some user else first_who test users
 
 abbrev pub has_sid : ℕ → Listed → Bool
 has_sid sid user = user.sid == sid
@@ -25,13 +20,13 @@ abbrev pub has_key : List ℕ → Listed → Bool
 has_key key user = bytes_eq user.key key
 
 abbrev pub user_by_sid : ℕ → List Listed → Option Listed
-user_by_sid sid users = first_who (has_sid sid) users
+user_by_sid sid users = find (has_sid sid) users
 
 abbrev pub user_by_cid : List ℕ → List Listed → Option Listed
-user_by_cid cid users = first_who (has_cid cid) users
+user_by_cid cid users = find (has_cid cid) users
 
 abbrev pub user_by_key : List ℕ → List Listed → Option Listed
-user_by_key key users = first_who (has_key key) users
+user_by_key key users = find (has_key key) users
 
 -- without the user with this session identifier
 abbrev pub without_sid : ℕ → List Listed → List Listed
@@ -42,11 +37,11 @@ changed_key None before = before
 changed_key (Some key) before = key
 
 -- a user after an update, with another key where one is given
-abbrev pub updated : List Field → Option (List ℕ) → Listed → Listed
-updated update key user = record { sid = user.sid; cid = user.cid; key = changed_key key user.key; fields = merged_with user.fields update }
+abbrev pub updated_user : List Field → Option (List ℕ) → Listed → Listed
+updated_user update key user = record { sid = user.sid; cid = user.cid; key = changed_key key user.key; fields = merged_with user.fields update }
 
 abbrev pub updated_if : Bool → List Field → Option (List ℕ) → Listed → Listed
-updated_if true update key user = updated update key user
+updated_if true update key user = updated_user update key user
 updated_if false update key user = user
 
 -- the user with this session identifier after an update, and the others as they are

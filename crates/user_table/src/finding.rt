@@ -7,7 +7,6 @@ use crate::user::User;
 use adc_base32::Sid;
 use adc_ids::Cid;
 
-#[tactic(auto, unfolding(crate::specs::Tables::first_who))]
 pub(crate) fn by_sid(users: &[User], sid: Sid) -> Option<&User>
     ensures { option_copied result ≡ user_by_sid sid users.now }
 {
@@ -19,7 +18,6 @@ pub(crate) fn by_sid(users: &[User], sid: Sid) -> Option<&User>
     None
 }
 
-#[tactic(auto, unfolding(crate::specs::Tables::first_who))]
 pub(crate) fn by_cid(users: &[User], cid: Cid) -> Option<&User>
     ensures { option_copied result ≡ user_by_cid cid users.now }
 {
@@ -31,7 +29,6 @@ pub(crate) fn by_cid(users: &[User], cid: Cid) -> Option<&User>
     None
 }
 
-#[tactic(auto, unfolding(crate::specs::Tables::first_who))]
 pub(crate) fn by_key<'a>(users: &'a [User], key: &str) -> Option<&'a User>
     ensures { option_copied result ≡ user_by_key key.entry.now users.entry.now }
 {

@@ -1,6 +1,6 @@
 ghost use Rattle.std.specs.Prelude.{◌≡◌, ◌++◌, ◌∷◌, [], Some, None, IfErr, IsTrue, Ok, OnErr, OnOk};
 ghost use Rattle.std.specs.String.{string_bytes};
-ghost use Rattle.user_table.specs.Changes.{Refuses, renewed, takes_update};
+ghost use Rattle.user_table.specs.Changes.{Refuses, users_after_update, takes_update};
 ghost use Rattle.user_table.specs.Tables.{user_by_cid, user_by_key, user_by_sid, with_update};
 
 use crate::cid_index::CidIndex;
@@ -142,8 +142,8 @@ impl IndexedUsers {
     /// user has the key, or where memory runs out; then all is as before.
     fn renew(&mut self, sid: Sid, update: &Update, key: String) -> Result<(), TableRefused>
         requires takes { IsTrue (takes_update sid update.now self.old) }
-        ensures renewed { OnOk result (renewed sid update.now (Some (string_bytes key)) self.old ≡ Ok self.new) }
-        ensures refused { IfErr result (λ refused. Refuses refused (renewed sid update.now (Some (string_bytes key)) self.old)) }
+        ensures renewed { OnOk result (users_after_update sid update.now (Some (string_bytes key)) self.old ≡ Ok self.new) }
+        ensures refused { IfErr result (λ refused. Refuses refused (users_after_update sid update.now (Some (string_bytes key)) self.old)) }
         ensures unchanged { OnErr result (self.new ≡ self.old) }
     {
         let Some(holder) = self.nicks.get(&key) else {

@@ -87,7 +87,7 @@ impl Roster {
         ensures returned { IfErr result (λ back. back ≡ user) }
         ensures unchanged { OnErr result (self.new ≡ self.old) }
     {
-        let shared = user.shared();
+        let shared = user.files_shared();
         let count = self.users.len();
         prove!(count < usize::MAX);
         match self.users.insert(user.sid(), user) {
@@ -107,7 +107,7 @@ impl Roster {
         ensures left { self.new ≡ without_sid sid self.old }
     {
         let user = self.users.shift_remove(&sid)?;
-        self.totals.lower(user.shared());
+        self.totals.lower(user.files_shared());
         Some(user)
     }
 
@@ -122,9 +122,9 @@ impl Roster {
         let Some(user) = self.users.get_mut(&sid) else {
             unreachable!()
         };
-        let before = user.shared();
+        let before = user.files_shared();
         user.change(update, None)?;
-        let after = user.shared();
+        let after = user.files_shared();
         self.totals.lower(before);
         self.totals.raise(after);
         Ok(())

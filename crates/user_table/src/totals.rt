@@ -1,5 +1,5 @@
 ghost use Rattle.std.specs.Prelude.{◌≡◌, ◌+◌, ◌<◌, ◌≤◌, ◌^◌};
-ghost use Rattle.user_table.specs.Shares.{lowered, raised};
+ghost use Rattle.user_table.specs.Shares.{totals_without, totals_with};
 
 /// The count of users who are present, and what they share together.
 #[derive(Clone, Copy, Debug, PartialEq, Eq)]
@@ -25,7 +25,7 @@ impl Totals {
         requires users { self.old.users + 1 < 2 ^ 64 }
         requires ss { self.old.ss + shared.ss < 2 ^ 128 }
         requires sf { self.old.sf + shared.sf < 2 ^ 128 }
-        ensures { self.new ≡ raised shared self.old }
+        ensures { self.new ≡ totals_with shared self.old }
     {
         self.users += 1;
         self.ss += u128::from(shared.ss);
@@ -37,7 +37,7 @@ impl Totals {
         requires users { 1 ≤ self.old.users }
         requires ss { shared.ss ≤ self.old.ss }
         requires sf { shared.sf ≤ self.old.sf }
-        ensures { self.new ≡ lowered shared self.old }
+        ensures { self.new ≡ totals_without shared self.old }
     {
         self.users -= 1;
         self.ss -= u128::from(shared.ss);

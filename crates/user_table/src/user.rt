@@ -4,9 +4,9 @@ ghost use Rattle.std.specs.String.{string_bytes};
 ghost use Rattle.inf_fields.specs.FieldNames.{share_size_name, shared_files_name};
 ghost use Rattle.inf_fields.specs.Merging.{fits};
 ghost use Rattle.user_table.specs.Listed.{Listed};
-ghost use Rattle.user_table.specs.Renaming.{renamed};
+ghost use Rattle.user_table.specs.Renaming.{with_other_key};
 ghost use Rattle.user_table.specs.Shares.{shared_by};
-ghost use Rattle.user_table.specs.Tables.{amount, updated};
+ghost use Rattle.user_table.specs.Tables.{amount, updated_user};
 
 use crate::totals::Shared;
 use adc_base32::Sid;
@@ -95,7 +95,7 @@ impl User {
     }
 
     /// Gives what the user shares.
-    pub(crate) fn shared(&self) -> Shared
+    pub(crate) fn files_shared(&self) -> Shared
         ensures { result ≡ shared_by self.now }
     {
         Shared {
@@ -108,7 +108,7 @@ impl User {
     /// memory runs out; then the user is as before.
     pub(crate) fn change(&mut self, update: &Update, key: Option<String>) -> Result<(), AllocError>
         requires room { IsTrue (fits self.old.fields update.now) }
-        ensures changed { OnOk result (self.new ≡ updated update.now (option_map string_bytes key) self.old) }
+        ensures changed { OnOk result (self.new ≡ updated_user update.now (option_map string_bytes key) self.old) }
         ensures unchanged { OnErr result (self.new ≡ self.old) }
     {
         if self.fields.merge(update).is_err() {
@@ -122,7 +122,7 @@ impl User {
 
     /// Takes another key, and gives back the one before.
     pub(crate) fn rename(&mut self, key: String) -> String
-        ensures renamed { self.new ≡ renamed (string_bytes key) self.old }
+        ensures renamed { self.new ≡ with_other_key (string_bytes key) self.old }
         ensures before { string_bytes result ≡ self.old.key }
     {
         replace(&mut self.key, key)

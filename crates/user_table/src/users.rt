@@ -1,6 +1,6 @@
 ghost use Rattle.std.specs.Prelude.{◌≡◌, ◌++◌, ℕ, List, [], ◌∷◌, Ok, None, slice_get, IsTrue, IfErr, OnErr, OnOk};
 ghost use Rattle.std.specs.Option.{option_copied};
-ghost use Rattle.user_table.specs.Changes.{AreDistinct, Refuses, entered, given_key, renewed, takes_update};
+ghost use Rattle.user_table.specs.Changes.{AreDistinct, Refuses, users_after_entry, given_key, users_after_update, takes_update};
 ghost use Rattle.user_table.specs.Listed.{Listed};
 ghost use Rattle.user_table.specs.Tables.{totals_of, user_by_cid, user_by_key, user_by_sid, without_sid};
 
@@ -28,9 +28,9 @@ pub trait Users: Drop {
     /// codes 22 and 24), `Memory` where memory runs out.
     fn insert(&mut self, user: User) -> Result<(), (TableRefused, User)>
         requires absent { user_by_sid user.sid (listed self.old) ≡ None }
-        ensures entered { OnOk result (entered user (listed self.old) ≡ Ok (listed self.new)) }
-        ensures refused { IfErr result (λ refused. Refuses refused.0 (entered user (listed self.old))) }
-        ensures memory { IfErr result (λ refused. refused.0 ≡ TableRefused.Memory → entered user (listed self.old) ≡ Ok (listed self.old ++ user ∷ [])) }
+        ensures entered { OnOk result (users_after_entry user (listed self.old) ≡ Ok (listed self.new)) }
+        ensures refused { IfErr result (λ refused. Refuses refused.0 (users_after_entry user (listed self.old))) }
+        ensures memory { IfErr result (λ refused. refused.0 ≡ TableRefused.Memory → users_after_entry user (listed self.old) ≡ Ok (listed self.old ++ user ∷ [])) }
         ensures returned { IfErr result (λ refused. refused.1 ≡ user) }
         ensures unchanged { OnErr result (listed self.new ≡ listed self.old) };
 
@@ -52,8 +52,8 @@ pub trait Users: Drop {
         nick: Option<Nick>,
     ) -> Result<(), TableRefused>
         requires takes { IsTrue (takes_update sid update.now (listed self.old)) }
-        ensures renewed { OnOk result (renewed sid update.now (given_key nick) (listed self.old) ≡ Ok (listed self.new)) }
-        ensures refused { IfErr result (λ refused. Refuses refused (renewed sid update.now (given_key nick) (listed self.old))) }
+        ensures renewed { OnOk result (users_after_update sid update.now (given_key nick) (listed self.old) ≡ Ok (listed self.new)) }
+        ensures refused { IfErr result (λ refused. Refuses refused (users_after_update sid update.now (given_key nick) (listed self.old))) }
         ensures unchanged { OnErr result (listed self.new ≡ listed self.old) };
 
     /// Finds the user with a session identifier. Takes no memory.

@@ -1,7 +1,7 @@
 use crate::identities::key;
 use crate::rows::{
-    Part, byte, number, pair, play, refused, say, say_bytes, say_next, say_number, say_whether,
-    small, twice, unknown,
+    Part, byte, number, pair, play, say, say_bytes, say_next, say_number, say_refused_memory,
+    say_whether, small, twice, unknown,
 };
 use adc_ids::Cid;
 use operator_acts::{Act, ActFault, BanRefused, Bans, FreeText, Left};
@@ -85,7 +85,7 @@ impl Part for BanList {
         said: &mut Vec<u8>,
     ) {
         match name {
-            "alone" => alone(rt, text, said),
+            "alone" => say_what_is_left(rt, text, said),
             "fill" => self.fill(rt, small(rt, text), said),
             "count" => say_number(rt, said, self.bans.count() as u128),
             _ => self.on_one(rt, name, text, said),
@@ -104,7 +104,7 @@ fn cid_of<'t>(rt: &impl Abort, text: &'t str) -> (Cid, &'t str) {
 }
 
 /// Says what is left of the one ban before it is set and then, and of two others.
-fn alone(rt: &(impl Abort + AllocGlobal + Print), text: &str, said: &mut Vec<u8>) {
+fn say_what_is_left(rt: &(impl Abort + AllocGlobal + Print), text: &str, said: &mut Vec<u8>) {
     let (seconds, rest) = pair(text, ' ');
     let (from, now) = pair(rest, ' ');
     let now = number(rt, now);
@@ -155,7 +155,7 @@ impl BanList {
         let answer = match self.bans.add(cid, seconds, now) {
             Err(BanRefused::Memory) => {
                 let same = self.bans.count() == count && self.bans.left(cid, now) == left;
-                refused(
+                say_refused_memory(
                     rt,
                     "operator_acts::Bans::add",
                     same && self.bans.left(first, now) == before,

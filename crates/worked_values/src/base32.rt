@@ -22,8 +22,8 @@ impl Part for Base32 {
             "sid" => say_sid(rt, said, Sid::from_u32(small(rt, text))),
             "number" => say_sid_number(rt, said, Sid::parse(bytes)),
             "next" => next(rt, text, said),
-            "encode" => encoded(rt, bytes, said),
-            "decode" => decoded(rt, text, said),
+            "encode" => say_encoding(rt, bytes, said),
+            "decode" => say_decoding(rt, text, said),
             "encode24" => encoded24(rt, bytes, said),
             "decode24" => decoded24(rt, bytes, said),
             _ => unknown(rt, name),
@@ -50,14 +50,14 @@ fn next(rt: &(impl Abort + AllocGlobal), text: &str, said: &mut Vec<u8>) {
     let (last, range) = pair(text, ' ');
     let (from, to) = pair(range, ' ');
     let last = small(rt, last);
-    let taken = held(rt, rt.alloc(), small(rt, from), small(rt, to));
+    let taken = sids_between(rt, rt.alloc(), small(rt, from), small(rt, to));
     if last > 1_048_575 || taken.len() > 1_048_574 {
         unknown(rt, text);
     }
     say_sid_number(rt, said, Some(Sid::next_free(last, &taken)));
 }
 
-fn held(rt: &impl Abort, alloc: Global, from: u32, to: u32) -> Vec<Sid> {
+fn sids_between(rt: &impl Abort, alloc: Global, from: u32, to: u32) -> Vec<Sid> {
     let mut taken = Vec::new(alloc);
     for number in from..to {
         if let Some(sid) = Sid::from_u32(number) {
@@ -67,14 +67,14 @@ fn held(rt: &impl Abort, alloc: Global, from: u32, to: u32) -> Vec<Sid> {
     taken
 }
 
-fn encoded(rt: &(impl Abort + AllocGlobal + Print), bytes: &[u8], said: &mut Vec<u8>) {
+fn say_encoding(rt: &(impl Abort + AllocGlobal + Print), bytes: &[u8], said: &mut Vec<u8>) {
     match twice!(rt; "adc_base32::encode", B32::Memory, encode(rt.alloc(), bytes)) {
         Ok(text) => say(rt, said, &text),
         Err(fault) => say_fault(rt, said, fault),
     }
 }
 
-fn decoded(rt: &(impl Abort + AllocGlobal + Print), text: &str, said: &mut Vec<u8>) {
+fn say_decoding(rt: &(impl Abort + AllocGlobal + Print), text: &str, said: &mut Vec<u8>) {
     let (count, digits) = pair(text, ' ');
     let (count, digits) = (number(rt, count) as usize, digits.as_bytes());
     match twice!(rt; "adc_base32::decode", B32::Memory, decode(rt.alloc(), digits, count)) {

@@ -1,7 +1,10 @@
 use crate::rows::{
-    Part, byte, pair, play, refused, say, say_bytes, say_number, say_whether, twice, unknown,
+    Part, byte, pair, play, say, say_bytes, say_number, say_refused_memory, say_whether, twice,
+    unknown,
 };
-use inf_fields::{FieldName, Fields, InfFault, Update, dotted, merging_laws, shared_amount};
+use inf_fields::{
+    FieldName, Fields, InfFault, Update, dotted_decimal, merging_laws, shared_amount,
+};
 use second_try::again;
 use std::alloc::{AllocError, AllocGlobal};
 use std::io::Print;
@@ -28,19 +31,25 @@ impl Part for User {
             "pass_10.0.0.1" => passed_on(rt, [10, 0, 0, 1], text, said),
             "merge" => self.merge(rt, text, said),
             "fits" => say_whether(rt, said, self.fields.fits(&update(rt, text))),
-            "print" => say(rt, said, &printed(rt, &self.fields)),
+            "print" => say(rt, said, &print_fields(rt, &self.fields)),
             "get" => say_value(rt, said, self.fields.get(field(rt, text))),
             "name" => say_name(rt, said, bytes),
             "known" => say_bytes(rt, said, &field(rt, text).bytes()),
-            "dotted" => spelt(rt, text, said),
+            "dotted" => say_spelling(rt, text, said),
             "amount" => say_amount(rt, said, shared_amount(text)),
-            _ => told(rt, name, text, said),
+            "bad_number" => say_field(rt, said, update(rt, text).bad_number()),
+            _ => say_told_value(rt, name, text, said),
         }
     }
 }
 
 /// Says what an update tells of a field.
-fn told(rt: &(impl Abort + AllocGlobal + Print), name: &str, line: &str, said: &mut Vec<u8>) {
+fn say_told_value(
+    rt: &(impl Abort + AllocGlobal + Print),
+    name: &str,
+    line: &str,
+    said: &mut Vec<u8>,
+) {
     say_value(rt, said, update(rt, line).get(field(rt, name)));
 }
 
@@ -95,7 +104,7 @@ fn say_update(rt: &(impl Abort + AllocGlobal + Print), said: &mut Vec<u8>, updat
 }
 
 /// Makes an update as it is passed on from an address.
-fn cleaned(rt: &(impl Abort + AllocGlobal + Print), update: &Update, peer: [u8; 4]) -> Update {
+fn clean_from(rt: &(impl Abort + AllocGlobal + Print), update: &Update, peer: [u8; 4]) -> Update {
     match twice!(rt; "inf_fields::Update::clean", InfFault::Memory, update.clean(rt.alloc(), peer))
     {
         Ok(update) => update,
@@ -109,10 +118,10 @@ fn passed_on(
     line: &str,
     said: &mut Vec<u8>,
 ) {
-    say_update(rt, said, &cleaned(rt, &update(rt, line), peer));
+    say_update(rt, said, &clean_from(rt, &update(rt, line), peer));
 }
 
-pub(crate) fn printed(rt: &(impl Abort + AllocGlobal + Print), fields: &Fields) -> String {
+pub(crate) fn print_fields(rt: &(impl Abort + AllocGlobal + Print), fields: &Fields) -> String {
     match twice!(rt; "inf_fields::Fields::print", InfFault::Memory, fields.print(rt.alloc())) {
         Ok(text) => text,
         Err(_) => unknown(rt, "print"),
@@ -147,18 +156,22 @@ fn say_name(rt: &impl Abort, said: &mut Vec<u8>, bytes: &[u8]) {
     let [one, other] = bytes else {
         unknown(rt, "name")
     };
-    match FieldName::new([*one, *other]) {
+    say_field(rt, said, FieldName::new([*one, *other]));
+}
+
+fn say_field(rt: &impl Abort, said: &mut Vec<u8>, name: Option<FieldName>) {
+    match name {
         Some(name) => say_bytes(rt, said, &name.bytes()),
         None => say(rt, said, "none"),
     }
 }
 
-fn spelt(rt: &(impl Abort + AllocGlobal + Print), text: &str, said: &mut Vec<u8>) {
+fn say_spelling(rt: &(impl Abort + AllocGlobal + Print), text: &str, said: &mut Vec<u8>) {
     let (a, rest) = pair(text, ' ');
     let (b, rest) = pair(rest, ' ');
     let (c, d) = pair(rest, ' ');
     let peer = [byte(rt, a), byte(rt, b), byte(rt, c), byte(rt, d)];
-    match twice!(rt; "inf_fields::dotted", AllocError, dotted(rt.alloc(), peer)) {
+    match twice!(rt; "inf_fields::dotted_decimal", AllocError, dotted_decimal(rt.alloc(), peer)) {
         Ok(text) => say(rt, said, &text),
         Err(_) => unknown(rt, "dotted"),
     }
@@ -174,21 +187,21 @@ fn say_amount(rt: &(impl Abort + AllocGlobal), said: &mut Vec<u8>, amount: Optio
 impl User {
     /// Merges a line, cleaned for 127.0.0.1, and tells what is known then. Where it is refused all is as before.
     fn merge(&mut self, rt: &(impl Abort + AllocGlobal + Print), line: &str, said: &mut Vec<u8>) {
-        let update = cleaned(rt, &update(rt, line), [127, 0, 0, 1]);
-        let before = printed(rt, &self.fields);
+        let update = clean_from(rt, &update(rt, line), [127, 0, 0, 1]);
+        let before = print_fields(rt, &self.fields);
         let fits = self.fields.fits(&update);
         let answer = match self.fields.merge(&update) {
             Err(InfFault::Memory) => {
-                refused(
+                say_refused_memory(
                     rt,
                     "inf_fields::Fields::merge",
-                    printed(rt, &self.fields) == before,
+                    print_fields(rt, &self.fields) == before,
                 );
                 self.fields.merge(&update)
             }
             answer => answer,
         };
-        let after = printed(rt, &self.fields);
+        let after = print_fields(rt, &self.fields);
         assert!(rt;
             fits == answer.is_ok() && (fits || before == after),
             "{line}"
@@ -201,7 +214,7 @@ impl User {
 }
 
 /// Gives what is known of a user who said a line.
-pub(crate) fn merged(rt: &(impl Abort + AllocGlobal + Print), line: &str) -> Fields {
+pub(crate) fn fields_of_line(rt: &(impl Abort + AllocGlobal + Print), line: &str) -> Fields {
     let update = update(rt, line);
     let mut fields = Fields::new(rt.alloc());
     again!(rt; fields.merge(&update));
@@ -257,6 +270,21 @@ fn tells_what_was_said(rt: HostRuntime) {
         support NIana SU SS5 NIanna -> is <>
         share_size NIana SU SS5 NIanna -> is 5
         shared_files NIana SU SS5 NIanna -> none
+    ",
+    );
+}
+
+#[test]
+fn finds_the_first_bad_number(rt: HostRuntime) {
+    play_user(
+        &rt,
+        "
+        bad_number NIana SS5 SF18446744073709551615 -> none
+        bad_number NIana SS SF -> none
+        bad_number NIana -> none
+        bad_number SS5x SF1 -> SS
+        bad_number SS5 SF18446744073709551616 -> SF
+        bad_number SF-1 SSx -> SS
     ",
     );
 }

@@ -20,7 +20,7 @@ impl Part for Identities {
     ) {
         match name {
             "identifier" => identifier(rt, bytes, said),
-            "nick" => match parsed(rt, text) {
+            "nick" => match parse_nick(rt, text) {
                 Ok(nick) => say(rt, said, &key(rt, &nick)),
                 Err(NickFault::Invalid) => say(rt, said, "Invalid"),
                 Err(NickFault::Memory) => say(rt, said, "Memory"),
@@ -45,13 +45,13 @@ fn identifier(rt: &impl Abort, text: &[u8], said: &mut Vec<u8>) {
     }
 }
 
-fn parsed(rt: &(impl Abort + AllocGlobal + Print), text: &str) -> Result<Nick, NickFault> {
+fn parse_nick(rt: &(impl Abort + AllocGlobal + Print), text: &str) -> Result<Nick, NickFault> {
     twice!(rt; "adc_ids::Nick::parse", NickFault::Memory, Nick::parse(rt.alloc(), text))
 }
 
 /// Reads a nick that is one.
 pub(crate) fn nick(rt: &(impl Abort + AllocGlobal + Print), text: &str) -> Nick {
-    match parsed(rt, text) {
+    match parse_nick(rt, text) {
         Ok(nick) => nick,
         Err(_) => unknown(rt, text),
     }

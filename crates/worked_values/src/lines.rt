@@ -1,4 +1,6 @@
-use crate::rows::{Part, number, pair, play, refused, say, say_bytes, say_whether, twice, unknown};
+use crate::rows::{
+    Part, number, pair, play, say, say_bytes, say_refused_memory, say_whether, twice, unknown,
+};
 use adc_line::{
     FrameFault, Framer, Kind, Line, LineFault, Next, UnescapeFault, escape, is_feature_name,
     is_feature_word, unescape,
@@ -22,12 +24,12 @@ impl Part for Lines {
         said: &mut Vec<u8>,
     ) {
         match name {
-            "read" => match parsed(rt, bytes) {
+            "read" => match parse_line(rt, bytes) {
                 Ok(line) => say_line(rt, said, &line, text),
                 Err(fault) => say(rt, said, fault_name(fault)),
             },
-            "escape" => escaped(rt, text, said),
-            "unescape" => unescaped(rt, text, said),
+            "escape" => say_escape(rt, text, said),
+            "unescape" => say_unescape(rt, text, said),
             "name" => say_whether(rt, said, is_feature_name(bytes)),
             "word" => say_whether(rt, said, is_feature_word(bytes)),
             _ => unknown(rt, name),
@@ -35,13 +37,13 @@ impl Part for Lines {
     }
 }
 
-fn parsed(rt: &(impl Abort + AllocGlobal + Print), bytes: &[u8]) -> Result<Line, LineFault> {
+fn parse_line(rt: &(impl Abort + AllocGlobal + Print), bytes: &[u8]) -> Result<Line, LineFault> {
     twice!(rt; "adc_line::Line::parse", LineFault::Memory, Line::parse(rt.alloc(), bytes))
 }
 
 /// Reads a line that is one.
 pub(crate) fn line(rt: &(impl Abort + AllocGlobal + Print), bytes: &[u8]) -> Line {
-    match parsed(rt, bytes) {
+    match parse_line(rt, bytes) {
         Ok(line) => line,
         Err(fault) => unknown(rt, fault_name(fault)),
     }
@@ -93,14 +95,14 @@ fn kind_name(kind: Kind) -> &'static str {
     }
 }
 
-fn escaped(rt: &(impl Abort + AllocGlobal + Print), text: &str, said: &mut Vec<u8>) {
+fn say_escape(rt: &(impl Abort + AllocGlobal + Print), text: &str, said: &mut Vec<u8>) {
     match twice!(rt; "adc_line::escape", AllocError, escape(rt.alloc(), text)) {
         Ok(word) => say(rt, said, &word),
         Err(_) => say(rt, said, "Memory"),
     }
 }
 
-fn unescaped(rt: &(impl Abort + AllocGlobal + Print), word: &str, said: &mut Vec<u8>) {
+fn say_unescape(rt: &(impl Abort + AllocGlobal + Print), word: &str, said: &mut Vec<u8>) {
     match twice!(rt; "adc_line::unescape", UnescapeFault::Memory, unescape(rt.alloc(), word)) {
         Ok(text) => say(rt, said, &text),
         Err(UnescapeFault::Escape) => say(rt, said, "Escape"),
@@ -137,7 +139,7 @@ impl Frames {
     fn feed(&mut self, rt: &(impl Abort + Print), piece: &[u8]) {
         let answer = match self.framer.feed(piece) {
             Err(FrameFault::Memory) => {
-                refused(rt, "adc_line::Framer::feed", true);
+                say_refused_memory(rt, "adc_line::Framer::feed", true);
                 self.framer.feed(piece)
             }
             answer => answer,
@@ -149,7 +151,7 @@ impl Frames {
         let before = again!(rt; self.line.clone());
         let answer = match self.framer.next(&mut self.line) {
             Err(FrameFault::Memory) => {
-                refused(rt, "adc_line::Framer::next", self.line == before);
+                say_refused_memory(rt, "adc_line::Framer::next", self.line == before);
                 self.framer.next(&mut self.line)
             }
             answer => answer,

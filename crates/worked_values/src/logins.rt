@@ -2,9 +2,9 @@ mod asks;
 pub(crate) mod denials;
 pub(crate) mod supports;
 
-use crate::rows::{Part, pair, play, say, say_bytes, say_next, twenty_four, twice, unknown};
+use crate::rows::{Part, play, say, say_bytes, say_next, twenty_four, twice, unknown};
 use adc_line::Kind;
-use login_state::{Check, Deny, Severity, Stage, check_pass, is_hub_command};
+use login_state::{Check, Deny, Request, Severity, Stage, check_pass};
 use std::alloc::{AllocError, AllocGlobal};
 use std::io::Print;
 use std::process::Abort;
@@ -31,7 +31,7 @@ fn say_denial(rt: &(impl Abort + AllocGlobal + Print), said: &mut Vec<u8>, deny:
     say_bytes(rt, said, text);
 }
 
-/// Passwords, and what is allowed at which stage.
+/// Passwords, and what is asked for at which stage.
 #[derive(Drop)]
 struct Stages;
 
@@ -46,8 +46,7 @@ impl Part for Stages {
     ) {
         match name {
             "pass" => pass(rt, bytes, said),
-            "commands" => hub_commands(rt, text, said),
-            _ => allowed(rt, stage(rt, name), text, said),
+            _ => say_requests(rt, stage(rt, name), text, said),
         }
     }
 }
@@ -90,25 +89,32 @@ fn command(rt: &impl Abort, word: &str) -> [u8; 3] {
     }
 }
 
-/// Says which of some heads of lines, as `BMSG`, are allowed at a stage.
-fn allowed(rt: &impl Abort, stage: Stage, heads: &str, said: &mut Vec<u8>) {
+/// Says of each of some heads of lines, as `BMSG`, what it asks for at a stage, or with which code it is denied.
+fn say_requests(rt: &(impl Abort + AllocGlobal + Print), stage: Stage, heads: &str, said: &mut Vec<u8>) {
     for head in heads.split(' ') {
         let (Some(letter), Some(word)) = (head.get(..1), head.get(1..)) else {
             unknown(rt, head)
         };
-        if stage.allows(kind(rt, letter), command(rt, word)) {
-            say_next(rt, said, head);
+        match stage.request(kind(rt, letter), command(rt, word)) {
+            Ok(request) => say_next(rt, said, request_name(request)),
+            Err(Deny::Protocol) => say_next(rt, said, "140"),
+            Err(Deny::BadStage(first)) if first.as_slice() == head.as_bytes() => say_next(rt, said, "144"),
+            Err(_) => unknown(rt, head),
         }
     }
 }
 
-/// Says which of some commands of a kind clients may not send.
-fn hub_commands(rt: &impl Abort, text: &str, said: &mut Vec<u8>) {
-    let (letter, words) = pair(text, ' ');
-    for word in words.split(' ') {
-        if is_hub_command(kind(rt, letter), command(rt, word)) {
-            say_next(rt, said, word);
-        }
+fn request_name(request: Request) -> &'static str {
+    match request {
+        Request::Greeting => "Greeting",
+        Request::Login => "Login",
+        Request::Password => "Password",
+        Request::Update => "Update",
+        Request::Support => "Support",
+        Request::Act => "Act",
+        Request::Search => "Search",
+        Request::Message => "Message",
+        Request::Nothing => "Nothing",
     }
 }
 
@@ -126,16 +132,21 @@ fn lets_in_with_the_password(rt: HostRuntime) {
 }
 
 #[test]
-fn allows_by_stage(rt: HostRuntime) {
+fn asks_by_stage(rt: HostRuntime) {
     play(
         &rt,
         &mut Stages,
         "
-        Protocol HSUP HSTA HPAS HINF HMSG BINF BMSG BPAS DMSG EMSG FSCH CSUP ISUP UMSG -> HSUP HSTA
-        Identify HSUP HSTA HPAS HINF HMSG BINF BMSG BPAS DMSG EMSG FSCH CSUP ISUP UMSG -> HSTA BINF
-        Verify HSUP HSTA HPAS HINF HMSG BINF BMSG BPAS DMSG EMSG FSCH CSUP ISUP UMSG -> HSTA HPAS
-        Normal HSUP HSTA HPAS HINF HMSG BINF BMSG BPAS DMSG EMSG FSCH CSUP ISUP UMSG -> HSUP HSTA HINF HMSG BINF BMSG BPAS DMSG EMSG FSCH
-        Gone HSUP HSTA HPAS HINF HMSG BINF BMSG BPAS DMSG EMSG FSCH CSUP ISUP UMSG -> <>
+        Protocol HSUP HSTA HPAS HINF HMSG HQUI -> Greeting Nothing 144 144 144 144
+        Protocol BINF BMSG BSUP DMSG EMSG FSCH CSUP ISUP UMSG -> 144 144 144 144 144 144 140 140 140
+        Identify HSUP HSTA HPAS HINF HMSG HQUI -> 144 Nothing 144 144 144 144
+        Identify BINF BMSG BSUP DMSG EMSG FSCH CSUP ISUP UMSG -> Login 144 144 144 144 144 140 140 140
+        Verify HSUP HSTA HPAS HINF HMSG HQUI -> 144 Nothing Password 144 144 144
+        Verify BINF BMSG BSUP DMSG EMSG FSCH CSUP ISUP UMSG -> 144 144 144 144 144 144 140 140 140
+        Normal HSUP HSTA HPAS HINF HMSG HQUI -> Support Nothing 144 140 Act 140
+        Normal BINF BMSG BSUP DMSG EMSG FSCH CSUP ISUP UMSG -> Update Message 140 Message Message Search 140 140 140
+        Gone HSUP HSTA HPAS HINF HMSG HQUI -> 144 144 144 144 144 144
+        Gone BINF BMSG BSUP DMSG EMSG FSCH CSUP ISUP UMSG -> 144 144 144 144 144 144 140 140 140
     ",
     );
 }
@@ -146,14 +157,12 @@ fn knows_commands_that_clients_may_not_send(rt: HostRuntime) {
         &rt,
         &mut Stages,
         "
-        commands B SUP SID QUI GPA PAS CMD MSG SCH STA XYZ INF -> SUP SID QUI GPA PAS CMD
-        commands D SUP SID QUI GPA PAS CMD MSG SCH STA XYZ INF -> SUP SID QUI GPA PAS CMD INF
-        commands E SUP SID QUI GPA PAS CMD MSG SCH STA XYZ INF -> SUP SID QUI GPA PAS CMD INF
-        commands F SUP SID QUI GPA PAS CMD MSG SCH STA XYZ INF -> SUP SID QUI GPA PAS CMD INF
-        commands H INF SID QUI GPA CMD SUP PAS MSG STA -> INF SID QUI GPA CMD
-        commands C SID -> <>
-        commands I SID -> <>
-        commands U SID -> <>
+        Normal BSUP BSID BQUI BGPA BPAS BCMD BMSG BSCH BSTA BXYZ BINF -> 140 140 140 140 140 140 Message Search Message Message Update
+        Normal DSUP DSID DQUI DGPA DPAS DCMD DMSG DSCH DSTA DXYZ DINF -> 140 140 140 140 140 140 Message Search Message Message 140
+        Normal ESUP ESID EQUI EGPA EPAS ECMD EMSG ESCH ESTA EXYZ EINF -> 140 140 140 140 140 140 Message Search Message Message 140
+        Normal FSUP FSID FQUI FGPA FPAS FCMD FMSG FSCH FSTA FXYZ FINF -> 140 140 140 140 140 140 Message Search Message Message 140
+        Normal HINF HSID HQUI HGPA HCMD HSUP HPAS HMSG HSTA HSCH HXYZ -> 140 140 140 140 140 Support 144 Act Nothing Nothing Nothing
+        Normal CSID ISID USID -> 140 140 140
     ",
     );
 }

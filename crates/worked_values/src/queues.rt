@@ -1,11 +1,13 @@
 ghost use Rattle.std.specs.Prelude.{◌≤◌};
 
 use crate::rows::{
-    Part, number, pair, play, refused, say, say_bytes, say_number, small, twice, unknown,
+    Part, number, pair, play, say, say_bytes, say_number, say_refused_memory, small, twice, unknown,
 };
 use adc_base32::Sid;
 use bytes::Bytes;
-use outboxes::{Batch, Outbox, OutboxRefused, PLACE_BYTES, PushRefused, TakeRefused, Taken};
+use outboxes::{
+    Batch, Outbox, OutboxRefused, PLACE_BYTES, PushRefused, TakeRefused, Taken, quit_line,
+};
 use second_try::again;
 use std::alloc::{AllocError, AllocGlobal, Global};
 use std::io::Print;
@@ -31,11 +33,12 @@ impl Part for Queue {
         match name {
             "room" => self.outbox = room(rt, text),
             "shares" => self.outbox.give(batch(rt, text)),
-            "shares_again" => self.outbox.give(copied(rt, &batch(rt, text))),
+            "shares_again" => self.outbox.give(copy_of(rt, &batch(rt, text))),
             "quits" => self.outbox.give_quit(sid(rt, small(rt, text))),
             "fill" => self.fill(rt, text),
             "takes" => return self.takes(rt, number(rt, text) as usize, said),
             "drains" => return self.drains(rt, said),
+            "line" => return say_bytes(rt, said, &quit_line(sid(rt, small(rt, text)))),
             _ => unknown(rt, name),
         }
         self.say_waiting(rt, said);
@@ -68,13 +71,13 @@ fn batch(rt: &(impl Abort + AllocGlobal + Print), lines: &str) -> Batch {
     let mut batch = Batch::new(rt.alloc());
     for line in lines.split(';') {
         if !line.is_empty() {
-            push(rt, &mut batch, &ended(rt, line));
+            push(rt, &mut batch, &line_bytes(rt, line));
         }
     }
     batch
 }
 
-fn ended(rt: &(impl Abort + AllocGlobal), line: &str) -> Bytes {
+fn line_bytes(rt: &(impl Abort + AllocGlobal), line: &str) -> Bytes {
     let mut text = Vec::new(rt.alloc());
     say(rt, &mut text, line);
     say(rt, &mut text, "\n");
@@ -85,17 +88,17 @@ fn push(rt: &(impl Abort + Print), batch: &mut Batch, line: &Bytes) {
     let was_empty = batch.is_empty();
     let first = again!(rt; line.clone());
     if batch.push(first).is_err() {
-        refused(rt, "outboxes::Batch::push", batch.is_empty() == was_empty);
+        say_refused_memory(rt, "outboxes::Batch::push", batch.is_empty() == was_empty);
         let second = again!(rt; line.clone());
         assert!(rt; batch.push(second).is_ok(), "not pushed");
     }
 }
 
 /// Makes a batch of the same lines.
-fn copied(rt: &(impl Abort + AllocGlobal + Print), batch: &Batch) -> Batch {
+fn copy_of(rt: &(impl Abort + AllocGlobal + Print), batch: &Batch) -> Batch {
     let mut copy = Batch::new(rt.alloc());
     if copy.push_all(batch).is_err() {
-        refused(rt, "outboxes::Batch::push_all", copy.is_empty());
+        say_refused_memory(rt, "outboxes::Batch::push_all", copy.is_empty());
         assert!(rt; copy.push_all(batch).is_ok(), "not pushed");
     }
     copy
@@ -144,7 +147,7 @@ impl Queue {
         let answer = match self.outbox.take(count, &mut self.taken) {
             Err(TakeRefused::Memory) => {
                 let same = self.outbox.waiting() == waiting && self.outbox.lagging() == lagging;
-                refused(
+                say_refused_memory(
                     rt,
                     "outboxes::Outbox::take",
                     same && self.taken.len() == length,
@@ -222,6 +225,7 @@ fn writes_quits_as_lines(rt: HostRuntime) {
     play_queue(
         &rt,
         "
+        line 1 -> IQUI AAAB<x0a>
         room 4 1000 -> 0
         quits 1 -> 1
         quits 2 -> 2

@@ -21,11 +21,11 @@ impl Part for Routing {
     ) {
         match name {
             "want" => say_whether(rt, said, Want::parse(text).is_some()),
-            "match" => matched(rt, text, said),
+            "match" => say_match(rt, text, said),
             "present" => hearers(rt, bytes, true, "TCP4", said),
             "absent" => hearers(rt, bytes, false, "TCP4", said),
             "bare" => hearers(rt, bytes, false, "", said),
-            "named" => named(rt, bytes, said),
+            "named" => say_audience(rt, bytes, said),
             _ => unknown(rt, name),
         }
     }
@@ -40,7 +40,7 @@ fn set(rt: &(impl Abort + AllocGlobal + Print), su: &str) -> FeatureSet {
 }
 
 /// Says whether a feature word matches who supports these features; by their names and by their set the same.
-fn matched(rt: &(impl Abort + AllocGlobal + Print), text: &str, said: &mut Vec<u8>) {
+fn say_match(rt: &(impl Abort + AllocGlobal + Print), text: &str, said: &mut Vec<u8>) {
     let (word, su) = pair(text, ' ');
     let Some(want) = Want::parse(word) else {
         unknown(rt, word)
@@ -87,7 +87,7 @@ fn hearers(
 }
 
 /// Says for whom a line is by name, where its target is present.
-fn named(rt: &(impl Abort + AllocGlobal + Print), bytes: &[u8], said: &mut Vec<u8>) {
+fn say_audience(rt: &(impl Abort + AllocGlobal + Print), bytes: &[u8], said: &mut Vec<u8>) {
     match audience(&line(rt, bytes), true) {
         Audience::One(sid) => say_number(rt, said, sid.number() as u128),
         Audience::Two(one, two) => {

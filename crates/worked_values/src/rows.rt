@@ -155,7 +155,7 @@ pub(crate) fn say_number(rt: &(impl Abort + AllocGlobal), said: &mut Vec<u8>, nu
 }
 
 /// Tells that a call was refused memory, and stops the test where that changed something.
-pub(crate) fn refused(rt: &(impl Abort + Print), call: &str, is_unchanged: bool) {
+pub(crate) fn say_refused_memory(rt: &(impl Abort + Print), call: &str, is_unchanged: bool) {
     assert!(rt; tell(rt, call), "not written");
     assert!(rt; is_unchanged, "{call}: a refusal changed something");
 }
@@ -165,7 +165,7 @@ macro_rules! twice {
     ($rt:expr; $name:expr, $memory:pat, $call:expr) => {
         match $call {
             Err($memory) => {
-                crate::rows::refused($rt, $name, true);
+                crate::rows::say_refused_memory($rt, $name, true);
                 $call
             }
             answer => answer,

@@ -64,7 +64,7 @@ impl File {
     fn list(&mut self, rt: &(impl Abort + AllocGlobal + Print), text: &str, said: &mut Vec<u8>) {
         let (count, what) = pair(text, ' ');
         let count = small(rt, count);
-        let text = again!(rt; listed(rt.alloc(), count, what));
+        let text = again!(rt; write_entries(rt.alloc(), count, what));
         self.read(rt, &text, said);
     }
 
@@ -112,7 +112,7 @@ fn say_address(rt: &impl Abort, said: &mut Vec<u8>, address: SocketAddrV4) {
 }
 
 /// Writes so many entries of a list.
-fn listed(alloc: Global, count: u32, what: &str) -> Result<String, AllocError> {
+fn write_entries(alloc: Global, count: u32, what: &str) -> Result<String, AllocError> {
     let mut text = String::new(alloc);
     for number in 0..count {
         let entry = match what {

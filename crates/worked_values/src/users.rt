@@ -3,12 +3,12 @@ pub(crate) mod alike;
 mod commands;
 pub(crate) mod samples;
 
-use self::samples::{number_of, say_totals, say_user, seen, sid, user};
+use self::samples::{number_of, say_totals, say_user, say_users, sid, user};
 use crate::fields::update;
 use crate::identities::nick;
 use crate::rows::{
-    Part, byte, number, pair, play, refused, say, say_bytes, say_number, say_whether, small,
-    unknown,
+    Part, byte, number, pair, play, say, say_bytes, say_number, say_refused_memory, say_whether,
+    small, unknown,
 };
 use adc_ids::Cid;
 use std::alloc::AllocGlobal;
@@ -40,7 +40,7 @@ impl<U: Users> Part for UserTable<U> {
             "order" => self.order(rt, said),
             "totals" => say_totals(rt, said, &self.users),
             "user" => say_user(rt, said, &entering(rt, text)),
-            "all" => say_bytes(rt, said, &seen(rt, &self.users)),
+            "all" => say_bytes(rt, said, &say_users(rt, &self.users)),
             _ => self.looks(rt, name, text, said),
         }
     }
@@ -77,11 +77,11 @@ fn say_found(rt: &(impl Abort + AllocGlobal), said: &mut Vec<u8>, user: Option<&
 impl<U: Users> UserTable<U> {
     /// Enters a user. Each refusal changes nothing, and one for memory is not repeated.
     fn enters(&mut self, rt: &(impl Abort + AllocGlobal + Print), user: User, said: &mut Vec<u8>) {
-        let before = seen(rt, &self.users);
+        let before = say_users(rt, &self.users);
         let answer = match self.inserts(rt, user) {
             Err((TableRefused::Memory, user)) => {
-                let same = seen(rt, &self.users) == before && self.is_absent(&user);
-                refused(rt, "user_table::Users::insert", same);
+                let same = say_users(rt, &self.users) == before && self.is_absent(&user);
+                say_refused_memory(rt, "user_table::Users::insert", same);
                 self.inserts(rt, user)
             }
             answer => answer,
@@ -90,7 +90,7 @@ impl<U: Users> UserTable<U> {
             Ok(()) => say_answer(rt, said, None),
             Err((refused, _)) => {
                 assert!(rt;
-                    seen(rt, &self.users) == before,
+                    say_users(rt, &self.users) == before,
                     "a refusal changed something"
                 );
                 say_answer(rt, said, Some(refused));
@@ -122,19 +122,22 @@ impl<U: Users> UserTable<U> {
     ) {
         let (number, line) = pair(text, ' ');
         let number = small(rt, number);
-        let (before, holder) = (seen(rt, &self.users), number_of(self.users.by_nick(name)));
+        let (before, holder) = (
+            say_users(rt, &self.users),
+            number_of(self.users.by_nick(name)),
+        );
         let answer = match self.merges(rt, number, line, name) {
             Some(TableRefused::Memory) => {
-                let same = seen(rt, &self.users) == before
+                let same = say_users(rt, &self.users) == before
                     && number_of(self.users.by_nick(name)) == holder;
-                refused(rt, "user_table::Users::merge_info", same);
+                say_refused_memory(rt, "user_table::Users::merge_info", same);
                 self.merges(rt, number, line, name)
             }
             answer => answer,
         };
         if answer.is_some() {
             assert!(rt;
-                seen(rt, &self.users) == before,
+                say_users(rt, &self.users) == before,
                 "a refusal changed something"
             );
         }

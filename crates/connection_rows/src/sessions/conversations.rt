@@ -1,6 +1,6 @@
 use super::bells::{AlwaysRung, NeverRung};
 use super::hub_port::HubPort;
-use super::running::{begins, made, run};
+use super::running::{begins, make_session, run};
 use super::wire::Wire;
 use adc_sessions::{Bell, End};
 use futures::test::MockTask;
@@ -49,14 +49,14 @@ fn is_held<B: Bell>(
     output: &[u8],
 ) -> bool {
     let wire = Wire::new(rt, alloc, input, room).slow();
-    let mut session = made(rt, alloc, wire, HubPort::open(rt, alloc, &[]), bell);
+    let mut session = make_session(rt, alloc, wire, HubPort::open(rt, alloc, &[]), bell);
     let (ended, wire, _, _) = run(rt, task, &mut session);
     if ended == End::Memory {
-        begins(rt, wire.written(), output);
+        begins(rt, wire.sent_bytes(), output);
         return false;
     }
     assert!(rt; ended == end, "{ended:?}");
-    assert!(rt; wire.written() == output, "{:?}", wire.written());
+    assert!(rt; wire.sent_bytes() == output, "{:?}", wire.sent_bytes());
     true
 }
 
@@ -152,7 +152,7 @@ fn nothing_is_read_from_a_client_that_is_shut_out(rt: HostRuntime) {
     for _ in 0..2 {
         let wire = Wire::new(&rt, rt.alloc(), b"HSUP ADBASE\nHSUP ADBASE ADTIGR\n", 12);
         let port = HubPort::open(&rt, rt.alloc(), &[]);
-        let mut session = made(&rt, rt.alloc(), wire, port, NeverRung);
+        let mut session = make_session(&rt, rt.alloc(), wire, port, NeverRung);
         let (end, wire, _, _) = run(&rt, &task, &mut session);
         if end != End::Memory {
             assert!(&rt; end == End::Ended, "{end:?}");
@@ -208,10 +208,10 @@ fn one_write_carries_what_one_take_gave(rt: HostRuntime) {
     for _ in 0..2 {
         let wire = Wire::new(&rt, rt.alloc(), b"HSUP ADBASE ADTIGR\n", 4_096);
         let port = HubPort::open(&rt, rt.alloc(), &[]);
-        let mut session = made(&rt, rt.alloc(), wire, port, NeverRung);
+        let mut session = make_session(&rt, rt.alloc(), wire, port, NeverRung);
         let (end, wire, _, _) = run(&rt, &task, &mut session);
         if end != End::Memory {
-            assert!(&rt; wire.written() == GREETING, "{:?}", wire.written());
+            assert!(&rt; wire.sent_bytes() == GREETING, "{:?}", wire.sent_bytes());
             assert!(&rt; wire.writes() == 1, "{}", wire.writes());
             return;
         }

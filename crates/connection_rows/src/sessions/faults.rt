@@ -1,6 +1,6 @@
 use super::bells::NeverRung;
-use super::hub_port::{HubPort, heard};
-use super::running::{begins, made, run};
+use super::hub_port::{HubPort, take_lines};
+use super::running::{begins, make_session, run};
 use super::wire::{Trouble, Wire};
 use adc_sessions::End;
 use futures::test::MockTask;
@@ -45,15 +45,15 @@ fn is_told(bob: &[u8]) -> bool {
 fn visit(rt: &impl Abort, alloc: Global, task: &MockTask, trouble: Trouble) -> End {
     for _ in 0..2 {
         let port = HubPort::open(rt, alloc, &[BOB]);
-        let wire = Wire::new(rt, alloc, ANA, 1).troubled(trouble);
-        let mut session = made(rt, alloc, wire, port, NeverRung);
+        let wire = Wire::new(rt, alloc, ANA, 1).with_trouble(trouble);
+        let mut session = make_session(rt, alloc, wire, port, NeverRung);
         let (end, wire, left, _) = run(rt, task, &mut session);
-        begins(rt, wire.written(), ANA_GETS);
+        begins(rt, wire.sent_bytes(), ANA_GETS);
         let mut core = left.core;
-        let bob = heard(rt, alloc, &mut core, left.first);
+        let bob = take_lines(rt, alloc, &mut core, left.first);
         assert!(rt; is_told(&bob), "{bob:?}");
         if end == End::Closed {
-            assert!(rt; wire.written() == ANA_GETS && bob.as_slice() == WHOLE);
+            assert!(rt; wire.sent_bytes() == ANA_GETS && bob.as_slice() == WHOLE);
         }
         if end != End::Memory {
             return end;

@@ -45,7 +45,7 @@ impl HubPort {
                 assert!(rt; core.is_open(other));
                 again!(rt; core.line(alloc, other, &line, 0));
             }
-            heard(rt, alloc, &mut core, other);
+            take_lines(rt, alloc, &mut core, other);
             first = first.or(Some(other));
         }
         let me = again!(rt; core.join(alloc, [127, 0, 0, 1], [0; 24], 0));
@@ -60,7 +60,12 @@ impl HubPort {
 }
 
 /// Takes up to 256 lines of a connection that is open.
-pub(crate) fn heard(rt: &impl Abort, alloc: Global, core: &mut Core, connection: Conn) -> Vec<u8> {
+pub(crate) fn take_lines(
+    rt: &impl Abort,
+    alloc: Global,
+    core: &mut Core,
+    connection: Conn,
+) -> Vec<u8> {
     assert!(rt; core.is_open(connection));
     let mut heard = Vec::new(alloc);
     again!(rt; core.take(connection, 256, &mut heard));

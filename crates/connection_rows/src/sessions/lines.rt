@@ -1,7 +1,7 @@
 ghost use Rattle.std.specs.Prelude.{⊤};
 
 use super::bells::NeverRung;
-use super::running::{made, run};
+use super::running::{make_session, run};
 use super::wire::Wire;
 use adc_sessions::{End, Port};
 use futures::test::MockTask;
@@ -64,7 +64,7 @@ fn reads(
             longest: 0,
             takes: 0,
         };
-        let mut session = made(rt, alloc, wire, port, NeverRung);
+        let mut session = make_session(rt, alloc, wire, port, NeverRung);
         let (end, _, (lines, longest, _), _) = run(rt, task, &mut session);
         if end != End::Memory {
             return (end, lines, longest);
@@ -111,7 +111,7 @@ fn each_poll_takes(rt: HostRuntime) {
             longest: 0,
             takes: 0,
         };
-        let mut session = made(&rt, rt.alloc(), wire, port, NeverRung);
+        let mut session = make_session(&rt, rt.alloc(), wire, port, NeverRung);
         let (end, _, (lines, _, takes), polls) = run(&rt, &task, &mut session);
         if end != End::Memory {
             assert!(&rt; end == End::Closed && lines == 1_000, "{end:?} {lines}");

@@ -1,7 +1,7 @@
 ghost use Rattle.std.specs.Prelude.{⊤};
 
 use super::bells::Silent;
-use super::running::made;
+use super::running::make_session;
 use adc_sessions::{End, Port};
 use futures::task::Poll;
 use futures::test::MockTask;
@@ -63,7 +63,7 @@ impl Port for Store {
 /// Polls a session as often as it is woken. Its client says nothing and closes nothing, and nobody rings for it.
 fn hears_all(rt: &impl Abort, alloc: Global, task: &MockTask, client: &MockTask) -> bool {
     let (near, far) = again!(rt; duplex(alloc, 4_096));
-    let mut session = made(rt, alloc, near, Store::new(rt, alloc), Silent::new());
+    let mut session = make_session(rt, alloc, near, Store::new(rt, alloc), Silent::new());
     for _ in 0..1_000 {
         if let Poll::Ready((end, _, ())) = task.poll(&mut session) {
             assert!(rt; end == End::Memory, "{end:?}");

@@ -9,7 +9,7 @@ use tokio::io::{AsyncRead, AsyncWrite};
 const POLLS: u32 = 1_000_000;
 
 /// Makes a session, a second time of what was given back where memory was refused.
-pub(crate) fn made<S: AsyncRead + AsyncWrite, P: Port, B: Bell>(
+pub(crate) fn make_session<S: AsyncRead + AsyncWrite, P: Port, B: Bell>(
     rt: &impl Abort,
     alloc: Global,
     stream: S,

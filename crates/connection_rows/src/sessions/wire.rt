@@ -51,7 +51,7 @@ impl Wire {
         }
     }
 
-    pub(crate) fn troubled(mut self, trouble: Trouble) -> Wire {
+    pub(crate) fn with_trouble(mut self, trouble: Trouble) -> Wire {
         self.trouble = trouble;
         self
     }
@@ -62,7 +62,7 @@ impl Wire {
     }
 
     /// Gives what the client was sent.
-    pub(crate) fn written(&self) -> &[u8] {
+    pub(crate) fn sent_bytes(&self) -> &[u8] {
         &self.written
     }
 

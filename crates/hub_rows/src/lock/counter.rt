@@ -47,7 +47,7 @@ impl Told<Line> for Brand {
 }
 
 /// Opens a new counter. Where memory is refused, the counter comes back as it was, and the second time it opens.
-pub fn opened(alloc: Global, start: u64) -> Result<(Counters, CountersHost), Fail>
+pub fn open_counter(alloc: Global, start: u64) -> Result<(Counters, CountersHost), Fail>
     ensures { IfOk result (λ r. r.1 ≡ first_host r.0) }
 {
     let counter = Counter { sum: start };

@@ -1,7 +1,7 @@
 // Callers that add in threads of their own.
 ghost use Rattle.std.specs.Prelude.{◌≡◌, ◌+◌, ◌^◌, ◌<◌, ◌∷◌, length};
 ghost use Rattle.std.specs.List.{All};
-ghost use Rattle.one_history.specs.States.{IsIdleAt, gone, home_of};
+ghost use Rattle.one_history.specs.States.{IsIdleAt, caller_of, home_of};
 
 use crate::lock::counter::{Counter, Counters, CountersHost, CountersSeat, Line, add};
 use one_history::Seated;
@@ -23,7 +23,7 @@ pub struct Worker {
 }
 
 /// Hires the next caller.
-pub fn hired(lock: &Counters, host: &mut CountersHost, amount: u64) -> Worker
+pub fn hire(lock: &Counters, host: &mut CountersHost, amount: u64) -> Worker
     requires here { host.old.home ≡ home_of lock.now }
     requires room { host.old.admitted + 1 < 2 ^ 64 }
     ensures host { host.new ≡ record host.old { admitted = host.old.admitted + 1 } }
@@ -176,10 +176,10 @@ pub fn team(lock: &Counters, host: &mut CountersHost, amount: u64) -> [Worker; 4
     ensures host { host.new ≡ record host.old { admitted = host.old.admitted + 4 } }
     ensures idle { All (λ w. IsIdleAt lock.now w.seat) result }
 {
-    let a = hired(lock, host, amount);
-    let b = hired(lock, host, amount + 2);
-    let c = hired(lock, host, amount + 4);
-    let d = hired(lock, host, amount + 6);
+    let a = hire(lock, host, amount);
+    let b = hire(lock, host, amount + 2);
+    let c = hire(lock, host, amount + 4);
+    let d = hire(lock, host, amount + 6);
     [a, b, c, d]
 }
 
@@ -195,7 +195,7 @@ pub fn leave(lock: &Counters, host: &mut CountersHost, worker: Worker) -> Told
     requires here { host.old.home ≡ home_of lock.now }
     requires idle { IsIdleAt lock.now worker.seat }
     requires room { length host.old.gathered + 1 < 2 ^ 64 }
-    ensures { host.new ≡ record host.old { gathered = gone worker.seat ∷ host.old.gathered } }
+    ensures { host.new ≡ record host.old { gathered = caller_of worker.seat ∷ host.old.gathered } }
 {
     let Worker {
         seat,

@@ -30,7 +30,7 @@ fn place(hall: &Hall, number: usize) -> Option<(Stage, u64, u64)> {
 }
 
 /// Gives what can be seen of a hub.
-fn seen(hall: &Hall) -> (Totals, u64, [Option<(Stage, u64, u64)>; 3]) {
+fn view_of(hall: &Hall) -> (Totals, u64, [Option<(Stage, u64, u64)>; 3]) {
     (
         hall.core.totals(),
         hall.core.joins(),
@@ -38,7 +38,7 @@ fn seen(hall: &Hall) -> (Totals, u64, [Option<(Stage, u64, u64)>; 3]) {
     )
 }
 
-fn opened(rt: &(impl Abort + Print), alloc: Global) -> Hall {
+fn open_hall(rt: &(impl Abort + Print), alloc: Global) -> Hall {
     let setup = setup_for(rt, alloc, 3);
     let core =
         once!(rt; "hub_core::Core::open", OpenRefused::Memory, Core::open(alloc, again!(rt; setup.clone())));
@@ -52,7 +52,7 @@ fn opened(rt: &(impl Abort + Print), alloc: Global) -> Hall {
 fn joins(rt: &(impl Abort + Print), alloc: Global, hall: &mut Hall) {
     let call = "hub_core::Core::join";
     let joined =
-        once!(rt; call, JoinRefused::Memory, seen(hall), hall.core.join(alloc, [127, 0, 0, 1], [0; 24], 0));
+        once!(rt; call, JoinRefused::Memory, view_of(hall), hall.core.join(alloc, [127, 0, 0, 1], [0; 24], 0));
     again!(rt; hall.joined.push(joined));
 }
 
@@ -64,7 +64,7 @@ fn says(rt: &(impl Abort + Print), alloc: Global, hall: &mut Hall, number: usize
     assert!(rt; hall.core.is_open(connection), "nobody");
     let call = "hub_core::Core::line";
     let verdict =
-        once!(rt; call, LineRefused::Memory, seen(hall), hall.core.line(alloc, connection, &line, 0));
+        once!(rt; call, LineRefused::Memory, view_of(hall), hall.core.line(alloc, connection, &line, 0));
     assert!(rt; verdict == Verdict::Kept);
 }
 
@@ -76,7 +76,7 @@ fn hears(rt: &(impl Abort + Print), alloc: Global, hall: &mut Hall, number: usiz
     };
     assert!(rt; hall.core.is_open(connection), "nobody");
     let call = "hub_core::Core::take";
-    once!(rt; call, TakeRefused::Memory, (seen(hall), heard.len()), hall.core.take(connection, 256, &mut heard));
+    once!(rt; call, TakeRefused::Memory, (view_of(hall), heard.len()), hall.core.take(connection, 256, &mut heard));
     heard
 }
 
@@ -84,7 +84,7 @@ fn hears(rt: &(impl Abort + Print), alloc: Global, hall: &mut Hall, number: usiz
 fn a_line_to_three(rt: HostRuntime) {
     let rt = &rt;
     let alloc = rt.alloc();
-    let mut hall = opened(rt, alloc);
+    let mut hall = open_hall(rt, alloc);
     for (number, login) in LOGINS.iter().enumerate() {
         joins(rt, alloc, &mut hall);
         says(rt, alloc, &mut hall, number, b"HSUP ADBASE ADTIGR");

@@ -1,5 +1,5 @@
 use crate::refused::halls::LOGINS;
-use crate::shared::guests::{Guest, Hall, entered, hears, looks, opened, says};
+use crate::shared::guests::{Guest, Hall, hears, join_and_login, looks, open_hall, says};
 use hub_core::{Stage, Verdict};
 use std::alloc::AllocGlobal;
 
@@ -7,10 +7,10 @@ use std::alloc::AllocGlobal;
 fn a_line_to_three(rt: HostRuntime) {
     let rt = &rt;
     let alloc = rt.alloc();
-    let (hall, mut host) = opened(rt, alloc, 3);
-    let mut ana = entered(rt, alloc, &hall, host.admit(&hall.hub), LOGINS[0]);
-    let mut bob = entered(rt, alloc, &hall, host.admit(&hall.hub), LOGINS[1]);
-    let mut cy = entered(rt, alloc, &hall, host.admit(&hall.hub), LOGINS[2]);
+    let (hall, mut host) = open_hall(rt, alloc, 3);
+    let mut ana = join_and_login(rt, alloc, &hall, host.admit(&hall.hub), LOGINS[0]);
+    let mut bob = join_and_login(rt, alloc, &hall, host.admit(&hall.hub), LOGINS[1]);
+    let mut cy = join_and_login(rt, alloc, &hall, host.admit(&hall.hub), LOGINS[2]);
     // The lines of the logins.
     hears(rt, alloc, &hall, &mut ana);
     hears(rt, alloc, &hall, &mut bob);

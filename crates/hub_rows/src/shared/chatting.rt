@@ -82,7 +82,7 @@ pub(crate) fn chats_of_two<R: Threads + Wait + Abort + Print + Sync>(
 }
 
 /// Gives the line of a number that the guest with this letter says.
-fn numbered(letter: u8, number: u8) -> [u8; 12] {
+fn numbered_line(letter: u8, number: u8) -> [u8; 12] {
     let mut line = *b"BMSG AAA? 00";
     line[8] = letter;
     line[10] = b'0' + number / 10;
@@ -123,7 +123,7 @@ fn chats<R: Wait + Abort + Print>(
     let mut guest = guest;
     let mut heard = Vec::new(alloc);
     for number in 0..LINES {
-        let line = numbered(letter, number);
+        let line = numbered_line(letter, number);
         let more = chats_once(rt, alloc, hall, &mut guest, &line);
         again!(rt; heard.extend_from_slice(&more));
     }

@@ -1,7 +1,7 @@
 // A hub and those who call it.
 ghost use Rattle.std.specs.Prelude.{◌≡◌, ◌∷◌, [], IfOk, IfErr};
 ghost use Rattle.std.specs.Arc.{arc_value};
-ghost use Rattle.hub_rules.specs.Prepared.{prepared};
+ghost use Rattle.hub_rules.specs.Prepared.{prepared_line};
 ghost use Rattle.session_hash.specs.First24.{first_24};
 
 use hub_core::{
@@ -47,7 +47,7 @@ pub(crate) fn setup_for(rt: &impl Abort, alloc: Global, max_users: u32) -> Arc<S
     }
 }
 
-pub(crate) fn opened(
+pub(crate) fn open_hall(
     rt: &(impl Abort + Print),
     alloc: Global,
     max_users: u32,
@@ -67,7 +67,7 @@ pub(crate) fn opened(
 }
 
 /// Joins, and where memory is refused, once more with the visitor that came back.
-pub(crate) fn joined<R: Wait + Abort + Print>(
+pub(crate) fn join<R: Wait + Abort + Print>(
     rt: &R,
     alloc: Global,
     hall: &Hall,
@@ -100,21 +100,21 @@ pub(crate) fn joined<R: Wait + Abort + Print>(
     }
 }
 
-#[tactic(auto, unfolding(hub_rules::specs::Prepared::prepared))]
-fn ready(
+#[tactic(auto, unfolding(hub_rules::specs::Prepared::prepared_line))]
+fn prepare_line(
     rt: &impl Abort,
     alloc: Global,
     setup: &Setup,
     challenge: [u8; 24],
     bytes: &[u8],
 ) -> Prepared
-    ensures { result ≡ prepared setup.now first_24 challenge result.bytes }
+    ensures { result ≡ prepared_line setup.now first_24 challenge result.bytes }
 {
     again!(rt; prepare(alloc, setup, &First24, challenge, bytes))
 }
 
 /// Gives what a guest sees of the hub.
-fn seen<R: Wait>(rt: &R, hall: &Hall, guest: &mut Guest) -> (Stage, u64, u64)
+fn view_of<R: Wait>(rt: &R, hall: &Hall, guest: &mut Guest) -> (Stage, u64, u64)
     requires { guest.old.pass.home ≡ hall.now.hub.home }
     ensures { guest.new.pass.home ≡ hall.now.hub.home }
 {
@@ -133,7 +133,7 @@ pub(crate) fn sends<R: Wait + Abort>(
     requires { guest.old.pass.home ≡ hall.now.hub.home }
     ensures { guest.new.pass.home ≡ hall.now.hub.home }
 {
-    let line = ready(rt, alloc, &hall.setup, guest.challenge, bytes);
+    let line = prepare_line(rt, alloc, &hall.setup, guest.challenge, bytes);
     hall.hub.line(rt, alloc, &mut guest.pass, &line, 0)
 }
 
@@ -151,7 +151,7 @@ pub(crate) fn says<R: Wait + Abort + Print>(
 {
     let call = "hub_shared::Hub::line";
     let said =
-        once!(rt; call, LineRefused::Memory, seen(rt, hall, guest), sends(rt, alloc, hall, guest, bytes));
+        once!(rt; call, LineRefused::Memory, view_of(rt, hall, guest), sends(rt, alloc, hall, guest, bytes));
     assert!(rt; said == verdict, "{said:?}, not {verdict:?}");
 }
 
@@ -180,7 +180,7 @@ pub(crate) fn hears<R: Wait + Abort + Print>(
 {
     let mut heard = Vec::new(alloc);
     let call = "hub_shared::Hub::take";
-    once!(rt; call, TakeRefused::Memory, (seen(rt, hall, guest), heard.len()), takes(rt, hall, guest, &mut heard));
+    once!(rt; call, TakeRefused::Memory, (view_of(rt, hall, guest), heard.len()), takes(rt, hall, guest, &mut heard));
     heard
 }
 
@@ -192,7 +192,7 @@ pub(crate) fn looks<R: Wait>(rt: &R, hall: &Hall, guest: &mut Guest) -> Look
 }
 
 /// Joins and logs in.
-pub(crate) fn entered<R: Wait + Abort + Print>(
+pub(crate) fn join_and_login<R: Wait + Abort + Print>(
     rt: &R,
     alloc: Global,
     hall: &Hall,
@@ -202,7 +202,7 @@ pub(crate) fn entered<R: Wait + Abort + Print>(
     requires { visitor.home ≡ hall.now.hub.home }
     ensures { result.pass.home ≡ hall.now.hub.home }
 {
-    let Ok(mut guest) = joined(rt, alloc, hall, visitor) else {
+    let Ok(mut guest) = join(rt, alloc, hall, visitor) else {
         panic!(rt; "not admitted")
     };
     says(
@@ -218,7 +218,7 @@ pub(crate) fn entered<R: Wait + Abort + Print>(
 }
 
 /// Leaves.
-pub(crate) fn gone<R: Wait>(rt: &R, hall: &Hall, guest: Guest) -> Visitor<First24>
+pub(crate) fn leave<R: Wait>(rt: &R, hall: &Hall, guest: Guest) -> Visitor<First24>
     requires { guest.pass.home ≡ hall.now.hub.home }
     ensures { result.home ≡ hall.now.hub.home }
 {
@@ -227,7 +227,7 @@ pub(crate) fn gone<R: Wait>(rt: &R, hall: &Hall, guest: Guest) -> Visitor<First2
 }
 
 /// Lets both compare what they have seen.
-pub(crate) fn met(hall: &Hall, left: Guest, right: Guest) -> (Guest, Guest)
+pub(crate) fn compare(hall: &Hall, left: Guest, right: Guest) -> (Guest, Guest)
     requires left { left.pass.home ≡ hall.now.hub.home }
     requires right { right.pass.home ≡ hall.now.hub.home }
     ensures left { result.0.pass.home ≡ hall.now.hub.home }

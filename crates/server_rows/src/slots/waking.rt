@@ -153,7 +153,7 @@ fn who_speaks_gives_way_to_who_is_behind(rt: HostRuntime) {
     waiters.are_woken(&rt, [false; COUNT]);
     for slot in 0..COUNT {
         assert!(&rt; !bell.may_hand());
-        let said = waiters.wakers.said();
+        let said = waiters.wakers.broadcasts();
         waiters.wakers.take(slot, said, 256, false);
     }
     assert!(&rt; bell.may_hand());
@@ -168,12 +168,12 @@ fn who_speaks_gives_way_for_a_while(rt: HostRuntime) {
     for _tick in 0..PATIENCE - 1 {
         assert!(&rt; !bell.may_hand());
         // Some of them move, so that they are waited for; they have as much waiting as before.
-        waiters.wakers.take(1, waiters.wakers.said(), 1, true);
+        waiters.wakers.take(1, waiters.wakers.broadcasts(), 1, true);
         waiters.wakers.tick();
         waiters.are_woken(&rt, [true, false, false, false]);
     }
     assert!(&rt; !bell.may_hand());
-    waiters.wakers.take(1, waiters.wakers.said(), 1, true);
+    waiters.wakers.take(1, waiters.wakers.broadcasts(), 1, true);
     waiters.wakers.tick();
     waiters.are_woken(&rt, [true, false, false, false]);
     // It has waited for long, and may hand over some.
@@ -220,7 +220,7 @@ fn nobody_gives_way_to_a_free_slot(rt: HostRuntime) {
     waiters.wakers.vacate(2);
     says(&waiters, FAR_BEHIND);
     for slot in [0, 1, 3] {
-        let said = waiters.wakers.said();
+        let said = waiters.wakers.broadcasts();
         waiters.wakers.take(slot, said, 256, false);
     }
     says(&waiters, BURST);
@@ -231,7 +231,7 @@ fn nobody_gives_way_to_a_free_slot(rt: HostRuntime) {
 fn who_may_have_missed_much_takes_again(rt: HostRuntime) {
     let waiters = Waiters::new(&rt);
     // So much is said while the hub gives it three lines.
-    let said = waiters.wakers.said();
+    let said = waiters.wakers.broadcasts();
     says(&waiters, FAR_BEHIND);
     waiters.wakers.take(1, said, 3, false);
     waiters.are_woken(&rt, [false; COUNT]);

@@ -1,5 +1,6 @@
 use super::say_check;
 use crate::rows::{Part, number, pair, play, unknown};
+use inf_fields::FieldName;
 use login_state::{
     Account, Address, Admission, Ban, Check, Claim, EntryAsk, Identity, InfAsk, Required, Size,
     UpdateAsk, Validity, check_entry, check_inf, check_update,
@@ -26,11 +27,11 @@ impl Part for Login {
         match name {
             "asks" => {}
             "words" => self.ask.words = Validity::Good,
-            "id" => self.ask.id = required(rt, text),
-            "pid" => self.ask.pid = required(rt, text),
-            "nick" => self.ask.nick = required(rt, text),
-            "share_size" => self.ask.share_size = Validity::Good,
-            "shared_files" => self.ask.shared_files = Validity::Good,
+            "id" => self.ask.id = required_of(rt, text),
+            "pid" => self.ask.pid = required_of(rt, text),
+            "nick" => self.ask.nick = required_of(rt, text),
+            "share_size" => self.ask.bad_number = Some(FieldName::shared_files()),
+            "shared_files" => self.ask.bad_number = None,
             "identity" => self.ask.identity = Identity::Own,
             "address" => self.ask.address = Address::Right,
             "admission" => self.ask.admission = Admission::Admitted,
@@ -40,7 +41,7 @@ impl Part for Login {
     }
 }
 
-fn required(rt: &impl Abort, text: &str) -> Required {
+fn required_of(rt: &impl Abort, text: &str) -> Required {
     match text {
         "bad" => Required::Bad,
         "good" => Required::Good,
@@ -72,8 +73,7 @@ fn checks_a_login_in_order(rt: HostRuntime) {
         id: Required::Missing,
         pid: Required::Missing,
         nick: Required::Missing,
-        share_size: Validity::Bad,
-        shared_files: Validity::Bad,
+        bad_number: Some(FieldName::share_size()),
         identity: Identity::Foreign,
         address: Address::Wrong([10, 0, 0, 1]),
         admission: Admission::RegisteredOnly,
@@ -123,8 +123,8 @@ impl Part for Renewal {
             "asks" => {}
             "words" => self.ask.words = Validity::Good,
             "identity" => self.ask.identity = Identity::Own,
-            "share_size" => self.ask.share_size = Validity::Good,
-            "shared_files" => self.ask.shared_files = Validity::Good,
+            "share_size" => self.ask.bad_number = Some(FieldName::shared_files()),
+            "shared_files" => self.ask.bad_number = None,
             "nick" => self.ask.nick = Validity::Good,
             "account" => self.ask.account = Account::Untouched,
             "address" => self.ask.address = Address::Right,
@@ -141,8 +141,7 @@ fn checks_an_update_in_order(rt: HostRuntime) {
     let ask = UpdateAsk {
         words: Validity::Bad,
         identity: Identity::Foreign,
-        share_size: Validity::Bad,
-        shared_files: Validity::Bad,
+        bad_number: Some(FieldName::share_size()),
         nick: Validity::Bad,
         account: Account::Touched,
         address: Address::Wrong([10, 0, 0, 1]),

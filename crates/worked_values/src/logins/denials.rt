@@ -1,6 +1,7 @@
 use super::say_denial;
 use crate::rows::{Part, number, pair, play, unknown};
-use login_state::{Deny, InfField, Severity};
+use inf_fields::FieldName;
+use login_state::{Deny, Severity};
 use std::alloc::AllocGlobal;
 use std::io::Print;
 use std::process::Abort;
@@ -19,8 +20,8 @@ impl Part for Denials {
         said: &mut Vec<u8>,
     ) {
         let deny = match name {
-            "fatal" => denied(rt, Severity::Fatal, text),
-            "recoverable" => denied(rt, Severity::Recoverable, text),
+            "fatal" => denial_of(rt, Severity::Fatal, text),
+            "recoverable" => denial_of(rt, Severity::Recoverable, text),
             "login" => login_denied(rt, text),
             _ => act_denied(rt, text),
         };
@@ -29,9 +30,9 @@ impl Part for Denials {
 }
 
 /// Makes a denial of either severity.
-fn denied(rt: &impl Abort, severity: Severity, text: &str) -> Deny {
+fn denial_of(rt: &impl Abort, severity: Severity, text: &str) -> Deny {
     match pair(text, ' ') {
-        ("BadField", name) => Deny::BadField(severity, field(rt, name)),
+        ("BadField", name) => Deny::BadField(severity, field(rt, name).bytes()),
         ("BadNick", _) => Deny::BadNick(severity),
         ("NickTaken", _) => Deny::NickTaken(severity),
         ("Address", "127.0.0.1") => Deny::Address(severity, [127, 0, 0, 1]),
@@ -40,13 +41,13 @@ fn denied(rt: &impl Abort, severity: Severity, text: &str) -> Deny {
     }
 }
 
-fn field(rt: &impl Abort, name: &str) -> InfField {
+fn field(rt: &impl Abort, name: &str) -> FieldName {
     match name {
-        "Id" => InfField::Id,
-        "Pid" => InfField::Pid,
-        "Nick" => InfField::Nick,
-        "ShareSize" => InfField::ShareSize,
-        "SharedFiles" => InfField::SharedFiles,
+        "Id" => FieldName::id(),
+        "Pid" => FieldName::private_id(),
+        "Nick" => FieldName::nick(),
+        "ShareSize" => FieldName::share_size(),
+        "SharedFiles" => FieldName::shared_files(),
         _ => unknown(rt, name),
     }
 }
@@ -56,7 +57,7 @@ fn login_denied(rt: &impl Abort, text: &str) -> Deny {
         ("WrongSid", _) => Deny::WrongSid,
         ("NoBase", _) => Deny::NoBase,
         ("NoHash", _) => Deny::NoHash,
-        ("Missing", name) => Deny::Missing(field(rt, name)),
+        ("Missing", name) => Deny::Missing(field(rt, name).bytes()),
         ("BadPid", _) => Deny::BadPid,
         ("BannedEver", _) => Deny::BannedEver,
         ("BannedFor", seconds) => Deny::BannedFor(number(rt, seconds)),

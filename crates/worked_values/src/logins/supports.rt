@@ -1,6 +1,8 @@
 use super::say_check;
 use crate::lines::line;
-use crate::rows::{Part, pair, play, refused, say, say_bytes, say_whether, small, unknown};
+use crate::rows::{
+    Part, pair, play, say, say_bytes, say_refused_memory, say_whether, small, unknown,
+};
 use login_state::{Feature, Features, SupFault, check_sup};
 use second_try::again;
 use std::alloc::{AllocError, AllocGlobal, Global};
@@ -28,8 +30,8 @@ impl Part for Supports {
             "many" => self.says(rt, &many(rt, text), said),
             "ends" => say_check(rt, said, check_sup(&self.features)),
             "has" => say_whether(rt, said, self.features.has(feature(rt, text))),
-            "named" => say_feature(rt, said, named(text)),
-            "known" => say_bytes(rt, said, &known(rt, text).name()),
+            "named" => say_feature(rt, said, find_feature(text)),
+            "known" => say_bytes(rt, said, &feature_of(rt, text).name()),
             _ => unknown(rt, name),
         }
     }
@@ -43,7 +45,7 @@ impl Supports {
         let answer = match self.features.apply(rt.alloc(), line.params()) {
             Err(SupFault::Memory) => {
                 let same = self.features.has(Feature::base()) == base;
-                refused(rt, "login_state::Features::apply", same);
+                say_refused_memory(rt, "login_state::Features::apply", same);
                 self.features.apply(rt.alloc(), line.params())
             }
             answer => answer,
@@ -77,21 +79,21 @@ fn sup(alloc: Global, count: u32, words: &str) -> Result<String, AllocError> {
     Ok(text)
 }
 
-fn named(text: &str) -> Option<Feature> {
+fn find_feature(text: &str) -> Option<Feature> {
     match text.as_bytes() {
-        [a, b, c, d] => Feature::named([*a, *b, *c, *d]),
+        [a, b, c, d] => Feature::of_name([*a, *b, *c, *d]),
         _ => None,
     }
 }
 
 fn feature(rt: &impl Abort, text: &str) -> Feature {
-    match named(text) {
+    match find_feature(text) {
         Some(feature) => feature,
         None => unknown(rt, text),
     }
 }
 
-fn known(rt: &impl Abort, text: &str) -> Feature {
+fn feature_of(rt: &impl Abort, text: &str) -> Feature {
     match text {
         "base" => Feature::base(),
         "tigr" => Feature::tigr(),

@@ -1,4 +1,4 @@
-use crate::rows::{Part, play, refused, say};
+use crate::rows::{Part, play, say, say_refused_memory};
 use crate::users::alike::say_run;
 use crate::users::samples::{say_totals, user};
 use crate::users::{UserTable, table};
@@ -52,7 +52,7 @@ fn runs<U: Users>(rt: &(impl Abort + AllocGlobal + Print)) {
         Ok(answers) => answers,
         Err(RunRefused::Memory) => {
             say_totals(rt, &mut totals, &users);
-            refused(
+            say_refused_memory(
                 rt,
                 "user_table::run_users",
                 totals.as_slice() == b"0 0 0".as_slice(),
@@ -70,7 +70,7 @@ fn runs<U: Users>(rt: &(impl Abort + AllocGlobal + Print)) {
     match said.as_slice() {
         b"done;done; 2 10 0;" => assert!(rt; totals.as_slice() == b"2 10 0".as_slice()),
         b"Memory;done; 1 5 0;" | b"done;Memory; 1 5 0;" => {
-            refused(
+            say_refused_memory(
                 rt,
                 "user_table::run_users",
                 totals.as_slice() == b"1 5 0".as_slice(),

@@ -28,7 +28,7 @@ impl Part for Given {
             "faults" => faults(rt, text, said),
             "tells" => tells(rt, text, said),
             "menu" => menu(rt, said),
-            "listed" => listed(rt, said),
+            "listed" => say_entries(rt, said),
             "topic" => topic(rt, text, said),
             _ => unknown(rt, name),
         }
@@ -176,14 +176,14 @@ fn menu(rt: &(impl Abort + AllocGlobal + Print), said: &mut Vec<u8>) {
 }
 
 /// Says the menu of a setup of lists.
-fn listed(rt: &(impl Abort + AllocGlobal + Print), said: &mut Vec<u8>) {
+fn say_entries(rt: &(impl Abort + AllocGlobal + Print), said: &mut Vec<u8>) {
     let setup = of_lists(rt, &[account("ana", "secret", true)], &COMMANDS);
     say_menu(rt, &setup, said);
 }
 
 /// Says the lines of a menu of two entries behind another line, each with its line feed.
 fn say_menu(rt: &(impl Abort + AllocGlobal + Print), setup: &Setup, said: &mut Vec<u8>) {
-    let lines = twice!(rt; "hub_setup::Setup::menu", AllocError, setup.menu(done(rt)));
+    let lines = twice!(rt; "hub_setup::Setup::menu", AllocError, setup.menu(done_batch(rt)));
     let mut queue = outbox(rt, 8, 1000);
     match lines {
         Ok(lines) => queue.give(lines),
@@ -192,7 +192,7 @@ fn say_menu(rt: &(impl Abort + AllocGlobal + Print), setup: &Setup, said: &mut V
     again!(rt; queue.take(8, said));
 }
 
-fn done(rt: &(impl Abort + AllocGlobal)) -> Batch {
+fn done_batch(rt: &(impl Abort + AllocGlobal)) -> Batch {
     let mut batch = Batch::new(rt.alloc());
     let line = again!(rt; done_line(rt.alloc()));
     if batch.push(line).is_err() {

@@ -23,7 +23,7 @@ impl Part for Lines {
             "challenged" => *b"foobarfoobarfoobarfoobar",
             _ => [0; 24],
         };
-        let line = ready(rt, &self.setup, challenge, bytes);
+        let line = prepare_line(rt, &self.setup, challenge, bytes);
         match name {
             "says" => say_command(rt, said, &line),
             "nick" => say_nick(rt, said, &line),
@@ -34,7 +34,7 @@ impl Part for Lines {
     }
 }
 
-fn ready(
+fn prepare_line(
     rt: &(impl Abort + AllocGlobal + Print),
     setup: &Setup,
     challenge: [u8; 24],
@@ -160,6 +160,6 @@ fn is_shared<T: Send + Sync>(_value: &T) -> bool {
 #[test]
 fn threads_may_share_them(rt: HostRuntime) {
     let setup = hub(&rt);
-    let line = ready(&rt, &setup, [0; 24], b"BINF AAAB NIana");
+    let line = prepare_line(&rt, &setup, [0; 24], b"BINF AAAB NIana");
     assert!(rt; is_shared(&setup) && is_shared(&line));
 }

@@ -1,5 +1,5 @@
 use super::*;
-use crate::fields::{merged, update};
+use crate::fields::{fields_of_line, update};
 use crate::lines::line;
 use crate::rows::{Part, pair, play, say, small, twenty_four};
 use adc_base32::Sid;
@@ -45,8 +45,8 @@ fn short(rt: &(impl Abort + AllocGlobal + Print), name: &str, text: &str, bytes:
         "challenge" => challenge(rt, bytes),
         "password" =>
             twice!(rt; "hub_setup::denial_line", AllocError, denial_line(rt.alloc(), Deny::Password)),
-        "passed" => passed(rt, bytes),
-        "update" => updated(rt, text),
+        "passed" => pass_line(rt, bytes),
+        "update" => line_of_update(rt, text),
         _ => unknown(rt, name),
     };
     match made {
@@ -73,12 +73,15 @@ fn challenge(rt: &(impl Abort + AllocGlobal + Print), bytes: &[u8]) -> Result<By
     twice!(rt; "hub_setup::challenge_line", AllocError, challenge_line(rt.alloc(), challenge))
 }
 
-fn passed(rt: &(impl Abort + AllocGlobal + Print), bytes: &[u8]) -> Result<Bytes, AllocError> {
+fn pass_line(rt: &(impl Abort + AllocGlobal + Print), bytes: &[u8]) -> Result<Bytes, AllocError> {
     let line = line(rt, bytes);
     twice!(rt; "hub_setup::passed_line", AllocError, passed_line(rt.alloc(), &line))
 }
 
-fn updated(rt: &(impl Abort + AllocGlobal + Print), text: &str) -> Result<Bytes, AllocError> {
+fn line_of_update(
+    rt: &(impl Abort + AllocGlobal + Print),
+    text: &str,
+) -> Result<Bytes, AllocError> {
     let (who, words) = pair(text, ' ');
     let (sid, update) = (sid(rt, who), update(rt, words));
     twice!(rt; "hub_setup::update_line", AllocError, update_line(rt.alloc(), sid, &update))
@@ -122,7 +125,11 @@ fn user(rt: &(impl Abort + AllocGlobal + Print), text: &str, said: &mut Vec<u8>)
         accounts: &accounts,
         ..options("Hub")
     };
-    let (setup, known, sid) = (setup(rt, &options), merged(rt, words), sid(rt, "AAAC"));
+    let (setup, known, sid) = (
+        setup(rt, &options),
+        fields_of_line(rt, words),
+        sid(rt, "AAAC"),
+    );
     match twice!(rt; "hub_setup::user_line", AllocError, user_line(rt.alloc(), sid, &known, setup.account(nick)))
     {
         Ok(line) => say_line(rt, said, &line),

@@ -1,8 +1,8 @@
 // Tests that both bodies of `Users` answer alike, and leave the same users.
 use super::commands::{Draws, command, renewal};
-use super::samples::{seen, sid};
+use super::samples::{say_users, sid};
 use super::{entering, say_answer};
-use crate::rows::{Part, number, pair, play, refused, say, say_number, small, unknown};
+use crate::rows::{Part, number, pair, play, say, say_number, say_refused_memory, small, unknown};
 use adc_ids::Cid;
 use second_try::again;
 use std::alloc::AllocGlobal;
@@ -26,9 +26,9 @@ fn run<U: Users>(rt: &(impl Abort + AllocGlobal + Print)) -> (U, Vec<Answer>) {
 
 fn run_once<U: Users>(rt: &(impl Abort + AllocGlobal + Print)) -> Option<(U, Vec<Answer>)> {
     let mut users = U::new(rt.alloc());
-    match run_users(rt.alloc(), &mut users, drawn(rt)) {
+    match run_users(rt.alloc(), &mut users, draw_commands(rt)) {
         Err(RunRefused::Memory) => {
-            refused(rt, "user_table::run_users", users.totals().users == 0);
+            say_refused_memory(rt, "user_table::run_users", users.totals().users == 0);
             None
         }
         Ok(answers) if answers.contains(&Answer::Refused(TableRefused::Memory)) => None,
@@ -36,7 +36,7 @@ fn run_once<U: Users>(rt: &(impl Abort + AllocGlobal + Print)) -> Option<(U, Vec
     }
 }
 
-fn drawn(rt: &(impl Abort + AllocGlobal + Print)) -> Vec<Command> {
+fn draw_commands(rt: &(impl Abort + AllocGlobal + Print)) -> Vec<Command> {
     let mut draws = Draws { state: 2026 };
     let mut commands = again!(rt; Vec::with_capacity(rt.alloc(), COUNT));
     for _ in 0..COUNT {
@@ -73,7 +73,7 @@ fn answer_2000_commands_alike(rt: HostRuntime) {
     let (plain, answers): (PlainUsers, Vec<Answer>) = run(&rt);
     let (indexed, others): (IndexedUsers, Vec<Answer>) = run(&rt);
     assert!(rt; answers.len() == COUNT && answers == others);
-    assert!(rt; seen(&rt, &plain) == seen(&rt, &indexed));
+    assert!(rt; say_users(&rt, &plain) == say_users(&rt, &indexed));
     // Each kind of answer comes often, and a command is seldom skipped.
     for (kind, least) in [
         (0, 100),
@@ -105,11 +105,15 @@ impl<U: Users> Part for CommandRun<U> {
         _bytes: &[u8],
         said: &mut Vec<u8>,
     ) {
-        let before = seen(rt, &self.users);
+        let before = say_users(rt, &self.users);
         for _ in 0..2 {
-            match self.run(rt, told(rt, name, text)) {
+            match self.run(rt, command_of(rt, name, text)) {
                 Some(answer) => return say_run(rt, said, answer),
-                None => refused(rt, "user_table::run_users", seen(rt, &self.users) == before),
+                None => say_refused_memory(
+                    rt,
+                    "user_table::run_users",
+                    say_users(rt, &self.users) == before,
+                ),
             }
         }
     }
@@ -131,7 +135,7 @@ impl<U: Users> CommandRun<U> {
     }
 }
 
-fn told(rt: &(impl Abort + AllocGlobal + Print), name: &str, text: &str) -> Command {
+fn command_of(rt: &(impl Abort + AllocGlobal + Print), name: &str, text: &str) -> Command {
     match name {
         "insert" => Command::Insert(entering(rt, text)),
         "remove" => Command::Remove(sid(rt, small(rt, text))),

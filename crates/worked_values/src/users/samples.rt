@@ -1,5 +1,5 @@
 // Users for tests.
-use crate::fields::merged;
+use crate::fields::fields_of_line;
 use crate::identities::{key, nick};
 use crate::rows::{say, say_number, unknown};
 use adc_base32::Sid;
@@ -29,13 +29,13 @@ pub(crate) fn user(
         sid(rt, number),
         Cid::from_bytes([cid; 24]),
         key,
-        merged(rt, line),
+        fields_of_line(rt, line),
     )
 }
 
 /// Says the users in order of entry, a line for each: numbers, the nick's key and the fields; and what they share together.
 /// Each has to be found by session identifier, client identifier and nick.
-pub(crate) fn seen<U: Users>(rt: &(impl Abort + AllocGlobal + Print), users: &U) -> Vec<u8> {
+pub(crate) fn say_users<U: Users>(rt: &(impl Abort + AllocGlobal + Print), users: &U) -> Vec<u8> {
     let mut text = Vec::new(rt.alloc());
     for place in 0..users.totals().users {
         match users.at(place as usize) {
@@ -57,7 +57,7 @@ pub(crate) fn say_user(rt: &(impl Abort + AllocGlobal + Print), said: &mut Vec<u
     say_number(rt, said, cid as u128);
     say(rt, said, " ");
     say(rt, said, user.key());
-    say(rt, said, &crate::fields::printed(rt, user.fields()));
+    say(rt, said, &crate::fields::print_fields(rt, user.fields()));
     say(rt, said, ";");
 }
 

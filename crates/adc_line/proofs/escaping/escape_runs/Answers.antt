@@ -1,6 +1,6 @@
 use Rattle.std.proofs.Common.{◌≡◌, ◌++◌, ◌∙◌, ap, rules}
 use Rattle.std.specs.String.{string_bytes}
-use Rattle.adc_line.specs.Escapes.{escaped, escaped_byte}
+use Rattle.adc_line.specs.Escapes.{escaped_text, escaped_byte}
 use Rattle.adc_line.proofs.EscapeLemmas.{special_is_ascii, utf8_behind, escaped-step, escaped-end}
 use Rattle.adc_line.proofs.escaping.escape_runs.Goals as goal
 
@@ -15,7 +15,7 @@ runs-preserved c =
     let cut = rw c.in-Some.is at c.first_run.ensures.cut in
     let special = rw c.in-Some.is at c.first_run.ensures.special in
     let written : string_bytes c.push_str-in-runs.new.self ≡ (string_bytes c.runs.word ++ run) ++ escaped_byte c.in-Some.byte = search rules in (
-      ap (λ xs. xs ++ escaped c.in-Some.after.now) written
+      ap (λ xs. xs ++ escaped_text c.in-Some.after.now) written
           ∙ escaped-step (string_bytes c.runs.word) c.runs.rest.now run c.in-Some.after.now c.in-Some.byte c.args.text.now c.runs.invariant.0 cut c.first_run.ensures.plain,
       utf8_behind c.runs.rest.now run c.in-Some.after.now c.in-Some.byte c.runs.invariant.1 cut (special_is_ascii _ special),
     )

@@ -1,7 +1,7 @@
 use Rattle.std.proofs.Common.{◌≡◌, ◌<◌, ◌∙◌, ℕ, List, ◌∷◌, sym, ap, length, get_or, Some}
 use Rattle.std.proofs.lemmas.Str.{IsCharBoundary-after_ascii}
 use Rattle.std.specs.Option.{option_map}
-use Rattle.adc_line.specs.Escapes.{escape_means, unescaped}
+use Rattle.adc_line.specs.Escapes.{escape_means, unescaped_text}
 use Rattle.adc_line.proofs.EscapeLemmas.{unescaped-cut, unescaped-stray, unescaped-escape}
 use Rattle.adc_line.proofs.escaping.first_meant.Goals as goal
 
@@ -26,4 +26,4 @@ returns-clause-some c =
     let meant = c.in_ok-meant.meant in
     let some : 0 < length text = rw c.as_bytes.ensures.value at c.in-len1-up.len_at_least in
     let means : Some meant ≡ escape_means (get_or text 0 0) = rw c.as_bytes.ensures.value at c.in_ok-meant.ensures.exact in
-    unescaped-escape text meant some (sym means) ∙ ap (λ (xs : List ℕ). option_map (λ (more : List ℕ). meant ∷ more) (unescaped xs)) (sym c.range_from.ensures.value)
+    unescaped-escape text meant some (sym means) ∙ ap (λ (xs : List ℕ). option_map (λ (more : List ℕ). meant ∷ more) (unescaped_text xs)) (sym c.range_from.ensures.value)

@@ -1,7 +1,7 @@
 use Rattle.std.proofs.Common.{◌≡◌, ℕ, List, ◌++◌, ◌∷◌, [], ◌∙◌, sym, ap, ap₂, Some}
 use Rattle.std.specs.Option.{option_map}
 use Rattle.std.specs.String.{string_bytes}
-use Rattle.adc_line.specs.Escapes.{backslash, unescaped}
+use Rattle.adc_line.specs.Escapes.{backslash, unescaped_text}
 use Rattle.adc_line.proofs.EscapeLemmas.{unescaped-end, unescaped-bad, unescaped-bare, unescaped-step}
 use Rattle.adc_line.proofs.escaping.unescape_runs.Goals as goal
 
@@ -30,7 +30,7 @@ runs-preserved c =
     let cut = rw (c.in-Some.is, c.if-byte-ne92.false) at c.first_run.ensures.cut in
     let written : string_bytes c.push.new.self ≡ (string_bytes c.runs.text ++ run) ++ meant ∷ [] =
     c.in_ok-push.ensures.bytes ∙ ap₂ ◌++◌ c.in_ok-push_str.ensures.bytes (c.in_ok-push.ensures.ascii c.in-Some-first_meant.ensures.ascii) in (
-      ap (λ (xs : List ℕ). option_map (λ (more : List ℕ). xs ++ more) (unescaped left)) written
+      ap (λ (xs : List ℕ). option_map (λ (more : List ℕ). xs ++ more) (unescaped_text left)) written
           ∙ unescaped-step (string_bytes c.runs.text) c.args.word.now c.runs.rest.now run c.runs.invariant.0 c.first_run.ensures.plain
           (backslash ∷ c.in-Some.after.now) left meant cut c.in-Some-first_meant.ensures.some,
       c.in-Some-first_meant.ensures.utf8,

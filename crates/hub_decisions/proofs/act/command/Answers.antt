@@ -1,7 +1,7 @@
 use Rattle.std.proofs.Common.{◌∙◌, sym, ap, true, false}
 use Rattle.operator_acts.specs.Acts.{act_at}
 use Rattle.hub_decisions.specs.Commands.{effect_of_asked}
-use Rattle.hub_decisions.proofs.Commanding.{allowed, barred, operator-is}
+use Rattle.hub_decisions.proofs.Commanding.{operator-asks, others-ask, operator-is}
 use Rattle.hub_decisions.proofs.Knowing.{when-ok}
 use Rattle.hub_decisions.proofs.act.command.Goals as goal
 
@@ -9,14 +9,14 @@ pub returns-then-not-is_operator : goal.returns-then-not-is_operator
 returns-then-not-is_operator c =
     when-ok c.denial.result c.denial.ensures
     (λ effect is known.
-    barred c.args.hub.now c.args.own.now c.args.now (act_at c.args.text.now) effect is
+    others-ask c.args.hub.now c.args.own.now c.args.now (act_at c.args.text.now) effect is
     (operator-is c.args.hub.now c.args.own.now c.args.user.now c.is_operator.result false c.is_operator.ensures c.if-not-is_operator.true known))
 
 pub returns-in-Ok : goal.returns-in-Ok
 returns-in-Ok c =
-    when-ok c.asked.result c.asked.ensures
+    when-ok c.decide_act.result c.decide_act.ensures
     (λ effect is known.
-    allowed c.args.hub.now c.args.own.now c.args.now (act_at c.args.text.now) effect (is ∙ ap (effect_of_asked c.args.hub.now c.args.own.now c.args.now) (sym c.in-Ok.ensures))
+    operator-asks c.args.hub.now c.args.own.now c.args.now (act_at c.args.text.now) effect (is ∙ ap (effect_of_asked c.args.hub.now c.args.own.now c.args.now) (sym c.in-Ok.ensures))
     (operator-is c.args.hub.now c.args.own.now c.args.user.now c.is_operator.result true c.is_operator.ensures c.if-not-is_operator.false known))
 
 pub returns-in-Err-Bad : goal.returns-in-Err-Bad
@@ -24,5 +24,5 @@ returns-in-Err-Bad c =
     let none = rw c.in-Err-Bad.field-0-is at c.in-Err-Bad.ensures in
     when-ok c.denial-in-Err-Bad.result c.denial-in-Err-Bad.ensures
     (λ effect is known.
-    allowed c.args.hub.now c.args.own.now c.args.now (act_at c.args.text.now) effect (is ∙ ap (effect_of_asked c.args.hub.now c.args.own.now c.args.now) (sym none))
+    operator-asks c.args.hub.now c.args.own.now c.args.now (act_at c.args.text.now) effect (is ∙ ap (effect_of_asked c.args.hub.now c.args.own.now c.args.now) (sym none))
     (operator-is c.args.hub.now c.args.own.now c.args.user.now c.is_operator.result true c.is_operator.ensures c.if-not-is_operator.false known))

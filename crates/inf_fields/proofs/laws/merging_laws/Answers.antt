@@ -1,11 +1,11 @@
 use Rattle.std.proofs.Common.{refl}
-use Rattle.inf_fields.specs.Merging.{merged}
+use Rattle.inf_fields.specs.Merging.{merged_fields}
 use Rattle.inf_fields.proofs.MergingLaws.{merged-more, merged-all, value_of-merged}
 use Rattle.inf_fields.proofs.OrderLaws.{merged-in_order}
 use Rattle.inf_fields.proofs.laws.merging_laws.Goals as goal
 
 pub returns-clause-none : goal.returns-clause-none
-unfolding merged
+unfolding merged_fields
 returns-clause-none c = refl
 
 pub returns-clause-more : goal.returns-clause-more

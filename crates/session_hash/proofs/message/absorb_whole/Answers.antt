@@ -1,10 +1,10 @@
 use Rattle.std.proofs.Common.{refl}
-use Rattle.session_hash.specs.Tiger.{absorbed}
+use Rattle.session_hash.specs.Tiger.{registers_after}
 use Rattle.session_hash.proofs.Blocks.{whole_next}
 use Rattle.session_hash.proofs.message.absorb_whole.Goals as goal
 
 pub loop-place-init : goal.loop-place-init
-unfolding absorbed
+unfolding registers_after
 loop-place-init c = refl
 
 pub loop-place-preserved : goal.loop-place-preserved

@@ -2,7 +2,7 @@ use Rattle.std.proofs.Common.{Some, sym, ap, ◌∙◌, slice_set}
 use Rattle.std.specs.Option.{option_map}
 use Rattle.std.specs.String.{string_bytes}
 use Rattle.user_table.specs.Places.{place_from}
-use Rattle.user_table.specs.Tables.{has_sid, user_by_sid, updated}
+use Rattle.user_table.specs.Tables.{has_sid, user_by_sid, updated_user}
 use Rattle.user_table.proofs.TableLemmas.{place-below, place-user, place-changed, absent-user, none-takes, takes-fits, on-ok}
 use Rattle.user_table.proofs.plain.change.Goals as goal
 
@@ -26,6 +26,6 @@ pub returns-clause-changed : goal.returns-clause-changed
 returns-clause-changed c =
     let found = ap (place_from (has_sid c.args.sid) 0) (sym c.deref.ensures.value) ∙ sym c.in-Some.ensures in
     on-ok c.change.result
-    (λ e. ap (slice_set c.args.users.now.items c.in-Some.place) (e ∙ ap (updated c.args.update.now (option_map string_bytes c.args.key)) c.index_mut.ensures.value)
+    (λ e. ap (slice_set c.args.users.now.items c.in-Some.place) (e ∙ ap (updated_user c.args.update.now (option_map string_bytes c.args.key)) c.index_mut.ensures.value)
     ∙ place-changed c.args.sid c.args.update.now (option_map string_bytes c.args.key) c.args.users.now.items c.in-Some.place c.index_mut.result.now c.requires.distinct found)
     c.change.ensures.changed

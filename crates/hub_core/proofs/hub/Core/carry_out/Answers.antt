@@ -7,7 +7,7 @@ use Rattle.hub_core.specs.Seats.{changed_seat, seat_share, settled_all}
 use Rattle.hub_core.specs.State.{carried_out}
 use Rattle.hub_core.proofs.Carried.{carried-as}
 use Rattle.hub_core.proofs.Owed.{settled-owed}
-use Rattle.hub_core.proofs.Places.{StandsFirst, found}
+use Rattle.hub_core.proofs.Places.{StandsFirst, found-alike}
 use Rattle.hub_core.proofs.Settling.{length-settled}
 use Rattle.hub_core.specs.Numbers.{numbers}
 use Rattle.hub_core.proofs.Numbers.{numbers-changed, numbers-settled, ordered-same}
@@ -17,7 +17,7 @@ use Rattle.hub_core.proofs.hub.Core.carry_out.Goals as goal
 pub returns-clause-ok : goal.returns-clause-ok
 returns-clause-ok c =
     let seats : c.args.self.now.seats ≡ c.self.inside.seats.items = sym (ap (λ (s : CoreState). s.seats) c.self.view_is) in
-    let at : StandsFirst c.args.number c.self.inside.seats.items c.args.place = found c.args.number c.self.inside.seats.items c.args.self.now.seats c.args.place seats c.requires in
+    let at : StandsFirst c.args.number c.self.inside.seats.items c.args.place = found-alike c.args.number c.self.inside.seats.items c.args.self.now.seats c.args.place seats c.requires in
     let given : c.settle.new.seats ≡ settled_all c.removal-removal.result c.deref_mut.result.now (map (seat_share c.args.number c.args.effect) c.self.inside.seats.items) =
     settled-owed c.removal-removal.result (seat_share c.args.number c.args.effect) c.self.inside.seats.items c.deref.result.now c.deref_mut.result.now c.settle.new.seats c.in_ok-shares.shares.items
     c.settle.ensures c.in_ok-shares.ensures c.deref.ensures.value
@@ -36,7 +36,7 @@ returns-clause-ok c =
 pub invariant_of-self-2 : goal.invariant_of-self-2
 invariant_of-self-2 c =
     let seats : c.args.self.now.seats ≡ c.self.inside.seats.items = sym (ap (λ (s : CoreState). s.seats) c.self.view_is) in
-    let at : StandsFirst c.args.number c.self.inside.seats.items c.args.place = found c.args.number c.self.inside.seats.items c.args.self.now.seats c.args.place seats c.requires in
+    let at : StandsFirst c.args.number c.self.inside.seats.items c.args.place = found-alike c.args.number c.self.inside.seats.items c.args.self.now.seats c.args.place seats c.requires in
     let given : c.settle.new.seats ≡ settled_all c.removal-removal.result c.deref_mut.result.now (map (seat_share c.args.number c.args.effect) c.self.inside.seats.items) =
     settled-owed c.removal-removal.result (seat_share c.args.number c.args.effect) c.self.inside.seats.items c.deref.result.now c.deref_mut.result.now c.settle.new.seats c.in_ok-shares.shares.items
     c.settle.ensures c.in_ok-shares.ensures c.deref.ensures.value

@@ -4,13 +4,13 @@ use Rattle.hub_rules.specs.Sights.{Sight}
 use Rattle.hub_core.specs.CoreState.{CoreState}
 use Rattle.hub_core.specs.Decided.{Decided, sight_in}
 use Rattle.hub_core.specs.Seats.{in_seat}
-use Rattle.hub_core.proofs.Places.{StandsFirst, found, seat-at}
+use Rattle.hub_core.proofs.Places.{StandsFirst, found-alike, seat-at}
 use Rattle.hub_core.proofs.hub.Core.decide.Goals as goal
 
 pub returns : goal.returns
 returns c =
     let seats : c.args.self.now.seats ≡ c.self.inside.seats.items = sym (ap (λ (s : CoreState). s.seats) c.self.view_is) in
-    let at : StandsFirst c.args.number c.self.inside.seats.items c.args.place = found c.args.number c.self.inside.seats.items c.args.self.now.seats c.args.place seats c.requires in
+    let at : StandsFirst c.args.number c.self.inside.seats.items c.args.place = found-alike c.args.number c.self.inside.seats.items c.args.self.now.seats c.args.place seats c.requires in
     record {
       seat = c.index.result.now;
       is_seat = seat-at c.args.number c.self.inside.seats.items c.args.place c.index.result.now at c.index.ensures

@@ -3,6 +3,7 @@ use Rattle.hub_core.specs.CoreState.{CoreState}
 use Rattle.hub_core.specs.State.{IsPlace}
 use Rattle.hub_core.proofs.Numbers.{place-carried}
 use Rattle.hub_core.proofs.hub.Core.hear.Goals as goal
+use Rattle.hub_rules.specs.Configured.{most_users}
 
 pub verdict-verdict-requires : goal.verdict-verdict-requires
 verdict-verdict-requires c =
@@ -15,5 +16,5 @@ returns-clause-heard c = record {
   effect = c.in_ok-effect.effect;
   decided = c.in_ok-effect.ensures;
   carried = c.note.ensures ∙ c.in_ok-carry_out.ensures.ok;
-  few = subst (λ (s : CoreState). s.setup.max_users ≤ 900) c.self.view_is c.self.invariant.0;
+  few = subst (λ (s : CoreState). s.setup.max_users ≤ most_users) c.self.view_is c.self.invariant.0;
 }

@@ -6,7 +6,7 @@ use Rattle.hub_core.specs.CoreState.{CoreState}
 use Rattle.hub_core.specs.Leaving.{left_core, others_of, told_all_if}
 use Rattle.hub_core.specs.Phases.{stage_in}
 use Rattle.hub_core.proofs.Carried.{same-core}
-use Rattle.hub_core.proofs.Places.{StandsFirst, found, phase-at, sid-at}
+use Rattle.hub_core.proofs.Places.{StandsFirst, found-alike, phase-at, sid-at}
 use Rattle.hub_core.proofs.Settling.{length-told}
 use Rattle.hub_rules.specs.Effects.{is_present}
 use Rattle.hub_core.specs.Numbers.{numbers}
@@ -16,7 +16,7 @@ use Rattle.hub_core.proofs.hub.Core.leave.Goals as goal
 pub returns : goal.returns
 returns c =
     let seats : c.args.self.now.seats ≡ c.self.inside.seats.items = sym (ap (λ (s : CoreState). s.seats) c.self.view_is) in
-    let at : StandsFirst c.args.number c.self.inside.seats.items c.args.place = found c.args.number c.self.inside.seats.items c.args.self.now.seats c.args.place seats c.requires in
+    let at : StandsFirst c.args.number c.self.inside.seats.items c.args.place = found-alike c.args.number c.self.inside.seats.items c.args.self.now.seats c.args.place seats c.requires in
     same-core (arc_value c.self.inside.setup) c.self.inside.joins c.self.inside.last
     (with_items_is c.forget.new.seats c.tell_if.new.seats
     (ap length c.tell_if.ensures ∙ length-told c.is_present-was_present.result c.index-seat.result.now.sid c.deref_mut.result.now ∙ c.deref_mut.ensures.len)

@@ -5,7 +5,7 @@ use Rattle.hub_core.specs.CoreState.{CoreState}
 use Rattle.hub_core.specs.Leaving.{has_ended, lightened_core, lines_in}
 use Rattle.hub_core.proofs.Standing.{take-moves}
 use Rattle.hub_core.specs.Numbers.{numbers}
-use Rattle.hub_core.specs.Leaving.{lightened}
+use Rattle.hub_core.specs.Leaving.{seat_after_take}
 use Rattle.hub_core.proofs.Numbers.{numbers-changed, ordered-same}
 use Rattle.hub_core.proofs.hub.Core.take.Goals as goal
 
@@ -34,5 +34,5 @@ invariant_of-self-2 c = (
   c.self.invariant.0,
   c.self.invariant.1,
   ordered-same c.self.inside.joins c.self.inside.seats.items c.lighten.new.seats.items
-      (ap numbers c.in_ok-taken.ensures.ok ∙ numbers-changed c.connection.inside.number (lightened c.args.count) (λ seat i. seat.number) c.self.inside.seats.items) c.self.invariant.2,
+      (ap numbers c.in_ok-taken.ensures.ok ∙ numbers-changed c.connection.inside.number (seat_after_take c.args.count) (λ seat i. seat.number) c.self.inside.seats.items) c.self.invariant.2,
 )

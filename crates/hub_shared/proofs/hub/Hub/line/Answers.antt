@@ -3,7 +3,7 @@ use Rattle.hub_core.specs.Moves.{StandsAt, entry}
 use Rattle.hub_rules.specs.declared.history.Call.TheVariants.{Line}
 use Rattle.hub_rules.specs.declared.history.Reply.TheVariants.{Said}
 use Rattle.hub_rules.specs.Sights.{PreparedLine}
-use Rattle.hub_shared.proofs.Turns.{line-stands, ready, seated, takes}
+use Rattle.hub_shared.proofs.Turns.{line-stands, ready, has-seat, takes}
 use Rattle.hub_shared.proofs.hub.Hub.line.Goals as goal
 
 pub line-requires : goal.line-requires
@@ -11,7 +11,7 @@ line-requires g c =
     let lock = c.self.inside.lock in
     let seat = c.pass.inside.seat in
     record {
-      seated = seated lock.about.setup.value (g.H.SessionHash.digest_of lock.about.hash.value) c.take-core.new.seat.seen seat.mine c.take-core.result seat.number c.pass.inside.connection
+      seated = has-seat lock.about.setup.value (g.H.SessionHash.digest_of lock.about.hash.value) c.take-core.new.seat.seen seat.mine c.take-core.result seat.number c.pass.inside.connection
           c.take-core.ensures.stands c.take-core.ensures.entries c.pass.invariant.own;
     }
 

@@ -1,6 +1,6 @@
 use Rattle.hub_rules.specs.declared.history.Call.TheVariants.{Quit}
 use Rattle.hub_rules.specs.declared.history.Reply.TheVariants.{Left}
-use Rattle.hub_shared.proofs.Turns.{own-call, seated, takes}
+use Rattle.hub_shared.proofs.Turns.{own-call, has-seat, takes}
 use Rattle.hub_shared.proofs.hub.Hub.quit.Goals as goal
 
 pub quit-requires : goal.quit-requires
@@ -8,7 +8,7 @@ quit-requires g c =
     let lock = c.self.inside.lock in
     let parts = c.into_parts-seat in
     record {
-      seated = seated lock.about.setup.value (g.H.SessionHash.digest_of lock.about.hash.value) c.take-core.new.seat.seen parts.result.0.mine c.take-core.result parts.result.0.number parts.result.1
+      seated = has-seat lock.about.setup.value (g.H.SessionHash.digest_of lock.about.hash.value) c.take-core.new.seat.seen parts.result.0.mine c.take-core.result parts.result.0.number parts.result.1
           c.take-core.ensures.stands c.take-core.ensures.entries parts.ensures.pass.own;
     }
 

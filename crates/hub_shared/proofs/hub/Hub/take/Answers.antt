@@ -1,12 +1,12 @@
 use Rattle.std.proofs.Common.{ap, ℕ, Vec, Global}
-use Rattle.hub_shared.proofs.Turns.{seated, take-stands, takes}
+use Rattle.hub_shared.proofs.Turns.{has-seat, take-stands, takes}
 use Rattle.hub_shared.proofs.hub.Hub.take.Goals as goal
 
 pub take-requires-clause-seated : goal.take-requires-clause-seated
 take-requires-clause-seated g c =
     let lock = c.self.inside.lock in
     let seat = c.pass.inside.seat in
-    seated lock.about.setup.value (g.H.SessionHash.digest_of lock.about.hash.value) c.take-core.new.seat.seen seat.mine c.take-core.result seat.number c.pass.inside.connection
+    has-seat lock.about.setup.value (g.H.SessionHash.digest_of lock.about.hash.value) c.take-core.new.seat.seen seat.mine c.take-core.result seat.number c.pass.inside.connection
     c.take-core.ensures.stands c.take-core.ensures.entries c.pass.invariant.own
 
 pub enter-requires-clause-stands : goal.enter-requires-clause-stands

@@ -5,7 +5,7 @@ use Rattle.std.specs.Option.{option_copied_mut}
 use Rattle.std.proofs.lemmas.Map.Steps.{set_value_same}
 use Rattle.user_table.specs.Listed.{Listed}
 use Rattle.user_table.specs.RosterView.{AreSeated}
-use Rattle.user_table.specs.Shares.{lowered, raised}
+use Rattle.user_table.specs.Shares.{totals_without, totals_with}
 use Rattle.user_table.specs.Tables.{totals_of, updated_if, user_by_sid, with_update}
 use Rattle.user_table.proofs.IndexedLemmas.{any-err}
 use Rattle.user_table.proofs.NickLemmas.{own_sid}
@@ -42,14 +42,14 @@ returns-in_err-change-clause-unchanged c =
 pub raise-requires-clause-ss : goal.raise-requires-clause-ss
 raise-requires-clause-ss c =
     let counted : c.self.inside.totals.users < 2 ^ 64 = search rules in
-    ss-fits-again (values_of c.self.inside.users.entries) c.self.inside.totals c.lower.new.self c.shared-before.result c.shared-after.result c.change.new.self c.self.invariant.1 c.lower.ensures
-    c.shared-after.ensures counted
+    ss-fits-again (values_of c.self.inside.users.entries) c.self.inside.totals c.lower.new.self c.files_shared-before.result c.files_shared-after.result c.change.new.self c.self.invariant.1 c.lower.ensures
+    c.files_shared-after.ensures counted
 
 pub raise-requires-clause-sf : goal.raise-requires-clause-sf
 raise-requires-clause-sf c =
     let counted : c.self.inside.totals.users < 2 ^ 64 = search rules in
-    sf-fits-again (values_of c.self.inside.users.entries) c.self.inside.totals c.lower.new.self c.shared-before.result c.shared-after.result c.change.new.self c.self.invariant.1 c.lower.ensures
-    c.shared-after.ensures counted
+    sf-fits-again (values_of c.self.inside.users.entries) c.self.inside.totals c.lower.new.self c.files_shared-before.result c.files_shared-after.result c.change.new.self c.self.invariant.1 c.lower.ensures
+    c.files_shared-after.ensures counted
 
 pub invariant_of-self-2 : goal.invariant_of-self-2
 invariant_of-self-2 c =
@@ -57,7 +57,7 @@ invariant_of-self-2 c =
     let written = (c.get_mut.follows.holds c.change.new.self).0 in
     let found = sym c.in-Some.ensures.value in (
       subst AreSeated (sym written) (seated-set c.args.sid before c.in-Some.user.now c.change.new.self c.self.invariant.0 found (ap own_sid c.in_ok-change.ensures.changed)),
-      c.raise.ensures ∙ ap₂ raised c.shared-after.ensures (c.lower.ensures ∙ ap₂ lowered c.shared-before.ensures c.self.invariant.1)
+      c.raise.ensures ∙ ap₂ totals_with c.files_shared-after.ensures (c.lower.ensures ∙ ap₂ totals_without c.files_shared-before.ensures c.self.invariant.1)
           ∙ sym (totals-set (eqb c.args.sid) before c.in-Some.user.now c.change.new.self found) ∙ ap (λ entries. totals_of (values_of entries)) (sym written),
     )
 

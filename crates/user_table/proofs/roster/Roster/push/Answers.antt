@@ -3,7 +3,7 @@ use Rattle.std.specs.Map.{values_of}
 use Rattle.indexmap.specs.IndexMap.{insert_entry}
 use Rattle.indexmap.proofs.CallerLemmas.{insert_entry-new}
 use Rattle.user_table.specs.RosterView.{AreSeated}
-use Rattle.user_table.specs.Shares.{raised}
+use Rattle.user_table.specs.Shares.{totals_with}
 use Rattle.user_table.specs.Tables.{totals_of, user_by_sid}
 use Rattle.user_table.proofs.SeatLemmas.{lookup-seated, seated-pushed, users-pushed}
 use Rattle.user_table.proofs.ShareLemmas.{few-users, ss-fits-more, sf-fits-more, totals-pushed}
@@ -15,12 +15,12 @@ raise-requires-clause-users c = few-users c.self.inside.users.entries c.self.ins
 pub raise-requires-clause-ss : goal.raise-requires-clause-ss
 raise-requires-clause-ss c =
     let counted : c.self.inside.totals.users < 2 ^ 64 = omega (arith, raise-requires-clause-users c) in
-    ss-fits-more (values_of c.self.inside.users.entries) c.self.inside.totals c.shared-shared.result c.args.user c.self.invariant.1 c.shared-shared.ensures counted
+    ss-fits-more (values_of c.self.inside.users.entries) c.self.inside.totals c.files_shared-shared.result c.args.user c.self.invariant.1 c.files_shared-shared.ensures counted
 
 pub raise-requires-clause-sf : goal.raise-requires-clause-sf
 raise-requires-clause-sf c =
     let counted : c.self.inside.totals.users < 2 ^ 64 = omega (arith, raise-requires-clause-users c) in
-    sf-fits-more (values_of c.self.inside.users.entries) c.self.inside.totals c.shared-shared.result c.args.user c.self.invariant.1 c.shared-shared.ensures counted
+    sf-fits-more (values_of c.self.inside.users.entries) c.self.inside.totals c.files_shared-shared.result c.args.user c.self.invariant.1 c.files_shared-shared.ensures counted
 
 pub invariant_of-self : goal.invariant_of-self
 invariant_of-self c =
@@ -30,7 +30,7 @@ invariant_of-self c =
     let pushed : c.insert.new.self.entries ≡ before ++ (user.sid, user) ∷ [] =
     c.in-Ok.ensures.entries ∙ ap (λ sid. insert_entry eqb before sid user) c.sid.ensures ∙ insert_entry-new eqb c.self.inside.users user.sid user absent in (
       subst AreSeated (sym pushed) (seated-pushed before user c.self.invariant.0),
-      c.raise.ensures ∙ ap₂ raised c.shared-shared.ensures c.self.invariant.1 ∙ sym (totals-pushed (values_of before) user) ∙ ap totals_of (sym (users-pushed before user))
+      c.raise.ensures ∙ ap₂ totals_with c.files_shared-shared.ensures c.self.invariant.1 ∙ sym (totals-pushed (values_of before) user) ∙ ap totals_of (sym (users-pushed before user))
           ∙ ap (λ entries. totals_of (values_of entries)) (sym pushed),
     )
 

@@ -3,7 +3,7 @@ use Rattle.std.specs.List.{IsDistinct}
 use Rattle.std.specs.Map.{values_of}
 use Rattle.user_table.specs.Listed.{Listed}
 use Rattle.user_table.specs.RosterView.{AreSeated}
-use Rattle.user_table.specs.Shares.{lowered}
+use Rattle.user_table.specs.Shares.{totals_without}
 use Rattle.user_table.specs.Tables.{totals_of, user_by_sid, without_sid}
 use Rattle.user_table.proofs.NickLemmas.{own_sid}
 use Rattle.user_table.proofs.SeatLemmas.{lookup-seated, seated-removed, users-removed}
@@ -22,17 +22,17 @@ returns-in_err-user-clause-left c =
 
 pub lower-requires-clause-ss : goal.lower-requires-clause-ss
 lower-requires-clause-ss c =
-    ss-counted (eqb c.args.sid) c.self.inside.users.entries c.self.inside.totals c.shared.result c.in_ok-user.user c.self.invariant.1 c.shared.ensures (sym c.in_ok-user.ensures.value)
+    ss-counted (eqb c.args.sid) c.self.inside.users.entries c.self.inside.totals c.files_shared.result c.in_ok-user.user c.self.invariant.1 c.files_shared.ensures (sym c.in_ok-user.ensures.value)
 
 pub lower-requires-clause-sf : goal.lower-requires-clause-sf
 lower-requires-clause-sf c =
-    sf-counted (eqb c.args.sid) c.self.inside.users.entries c.self.inside.totals c.shared.result c.in_ok-user.user c.self.invariant.1 c.shared.ensures (sym c.in_ok-user.ensures.value)
+    sf-counted (eqb c.args.sid) c.self.inside.users.entries c.self.inside.totals c.files_shared.result c.in_ok-user.user c.self.invariant.1 c.files_shared.ensures (sym c.in_ok-user.ensures.value)
 
 pub invariant_of-self-2 : goal.invariant_of-self-2
 invariant_of-self-2 c =
     let before = c.self.inside.users.entries in (
       subst AreSeated (sym c.shift_remove.ensures.entries) (seated-removed c.args.sid before c.self.invariant.0),
-      c.lower.ensures ∙ ap₂ lowered c.shared.ensures c.self.invariant.1 ∙ sym (totals-removed (eqb c.args.sid) before c.in_ok-user.user (sym c.in_ok-user.ensures.value))
+      c.lower.ensures ∙ ap₂ totals_without c.files_shared.ensures c.self.invariant.1 ∙ sym (totals-removed (eqb c.args.sid) before c.in_ok-user.user (sym c.in_ok-user.ensures.value))
           ∙ ap (λ entries. totals_of (values_of entries)) (sym c.shift_remove.ensures.entries),
     )
 

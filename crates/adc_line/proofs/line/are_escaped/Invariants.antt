@@ -1,0 +1,8 @@
+use Rattle.std.proofs.Common.{◌≡◌}
+use Rattle.std.specs.List.{list_all}
+use Rattle.adc_line.specs.Escapes.{is_escaped}
+use Rattle.adc_line.specs.WordsLeft.{words_left}
+use Rattle.adc_line.proofs.line.are_escaped.Given as goal
+
+abbrev pub invariant-loop-word : goal.invariant-loop-word
+invariant-loop-word l = list_all is_escaped (words_left l.word-iterator) ≡ list_all is_escaped (words_left l.fn.words)

@@ -1,6 +1,0 @@
-use Rattle.std.proofs.Common.{◌≡◌, ◌++◌, map, take, drop}
-use Rattle.hub_core.specs.Leaving.{told}
-use Rattle.hub_core.proofs.seats.tell.Given as goal
-
-abbrev pub invariant-loop-seat : goal.invariant-loop-seat
-invariant-loop-seat l = map (told l.fn.sid) l.fn.seats ≡ take l.seat-index l.seats ++ map (told l.fn.sid) (drop l.seat-index l.seats)

@@ -1,0 +1,215 @@
+// Conversations as text, and how they are played.
+ghost use Rattle.std.specs.Prelude.{◌≡◌, Some};
+
+use crate::histories::client::{Guest, Talk, joins};
+use crate::histories::clock::StillClock;
+use crate::histories::polls::{are_over, go_round, goes_to_end};
+use crate::histories::record::Desk;
+use futures::test::MockTask;
+use history_check::Entry;
+use hub_core::Setup;
+use hub_server::{OfHub, Server};
+use hub_shared::{Host, Hub};
+use session_hash::First24;
+use std::alloc::{AllocGlobal, Global};
+use std::marker::Brand;
+use std::net::Ipv4Addr;
+use std::random::RandomSource;
+use std::sync::{Arc, Wait};
+use std::thread::{Threads, for_each_mut};
+
+/// The number of clients of a conversation at most.
+const CLIENTS: usize = 4;
+
+/// The deed of a step.
+#[derive(Clone, Copy)]
+pub(crate) enum Deed<'a> {
+    /// Joins from this address.
+    Joins([u8; 4]),
+    /// Says this line, with its line feed.
+    Says(&'a [u8]),
+    /// Leaves.
+    Leaves,
+}
+
+/// A step of a conversation: who does what, and at which moment.
+#[derive(Clone, Copy)]
+pub(crate) struct Step<'a> {
+    pub(crate) moment: u64,
+    pub(crate) who: u64,
+    pub(crate) deed: Deed<'a>,
+}
+
+/// The threads on which the clients are.
+#[derive(Clone, Copy)]
+pub(crate) enum Way {
+    /// One thread, on which the conversation takes its course.
+    Alone,
+    /// A thread for each client, once all have joined.
+    Apart,
+}
+
+/// Reads a conversation, a step a line: the moment, the number of the client, and `joins` with an address, `says` with a
+/// line, or `leaves`. Clients have the numbers from 1 on, in the order in which they join.
+pub(crate) fn read_steps(alloc: Global, text: &str) -> Option<Vec<Step<'_>>> {
+    let mut steps = Vec::new(alloc);
+    for line in text.split_inclusive('\n') {
+        steps.push(read_step(line)?).ok()?;
+    }
+    Some(steps)
+}
+
+fn read_step(line: &str) -> Option<Step<'_>> {
+    let (moment, rest) = line.split_once(' ')?;
+    let (who, rest) = rest.split_once(' ')?;
+    let deed = if rest == "leaves\n" {
+        Deed::Leaves
+    } else {
+        let (verb, rest) = rest.split_once(' ')?;
+        match verb {
+            "joins" => {
+                let address = rest.strip_suffix("\n")?;
+                Deed::Joins(Ipv4Addr::parse_ascii(address.as_bytes()).ok()?.octets())
+            }
+            "says" => Deed::Says(rest.as_bytes()),
+            _ => return None,
+        }
+    };
+    Some(Step {
+        moment: moment.parse().ok()?,
+        who: who.parse().ok()?,
+        deed,
+    })
+}
+
+/// Plays a conversation on a hub of its own, and gives the history that was recorded; nothing where memory was refused.
+pub(crate) fn plays<R>(rt: &R, text: &str, setup: &Arc<Setup>, way: Way) -> Option<Vec<Entry>>
+where
+    R: Wait + Threads + RandomSource + AllocGlobal + Sync,
+{
+    let steps = read_steps(rt.alloc(), text)?;
+    let desk = Desk::new(rt.alloc());
+    let (hub, mut host) = Hub::open(rt.alloc(), setup.clone().ok()?, &First24).ok()?;
+    converses::<Brand, R>(rt, &hub, &mut host, setup, &desk, &steps, way)?;
+    desk.into_history()
+}
+
+/// Plays these steps on this hub, whose host has admitted nobody.
+fn converses<'a, B: OfHub<First24> + Send + Sync, R>(
+    rt: &R,
+    hub: &'a Hub<First24>,
+    host: &mut Host<First24>,
+    setup: &'a Setup,
+    desk: &'a Desk<R>,
+    steps: &'a [Step<'a>],
+    way: Way,
+) -> Option<()>
+where
+    R: Wait + Threads + RandomSource + AllocGlobal + Sync,
+    requires here { B.home ≡ Some hub.now.home }
+    requires host { host.old ≡ record { home = hub.now.home; admitted = 0 } }
+    requires set { hub.now.setup ≡ setup.now }
+{
+    let guests = admits::<B>(rt.alloc(), hub, host)?;
+    let free = Vec::new(rt.alloc());
+    let server = Server::<B, First24, StillClock<R>>::new(
+        rt.alloc(),
+        &desk.clock,
+        hub,
+        &First24,
+        setup,
+        CLIENTS,
+        free,
+    ).ok()?;
+    match way {
+        Way::Alone => play_alone(rt, hub, &server, desk, steps, guests),
+        Way::Apart => play_apart(rt, hub, &server, desk, steps, guests),
+    }
+}
+
+/// Admits as many guests as a conversation has clients.
+fn admits<B: OfHub<First24>>(
+    alloc: Global,
+    hub: &Hub<First24>,
+    host: &mut Host<First24>,
+) -> Option<Vec<Guest<B>>>
+    requires here { B.home ≡ Some hub.now.home }
+    requires host { host.old ≡ record { home = hub.now.home; admitted = 0 } }
+{
+    let mut guests = Vec::with_capacity(alloc, CLIENTS).ok()?;
+    guests.push(Guest::new(host.admit(hub))).ok()?;
+    guests.push(Guest::new(host.admit(hub))).ok()?;
+    guests.push(Guest::new(host.admit(hub))).ok()?;
+    guests.push(Guest::new(host.admit(hub))).ok()?;
+    Some(guests)
+}
+
+/// Makes the steps one after the other. After each, its client goes on as far as it can, and then all others.
+fn play_alone<'a, B: OfHub<First24>, R: Wait + RandomSource + AllocGlobal>(
+    rt: &R,
+    hub: &Hub<First24>,
+    server: &'a Server<'a, B, First24, StillClock<R>>,
+    desk: &'a Desk<R>,
+    steps: &'a [Step<'a>],
+    guests: Vec<Guest<B>>,
+) -> Option<()>
+    requires { B.home ≡ Some hub.now.home }
+{
+    let mut guests = guests;
+    let task = MockTask::new(rt).ok()?;
+    let mut talks = Vec::new(rt.alloc());
+    for (place, step) in steps.iter().enumerate() {
+        desk.allow(place.wrapping_add(1));
+        if let Deed::Joins(_) = step.deed {
+            let guest = guests.pop()?;
+            let talk = joins(rt.alloc(), hub, server, desk, steps, *step, guest)?;
+            talks.push(talk).ok()?;
+        }
+        go_round(&task, desk, &mut talks, step.who.wrapping_sub(1) as usize);
+    }
+    are_over(&talks).then_some(())
+}
+
+/// Has all clients join, and then lets each go on by itself, on a thread of its own.
+fn play_apart<'a, B: OfHub<First24> + Send + Sync, R>(
+    rt: &R,
+    hub: &Hub<First24>,
+    server: &'a Server<'a, B, First24, StillClock<R>>,
+    desk: &'a Desk<R>,
+    steps: &'a [Step<'a>],
+    guests: Vec<Guest<B>>,
+) -> Option<()>
+where
+    R: Wait + Threads + RandomSource + AllocGlobal + Sync,
+    requires { B.home ≡ Some hub.now.home }
+{
+    let mut guests = guests;
+    let mut talks = Vec::new(rt.alloc());
+    for step in steps {
+        if let Deed::Joins(_) = step.deed {
+            let guest = guests.pop()?;
+            let talk = joins(rt.alloc(), hub, server, desk, steps, *step, guest)?;
+            talks.push(talk).ok()?;
+        }
+    }
+    desk.allow(steps.len());
+    go_apart(rt, desk, &mut talks);
+    are_over(&talks).then_some(())
+}
+
+/// Polls all sessions until they are over, each on a thread of its own.
+fn go_apart<B: OfHub<First24> + Send + Sync, R>(
+    rt: &R,
+    desk: &Desk<R>,
+    talks: &mut Vec<Option<Talk<'_, B, R>>>,
+)
+where
+    R: Wait + Threads + RandomSource + AllocGlobal + Sync,
+{
+    for_each_mut(
+        rt,
+        talks.as_mut_slice(),
+        CLIENTS,
+        &|_, talk| goes_to_end(rt, desk, talk),
+    );
+}
