@@ -38,8 +38,18 @@ pub record Facts : Type 0 where
 -- a connection that never joined
 abbrev pub nobody : About
 nobody = record {
-  owner = 0; sid = 0; peer = []; challenge = []; stage = stages.Gone; features = []; fields = []; expected = [];
-  searched = None; owed = []; taken = 0; lags = false;
+  owner = 0;
+  sid = 0;
+  peer = [];
+  challenge = [];
+  stage = stages.Gone;
+  features = [];
+  fields = [];
+  expected = [];
+  searched = None;
+  owed = [];
+  taken = 0;
+  lags = false;
 }
 
 -- before the first call
@@ -60,8 +70,14 @@ sight_of setup f = record { setup = setup; users = map (user_of f.about) f.prese
 
 abbrev pub own_of : About → Own
 own_of a = record {
-  sid = a.sid; peer = a.peer; challenge = a.challenge; stage = a.stage; features = a.features; fields = a.fields;
-  expected = a.expected; searched = a.searched;
+  sid = a.sid;
+  peer = a.peer;
+  challenge = a.challenge;
+  stage = a.stage;
+  features = a.features;
+  fields = a.fields;
+  expected = a.expected;
+  searched = a.searched;
 }
 
 -- what a line of connection c leads to

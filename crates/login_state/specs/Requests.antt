@@ -42,7 +42,7 @@ abbrev pub to_the_hub : List ℕ → Result Request Deny
 to_the_hub command =
     if is_of_the_hub command || bytes_eq command (codes "INF") then Err denials.Protocol
     else if_called command (codes "PAS") (bad_stage kinds.Hub command)
-        (if_called command (codes "SUP") (Ok requests.Support) (if_called command (codes "MSG") (Ok requests.Act) (Ok requests.Nothing)))
+    (if_called command (codes "SUP") (Ok requests.Support) (if_called command (codes "MSG") (Ok requests.Act) (Ok requests.Nothing)))
 
 -- Clients send no lines of type C, I or U to a hub.
 unfoldable pub request_at : Stage → Kind → List ℕ → Result Request Deny

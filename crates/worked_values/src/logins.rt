@@ -90,7 +90,12 @@ fn command(rt: &impl Abort, word: &str) -> [u8; 3] {
 }
 
 /// Says of each of some heads of lines, as `BMSG`, what it asks for at a stage, or with which code it is denied.
-fn say_requests(rt: &(impl Abort + AllocGlobal + Print), stage: Stage, heads: &str, said: &mut Vec<u8>) {
+fn say_requests(
+    rt: &(impl Abort + AllocGlobal + Print),
+    stage: Stage,
+    heads: &str,
+    said: &mut Vec<u8>,
+) {
     for head in heads.split(' ') {
         let (Some(letter), Some(word)) = (head.get(..1), head.get(1..)) else {
             unknown(rt, head)
@@ -98,7 +103,9 @@ fn say_requests(rt: &(impl Abort + AllocGlobal + Print), stage: Stage, heads: &s
         match stage.request(kind(rt, letter), command(rt, word)) {
             Ok(request) => say_next(rt, said, request_name(request)),
             Err(Deny::Protocol) => say_next(rt, said, "140"),
-            Err(Deny::BadStage(first)) if first.as_slice() == head.as_bytes() => say_next(rt, said, "144"),
+            Err(Deny::BadStage(first)) if first.as_slice() == head.as_bytes() => say_next(
+                rt, said, "144",
+            ),
             Err(_) => unknown(rt, head),
         }
     }
