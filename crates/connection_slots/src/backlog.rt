@@ -33,7 +33,7 @@ impl Backlog {
     }
 
     /// Counts `lines` taken, after which more may be left or none is.
-    pub fn take(&mut self, said: u64, lines: u64, has_more: bool) {
+    pub fn count_taken(&mut self, said: u64, lines: u64, has_more: bool) {
         self.waiting = if has_more {
             self.lines(said).saturating_sub(lines)
         } else {

@@ -146,7 +146,7 @@ impl Slots {
     }
 
     /// Answers whether this slot was woken since the last `true`. Where it was not, the next wake wakes the task.
-    pub(crate) fn wait(&mut self, slot: usize, cx: &mut Context<'_>, source: &Source) -> bool
+    pub(crate) fn was_woken(&mut self, slot: usize, cx: &mut Context<'_>, source: &Source) -> bool
         ensures registered { result ≡ false → IsArmed cx.new }
         ensures kept { Keeps cx.old cx.new }
     {
@@ -172,11 +172,11 @@ impl Slots {
     }
 
     /// Counts `lines` taken for the session of this slot.
-    pub(crate) fn take(&mut self, slot: usize, said: u64, lines: u64, has_more: bool) {
+    pub(crate) fn count_taken(&mut self, slot: usize, said: u64, lines: u64, has_more: bool) {
         if let Some(slot) = self.slots.get_mut(slot)
             && let Some(backlog) = &mut slot.backlog
         {
-            backlog.take(said, lines, has_more);
+            backlog.count_taken(said, lines, has_more);
         }
     }
 

@@ -98,12 +98,12 @@ impl Wakers {
     }
 
     /// Answers whether this slot was woken since the last `true`. Where it was not, the next wake wakes the task.
-    pub fn wait(&self, slot: usize, cx: &mut Context<'_>) -> bool
+    pub fn was_woken(&self, slot: usize, cx: &mut Context<'_>) -> bool
         ensures registered { result ≡ false → IsArmed cx.new }
         ensures kept { Keeps cx.old cx.new }
     {
         match lock(&self.slots) {
-            Some(mut slots) => slots.wait(slot, cx, &self.source),
+            Some(mut slots) => slots.was_woken(slot, cx, &self.source),
             None => {
                 let _: Poll<()> = cx.yield_now();
                 false
@@ -112,7 +112,7 @@ impl Wakers {
     }
 
     /// Counts a line that was said to everybody. Now and then it is looked who is behind.
-    pub fn say(&self) {
+    pub fn count_broadcast(&self) {
         let before = self.said.fetch_add(1, Ordering::SeqCst);
         if before % BURST == 0 {
             self.look();
@@ -127,9 +127,9 @@ impl Wakers {
     /// Counts `lines` taken for the session of this slot, after which more may be left or none is. Before the hub was asked for
     /// them, `said` lines had been said to everybody; what was said since may be left. Where that is much, the session is woken
     /// to take again.
-    pub fn take(&self, slot: usize, said: u64, lines: u64, has_more: bool) {
+    pub fn count_taken(&self, slot: usize, said: u64, lines: u64, has_more: bool) {
         if let Some(mut slots) = lock(&self.slots) {
-            slots.take(slot, said, lines, has_more);
+            slots.count_taken(slot, said, lines, has_more);
             if !has_more && slots.is_slot_behind(slot, self.broadcasts()) {
                 slots.wake_slot(slot);
             }

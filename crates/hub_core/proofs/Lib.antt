@@ -1,11 +1,11 @@
 pub mod Carried
+pub mod Delivering
 pub mod Ended
 pub mod Numbers
 pub mod Owed
 pub mod Places
 pub mod Running
 pub mod Seating
-pub mod Settling
 pub mod Sharing
 pub mod Standing
 pub mod Tests

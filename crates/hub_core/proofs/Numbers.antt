@@ -16,12 +16,12 @@ use Rattle.hub_core.specs.declared.seat.Seat.{Seat}
 use Rattle.hub_core.specs.Leaving.{others_of, seat_told, told_all_if, told_if}
 use Rattle.hub_core.specs.Numbers.{Above, Ordered, Rising, UpTo, numbers}
 use Rattle.hub_core.specs.Phases.{stage_in}
-use Rattle.hub_core.specs.Seats.{at_seat, changed_seat, given_seat, new_seat, removed_of, seat_share, settled_all}
+use Rattle.hub_core.specs.Seats.{at_seat, changed_seat, given_seat, new_seat, removed_of, seat_share, delivered_all}
 use Rattle.hub_core.specs.State.{IsPlace, carried_out}
 use Rattle.hub_core.specs.CoreState.{CoreState}
 use Rattle.hub_rules.specs.declared.effect.Effect.{Effect}
 use Rattle.hub_core.proofs.Places.{none_passes}
-use Rattle.hub_core.proofs.Settling.{number-given, number-gone}
+use Rattle.hub_core.proofs.Delivering.{number-given, number-gone}
 use Rattle.hub_core.proofs.Tests.{false-lt, lt-true}
 use Rattle.hub_rules.specs.Effects.{is_present}
 use Rattle.hub_invariants.proofs.Sound.{or-true}
@@ -56,11 +56,11 @@ ordered-push joins seats seat is ordered =
 pub ordered-same : (joins : ℕ) (before after : List Seat) → numbers after ≡ numbers before → Ordered joins before → Ordered joins after
 ordered-same joins before after same ordered = (subst Rising (sym same) ordered.0, subst (UpTo joins) (sym same) ordered.1)
 
-pub numbers-settled : (removal : Removal) (seats : List Seat) (shares : List (List (List ℕ))) → numbers (settled_all removal seats shares) ≡ numbers seats
-unfolding settled_all
-numbers-settled removal [] shares = refl
-numbers-settled removal (seat ∷ seats) [] = refl
-numbers-settled removal (seat ∷ seats) (share ∷ shares) = ap₂ ◌∷◌ (number-gone _ (given_seat share seat) ∙ number-given share seat) (numbers-settled removal seats shares)
+pub numbers-delivered : (removal : Removal) (seats : List Seat) (shares : List (List (List ℕ))) → numbers (delivered_all removal seats shares) ≡ numbers seats
+unfolding delivered_all
+numbers-delivered removal [] shares = refl
+numbers-delivered removal (seat ∷ seats) [] = refl
+numbers-delivered removal (seat ∷ seats) (share ∷ shares) = ap₂ ◌∷◌ (number-gone _ (given_seat share seat) ∙ number-given share seat) (numbers-delivered removal seats shares)
 
 changed-one : (change : Seat → Seat) (seat : Seat) (seats rest : List Seat) (same : Bool) → (change seat).number ≡ seat.number → numbers rest ≡ numbers seats
     → numbers (cond same (change seat ∷ seats) (seat ∷ rest)) ≡ seat.number ∷ numbers seats
@@ -211,6 +211,6 @@ unfolding carried_out
 place-carried c place effect core is =
     by-number c (carried_out c effect core).seats
     ∙ ap (position (λ n. n == c))
-    (numbers-settled (removed_of effect.change) (at_seat c (changed_seat effect.change) core.seats) (map (seat_share c effect) core.seats)
+    (numbers-delivered (removed_of effect.change) (at_seat c (changed_seat effect.change) core.seats) (map (seat_share c effect) core.seats)
     ∙ numbers-changed c (changed_seat effect.change) (λ seat. refl) core.seats)
     ∙ sym (by-number c core.seats) ∙ is

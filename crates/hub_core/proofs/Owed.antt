@@ -15,7 +15,7 @@ use Rattle.hub_core.specs.declared.share.Share.{Share}
 use Rattle.hub_core.specs.Numbers.{Above, Rising, numbers}
 use Rattle.hub_core.specs.Owed.{HeardByNone, given_all, given_at, share_at, shares_from}
 use Rattle.hub_core.specs.Phases.{phase_hears, stage_in}
-use Rattle.hub_core.specs.Seats.{given_seat, gone_if, removed_seat, seat_share, settled_seat, settled_all}
+use Rattle.hub_core.specs.Seats.{given_seat, gone_if, removed_seat, seat_share, delivered_seat, delivered_all}
 use Rattle.hub_core.proofs.Places.{StandsFirst, rest_first}
 use Rattle.hub_rules.specs.declared.effect.Effect.{Effect}
 use Rattle.hub_rules.specs.declared.effect.Hearers.TheVariants.{Those}
@@ -175,24 +175,24 @@ unfolding shares_from given_all
 later-given place owed [] seat seats = refl
 later-given place owed (x ∷ xs) seat seats = later-by place owed (owed x) xs seat seats (later-given (place + 1) owed xs)
 
-first-settled : (removal : Removal) (owed : Seat → Lines) (lines : Lines) (xs : List Seat) (seat : Seat) (seats : List Seat)
-    → map (removed_seat removal) (given_all (shares_from 0 owed xs) seats) ≡ settled_all removal seats (map owed xs)
-    → map (removed_seat removal) (given_all (share_at 0 lines ++ shares_from 1 owed xs) (seat ∷ seats)) ≡ settled_seat removal seat lines ∷ settled_all removal seats (map owed xs)
+first-delivered : (removal : Removal) (owed : Seat → Lines) (lines : Lines) (xs : List Seat) (seat : Seat) (seats : List Seat)
+    → map (removed_seat removal) (given_all (shares_from 0 owed xs) seats) ≡ delivered_all removal seats (map owed xs)
+    → map (removed_seat removal) (given_all (share_at 0 lines ++ shares_from 1 owed xs) (seat ∷ seats)) ≡ delivered_seat removal seat lines ∷ delivered_all removal seats (map owed xs)
 unfolding given_all given_at
-first-settled removal owed [] xs seat seats rest =
+first-delivered removal owed [] xs seat seats rest =
     ap (map (removed_seat removal)) (later-given 0 owed xs seat seats) ∙ ap (λ (ss : List Seat). removed_seat removal seat ∷ ss) rest
-first-settled removal owed (line ∷ lines) xs seat seats rest =
+first-delivered removal owed (line ∷ lines) xs seat seats rest =
     ap (map (removed_seat removal)) (later-given 0 owed xs (given_seat (line ∷ lines) seat) seats)
     ∙ ap (λ (ss : List Seat). removed_seat removal (given_seat (line ∷ lines) seat) ∷ ss) rest
 
 -- shares of those that hear something are the shares of all
-pub settled-given : (removal : Removal) (owed : Seat → Lines) (xs seats : List Seat) → length xs ≡ length seats
-    → map (removed_seat removal) (given_all (shares_from 0 owed xs) seats) ≡ settled_all removal seats (map owed xs)
-unfolding shares_from given_all settled_all
-settled-given removal owed [] [] same = refl
-settled-given removal owed [] (seat ∷ seats) same = absurd (omega (arith, same))
-settled-given removal owed (x ∷ xs) [] same = absurd (omega (arith, same))
-settled-given removal owed (x ∷ xs) (seat ∷ seats) same = first-settled removal owed (owed x) xs seat seats (settled-given removal owed xs seats (omega (arith, same)))
+pub delivered-given : (removal : Removal) (owed : Seat → Lines) (xs seats : List Seat) → length xs ≡ length seats
+    → map (removed_seat removal) (given_all (shares_from 0 owed xs) seats) ≡ delivered_all removal seats (map owed xs)
+unfolding shares_from given_all delivered_all
+delivered-given removal owed [] [] same = refl
+delivered-given removal owed [] (seat ∷ seats) same = absurd (omega (arith, same))
+delivered-given removal owed (x ∷ xs) [] same = absurd (omega (arith, same))
+delivered-given removal owed (x ∷ xs) (seat ∷ seats) same = first-delivered removal owed (owed x) xs seat seats (delivered-given removal owed xs seats (omega (arith, same)))
 
 -- ---- where nobody is shut out
 
@@ -205,7 +205,7 @@ none-removed [] = refl
 none-removed (seat ∷ seats) = ap₂ (λ (s : Seat) (ss : List Seat). s ∷ ss) (kept-seat (is_present (stage_in seat.phase)) seat) (none-removed seats)
 
 -- what the code gives
-pub settled-owed : (removal : Removal) (owed : Seat → Lines) (seats same old new : List Seat) (shares : List Share) → new ≡ map (removed_seat removal) (given_all shares old)
-    → shares ≡ shares_from 0 owed same → same ≡ seats → length seats ≡ length old → new ≡ settled_all removal old (map owed seats)
-settled-owed removal owed seats same old new shares is_new is_shares is_same len =
-    is_new ∙ ap (λ ss. map (removed_seat removal) (given_all ss old)) (is_shares ∙ ap (shares_from 0 owed) is_same) ∙ settled-given removal owed seats old len
+pub delivered-owed : (removal : Removal) (owed : Seat → Lines) (seats same old new : List Seat) (shares : List Share) → new ≡ map (removed_seat removal) (given_all shares old)
+    → shares ≡ shares_from 0 owed same → same ≡ seats → length seats ≡ length old → new ≡ delivered_all removal old (map owed seats)
+delivered-owed removal owed seats same old new shares is_new is_shares is_same len =
+    is_new ∙ ap (λ ss. map (removed_seat removal) (given_all ss old)) (is_shares ∙ ap (shares_from 0 owed) is_same) ∙ delivered-given removal owed seats old len

@@ -5,7 +5,7 @@ use Rattle.std.specs.List.{list_any}
 use Rattle.std.proofs.lemmas.Bool.{false≢true, eqb-true, eq-eqb}
 use Rattle.hub_core.specs.declared.seat.Removal.{Removal}
 use Rattle.hub_core.specs.declared.seat.Seat.{Seat}
-use Rattle.hub_core.specs.Seats.{at_seat, in_seat, seat_of, settled_seat, settled_all}
+use Rattle.hub_core.specs.Seats.{at_seat, in_seat, seat_of, delivered_seat, delivered_all}
 use Rattle.hub_rules.specs.Shares.{About}
 use Rattle.hub_invariants.proofs.Members.{apart, both, has, or-parts}
 
@@ -68,10 +68,10 @@ seated-open c about [] = refl
 seated-open c about (d ∷ xs) = ap (λ b. (d == c) || b) (seated-open c about xs)
 
 -- shares are given seat by seat
-pub settled-map : (removed : Removal) (seat : ℕ → Seat) (share : ℕ → List (List ℕ)) (xs : List ℕ) → settled_all removed (map seat xs) (map share xs) ≡ map (λ d. settled_seat removed (seat d) (share d)) xs
-unfolding settled_all
-settled-map removed seat share [] = refl
-settled-map removed seat share (d ∷ xs) = ap (λ (ss : List Seat). settled_seat removed (seat d) (share d) ∷ ss) (settled-map removed seat share xs)
+pub delivered-map : (removed : Removal) (seat : ℕ → Seat) (share : ℕ → List (List ℕ)) (xs : List ℕ) → delivered_all removed (map seat xs) (map share xs) ≡ map (λ d. delivered_seat removed (seat d) (share d)) xs
+unfolding delivered_all
+delivered-map removed seat share [] = refl
+delivered-map removed seat share (d ∷ xs) = ap (λ (ss : List Seat). delivered_seat removed (seat d) (share d) ∷ ss) (delivered-map removed seat share xs)
 
 pub map-seats : {A : Type 0} (f : Seat → A) (seat : ℕ → Seat) (xs : List ℕ) → map f (map seat xs) ≡ map (λ d. f (seat d)) xs
 map-seats f seat [] = refl

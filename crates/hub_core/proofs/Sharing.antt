@@ -9,7 +9,7 @@ use Rattle.hub_core.specs.declared.seat.Phase.{Phase}
 use Rattle.hub_core.specs.declared.seat.Phase.TheVariants as phases
 use Rattle.hub_core.specs.declared.seat.Seat.{Seat}
 use Rattle.hub_core.specs.Phases.{phase_after, phase_at, phase_hears, phase_of, stage_in}
-use Rattle.hub_core.specs.Seats.{backlog_of, changed_seat, given_seat, gone_if, is_named, removed_of, removed_seat, seat_share, seat_with, settled_seat}
+use Rattle.hub_core.specs.Seats.{backlog_of, changed_seat, given_seat, gone_if, is_named, removed_of, removed_seat, seat_share, seat_with, delivered_seat}
 use Rattle.hub_rules.specs.declared.effect.Change.{Change}
 use Rattle.hub_rules.specs.declared.effect.Change.TheVariants.{Hub, Nothing, Sender}
 use Rattle.hub_rules.specs.declared.effect.Effect.{Effect}
@@ -171,24 +171,24 @@ removes removed change seat stage b named is = ap (λ g. gone_if g seat) named �
 -- ---- one seat
 
 abbrev pub seat_next : ℕ → Effect → ℕ → About → Seat
-seat_next c effect d a = settled_seat (removed_of effect.change) (cond (d == c) (changed_seat effect.change (seat_with d a)) (seat_with d a)) (seat_share c effect (seat_with d a))
+seat_next c effect d a = delivered_seat (removed_of effect.change) (cond (d == c) (changed_seat effect.change (seat_with d a)) (seat_with d a)) (seat_share c effect (seat_with d a))
 
-pub settles-by : (is_caller : Bool) (effect : Effect) (d : ℕ) (a : About) → a.taken ≤ length a.owed → length (waiting a) ≤ max_lines → size_of (waiting a) ≤ max_bytes → (is_caller ≡ true → Suits (own_of a) effect)
-    → settled_seat (removed_of effect.change) (cond is_caller (changed_seat effect.change (seat_with d a)) (seat_with d a)) (owes is_caller effect a) ≡ seat_with d (affected_connection is_caller effect a)
-settles-by true effect d a few lines bytes suits =
+pub delivers-by : (is_caller : Bool) (effect : Effect) (d : ℕ) (a : About) → a.taken ≤ length a.owed → length (waiting a) ≤ max_lines → size_of (waiting a) ≤ max_bytes → (is_caller ≡ true → Suits (own_of a) effect)
+    → delivered_seat (removed_of effect.change) (cond is_caller (changed_seat effect.change (seat_with d a)) (seat_with d a)) (owes is_caller effect a) ≡ seat_with d (affected_connection is_caller effect a)
+delivers-by true effect d a few lines bytes suits =
     let seat : Seat = changed_seat effect.change (seat_with d a) in
     let after : About = affected_connection true effect a in
     ap (removed_seat (removed_of effect.change)) (gives a (owes true effect a) few lines bytes seat refl)
     ∙ removes (removed_by effect a) effect.change (record seat { outbox = backlog_with a (owes true effect a) }) (stage_after effect.change a.stage) after (removed-self effect.change a)
     (changed-phase effect.change a (suits refl).change ∙ kept-phase (stage_after effect.change a.stage) (known_after effect.change a) after refl refl refl)
-settles-by false effect d a few lines bytes suits =
+delivers-by false effect d a few lines bytes suits =
     let after : About = affected_connection false effect a in
     ap (removed_seat (removed_of effect.change)) (gives a (owes false effect a) few lines bytes (seat_with d a) refl)
     ∙ removes (removed_by effect a) effect.change (record (seat_with d a) { outbox = backlog_with a (owes false effect a) }) a.stage after (removed-other effect.change a)
     (kept-phase a.stage a after refl refl refl)
 
-pub settles : (c : ℕ) (effect : Effect) (d : ℕ) (a : About) → Routed effect.hearers → a.taken ≤ length a.owed → length (waiting a) ≤ max_lines → size_of (waiting a) ≤ max_bytes → ((d == c) ≡ true → Suits (own_of a) effect)
+pub delivers : (c : ℕ) (effect : Effect) (d : ℕ) (a : About) → Routed effect.hearers → a.taken ≤ length a.owed → length (waiting a) ≤ max_lines → size_of (waiting a) ≤ max_bytes → ((d == c) ≡ true → Suits (own_of a) effect)
     → seat_next c effect d a ≡ seat_with d (affected_connection (d == c) effect a)
-settles c effect d a routed few lines bytes suits =
-    ap (settled_seat (removed_of effect.change) (cond (d == c) (changed_seat effect.change (seat_with d a)) (seat_with d a))) (share-same c d effect a routed)
-    ∙ settles-by (d == c) effect d a few lines bytes suits
+delivers c effect d a routed few lines bytes suits =
+    ap (delivered_seat (removed_of effect.change) (cond (d == c) (changed_seat effect.change (seat_with d a)) (seat_with d a))) (share-same c d effect a routed)
+    ∙ delivers-by (d == c) effect d a few lines bytes suits

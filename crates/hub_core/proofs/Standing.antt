@@ -19,7 +19,7 @@ use Rattle.hub_core.specs.declared.seat.Phase.TheVariants as phases
 use Rattle.hub_core.specs.declared.seat.Seat.{Seat}
 use Rattle.hub_core.specs.CoreState.{CoreState}
 use Rattle.hub_core.specs.Decided.{Decided, sight_in}
-use Rattle.hub_core.specs.Leaving.{has_ended, left_core, seat_after_take, lightened_core, lines_in, others_of, seat_told, told_all_if, told_if}
+use Rattle.hub_core.specs.Leaving.{has_ended, left_core, seat_after_take, core_after_take, lines_in, others_of, seat_told, told_all_if, told_if}
 use Rattle.hub_core.specs.Moves.{LineMoves, Moves, StandsAt}
 use Rattle.hub_core.specs.Phases.{phase_at, stage_in}
 use Rattle.hub_core.specs.Seats.{backlog_of, at_seat, given_seat, gone_if, in_seat, new_seat, outbox_in, phase_in, seat_of, seat_with, sid_in}
@@ -44,7 +44,7 @@ use Rattle.hub_invariants.proofs.Suits.{Suits}
 use Rattle.hub_invariants.proofs.Tidy.{Tidy, suits_of, tidy_of, waiting-given}
 use Rattle.hub_core.proofs.Carried.{carried-out, decided-is, same-core}
 use Rattle.hub_core.proofs.Seating.{at-one, in-open, map-seats, others-seats, others_of as numbers_but, seat_one, seated-open, seats-left, seats-same}
-use Rattle.hub_core.proofs.Sharing.{settles-by, stage-kept}
+use Rattle.hub_core.proofs.Sharing.{delivers-by, stage-kept}
 use Rattle.hub_core.proofs.Tests.{false-le, true-le}
 use Rattle.hub_core.proofs.Users.{users-carried}
 
@@ -92,8 +92,8 @@ given-phase stages.Verify count a = refl
 given-phase stages.Normal count a = refl
 given-phase stages.Gone count a = refl
 
-lightens : (count c : ℕ) (a : About) → seat_after_take count (seat_with c a) ≡ seat_with c (with_lines_taken count a)
-lightens count c a =
+takes : (count c : ℕ) (a : About) → seat_after_take count (seat_with c a) ≡ seat_with c (with_lines_taken count a)
+takes count c a =
     ap (λ (ls : List (List ℕ)). record (seat_with c a) { outbox = with_lines (backlog_of a) ls }) (sym (waiting-given count a))
     ∙ ap (λ p. record (seat_with c (with_lines_taken count a)) { phase = p }) (given-phase a.stage count a)
 
@@ -122,7 +122,7 @@ users-one c turn f sid fields (d ∷ xs) =
     ap₂ (λ (u : Listed) (us : List Listed). u ∷ us) (user-one turn (f.about d) (d == c) (sid (f.about d)) (fields (f.about d))) (users-one c turn f sid fields xs)
 
 pub take-moves : (old new : CoreState) (c count lines : ℕ) (bytes : List ℕ) (over : Bool)
-    → new ≡ lightened_core c count old
+    → new ≡ core_after_take c count old
     → bytes ≡ concat (take count (lines_in c old.seats))
     → lines ≡ length (take count (lines_in c old.seats))
     → over ≡ has_ended c count old.seats
@@ -132,8 +132,8 @@ take-moves old new c count lines bytes over is_new is_bytes is_lines is_ended se
     let f : Facts = facts setup hash h in
     let sound : Sound f = sound_of setup hash h in
     let stands : new ≡ core_of setup (record f { about = with_one c (with_lines_taken count) f.about }) =
-    is_new ∙ ap (lightened_core c count) at.stands
-    ∙ same-core setup f.joins f.last (one-changes c (seat_after_take count) (with_lines_taken count) f sound (λ d a. lightens count d a))
+    is_new ∙ ap (core_after_take c count) at.stands
+    ∙ same-core setup f.joins f.last (one-changes c (seat_after_take count) (with_lines_taken count) f sound (λ d a. takes count d a))
     (users-one c (with_lines_taken count) f (λ a. refl) (λ a. refl) f.present) in
     let outbox : outbox_in c old.seats ≡ backlog_of (f.about c) =
     ap (λ (s : CoreState). outbox_in c s.seats) at.stands ∙ in-open c (λ seat. seat.outbox) (empty_backlog max_lines max_bytes) f.about f.opened may.0 in
@@ -168,7 +168,7 @@ left-seat c d a b other few tidy =
     ap (λ s. cond (is_present a.stage) (told_if (is_present s) a.sid (seat_with d b)) (seat_with d b)) (stage-kept d b)
     ∙ told-one (is_present a.stage) (is_present b.stage) a.sid (seat_with d b)
     ∙ ap (λ gone. gone_if gone seat) (sym (and-false (is_present (stage_in seat.phase))))
-    ∙ settles-by false (leaves a) d b few tidy.lines tidy.bytes (λ is. absurd (false≢true is))
+    ∙ delivers-by false (leaves a) d b few tidy.lines tidy.bytes (λ is. absurd (false≢true is))
     ∙ ap (λ same. seat_with d (affected_connection same (leaves a) b)) (sym other)
 
 map-told : (here : Bool) (sid : ℕ) (seats : List Seat) → told_all_if here sid seats ≡ map (told_seat here sid) seats

@@ -57,8 +57,8 @@ pub record IsDecided (c : ℕ) (line : PreparedLine) (now : ℕ) (core : CoreSta
   pub is_seat : seat ≡ in_seat c (λ s. s) seat core.seats
   pub decided : Decided (sight_in core) seat line now effect
 
--- a line was heard: what was decided was carried out
-pub record IsHeard (c : ℕ) (line : PreparedLine) (now : ℕ) (old new : CoreState) : Type 0 where
+-- a line was handled: what was decided was carried out
+pub record IsHandled (c : ℕ) (line : PreparedLine) (now : ℕ) (old new : CoreState) : Type 0 where
   pub effect : Effect
   pub decided : IsDecided c line now old effect
   pub carried : new ≡ carried_out c effect old

@@ -40,8 +40,8 @@ left_core c core = record core {
 abbrev pub seat_after_take : ℕ → Seat → Seat
 seat_after_take count seat = record seat { outbox = with_lines seat.outbox (drop count seat.outbox.lines) }
 
-abbrev pub lightened_core : ℕ → ℕ → CoreState → CoreState
-lightened_core c count core = record core { seats = at_seat c (seat_after_take count) core.seats }
+abbrev pub core_after_take : ℕ → ℕ → CoreState → CoreState
+core_after_take c count core = record core { seats = at_seat c (seat_after_take count) core.seats }
 
 abbrev pub lines_in : ℕ → List Seat → List (List ℕ)
 lines_in c seats = (outbox_in c seats).lines

@@ -77,14 +77,14 @@ abbrev pub removed_seat : Removal → Seat → Seat
 removed_seat removed seat = gone_if (is_present (stage_in seat.phase) && is_named removed seat.sid) seat
 
 -- a share is given, and the user shut out where it is the one
-abbrev pub settled_seat : Removal → Seat → List (List ℕ) → Seat
-settled_seat removed seat share = removed_seat removed (given_seat share seat)
+abbrev pub delivered_seat : Removal → Seat → List (List ℕ) → Seat
+delivered_seat removed seat share = removed_seat removed (given_seat share seat)
 
 -- each seat has its share
-unfoldable pub settled_all : Removal → List Seat → List (List (List ℕ)) → List Seat
-settled_all removed [] shares = []
-settled_all removed (seat ∷ seats) [] = seat ∷ seats
-settled_all removed (seat ∷ seats) (share ∷ shares) = settled_seat removed seat share ∷ settled_all removed seats shares
+unfoldable pub delivered_all : Removal → List Seat → List (List (List ℕ)) → List Seat
+delivered_all removed [] shares = []
+delivered_all removed (seat ∷ seats) [] = seat ∷ seats
+delivered_all removed (seat ∷ seats) (share ∷ shares) = delivered_seat removed seat share ∷ delivered_all removed seats shares
 
 -- ---- the connection that sent the line
 

@@ -8,7 +8,7 @@ use Rattle.hub_core.specs.declared.seat.Phase.{Phase}
 use Rattle.hub_core.specs.declared.seat.Seat.{Seat}
 use Rattle.hub_core.specs.CoreState.{CoreState}
 use Rattle.hub_core.specs.Phases.{users_awaited}
-use Rattle.hub_core.specs.Seats.{at_seat, changed_seat, phase_in, removed_of, seat_of, seat_share, settled_all, sid_in}
+use Rattle.hub_core.specs.Seats.{at_seat, changed_seat, phase_in, removed_of, seat_of, seat_share, delivered_all, sid_in}
 use Rattle.hub_rules.specs.declared.effect.Change.{Change}
 use Rattle.hub_rules.specs.declared.effect.Change.TheVariants.{Hub, Sender}
 use Rattle.hub_rules.specs.declared.effect.Effect.{Effect}
@@ -64,7 +64,7 @@ users_after change sid phase users = users
 
 unfoldable pub carried_out : ℕ → Effect → CoreState → CoreState
 carried_out c effect core = record core {
-  seats = settled_all (removed_of effect.change) (at_seat c (changed_seat effect.change) core.seats) (map (seat_share c effect) core.seats);
+  seats = delivered_all (removed_of effect.change) (at_seat c (changed_seat effect.change) core.seats) (map (seat_share c effect) core.seats);
   users = users_after effect.change (sid_in c core.seats) (phase_in c core.seats) core.users;
   bans = bans_after effect.change core.bans;
   topic = topic_after effect.change core.topic;

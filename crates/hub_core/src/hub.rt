@@ -4,7 +4,7 @@ ghost use Rattle.hub_rules.specs.declared.history.Call.TheVariants.{Join, Quit};
 ghost use Rattle.hub_rules.specs.declared.history.Reply.TheVariants.{Left};
 ghost use Rattle.hub_core.specs.Moves.{Moves, LineMoves, StandsAt};
 ghost use Rattle.hub_core.specs.Leaving.{left_core};
-ghost use Rattle.hub_core.specs.Decided.{IsDecided, IsHeard};
+ghost use Rattle.hub_core.specs.Decided.{IsDecided, IsHandled};
 ghost use Rattle.hub_core.specs.Phases.{stage_in};
 ghost use Rattle.hub_core.specs.Seats.{phase_in};
 ghost use Rattle.hub_core.specs.State.{IsPlace, IsSeated, carried_out};
@@ -13,8 +13,8 @@ ghost use Rattle.hub_rules.specs.Legal.{verdict_of};
 use crate::change::Commons;
 use crate::connection::Connection;
 use crate::look::Look;
-use crate::seat::{Seat, decide_at, forget, has_seat, lighten, place, sids, tell_if};
-use crate::share::{Touched, removal, settle, shares, touched_by, touched_by_quit};
+use crate::seat::{Seat, decide_at, forget, has_seat, place, sids, take_lines, tell_if};
+use crate::share::{Touched, deliver, removal, shares, touched_by, touched_by_quit};
 use crate::{JoinRefused, OpenRefused};
 use adc_base32::Sid;
 use hub_decisions::Sight;
@@ -157,7 +157,7 @@ impl Core {
         ensures moves { IfOk result (λ verdict. LineMoves self.old connection line.now now verdict self.new) }
         ensures err { OnErr result (self.new ≡ self.old) }
     {
-        let verdict = self.hear(alloc, connection.number, line, now)?;
+        let verdict = self.handle(alloc, connection.number, line, now)?;
         Ok(verdict)
     }
 
@@ -188,7 +188,7 @@ impl Core {
         ensures moves { IfOk result (λ taken. TakeMoves taken connection count out.old.items out.new.items self.old self.new) }
         ensures err { OnErr result ((self.new ≡ self.old) × (out.new.items ≡ out.old.items)) }
     {
-        let taken = lighten(&mut self.seats, connection.number, count, out)?;
+        let taken = take_lines(&mut self.seats, connection.number, count, out)?;
         self.touched = Touched::Nobody;
         Ok(taken)
     }
@@ -226,7 +226,7 @@ impl Core {
         self.joins
     }
 
-    fn hear(
+    fn handle(
         &mut self,
         alloc: Global,
         number: u64,
@@ -234,7 +234,7 @@ impl Core {
         now: u64,
     ) -> Result<Verdict, AllocError>
         requires { IsSeated number self.old }
-        ensures heard { OnOk result (IsHeard number line.now now self.old self.new) }
+        ensures handled { OnOk result (IsHandled number line.now now self.old self.new) }
         ensures verdict { IfOk result (λ verdict. verdict ≡ verdict_of (stage_in (phase_in number self.new.seats))) }
         ensures err { OnErr result (self.new ≡ self.old) }
     {
@@ -312,7 +312,7 @@ impl Core {
         let removal = removal(&effect.change);
         let seat = &mut self.seats[place];
         self.commons.change(seat, effect.change)?;
-        settle(&mut self.seats, shares, &removal);
+        deliver(&mut self.seats, shares, &removal);
         Ok(())
     }
 }

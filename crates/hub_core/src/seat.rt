@@ -142,7 +142,7 @@ impl Seat {
     }
 
     /// Gives the connection lines. Of none nothing happens.
-    pub(crate) fn hear(&mut self, lines: Batch)
+    pub(crate) fn give(&mut self, lines: Batch)
         ensures { self.new ≡ given_seat lines self.old }
     {
         if !lines.is_empty() {
@@ -160,7 +160,7 @@ impl Seat {
     }
 
     /// Tells the user that another left, where it is present.
-    pub(crate) fn hear_quit(&mut self, sid: Sid)
+    pub(crate) fn give_quit(&mut self, sid: Sid)
         ensures { self.new ≡ seat_told sid self.old }
     {
         if self.phase.is_present() {
@@ -257,7 +257,7 @@ fn tell(seats: &mut [Seat], sid: Sid)
     ensures { seats.new ≡ map (seat_told sid) seats.old }
 {
     for seat in seats.iter_mut() {
-        seat.hear_quit(sid);
+        seat.give_quit(sid);
     }
 }
 
@@ -273,7 +273,7 @@ pub(crate) fn sids(alloc: Global, seats: &[Seat]) -> Result<Vec<Sid>, AllocError
 }
 
 /// Takes the first `count` lines that wait for a connection, or all if fewer wait.
-pub(crate) fn lighten(
+pub(crate) fn take_lines(
     seats: &mut Vec<Seat>,
     number: u64,
     count: usize,

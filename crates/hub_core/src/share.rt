@@ -172,7 +172,7 @@ fn is_among(is_caller: bool, hearers: &Hearers<'_>, sid: Sid, support: &FeatureS
 }
 
 /// Gives each share to its seat, and shuts out the user that an operator names. It takes no memory.
-pub(crate) fn settle(seats: &mut [Seat], shares: Vec<Share>, removal: &Removal)
+pub(crate) fn deliver(seats: &mut [Seat], shares: Vec<Share>, removal: &Removal)
     ensures { seats.new ≡ map (removed_seat removal.now) (given_all shares.items seats.old) }
 {
     give(seats, shares);
@@ -187,7 +187,7 @@ fn give(seats: &mut [Seat], shares: Vec<Share>)
 {
     for share in shares {
         if share.place < seats.len() {
-            seats[share.place].hear(share.lines);
+            seats[share.place].give(share.lines);
         }
     }
 }

@@ -37,7 +37,7 @@ const MAX_BANS: usize = 1_024;
 /// Changes: a user is shut out, an identifier is let in again, or the topic is set. Told: all users hear of a removal and
 /// of a topic, and the operator that it is done. Refused only where memory runs out.
 #[tactic(auto, unfolding(hub_rules::specs::Acts::act_denied, hub_rules::specs::Acts::act_effect))]
-pub(crate) fn acts<'a>(
+pub(crate) fn decide_hub_message<'a>(
     alloc: Global,
     hub: &Sight<'_>,
     own: &Own<'_>,
@@ -52,7 +52,7 @@ pub(crate) fn acts<'a>(
     if !is_command(text) {
         return Ok(nothing(alloc));
     }
-    command(alloc, hub, own, user, text, now)
+    decide_command(alloc, hub, own, user, text, now)
 }
 
 /// Answers whether a text is a command: commands begin with `!`.
@@ -66,7 +66,7 @@ fn is_command(text: &str) -> bool
 }
 
 /// Decides what a command of a user leads to.
-fn command<'a>(
+fn decide_command<'a>(
     alloc: Global,
     hub: &Sight<'_>,
     own: &Own<'_>,

@@ -86,23 +86,23 @@ fn decide_request<'a>(
 {
     match own.stage.request(message.kind(), message.command()) {
         Err(deny) => denial(alloc, own, deny),
-        Ok(Request::Greeting) => sup::greets(alloc, hub, own, message.params(), now),
-        Ok(Request::Login) => login::logs_in(alloc, hub, own, line, now),
+        Ok(Request::Greeting) => sup::decide_greeting(alloc, hub, own, message.params(), now),
+        Ok(Request::Login) => login::decide_login(alloc, hub, own, line, now),
         Ok(Request::Password) => match user {
-            Some(user) => password::enters(alloc, hub, own, user, message.params(), now),
+            Some(user) => password::decide_password(alloc, hub, own, user, message.params(), now),
             None => Ok(nothing(alloc)),
         },
         Ok(Request::Update) => match user {
-            Some(user) => update::updates(alloc, hub, own, user, line),
+            Some(user) => update::decide_update(alloc, hub, own, user, line),
             None => Ok(nothing(alloc)),
         },
         Ok(Request::Act) => match user {
-            Some(user) => act::acts(alloc, hub, own, user, message.params(), now),
+            Some(user) => act::decide_hub_message(alloc, hub, own, user, message.params(), now),
             None => Ok(nothing(alloc)),
         },
-        Ok(Request::Support) => sup::learns(alloc, own, message.params()),
-        Ok(Request::Search) => message::searches(alloc, hub, own, message, now),
-        Ok(Request::Message) => message::passes_on(alloc, hub, message, Change::Nothing),
+        Ok(Request::Support) => sup::decide_support(alloc, own, message.params()),
+        Ok(Request::Search) => message::decide_search(alloc, hub, own, message, now),
+        Ok(Request::Message) => message::decide_route(alloc, hub, message, Change::Nothing),
         Ok(Request::Nothing) => Ok(nothing(alloc)),
     }
 }

@@ -20,7 +20,7 @@ use user_table::{User, Users};
 /// Makes the effect of a user's entry (ADC 1.0, "INF"; ADC-EXT, "UCMD"). Its client is told of the users who are present,
 /// in order of entry, then of itself, and then the menu where it has one; the others are told of the newcomer. Refused only
 /// where memory runs out.
-pub(crate) fn enters<'a>(
+pub(crate) fn effect_of_entry<'a>(
     alloc: Global,
     hub: &Sight<'_>,
     own: &Own<'_>,

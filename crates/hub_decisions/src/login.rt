@@ -37,7 +37,7 @@ use user_table::User;
 /// Denied: words that are no update (140), and then by the checks of a login, in their order. Changes:
 /// the client enters, or has to give its password first where its nick is an account's. Told: as at an
 /// entry, or the client alone hears its challenge. Refused only where memory runs out.
-pub(crate) fn logs_in<'a>(
+pub(crate) fn decide_login<'a>(
     alloc: Global,
     hub: &Sight<'_>,
     own: &Own<'_>,
@@ -50,14 +50,14 @@ pub(crate) fn logs_in<'a>(
         return denial(alloc, own, Deny::Protocol);
     };
     match user_of_login(alloc, hub, own, line.owner(), update, now)? {
-        Ok(entrant) => admits(alloc, hub, own, line, entrant),
+        Ok(entrant) => effect_of_entrant(alloc, hub, own, line, entrant),
         Err(deny) => denial(alloc, own, deny),
     }
 }
 
 /// Makes the effect by which a user with an account is asked for its password, and another enters. A line that was made
 /// ready for a hub without that account has no digest to wait for, and is refused as where memory runs out.
-fn admits<'a>(
+fn effect_of_entrant<'a>(
     alloc: Global,
     hub: &Sight<'_>,
     own: &Own<'_>,
@@ -67,7 +67,7 @@ fn admits<'a>(
     ensures { IfOk result (λ effect. (user : Listed) → newcomer ≡ entrant user → effect ≡ admits hub.now own.now line.now (is_account hub.now user.key) user) }
 {
     if !is_account(hub, newcomer.user.key()) {
-        let mut effect = entering::enters(alloc, hub, own, &newcomer.user)?;
+        let mut effect = entering::effect_of_entry(alloc, hub, own, &newcomer.user)?;
         effect.change = Change::Sender(SenderChange::EntersAs(newcomer));
         return Ok(effect);
     }

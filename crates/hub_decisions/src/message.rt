@@ -20,7 +20,7 @@ use std::alloc::{AllocError, Global};
 ///
 /// Denied: never. Changes: nothing, but for the moment of a search that goes out, which is passed. Told: those for whom
 /// the message is hear the line as it came. Refused only where memory runs out.
-pub(crate) fn passes_on<'a>(
+pub(crate) fn decide_route<'a>(
     alloc: Global,
     hub: &Sight<'_>,
     line: &'a Line,
@@ -36,8 +36,8 @@ pub(crate) fn passes_on<'a>(
 /// Decides what a search of a user leads to (ADC 1.0, "SCH").
 ///
 /// Denied: a search too soon after the last one that went out (100). Changes: the moment of the last
-/// search. Told: as by [`passes_on`]. Refused only where memory runs out.
-pub(crate) fn searches<'a>(
+/// search. Told: as by [`decide_route`]. Refused only where memory runs out.
+pub(crate) fn decide_search<'a>(
     alloc: Global,
     hub: &Sight<'_>,
     own: &Own<'_>,
@@ -50,7 +50,7 @@ pub(crate) fn searches<'a>(
         return denial(alloc, own, Deny::SearchSoon);
     }
     let change = Change::Sender(SenderChange::Searches(now));
-    passes_on(alloc, hub, line, change)
+    decide_route(alloc, hub, line, change)
 }
 
 /// Answers whether the user that a line names as its target is present.

@@ -24,7 +24,7 @@ use user_table::User;
 /// Denied: a password that gives another digest than the expected one (223). Denied next is what may have changed since the
 /// login: a ban (231, 232), a present user with the nick (222) or with the client identifier (224). Changes: the user
 /// enters. Told: as at an entry. Refused only where memory runs out.
-pub(crate) fn enters<'a>(
+pub(crate) fn decide_password<'a>(
     alloc: Global,
     hub: &Sight<'_>,
     own: &Own<'_>,
@@ -36,7 +36,7 @@ pub(crate) fn enters<'a>(
 {
     match password_denial(hub, own, user, words, now) {
         Check::Deny(deny) => denial(alloc, own, deny),
-        Check::Go => entering::enters(alloc, hub, own, user),
+        Check::Go => entering::effect_of_entry(alloc, hub, own, user),
     }
 }
 

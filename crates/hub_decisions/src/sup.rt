@@ -22,7 +22,7 @@ use user_table::Users;
 /// Denied: words that are none, or over 64 features (140), no BASE (245), no TIGR (247). Changes: what
 /// the client supports; it may log in. Told: the client alone is greeted. Refused only where memory
 /// runs out.
-pub(crate) fn greets<'a>(
+pub(crate) fn decide_greeting<'a>(
     alloc: Global,
     hub: &Sight<'_>,
     own: &Own<'_>,
@@ -44,7 +44,7 @@ pub(crate) fn greets<'a>(
 ///
 /// Denied: words that are none, or over 64 features (140), no BASE (245), no TIGR (247). Changes: what
 /// the client supports. Told: nobody. Refused only where memory runs out.
-pub(crate) fn learns<'a>(
+pub(crate) fn decide_support<'a>(
     alloc: Global,
     own: &Own<'_>,
     words: Words<'_>,

@@ -38,7 +38,7 @@ use user_table::{User, Users};
 /// Denied: words that are no update (140), and then by the checks of an update, in their order. Changes:
 /// the user's fields, the nick among them. Told: all users hear what changes, where anything does.
 /// Refused only where memory runs out.
-pub(crate) fn updates<'a>(
+pub(crate) fn decide_update<'a>(
     alloc: Global,
     hub: &Sight<'_>,
     own: &Own<'_>,

@@ -69,7 +69,7 @@ impl<'a, B: OfHub<H>, H: SessionHash, R: Wait + Clock> Connection<'a, B, H, R> {
             self.is_named = true;
         }
         if let Touched::Everybody = touched {
-            self.server.shared.wakers.say();
+            self.server.shared.wakers.count_broadcast();
             self.owes_wake = true;
         } else {
             wake_touched(&self.server.shared.wakers, touched, self.slot);
@@ -147,7 +147,7 @@ impl<B: OfHub<H>, H: SessionHash, R: Wait + Clock> Port for Connection<'_, B, H,
         let taken = server.hub.take(server.rt, &mut self.pass, count, out)?;
         let has_more = taken.lines >= count as u64;
         let wakers = &server.shared.wakers;
-        wakers.take(self.slot, said, taken.lines, has_more);
+        wakers.count_taken(self.slot, said, taken.lines, has_more);
         Ok(taken)
     }
 
@@ -192,7 +192,7 @@ impl Bell for SlotBell<'_> {
     }
 
     fn wait(&mut self, cx: &mut Context<'_>) -> bool {
-        self.wakers.wait(self.slot, cx)
+        self.wakers.was_woken(self.slot, cx)
     }
 
     fn may_hand(&mut self) -> bool {

@@ -14,7 +14,7 @@ use crate::keys::first_unknown;
 use crate::plain_keys::PlainKeys;
 use crate::settings::Settings;
 use crate::values::{number, text, text_or, truth};
-use hub_setup::{MOST_USERS, Options, Setup};
+use hub_setup::{DEFAULT_USERS, MOST_USERS, Options, Setup};
 use std::alloc::Global;
 use std::net::SocketAddrV4;
 use toml::Table;
@@ -97,7 +97,7 @@ fn plain_keys(
     let tables = text(table, "tables", "tiger.bin")?;
     let registered_only = truth(table, "registered_only")?;
     let search_interval = number(table, "search_interval", 0, u32::MAX, 0)?;
-    let max_users = number(table, "max_users", 1, MOST_USERS, 512)?;
+    let max_users = number(table, "max_users", 1, MOST_USERS, DEFAULT_USERS)?;
     let threads = number(table, "threads", 1, 64, 2)?;
     let stop_after = number(table, "stop_after", 0, 65_536, 0)?;
     let seed_file = text(table, "seed_file", "/dev/urandom")?;

@@ -13,7 +13,7 @@ mod user_texts;
 pub use accounts::{Accounts, Registered};
 pub use menu::Menu;
 pub use options::{
-    Account, MOST_ACCOUNTS, MOST_COMMANDS, MOST_USERS, MenuEntry, MenuItem, Options,
+    Account, DEFAULT_USERS, MOST_ACCOUNTS, MOST_COMMANDS, MOST_USERS, MenuEntry, MenuItem, Options,
 };
 pub use preparation::{Prepared, Says, prepare};
 pub use refused::{LineRefused, ListRefused, SetupRefused};

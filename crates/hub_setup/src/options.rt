@@ -11,6 +11,9 @@ pub const MOST_COMMANDS: usize = 64;
 /// The most connections that a hub may be set up to admit.
 pub const MOST_USERS: u32 = 900;
 
+/// The number of connections that a hub admits at once where its settings say no other.
+pub const DEFAULT_USERS: u32 = 512;
+
 /// A registered user.
 #[derive(Clone, Copy, Debug)]
 pub struct Account<'a> {
@@ -80,7 +83,7 @@ impl<'a> Options<'a> {
             commands: &[],
             registered_only: false,
             search_interval: 0,
-            max_users: 512,
+            max_users: DEFAULT_USERS,
             opening: 0,
         }
     }

@@ -7,7 +7,7 @@ fn behind_by(lines: u64) -> Backlog {
     let mut backlog = Backlog::new(0);
     // One line more was for this client alone. A take of one line leaves as many as were for everybody.
     backlog.give();
-    backlog.take(lines, 1, true);
+    backlog.count_taken(lines, 1, true);
     backlog
 }
 
@@ -27,13 +27,13 @@ fn a_backlog_grows_and_shrinks(rt: HostRuntime) {
     has(&rt, &backlog, 100, 100);
     has(&rt, &backlog, 150, 150);
     let mut taken = backlog;
-    taken.take(150, 90, true);
+    taken.count_taken(150, 90, true);
     has(&rt, &taken, 150, 60);
     has(&rt, &taken, 160, 70);
-    taken.take(160, 10, false);
+    taken.count_taken(160, 10, false);
     has(&rt, &taken, 160, 0);
     // A count that was too high is put right, and one that was too low does not go below none.
-    taken.take(160, 256, true);
+    taken.count_taken(160, 256, true);
     has(&rt, &taken, 160, 0);
 }
 
@@ -53,9 +53,9 @@ fn who_does_not_move_is_waited_for_no_longer(rt: HostRuntime) {
     }
     assert!(&rt; !backlog.is_behind(FAR_BEHIND + 1));
     // A take without a line is no move, one with a line is.
-    backlog.take(FAR_BEHIND + 1, 0, true);
+    backlog.count_taken(FAR_BEHIND + 1, 0, true);
     assert!(&rt; !backlog.is_behind(FAR_BEHIND + 2));
-    backlog.take(FAR_BEHIND + 2, 1, true);
+    backlog.count_taken(FAR_BEHIND + 2, 1, true);
     assert!(&rt; backlog.is_behind(FAR_BEHIND + 3));
 }
 

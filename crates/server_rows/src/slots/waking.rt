@@ -52,7 +52,7 @@ impl Waiters {
     /// Answers whether this one was woken; it waits now.
     fn hears(&self, rt: &impl Abort, slot: usize) -> bool {
         match self.tasks.get(slot) {
-            Some(task) => task.enter(|cx| self.wakers.wait(slot, cx)),
+            Some(task) => task.enter(|cx| self.wakers.was_woken(slot, cx)),
             None => panic!(rt; "a slot"),
         }
     }
@@ -137,7 +137,7 @@ fn a_call_for_help_wakes_the_accepting_task(rt: HostRuntime) {
 /// Says so many lines to everybody.
 fn says(waiters: &Waiters, count: u64) {
     for _line in 0..count {
-        waiters.wakers.say();
+        waiters.wakers.count_broadcast();
     }
 }
 
@@ -154,7 +154,7 @@ fn who_speaks_gives_way_to_who_is_behind(rt: HostRuntime) {
     for slot in 0..COUNT {
         assert!(&rt; !bell.may_hand());
         let said = waiters.wakers.broadcasts();
-        waiters.wakers.take(slot, said, 256, false);
+        waiters.wakers.count_taken(slot, said, 256, false);
     }
     assert!(&rt; bell.may_hand());
     waiters.are_woken(&rt, [true, false, false, false]);
@@ -168,12 +168,16 @@ fn who_speaks_gives_way_for_a_while(rt: HostRuntime) {
     for _tick in 0..PATIENCE - 1 {
         assert!(&rt; !bell.may_hand());
         // Some of them move, so that they are waited for; they have as much waiting as before.
-        waiters.wakers.take(1, waiters.wakers.broadcasts(), 1, true);
+        waiters
+            .wakers
+            .count_taken(1, waiters.wakers.broadcasts(), 1, true);
         waiters.wakers.tick();
         waiters.are_woken(&rt, [true, false, false, false]);
     }
     assert!(&rt; !bell.may_hand());
-    waiters.wakers.take(1, waiters.wakers.broadcasts(), 1, true);
+    waiters
+        .wakers
+        .count_taken(1, waiters.wakers.broadcasts(), 1, true);
     waiters.wakers.tick();
     waiters.are_woken(&rt, [true, false, false, false]);
     // It has waited for long, and may hand over some.
@@ -195,7 +199,7 @@ fn who_never_moves_holds_up_nobody(rt: HostRuntime) {
     assert!(&rt; !waiters.wakers.is_behind());
     for _line in 0..10 * BURST {
         assert!(&rt; bell.may_hand());
-        waiters.wakers.say();
+        waiters.wakers.count_broadcast();
     }
 }
 
@@ -221,7 +225,7 @@ fn nobody_gives_way_to_a_free_slot(rt: HostRuntime) {
     says(&waiters, FAR_BEHIND);
     for slot in [0, 1, 3] {
         let said = waiters.wakers.broadcasts();
-        waiters.wakers.take(slot, said, 256, false);
+        waiters.wakers.count_taken(slot, said, 256, false);
     }
     says(&waiters, BURST);
     assert!(&rt; bell.may_hand());
@@ -233,9 +237,9 @@ fn who_may_have_missed_much_takes_again(rt: HostRuntime) {
     // So much is said while the hub gives it three lines.
     let said = waiters.wakers.broadcasts();
     says(&waiters, FAR_BEHIND);
-    waiters.wakers.take(1, said, 3, false);
+    waiters.wakers.count_taken(1, said, 3, false);
     waiters.are_woken(&rt, [false; COUNT]);
     says(&waiters, 1);
-    waiters.wakers.take(1, said, 3, false);
+    waiters.wakers.count_taken(1, said, 3, false);
     waiters.are_woken(&rt, [false, true, false, false]);
 }

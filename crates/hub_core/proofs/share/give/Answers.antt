@@ -4,7 +4,7 @@ use Rattle.hub_core.proofs.share.give.Goals as goal
 
 pub loop-share-preserved-then-share-seats : goal.loop-share-preserved-then-share-seats
 loop-share-preserved-then-share-seats c =
-    share-given _ _ c.in-Some.share c.loop-share.seats _ c.index-seats-share.result _ c.loop-share.invariant c.in-Some.ensures.steps.0 c.if-share-seats.true c.hear.ensures
+    share-given _ _ c.in-Some.share c.loop-share.seats _ c.index-seats-share.result _ c.loop-share.invariant c.in-Some.ensures.steps.0 c.if-share-seats.true c.give.ensures
 
 pub loop-share-preserved : goal.loop-share-preserved
 loop-share-preserved c = share-past _ _ c.in-Some.share c.loop-share.seats _ c.loop-share.invariant c.in-Some.ensures.steps.0 c.if-share-seats.false

@@ -21,7 +21,7 @@ returns-in-Ok-Login c =
     let asked = asked-is (Ok requests.Login) c.request.result own.stage c.own.inside.stage message.kind c.kind.result message.command c.command.result
     c.request.ensures (ap (λ (o : Own). o.stage) c.own.view_is) c.kind.ensures c.command.ensures (c.in-Ok-Login.is ∙ ap Ok c.in-Ok-Login.field-0-is) in
     let suited = suits requests.Login own.stage message.kind message.command asked in
-    when-ok c.logs_in.result c.logs_in.ensures
+    when-ok c.decide_login.result c.decide_login.ensures
     (λ effect is known.
     as-asked c.args.hub.now own c.args.line.now c.args.now message requests.Login effect asked
     (is (known-at own _ stages.Identify suited.0 known)
@@ -36,7 +36,7 @@ returns-in-Some c =
     let asked = asked-is (Ok requests.Password) c.request.result own.stage c.own.inside.stage message.kind c.kind.result message.command c.command.result
     c.request.ensures (ap (λ (o : Own). o.stage) c.own.view_is) c.kind.ensures c.command.ensures (c.in-Ok-Password.is ∙ ap Ok c.in-Ok-Password.field-0-is) in
     let suited = suits requests.Password own.stage message.kind message.command asked in
-    when-ok c.enters.result c.enters.ensures
+    when-ok c.decide_password.result c.decide_password.ensures
     (λ effect is known.
     as-asked c.args.hub.now own c.args.line.now c.args.now message requests.Password effect asked
     (is (has-user own c.args.user c.in-Some.user (known-at own _ stages.Verify suited known) c.in-Some.is) ∙ ap (effect_of_password c.args.hub.now own c.args.now) c.params-in-Some.ensures))
@@ -58,7 +58,7 @@ returns-in-Some-user c =
     let asked = asked-is (Ok requests.Update) c.request.result own.stage c.own.inside.stage message.kind c.kind.result message.command c.command.result
     c.request.ensures (ap (λ (o : Own). o.stage) c.own.view_is) c.kind.ensures c.command.ensures (c.in-Ok-Update.is ∙ ap Ok c.in-Ok-Update.field-0-is) in
     let suited = suits requests.Update own.stage message.kind message.command asked in
-    when-ok c.updates.result c.updates.ensures
+    when-ok c.decide_update.result c.decide_update.ensures
     (λ effect is known.
     as-asked c.args.hub.now own c.args.line.now c.args.now message requests.Update effect asked
     (is (has-user own c.args.user c.in-Some-user.user (known-at own _ stages.Normal suited.0 known) c.in-Some-user.is)
@@ -82,7 +82,7 @@ returns-in-Some-user-2 c =
     let asked = asked-is (Ok requests.Act) c.request.result own.stage c.own.inside.stage message.kind c.kind.result message.command c.command.result
     c.request.ensures (ap (λ (o : Own). o.stage) c.own.view_is) c.kind.ensures c.command.ensures (c.in-Ok-Act.is ∙ ap Ok c.in-Ok-Act.field-0-is) in
     let suited = suits requests.Act own.stage message.kind message.command asked in
-    when-ok c.acts.result c.acts.ensures
+    when-ok c.decide_hub_message.result c.decide_hub_message.ensures
     (λ effect is known.
     as-asked c.args.hub.now own c.args.line.now c.args.now message requests.Act effect asked
     (is (has-user own c.args.user c.in-Some-user-2.user (known-at own _ stages.Normal suited known) c.in-Some-user-2.is) ∙ ap (effect_of_act c.args.hub.now own c.args.now) c.params-in-Some-user-2.ensures))

@@ -3,14 +3,14 @@ use Rattle.std.specs.Arc.{arc_value}
 use Rattle.std.specs.Vec.{with_item}
 use Rattle.std.proofs.lemmas.List.{length-set, with_items_is}
 use Rattle.hub_core.specs.CoreState.{CoreState}
-use Rattle.hub_core.specs.Seats.{changed_seat, seat_share, settled_all}
+use Rattle.hub_core.specs.Seats.{changed_seat, seat_share, delivered_all}
 use Rattle.hub_core.specs.State.{carried_out}
 use Rattle.hub_core.proofs.Carried.{carried-as}
-use Rattle.hub_core.proofs.Owed.{settled-owed}
+use Rattle.hub_core.proofs.Owed.{delivered-owed}
 use Rattle.hub_core.proofs.Places.{StandsFirst, found-alike}
-use Rattle.hub_core.proofs.Settling.{length-settled}
+use Rattle.hub_core.proofs.Delivering.{length-delivered}
 use Rattle.hub_core.specs.Numbers.{numbers}
-use Rattle.hub_core.proofs.Numbers.{numbers-changed, numbers-settled, ordered-same}
+use Rattle.hub_core.proofs.Numbers.{numbers-changed, numbers-delivered, ordered-same}
 use Rattle.hub_core.proofs.Places.{set-read}
 use Rattle.hub_core.proofs.hub.Core.carry_out.Goals as goal
 
@@ -18,18 +18,18 @@ pub returns-clause-ok : goal.returns-clause-ok
 returns-clause-ok c =
     let seats : c.args.self.now.seats ≡ c.self.inside.seats.items = sym (ap (λ (s : CoreState). s.seats) c.self.view_is) in
     let at : StandsFirst c.args.number c.self.inside.seats.items c.args.place = found-alike c.args.number c.self.inside.seats.items c.args.self.now.seats c.args.place seats c.requires in
-    let given : c.settle.new.seats ≡ settled_all c.removal-removal.result c.deref_mut.result.now (map (seat_share c.args.number c.args.effect) c.self.inside.seats.items) =
-    settled-owed c.removal-removal.result (seat_share c.args.number c.args.effect) c.self.inside.seats.items c.deref.result.now c.deref_mut.result.now c.settle.new.seats c.in_ok-shares.shares.items
-    c.settle.ensures c.in_ok-shares.ensures c.deref.ensures.value
+    let given : c.deliver.new.seats ≡ delivered_all c.removal-removal.result c.deref_mut.result.now (map (seat_share c.args.number c.args.effect) c.self.inside.seats.items) =
+    delivered-owed c.removal-removal.result (seat_share c.args.number c.args.effect) c.self.inside.seats.items c.deref.result.now c.deref_mut.result.now c.deliver.new.seats c.in_ok-shares.shares.items
+    c.deliver.ensures c.in_ok-shares.ensures c.deref.ensures.value
     (sym (ap length c.deref_mut.ensures.value ∙ length-set c.self.inside.seats.items c.args.place c.change.new.seat)) in
     ap (λ seats. record { setup = arc_value c.self.inside.setup; joins = c.self.inside.joins; last = c.self.inside.last; seats = seats; users = c.change.new.self.users; bans = c.change.new.self.bans; topic = c.change.new.self.topic })
-    (with_items_is (with_item c.self.inside.seats c.args.place c.change.new.seat) c.settle.new.seats
-    (ap length given ∙ length-settled c.removal-removal.result c.deref_mut.result.now (map (seat_share c.args.number c.args.effect) c.self.inside.seats.items) ∙ c.deref_mut.ensures.len))
+    (with_items_is (with_item c.self.inside.seats c.args.place c.change.new.seat) c.deliver.new.seats
+    (ap length given ∙ length-delivered c.removal-removal.result c.deref_mut.result.now (map (seat_share c.args.number c.args.effect) c.self.inside.seats.items) ∙ c.deref_mut.ensures.len))
     ∙ carried-as (record { setup = arc_value c.self.inside.setup; joins = c.self.inside.joins; last = c.self.inside.last; seats = c.self.inside.seats.items; users = c.self.inside.commons.users; bans = c.self.inside.commons.bans; topic = c.self.inside.commons.topic })
-    c.args.number c.args.effect c.args.place c.index_mut-seat.result.now c.change.new.seat c.settle.new.seats c.change.new.self.users c.change.new.self.bans c.change.new.self.topic
+    c.args.number c.args.effect c.args.place c.index_mut-seat.result.now c.change.new.seat c.deliver.new.seats c.change.new.self.users c.change.new.self.bans c.change.new.self.topic
     at c.index_mut-seat.ensures.value
     c.in_ok-change.ensures.seat
-    (given ∙ ap₂ (λ r ss. settled_all r ss (map (seat_share c.args.number c.args.effect) c.self.inside.seats.items)) c.removal-removal.ensures c.deref_mut.ensures.value)
+    (given ∙ ap₂ (λ r ss. delivered_all r ss (map (seat_share c.args.number c.args.effect) c.self.inside.seats.items)) c.removal-removal.ensures c.deref_mut.ensures.value)
     c.in_ok-change.ensures.users c.in_ok-change.ensures.bans c.in_ok-change.ensures.topic
     ∙ ap (carried_out c.args.number c.args.effect) c.self.view_is
 
@@ -37,16 +37,16 @@ pub invariant_of-self-2 : goal.invariant_of-self-2
 invariant_of-self-2 c =
     let seats : c.args.self.now.seats ≡ c.self.inside.seats.items = sym (ap (λ (s : CoreState). s.seats) c.self.view_is) in
     let at : StandsFirst c.args.number c.self.inside.seats.items c.args.place = found-alike c.args.number c.self.inside.seats.items c.args.self.now.seats c.args.place seats c.requires in
-    let given : c.settle.new.seats ≡ settled_all c.removal-removal.result c.deref_mut.result.now (map (seat_share c.args.number c.args.effect) c.self.inside.seats.items) =
-    settled-owed c.removal-removal.result (seat_share c.args.number c.args.effect) c.self.inside.seats.items c.deref.result.now c.deref_mut.result.now c.settle.new.seats c.in_ok-shares.shares.items
-    c.settle.ensures c.in_ok-shares.ensures c.deref.ensures.value
+    let given : c.deliver.new.seats ≡ delivered_all c.removal-removal.result c.deref_mut.result.now (map (seat_share c.args.number c.args.effect) c.self.inside.seats.items) =
+    delivered-owed c.removal-removal.result (seat_share c.args.number c.args.effect) c.self.inside.seats.items c.deref.result.now c.deref_mut.result.now c.deliver.new.seats c.in_ok-shares.shares.items
+    c.deliver.ensures c.in_ok-shares.ensures c.deref.ensures.value
     (sym (ap length c.deref_mut.ensures.value ∙ length-set c.self.inside.seats.items c.args.place c.change.new.seat)) in (
       c.self.invariant.0,
       c.self.invariant.1,
       ordered-same c.self.inside.joins c.self.inside.seats.items _
-          (ap numbers (with_items_is (with_item c.self.inside.seats c.args.place c.change.new.seat) c.settle.new.seats
-          (ap length given ∙ length-settled c.removal-removal.result c.deref_mut.result.now (map (seat_share c.args.number c.args.effect) c.self.inside.seats.items) ∙ c.deref_mut.ensures.len))
-          ∙ ap numbers given ∙ numbers-settled c.removal-removal.result c.deref_mut.result.now (map (seat_share c.args.number c.args.effect) c.self.inside.seats.items)
+          (ap numbers (with_items_is (with_item c.self.inside.seats c.args.place c.change.new.seat) c.deliver.new.seats
+          (ap length given ∙ length-delivered c.removal-removal.result c.deref_mut.result.now (map (seat_share c.args.number c.args.effect) c.self.inside.seats.items) ∙ c.deref_mut.ensures.len))
+          ∙ ap numbers given ∙ numbers-delivered c.removal-removal.result c.deref_mut.result.now (map (seat_share c.args.number c.args.effect) c.self.inside.seats.items)
           ∙ ap numbers (c.deref_mut.ensures.value
           ∙ set-read c.args.number (changed_seat c.args.effect.change) c.self.inside.seats.items c.args.place c.index_mut-seat.result.now c.change.new.seat at c.index_mut-seat.ensures.value
           c.in_ok-change.ensures.seat)

@@ -7,7 +7,7 @@ use Rattle.hub_core.specs.Leaving.{left_core, others_of, told_all_if}
 use Rattle.hub_core.specs.Phases.{stage_in}
 use Rattle.hub_core.proofs.Carried.{same-core}
 use Rattle.hub_core.proofs.Places.{StandsFirst, found-alike, phase-at, sid-at}
-use Rattle.hub_core.proofs.Settling.{length-told}
+use Rattle.hub_core.proofs.Delivering.{length-told}
 use Rattle.hub_rules.specs.Effects.{is_present}
 use Rattle.hub_core.specs.Numbers.{numbers}
 use Rattle.hub_core.proofs.Numbers.{numbers-told, ordered-but, ordered-same}

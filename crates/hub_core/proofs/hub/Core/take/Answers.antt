@@ -2,7 +2,7 @@ use Rattle.std.proofs.Common.{◌≡◌, ◌∙◌, ap, length, take}
 use Rattle.std.specs.Arc.{arc_value}
 use Rattle.std.specs.List.{concat}
 use Rattle.hub_core.specs.CoreState.{CoreState}
-use Rattle.hub_core.specs.Leaving.{has_ended, lightened_core, lines_in}
+use Rattle.hub_core.specs.Leaving.{has_ended, core_after_take, lines_in}
 use Rattle.hub_core.proofs.Standing.{take-moves}
 use Rattle.hub_core.specs.Numbers.{numbers}
 use Rattle.hub_core.specs.Leaving.{seat_after_take}
@@ -20,8 +20,8 @@ returns c =
         c.in_ok-taken.ensures.bytes,
         take-moves _ _ _ _ _ _ _
             (ap (λ s. record { setup = arc_value c.self.inside.setup; joins = c.self.inside.joins; last = c.self.inside.last; seats = s; users = c.self.inside.commons.users; bans = c.self.inside.commons.bans; topic = c.self.inside.commons.topic }) c.in_ok-taken.ensures.ok
-            ∙ ap (λ (core : CoreState). lightened_core c.connection.inside.number c.args.count core) c.self.view_is
-            ∙ ap (λ n. lightened_core n c.args.count c.args.self.now) c.connection.view_is)
+            ∙ ap (λ (core : CoreState). core_after_take c.connection.inside.number c.args.count core) c.self.view_is
+            ∙ ap (λ n. core_after_take n c.args.count c.args.self.now) c.connection.view_is)
             (ap (λ m. concat (take c.args.count m)) lines)
             (c.in_ok-taken.ensures.lines ∙ ap (λ m. length (take c.args.count m)) lines)
             (c.in_ok-taken.ensures.ended ∙ ap (has_ended c.connection.inside.number c.args.count) seats ∙ ap (λ n. has_ended n c.args.count c.args.self.now.seats) c.connection.view_is),
@@ -33,6 +33,6 @@ pub invariant_of-self-2 : goal.invariant_of-self-2
 invariant_of-self-2 c = (
   c.self.invariant.0,
   c.self.invariant.1,
-  ordered-same c.self.inside.joins c.self.inside.seats.items c.lighten.new.seats.items
+  ordered-same c.self.inside.joins c.self.inside.seats.items c.take_lines.new.seats.items
       (ap numbers c.in_ok-taken.ensures.ok ∙ numbers-changed c.connection.inside.number (seat_after_take c.args.count) (λ seat i. seat.number) c.self.inside.seats.items) c.self.invariant.2,
 )

@@ -2,7 +2,7 @@ use Rattle.std.proofs.Common.{◌∙◌, sym, ap, map}
 use Rattle.hub_core.specs.Owed.{given_all}
 use Rattle.hub_core.specs.Seats.{removed_seat}
 use Rattle.hub_core.proofs.Owed.{none-removed}
-use Rattle.hub_core.proofs.share.settle.Goals as goal
+use Rattle.hub_core.proofs.share.deliver.Goals as goal
 
 pub returns-in-Nobody : goal.returns-in-Nobody
 returns-in-Nobody c =

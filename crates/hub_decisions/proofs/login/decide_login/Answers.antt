@@ -3,11 +3,11 @@ use Rattle.hub_rules.specs.Sights.{user_after}
 use Rattle.hub_decisions.specs.Requested.{effect_of_login}
 use Rattle.hub_decisions.proofs.Knowing.{when-ok}
 use Rattle.hub_decisions.proofs.Logging.{login-admitted, login-denied}
-use Rattle.hub_decisions.proofs.login.logs_in.Goals as goal
+use Rattle.hub_decisions.proofs.login.decide_login.Goals as goal
 
 pub returns-in-Ok : goal.returns-in-Ok
 returns-in-Ok c =
-    when-ok c.admits.result c.admits.ensures
+    when-ok c.effect_of_entrant.result c.effect_of_entrant.ensures
     (λ effect is none.
     let made = rw c.in-Ok.is at (c.in_ok-entrant.ensures none) in
     login-admitted c.args.hub.now c.args.own.now c.args.line.now c.owner.result c.args.now c.in-Some.update.now effect

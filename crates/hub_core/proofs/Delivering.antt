@@ -4,15 +4,15 @@ use Rattle.std.proofs.lemmas.List.{length-map}
 use Rattle.hub_core.specs.declared.seat.Removal.{Removal}
 use Rattle.hub_core.specs.declared.seat.Seat.{Seat}
 use Rattle.hub_core.specs.Leaving.{seat_told, told_all_if}
-use Rattle.hub_core.specs.Seats.{given_seat, gone_if, settled_all}
+use Rattle.hub_core.specs.Seats.{given_seat, gone_if, delivered_all}
 
 -- ---- how many seats there are
 
-pub length-settled : (removal : Removal) (seats : List Seat) (shares : List (List (List ℕ))) → length (settled_all removal seats shares) ≡ length seats
-unfolding settled_all
-length-settled removal [] shares = refl
-length-settled removal (seat ∷ seats) [] = refl
-length-settled removal (seat ∷ seats) (share ∷ shares) = ap suc (length-settled removal seats shares)
+pub length-delivered : (removal : Removal) (seats : List Seat) (shares : List (List (List ℕ))) → length (delivered_all removal seats shares) ≡ length seats
+unfolding delivered_all
+length-delivered removal [] shares = refl
+length-delivered removal (seat ∷ seats) [] = refl
+length-delivered removal (seat ∷ seats) (share ∷ shares) = ap suc (length-delivered removal seats shares)
 
 pub length-told : (was_present : Bool) (sid : ℕ) (seats : List Seat) → length (told_all_if was_present sid seats) ≡ length seats
 length-told true sid seats = length-map seats (seat_told sid)

@@ -3,7 +3,7 @@ use Rattle.operator_acts.specs.Acts.{act_at}
 use Rattle.hub_decisions.specs.Commands.{effect_of_asked}
 use Rattle.hub_decisions.proofs.Commanding.{operator-asks, others-ask, operator-is}
 use Rattle.hub_decisions.proofs.Knowing.{when-ok}
-use Rattle.hub_decisions.proofs.act.command.Goals as goal
+use Rattle.hub_decisions.proofs.act.decide_command.Goals as goal
 
 pub returns-then-not-is_operator : goal.returns-then-not-is_operator
 returns-then-not-is_operator c =

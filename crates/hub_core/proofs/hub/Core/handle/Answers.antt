@@ -2,7 +2,7 @@ use Rattle.std.proofs.Common.{◌∙◌, sym, ap, subst, ◌≤◌}
 use Rattle.hub_core.specs.CoreState.{CoreState}
 use Rattle.hub_core.specs.State.{IsPlace}
 use Rattle.hub_core.proofs.Numbers.{place-carried}
-use Rattle.hub_core.proofs.hub.Core.hear.Goals as goal
+use Rattle.hub_core.proofs.hub.Core.handle.Goals as goal
 use Rattle.hub_rules.specs.Configured.{most_users}
 
 pub verdict-verdict-requires : goal.verdict-verdict-requires
@@ -11,8 +11,8 @@ verdict-verdict-requires c =
     (place-carried c.args.number c.place-place.result c.in_ok-effect.effect c.args.self.now
     (subst (λ seats. IsPlace c.args.number c.place-place.result seats) (c.deref.ensures.value ∙ ap (λ (s : CoreState). s.seats) c.self.view_is) c.place-place.ensures))
 
-pub returns-clause-heard : goal.returns-clause-heard
-returns-clause-heard c = record {
+pub returns-clause-handled : goal.returns-clause-handled
+returns-clause-handled c = record {
   effect = c.in_ok-effect.effect;
   decided = c.in_ok-effect.ensures;
   carried = c.note.ensures ∙ c.in_ok-carry_out.ensures.ok;

@@ -4,7 +4,7 @@ use Rattle.outboxes.specs.Backlogs.{Backlog}
 use Rattle.hub_core.specs.Leaving.{seat_after_take}
 use Rattle.hub_core.proofs.Places.{StandsFirst, found-alike, outbox-at, set-read}
 use Rattle.hub_core.proofs.Ended.{ended-at}
-use Rattle.hub_core.proofs.seat.lighten.Goals as goal
+use Rattle.hub_core.proofs.seat.take_lines.Goals as goal
 
 pub returns-clause-ok : goal.returns-clause-ok
 returns-clause-ok c =
