@@ -6,6 +6,7 @@ use crate::backlog::{Backlog, Throttle};
 use adc_base32::Sid;
 use futures::task::{Context, Poll, Source, Waker};
 use std::alloc::{AllocError, Global};
+use std::collections::BTreeMap;
 
 /// The state of the session that has a slot, as far as its waking needs it.
 #[derive(Drop)]
@@ -29,6 +30,10 @@ struct Slot {
 #[derive(Drop)]
 pub(crate) struct Slots {
     slots: Vec<Slot>,
+    // The slots by the identifiers of their sessions.
+    places: BTreeMap<Sid, usize>,
+    // There was no memory to put one there, so all slots are looked at.
+    lacks_some: bool,
     // The number of wakes that were of everybody.
     wakes: u64,
     // The slots that have left a waker, and maybe some that were woken since.
@@ -65,6 +70,8 @@ impl Slots {
         }
         Ok(Slots {
             slots,
+            places: BTreeMap::new(alloc),
+            lacks_some: false,
             wakes: 0,
             waiting: Vec::with_capacity(alloc, count)?,
             held: Vec::with_capacity(alloc, count)?,
@@ -76,8 +83,13 @@ impl Slots {
 
     /// Gives the slot to another session, of a client with this backlog, or to none.
     pub(crate) fn clear(&mut self, slot: usize, backlog: Option<Backlog>) {
-        let wakes = self.wakes;
-        if let Some(slot) = self.slots.get_mut(slot) {
+        let (place, wakes) = (slot, self.wakes);
+        if let Some(slot) = self.slots.get_mut(place) {
+            if let Some(sid) = slot.sid
+                && self.places.get(&sid).copied() == Some(place)
+            {
+                self.places.remove(&sid);
+            }
             slot.sid = None;
             slot.heard = wakes;
             slot.is_called = false;
@@ -88,27 +100,43 @@ impl Slots {
 
     /// Notes the identifier by which the session of this slot is known.
     pub(crate) fn name(&mut self, slot: usize, sid: Sid) {
-        if let Some(slot) = self.slots.get_mut(slot) {
+        let place = slot;
+        if let Some(slot) = self.slots.get_mut(place) {
             slot.sid = Some(sid);
+            if self.places.insert(sid, place).is_err() {
+                self.lacks_some = true;
+            }
         }
     }
 
     /// Wakes the session with this identifier, which was given a line. Answers whether it is behind.
     pub(crate) fn wake_one(&mut self, sid: Sid, own: usize, said: u64) -> bool {
-        let mut is_behind = false;
-        for (place, slot) in self.slots.iter_mut().enumerate() {
-            if place != own && slot.sid == Some(sid) {
-                slot.is_called = true;
-                slot.waker = None;
-                if let Some(backlog) = &mut slot.backlog {
-                    backlog.give();
-                }
-                if is_far_behind(slot, said) {
-                    is_behind = true;
-                }
-            }
+        match self.place(sid) {
+            Some(place) if place != own => self.wake_for_line(place, said),
+            _ => false,
         }
-        is_behind
+    }
+
+    /// Finds the slot of the session with this identifier.
+    fn place(&self, sid: Sid) -> Option<usize> {
+        match self.places.get(&sid) {
+            Some(place) => Some(*place),
+            None if self.lacks_some => self.slots.iter().position(|slot| slot.sid == Some(sid)),
+            None => None,
+        }
+    }
+
+    /// Wakes the session of a slot, which was given a line. Answers whether it is behind.
+    fn wake_for_line(&mut self, place: usize, said: u64) -> bool {
+        let Some(slot) = self.slots.get_mut(place) else {
+            return false;
+        };
+        slot.is_called = true;
+        slot.waker = None;
+        if let Some(backlog) = &mut slot.backlog {
+            backlog.give();
+        }
+        is_far_behind(slot, said)
     }
 
     /// Wakes everybody but the session of this slot.

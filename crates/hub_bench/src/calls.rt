@@ -20,6 +20,9 @@ pub trait Measured {
     /// Makes a line ready.
     fn prepare_line(&self, line: &[u8]) -> io::Result<Self::Line>;
 
+    /// Makes a line ready by which the user of one place says something to that of another.
+    fn direct_line(&self, from: usize, to: usize) -> io::Result<Self::Line>;
+
     /// Counts the users who are present.
     fn count(&self) -> usize;
 
@@ -51,6 +54,20 @@ pub fn own_nanos<R: Clock, M: Measured>(rt: &R, hub: &mut M) -> io::Result<u128>
         hub.say(user, &line)?;
     }
     Ok(start.elapsed(rt)?.as_nanos() / CALLS)
+}
+
+/// Gives how many nanoseconds a line takes that one other user hears: the last one, of the first.
+pub fn direct_nanos<R: Clock, M: Measured>(rt: &R, hub: &mut M) -> io::Result<u128> {
+    let last = hub.count().checked_sub(1).ok_or(AllocError)?;
+    let line = hub.direct_line(0, last)?;
+    let user = hub.user(0)?;
+    let start = Instant::now(rt)?;
+    for _ in 0..ROUNDS {
+        hub.say(user, &line)?;
+    }
+    let spent = start.elapsed(rt)?.as_nanos();
+    hub.clear()?;
+    Ok(spent / CALLS)
 }
 
 /// Gives how many nanoseconds a line takes that all hear.

@@ -102,6 +102,14 @@ impl Measured for SoloHub {
         }
     }
 
+    fn direct_line(&self, from: usize, to: usize) -> io::Result<Prepared> {
+        let (from, to) = (self.sid(self.user(from)?)?, self.sid(self.user(to)?)?);
+        let from = str::from_utf8(&from).map_err(|_| AllocError)?;
+        let to = str::from_utf8(&to).map_err(|_| AllocError)?;
+        let line = format!(in self.alloc; "DMSG {from} {to} what\\sa\\sfine\\sday")?;
+        self.prepare_line(line.as_bytes())
+    }
+
     fn count(&self) -> usize {
         self.users.len()
     }

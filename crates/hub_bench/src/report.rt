@@ -1,5 +1,5 @@
 // Prints what was measured, a line for each figure.
-use crate::calls::{Measured, chat_nanos, login_nanos, own_nanos, take_nanos};
+use crate::calls::{Measured, chat_nanos, direct_nanos, login_nanos, own_nanos, take_nanos};
 use crate::hub_of_one::SoloHub;
 use crate::measure::deliveries;
 use std::alloc::Global;
@@ -21,6 +21,12 @@ fn measure_calls<R: Clock + Print, M: Measured>(rt: &R, hub: &mut M, users: u32)
         users,
         "a line that nobody else hears",
         own_nanos(rt, hub)?,
+    )?;
+    say(
+        rt,
+        users,
+        "a line that one other user hears",
+        direct_nanos(rt, hub)?,
     )?;
     say(rt, users, "a line that all hear", chat_nanos(rt, hub)?)?;
     say(rt, users, "256 lines, taken", take_nanos(rt, hub)?)?;

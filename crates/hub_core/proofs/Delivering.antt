@@ -4,7 +4,7 @@ use Rattle.std.proofs.lemmas.List.{length-map}
 use Rattle.hub_core.specs.declared.seat.Removal.{Removal}
 use Rattle.hub_core.specs.declared.seat.Seat.{Seat}
 use Rattle.hub_core.specs.Leaving.{seat_told, told_all_if}
-use Rattle.hub_core.specs.Seats.{given_seat, gone_if, delivered_all}
+use Rattle.hub_core.specs.Seats.{delivered_all}
 
 -- ---- how many seats there are
 
@@ -17,13 +17,3 @@ length-delivered removal (seat ∷ seats) (share ∷ shares) = ap suc (length-de
 pub length-told : (was_present : Bool) (sid : ℕ) (seats : List Seat) → length (told_all_if was_present sid seats) ≡ length seats
 length-told true sid seats = length-map seats (seat_told sid)
 length-told false sid seats = refl
-
--- ---- each connection keeps its seat
-
-pub number-gone : (gone : Bool) (seat : Seat) → (gone_if gone seat).number ≡ seat.number
-number-gone true seat = refl
-number-gone false seat = refl
-
-pub number-given : (share : List (List ℕ)) (seat : Seat) → (given_seat share seat).number ≡ seat.number
-number-given [] seat = refl
-number-given (line ∷ lines) seat = refl

@@ -1,9 +1,11 @@
 pub mod Carried
 pub mod Delivering
 pub mod Ended
+pub mod Indexed
 pub mod Numbers
 pub mod Owed
 pub mod Places
+pub mod Reaching
 pub mod Running
 pub mod Seating
 pub mod Sharing

@@ -1,6 +1,6 @@
 -- Seats in the order of their joins: what keeps the order, and what a search finds among them.
 use Rattle.std.proofs.Common.{◌≡◌, ◌∙◌, sym, ap, ap₂, refl, subst, ℕ, zero, suc, ◌+◌, ◌<◌, ◌≤◌, Bool, true, false, cond, not, ◌==◌, List, [], ◌∷◌, ◌++◌, length, map, get_or, arith, inl, inr, MatchResult, Option, Some, None, Result, Ok, Err}
-use Rattle.std.specs.Prelude.{◌||◌, is_some, nat_lt, position}
+use Rattle.std.specs.Prelude.{◌||◌, ◌≢◌, is_some, nat_lt, position}
 use Rattle.std.specs.List.{list_any, position_or_len}
 use Rattle.std.specs.List.Sorted.{IsSearchInRange, IsBinarySearchResult, IsNonDecreasingBy}
 use Rattle.std.specs.Ordering.{nat_cmp, ordering_index}
@@ -11,19 +11,17 @@ use Rattle.std.proofs.lemmas.List.{length-map, map-append}
 use Rattle.std.proofs.lemmas.List.Quantifiers.{position-Some}
 use Rattle.std.proofs.lemmas.List.Sorted.{IsNonDecreasingBy-from_default}
 use Rattle.std.proofs.lemmas.List.Sums.{position_or_len_is}
-use Rattle.hub_core.specs.declared.seat.Removal.{Removal}
 use Rattle.hub_core.specs.declared.seat.Seat.{Seat}
-use Rattle.hub_core.specs.Leaving.{others_of, seat_told, told_all_if, told_if}
+use Rattle.hub_core.specs.Index.{keys}
+use Rattle.hub_core.specs.Leaving.{others_of}
 use Rattle.hub_core.specs.Numbers.{Above, Ordered, Rising, UpTo, numbers}
-use Rattle.hub_core.specs.Phases.{stage_in}
-use Rattle.hub_core.specs.Seats.{at_seat, changed_seat, given_seat, new_seat, removed_of, seat_share, delivered_all}
+use Rattle.hub_core.specs.Seats.{at_seat, changed_seat, new_seat, removed_of, seat_share}
 use Rattle.hub_core.specs.State.{IsPlace, carried_out}
 use Rattle.hub_core.specs.CoreState.{CoreState}
 use Rattle.hub_rules.specs.declared.effect.Effect.{Effect}
-use Rattle.hub_core.proofs.Places.{none_passes}
-use Rattle.hub_core.proofs.Delivering.{number-given, number-gone}
+use Rattle.hub_core.proofs.Places.{StandsFirst, none_passes}
+use Rattle.hub_core.proofs.Indexed.{keys-changed, keys-delivered, numbers-kept}
 use Rattle.hub_core.proofs.Tests.{false-lt, lt-true}
-use Rattle.hub_rules.specs.Effects.{is_present}
 use Rattle.hub_invariants.proofs.Sound.{or-true}
 
 -- ---- one more seat
@@ -53,36 +51,11 @@ ordered-push joins seats seat is ordered =
 
 -- ---- seats that keep their numbers
 
-pub ordered-same : (joins : ℕ) (before after : List Seat) → numbers after ≡ numbers before → Ordered joins before → Ordered joins after
+ordered-same : (joins : ℕ) (before after : List Seat) → numbers after ≡ numbers before → Ordered joins before → Ordered joins after
 ordered-same joins before after same ordered = (subst Rising (sym same) ordered.0, subst (UpTo joins) (sym same) ordered.1)
 
-pub numbers-delivered : (removal : Removal) (seats : List Seat) (shares : List (List (List ℕ))) → numbers (delivered_all removal seats shares) ≡ numbers seats
-unfolding delivered_all
-numbers-delivered removal [] shares = refl
-numbers-delivered removal (seat ∷ seats) [] = refl
-numbers-delivered removal (seat ∷ seats) (share ∷ shares) = ap₂ ◌∷◌ (number-gone _ (given_seat share seat) ∙ number-given share seat) (numbers-delivered removal seats shares)
-
-changed-one : (change : Seat → Seat) (seat : Seat) (seats rest : List Seat) (same : Bool) → (change seat).number ≡ seat.number → numbers rest ≡ numbers seats
-    → numbers (cond same (change seat ∷ seats) (seat ∷ rest)) ≡ seat.number ∷ numbers seats
-changed-one change seat seats rest true kept more = ap (λ n. n ∷ numbers seats) kept
-changed-one change seat seats rest false kept more = ap (λ ns. seat.number ∷ ns) more
-
-pub numbers-changed : (c : ℕ) (change : Seat → Seat) → ((seat : Seat) → (change seat).number ≡ seat.number) → (seats : List Seat) → numbers (at_seat c change seats) ≡ numbers seats
-unfolding at_seat
-numbers-changed c change kept [] = refl
-numbers-changed c change kept (seat ∷ seats) = changed-one change seat seats (at_seat c change seats) (seat.number == c) (kept seat) (numbers-changed c change kept seats)
-
-number-told : (present : Bool) (sid : ℕ) (seat : Seat) → (told_if present sid seat).number ≡ seat.number
-number-told true sid seat = refl
-number-told false sid seat = refl
-
-numbers-map : (sid : ℕ) (seats : List Seat) → numbers (map (seat_told sid) seats) ≡ numbers seats
-numbers-map sid [] = refl
-numbers-map sid (seat ∷ seats) = ap₂ ◌∷◌ (number-told (is_present (stage_in seat.phase)) sid seat) (numbers-map sid seats)
-
-pub numbers-told : (was_present : Bool) (sid : ℕ) (seats : List Seat) → numbers (told_all_if was_present sid seats) ≡ numbers seats
-numbers-told true sid seats = numbers-map sid seats
-numbers-told false sid seats = refl
+pub ordered-kept : (joins : ℕ) (before after : List Seat) → keys after ≡ keys before → Ordered joins before → Ordered joins after
+ordered-kept joins before after same = ordered-same joins before after (numbers-kept before after same)
 
 -- ---- a seat less
 
@@ -181,8 +154,23 @@ module _ (c : ℕ) (seats : List Seat) where
           | inr at_least ↦ let greater : c < (get_or seats k no_seat).number = ranked _ c _ (sym ((parted comparisons-rise).1 k no_seat at_least less)) in omega (arith, greater, same)
         ]))
 
+-- no other seat has the number of one that was found
+pub other-number : (c : ℕ) (seats : List Seat) (place : ℕ) → Rising (numbers seats) → StandsFirst c seats place → (i : ℕ) (d : Seat) → i < length seats → i ≢ place
+    → ((get_or seats i d).number == c) ≡ false
+other-number c seats place rising at i d within differs =
+    elim (cases_lt i place) [
+      | inl below ↦ at.before i d below
+      | inr at_least ↦ elim (cases_lt place i) [
+        | inl above ↦
+            let up : (get_or seats place d).number < (get_or seats i d).number = rising-at seats place i d rising above within in
+            let here : (get_or seats place d).number ≡ c = eqb-true (get_or seats place d).number c (at.here d) in
+            other-by c seats (get_or seats i d).number ((get_or seats i d).number == c) refl (λ same. omega (arith, up, here, same))
+        | inr at_most ↦ absurd (differs (omega (arith, at_least, at_most)))
+      ]
+    ]
+
 -- some seat has it exactly where a search finds one
-any-at : (p : Seat → Bool) (seats : List Seat) (i : ℕ) (d : Seat) → i < length seats → p (get_or seats i d) ≡ true → list_any p seats ≡ true
+pub any-at : (p : Seat → Bool) (seats : List Seat) (i : ℕ) (d : Seat) → i < length seats → p (get_or seats i d) ≡ true → list_any p seats ≡ true
 any-at p [] i d within here = absurd (omega (arith, within))
 any-at p (seat ∷ seats) zero d within here = ap (λ b. b || list_any p seats) here
 any-at p (seat ∷ seats) (suc i) d within here = ap (λ b. p seat || b) (any-at p seats i d (omega (arith, within)) here) ∙ or-true (p seat)
@@ -211,6 +199,7 @@ unfolding carried_out
 place-carried c place effect core is =
     by-number c (carried_out c effect core).seats
     ∙ ap (position (λ n. n == c))
-    (numbers-delivered (removed_of effect.change) (at_seat c (changed_seat effect.change) core.seats) (map (seat_share c effect) core.seats)
-    ∙ numbers-changed c (changed_seat effect.change) (λ seat. refl) core.seats)
+    (numbers-kept core.seats (carried_out c effect core).seats
+    (keys-delivered (removed_of effect.change) (at_seat c (changed_seat effect.change) core.seats) (map (seat_share c effect) core.seats)
+    ∙ keys-changed c (changed_seat effect.change) (λ seat. refl) core.seats))
     ∙ sym (by-number c core.seats) ∙ is

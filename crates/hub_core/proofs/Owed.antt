@@ -1,10 +1,11 @@
 -- Shares of those that hear something, given seat by seat, are the shares of all.
 use Rattle.std.proofs.Common.{◌≡◌, ◌∙◌, sym, ap, ap₂, refl, subst, ℕ, zero, suc, ◌+◌, ◌<◌, ◌≤◌, Bool, true, false, ◌&&◌, List, [], ◌∷◌, ◌++◌, length, map, get_or, drop, set, arith}
-use Rattle.std.specs.Prelude.{◌==◌, cond}
+use Rattle.std.specs.Prelude.{◌==◌, ◌||◌, ◌≢◌, cond, IfSome, Option, Some, None}
 use Rattle.std.proofs.lemmas.Bool.{eqb-true}
 use Rattle.std.proofs.lemmas.List.{append-nil, append_assoc, at_drop_more, at_drop_all}
 use Rattle.outboxes.specs.Backlogs.{backlog_after}
 use Rattle.feature_route.specs.Audiences.{holds_words}
+use Rattle.feature_route.specs.declared.hearers.Audience.{Audience}
 use Rattle.feature_route.specs.declared.hearers.Audience.TheVariants as audiences
 use Rattle.hub_core.specs.declared.seat.Phase.{Phase}
 use Rattle.hub_core.specs.declared.seat.Phase.TheVariants as phases
@@ -12,11 +13,9 @@ use Rattle.hub_core.specs.declared.seat.Removal.{Removal}
 use Rattle.hub_core.specs.declared.seat.Removal.TheVariants.{Nobody}
 use Rattle.hub_core.specs.declared.seat.Seat.{Seat}
 use Rattle.hub_core.specs.declared.share.Share.{Share}
-use Rattle.hub_core.specs.Numbers.{Above, Rising, numbers}
-use Rattle.hub_core.specs.Owed.{HeardByNone, given_all, given_at, share_at, shares_from}
+use Rattle.hub_core.specs.Owed.{AreQuietBut, IsMeant, IsOnlyFor, given_all, given_at, share_at, shares_from}
 use Rattle.hub_core.specs.Phases.{phase_hears, stage_in}
-use Rattle.hub_core.specs.Seats.{given_seat, gone_if, removed_seat, seat_share, delivered_seat, delivered_all}
-use Rattle.hub_core.proofs.Places.{StandsFirst, rest_first}
+use Rattle.hub_core.specs.Seats.{given_seat, gone_if, removed_seat, delivered_seat, delivered_all}
 use Rattle.hub_rules.specs.declared.effect.Effect.{Effect}
 use Rattle.hub_rules.specs.declared.effect.Hearers.TheVariants.{Those}
 use Rattle.hub_rules.specs.Effects.{is_present}
@@ -47,67 +46,102 @@ pub shares-end : (owed : Seat → Lines) (seats : List Seat) (i : ℕ) (old all 
 shares-end owed seats i old all over done =
     sym (ap (λ ss. old ++ ss) (at_drop_all (λ xs. shares_from i owed xs) seats i over ∙ no-share i owed) ∙ append-nil old) ∙ done
 
--- ---- one connection alone
+-- ---- two connections alone
 
-abbrev Quiet : ℕ → (Seat → Lines) → Type 0
-Quiet c owed = (seat : Seat) → (seat.number == c) ≡ false → owed seat ≡ []
+-- no seat is owed anything but that at this place
+abbrev IsQuietBut : ℕ → (Seat → Lines) → List Seat → Type 0
+IsQuietBut one owed seats = (i : ℕ) (d : Seat) → i < length seats → i ≢ one → owed (get_or seats i d) ≡ []
 
-later : (n c : ℕ) (same : Bool) → (n == c) ≡ same → c < n → same ≡ false
-later n c true is less = absurd (omega (arith, eqb-true n c is, less))
-later n c false is less = refl
+no-shares : (place : ℕ) (owed : Seat → Lines) (seats : List Seat) → ((i : ℕ) (d : Seat) → i < length seats → owed (get_or seats i d) ≡ []) → shares_from place owed seats ≡ []
+unfolding shares_from
+no-shares place owed [] quiet = refl
+no-shares place owed (seat ∷ seats) quiet =
+    ap (λ ls. share_at place ls ++ shares_from (place + 1) owed seats) (quiet 0 seat (omega arith))
+    ∙ no-shares (place + 1) owed seats (λ i d within. quiet (suc i) d (omega (arith, within)))
 
-none-later : (c place : ℕ) (owed : Seat → Lines) (seats : List Seat) → Quiet c owed → Above c (numbers seats) → shares_from place owed seats ≡ []
-unfolding shares_from Above
-none-later c place owed [] quiet above = refl
-none-later c place owed (seat ∷ seats) quiet above =
-    ap (λ ls. share_at place ls ++ shares_from (place + 1) owed seats) (quiet seat (later seat.number c (seat.number == c) refl above.0))
-    ∙ none-later c (place + 1) owed seats quiet above.1
-
-above-same : (n c : ℕ) (ns : List ℕ) → n ≡ c → Above n ns → Above c ns
-above-same n c ns is above = subst (λ m. Above m ns) is above
-
-one-share : (c place : ℕ) (owed : Seat → Lines) (seats : List Seat) (i : ℕ) (d : Seat) → Quiet c owed → Rising (numbers seats) → StandsFirst c seats i
+one-share : (place : ℕ) (owed : Seat → Lines) (seats : List Seat) (i : ℕ) (d : Seat) → i < length seats → IsQuietBut i owed seats
     → shares_from place owed seats ≡ share_at (place + i) (owed (get_or seats i d))
-unfolding shares_from Rising
-one-share c place owed [] i d quiet rising at = absurd (omega (arith, at.within))
-one-share c place owed (seat ∷ seats) zero d quiet rising at =
-    ap (λ ss. share_at place (owed seat) ++ ss)
-    (none-later c (place + 1) owed seats quiet (above-same seat.number c (numbers seats) (eqb-true seat.number c (at.here d)) rising.0))
+unfolding shares_from
+one-share place owed [] i d within quiet = absurd (omega (arith, within))
+one-share place owed (seat ∷ seats) zero d within quiet =
+    ap (λ ss. share_at place (owed seat) ++ ss) (no-shares (place + 1) owed seats (λ i e less. quiet (suc i) e (omega (arith, less)) (λ same. omega (arith, same))))
     ∙ append-nil (share_at place (owed seat))
     ∙ ap (λ n. share_at n (owed seat)) (omega arith)
-one-share c place owed (seat ∷ seats) (suc i) d quiet rising at =
-    ap (λ ls. share_at place ls ++ shares_from (place + 1) owed seats) (quiet seat (at.before zero d (omega arith)))
-    ∙ one-share c (place + 1) owed seats i d quiet rising.1 (rest_first c seat seats i at)
+one-share place owed (seat ∷ seats) (suc i) d within quiet =
+    ap (λ ls. share_at place ls ++ shares_from (place + 1) owed seats) (quiet 0 seat (omega arith) (λ same. omega (arith, same)))
+    ∙ one-share (place + 1) owed seats i d (omega (arith, within)) (λ k e less other. quiet (suc k) e (omega (arith, less)) (λ same. other (omega (arith, same))))
     ∙ ap (λ n. share_at n (owed (get_or seats i d))) (omega arith)
 
-pub alone-owed : (c : ℕ) (owed : Seat → Lines) (seats : List Seat) (i : ℕ) (d : Seat) → Quiet c owed → Rising (numbers seats) → StandsFirst c seats i
-    → shares_from 0 owed seats ≡ share_at i (owed (get_or seats i d))
-alone-owed c owed seats i d quiet rising at = one-share c 0 owed seats i d quiet rising at ∙ ap (λ n. share_at n (owed (get_or seats i d))) (omega arith)
+two-shares : (place : ℕ) (owed : Seat → Lines) (seats : List Seat) (i j : ℕ) (d e : Seat) → i < j → AreQuietBut i j owed seats
+    → shares_from place owed seats ≡ share_at (place + i) (owed (get_or seats i d)) ++ share_at (place + j) (owed (get_or seats j e))
+unfolding shares_from
+two-shares place owed [] i j d e less quiet = absurd (omega (arith, quiet.0))
+two-shares place owed (seat ∷ seats) i zero d e less quiet = absurd (omega (arith, less))
+two-shares place owed (seat ∷ seats) zero (suc j) d e less quiet =
+    ap₂ ◌++◌ (ap (λ n. share_at n (owed seat)) (omega arith))
+    (one-share (place + 1) owed seats j e (omega (arith, quiet.0)) (λ k s within other. quiet.1 (suc k) s (omega (arith, within)) (λ same. omega (arith, same)) (λ same. other (omega (arith, same))))
+    ∙ ap (λ n. share_at n (owed (get_or seats j e))) (omega arith))
+two-shares place owed (seat ∷ seats) (suc i) (suc j) d e less quiet =
+    ap (λ ls. share_at place ls ++ shares_from (place + 1) owed seats) (quiet.1 0 seat (omega arith) (λ same. omega (arith, same)) (λ same. omega (arith, same)))
+    ∙ two-shares (place + 1) owed seats i j d e (omega (arith, less))
+    (omega (arith, quiet.0), λ k s within first second. quiet.1 (suc k) s (omega (arith, within)) (λ same. first (omega (arith, same))) (λ same. second (omega (arith, same))))
+    ∙ ap₂ (λ m n. share_at m (owed (get_or seats i d)) ++ share_at n (owed (get_or seats j e))) (omega arith) (omega arith)
 
--- where no user hears anything, only the sender of the line has a share
-pub quiet-others : (c : ℕ) (effect : Effect) → HeardByNone effect → (seat : Seat) → (seat.number == c) ≡ false → seat_share c effect seat ≡ []
-quiet-others c effect none seat other = ap₂ ◌++◌ (none seat (seat.number == c)) (ap (λ b. cond b effect.own []) other)
+pub alone-owed : (owed : Seat → Lines) (seats : List Seat) (i j : ℕ) (d : Seat) → j ≡ i → AreQuietBut i j owed seats → share_at i (owed (get_or seats i d)) ≡ shares_from 0 owed seats
+alone-owed owed seats i j d same quiet =
+    sym (one-share 0 owed seats i d (subst (λ n. n < length seats) same quiet.0) (λ k e within other. quiet.1 k e within other (λ is. other (is ∙ same)))
+    ∙ ap (λ n. share_at n (owed (get_or seats i d))) (omega arith))
+
+pub both-owed : (owed : Seat → Lines) (seats : List Seat) (i j : ℕ) (d e : Seat) → i < j → AreQuietBut i j owed seats
+    → share_at i (owed (get_or seats i d)) ++ share_at j (owed (get_or seats j e)) ≡ shares_from 0 owed seats
+both-owed owed seats i j d e less quiet =
+    sym (two-shares 0 owed seats i j d e less quiet ∙ ap₂ (λ m n. share_at m (owed (get_or seats i d)) ++ share_at n (owed (get_or seats j e))) (omega arith) (omega arith))
+
+pub quiet-flipped : (owed : Seat → Lines) (seats : List Seat) (i j : ℕ) → i < length seats → AreQuietBut i j owed seats → AreQuietBut j i owed seats
+quiet-flipped owed seats i j within quiet = (within, λ k d less first second. quiet.1 k d less second first)
+
+-- ---- who is meant
 
 given-none : (hears : Bool) → cond {A = List (List ℕ)} hears [] [] ≡ []
 given-none true = refl
 given-none false = refl
 
-pub none-said : (effect : Effect) → effect.others ≡ [] → HeardByNone effect
-none-said effect is seat is_caller =
-    ap (λ xs. cond (phase_hears seat.phase is_caller effect.hearers seat.sid) xs []) is ∙ given-none (phase_hears seat.phase is_caller effect.hearers seat.sid)
+pub none-said : (one other : ℕ) (effect : Effect) → effect.others ≡ [] → IsMeant one other effect
+none-said one other effect is seat first second =
+    ap (λ xs. cond (phase_hears seat.phase false effect.hearers seat.sid) xs []) is ∙ given-none (phase_hears seat.phase false effect.hearers seat.sid)
 
-nobody-hears : (phase : Phase) (is_caller : Bool) (sid : ℕ) → phase_hears phase is_caller (Those audiences.Nobody) sid ≡ false
+-- who hears nothing, whatever phase it is in
+quiet-in : (phase : Phase) (audience : Audience) (sid : ℕ) → ((support : Lines) → holds_words audience sid support ≡ false) → phase_hears phase false (Those audience) sid ≡ false
+quiet-in phases.Protocol audience sid quiet = refl
+quiet-in phases.Identify audience sid quiet = refl
+quiet-in (phases.Verify newcomer expected) audience sid quiet = refl
+quiet-in (phases.Normal support) audience sid quiet = quiet support
+quiet-in phases.Gone audience sid quiet = refl
+
+pub meant-by : (own : ℕ) (effect : Effect) (audience : Audience) (found : Option ℕ) → effect.hearers ≡ Those audience
+    → IfSome found (λ sid. IsOnlyFor own sid audience) → IfSome found (λ sid. IsMeant own sid effect)
+meant-by own effect audience None is only = tt
+meant-by own effect audience (Some sid) is only = λ seat first second.
+    ap (λ h. cond (phase_hears seat.phase false h seat.sid) effect.others []) is
+    ∙ ap (λ b. cond b effect.others []) (quiet-in seat.phase audience seat.sid (λ support. only seat.sid support first second))
+
+-- ---- for whom a message is
+
+apart : (one sid : ℕ) (same : Bool) → (one == sid) ≡ same → sid ≢ one → same ≡ false
+apart one sid true is differs = absurd (differs (sym (eqb-true one sid is)))
+apart one sid false is differs = refl
+
+pub nobody-only : (one other : ℕ) → IsOnlyFor one other audiences.Nobody
 unfolding holds_words
-nobody-hears phases.Protocol is_caller sid = refl
-nobody-hears phases.Identify is_caller sid = refl
-nobody-hears (phases.Verify newcomer expected) is_caller sid = refl
-nobody-hears (phases.Normal support) is_caller sid = refl
-nobody-hears phases.Gone is_caller sid = refl
+nobody-only one other sid words first second = refl
 
-pub none-hear : (effect : Effect) → effect.hearers ≡ Those audiences.Nobody → HeardByNone effect
-none-hear effect is seat is_caller =
-    ap (λ h. cond (phase_hears seat.phase is_caller h seat.sid) effect.others []) is
-    ∙ ap (λ b. cond b effect.others []) (nobody-hears seat.phase is_caller seat.sid)
+pub one-only : (one other : ℕ) → IsOnlyFor one other (audiences.One other)
+unfolding holds_words
+one-only one other sid words first second = apart other sid (other == sid) refl second
+
+pub two-only : (one other : ℕ) → IsOnlyFor one other (audiences.Two other one)
+unfolding holds_words
+two-only one other sid words first second = ap₂ ◌||◌ (apart other sid (other == sid) refl second) (apart one sid (one == sid) refl first)
 
 -- ---- a share is given
 

@@ -3,6 +3,7 @@ use Rattle.std.specs.Prelude.{◌<◌, ◌≤◌}
 use Rattle.std.specs.Arc.{arc_value}
 use Rattle.hub_core.specs.declared.hub.Core.TheInside.{Inside}
 use Rattle.hub_core.specs.CoreState.{CoreState}
+use Rattle.hub_core.specs.Index.{AreIndexed, keys}
 use Rattle.hub_core.specs.Numbers.{Ordered}
 use Rattle.hub_rules.specs.Configured.{most_users}
 
@@ -18,5 +19,6 @@ core_view c = record {
 }
 
 -- no more connections are admitted than a hub may have, each identifier is one, and the seats stand in the order of their joins
+-- and are found by their session identifiers
 abbrev pub IsCore : Inside → Type 0
-IsCore c = ((arc_value c.setup).max_users ≤ most_users) × (c.last < 1_048_576) × Ordered c.joins c.seats.items
+IsCore c = ((arc_value c.setup).max_users ≤ most_users) × (c.last < 1_048_576) × Ordered c.joins c.seats.items × AreIndexed c.index (keys c.seats.items)

@@ -1,6 +1,7 @@
 pub mod CoreState
 pub mod CoreView
 pub mod Decided
+pub mod Index
 pub mod Leaving
 pub mod Moves
 pub mod Numbers

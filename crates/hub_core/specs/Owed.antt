@@ -1,5 +1,7 @@
 -- The shares of an effect: only those that hear something have one, kept with the place of its seat.
-use Rattle.std.specs.Prelude.{◌≡◌, ℕ, zero, suc, ◌+◌, Bool, List, [], ◌∷◌, ◌++◌, if◌then◌else◌}
+use Rattle.std.specs.Prelude.{◌≡◌, ◌≢◌, ◌<◌, ℕ, zero, suc, ◌+◌, false, List, [], ◌∷◌, ◌++◌, get_or, length, if◌then◌else◌}
+use Rattle.feature_route.specs.Audiences.{holds_words}
+use Rattle.feature_route.specs.declared.hearers.Audience.{Audience}
 use Rattle.hub_core.specs.declared.seat.Seat.{Seat}
 use Rattle.hub_core.specs.declared.share.Share.{Share}
 use Rattle.hub_core.specs.Phases.{phase_hears}
@@ -27,6 +29,16 @@ unfoldable pub given_all : List Share → List Seat → List Seat
 given_all [] seats = seats
 given_all (share ∷ shares) seats = given_all shares (given_at share.place share.lines seats)
 
--- whatever users hear of an effect, no connection hears it
-abbrev pub HeardByNone : Effect → Type 0
-HeardByNone effect = (seat : Seat) (is_caller : Bool) → (if phase_hears seat.phase is_caller effect.hearers seat.sid then effect.others else []) ≡ []
+-- no seat is owed anything but those at these two places
+abbrev pub AreQuietBut : ℕ → ℕ → (Seat → List (List ℕ)) → List Seat → Type 0
+AreQuietBut one other owed seats =
+    (other < length seats) × ((i : ℕ) (d : Seat) → i < length seats → i ≢ one → i ≢ other → owed (get_or seats i d) ≡ [])
+
+-- each user for whom a message is has one of these two session identifiers
+abbrev pub IsOnlyFor : ℕ → ℕ → Audience → Type 0
+IsOnlyFor one other audience = (sid : ℕ) (words : List (List ℕ)) → sid ≢ one → sid ≢ other → holds_words audience sid words ≡ false
+
+-- whatever others hear of an effect, only who has one of these two session identifiers hears it
+abbrev pub IsMeant : ℕ → ℕ → Effect → Type 0
+IsMeant one other effect =
+    (seat : Seat) → seat.sid ≢ one → seat.sid ≢ other → (if phase_hears seat.phase false effect.hearers seat.sid then effect.others else []) ≡ []

@@ -13,8 +13,9 @@ ghost use Rattle.hub_rules.specs.Legal.{verdict_of};
 use crate::change::Commons;
 use crate::connection::Connection;
 use crate::look::Look;
-use crate::seat::{Seat, decide_at, forget, has_seat, place, sids, take_lines, tell_if};
+use crate::seat::{Seat, add, decide_at, forget, has_seat, place, sids, take_lines, tell_if};
 use crate::share::{Touched, deliver, removal, shares, touched_by, touched_by_quit};
+use crate::sid_index::SidIndex;
 use crate::{JoinRefused, OpenRefused};
 use adc_base32::Sid;
 use hub_decisions::Sight;
@@ -41,6 +42,8 @@ pub struct Core {
     joins: u64,
     last: u32,
     seats: Vec<Seat>,
+    /// Finds a seat by its session identifier, so that a line for one user is not held against each seat.
+    index: SidIndex,
     commons: Commons,
     /// The users whom the last call concerned: a hint, which is not part of what is kept of the hub.
     touched: Touched,
@@ -74,6 +77,7 @@ impl Core {
             joins: 0,
             last: 0,
             seats,
+            index: SidIndex::new(alloc),
             commons: Commons {
                 users: IndexedUsers::new(alloc),
                 bans: Bans::new(alloc),
@@ -120,8 +124,8 @@ impl Core {
         let sid = Sid::next_free(self.last, &taken);
         let outbox = Outbox::new(alloc, MAX_LINES, MAX_BYTES)?;
         let number = self.joins + 1;
-        self.seats
-            .push(Seat::new(alloc, number, sid, peer, challenge, outbox))?;
+        let seat = Seat::new(alloc, number, sid, peer, challenge, outbox);
+        add(&mut self.seats, &mut self.index, seat)?;
         self.joins = number;
         self.last = sid.number();
         Ok(Connection { number })
@@ -292,6 +296,7 @@ impl Core {
         let sid = seat.sid;
         let was_present = seat.phase.is_present();
         forget(&mut self.seats, number);
+        self.index.remove(sid);
         tell_if(&mut self.seats, was_present, sid);
         self.commons.users.remove(sid);
     }
@@ -308,7 +313,7 @@ impl Core {
         ensures ok { OnOk result (self.new ≡ carried_out number effect.entry self.old) }
         ensures err { OnErr result (self.new ≡ self.old) }
     {
-        let shares = shares(alloc, &self.seats, number, place, &effect)?;
+        let shares = shares(alloc, &self.seats, &self.index, number, place, &effect)?;
         let removal = removal(&effect.change);
         let seat = &mut self.seats[place];
         self.commons.change(seat, effect.change)?;

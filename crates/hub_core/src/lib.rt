@@ -6,9 +6,11 @@ mod change;
 mod connection;
 mod hub;
 mod look;
+mod reach;
 mod refused;
 mod seat;
 mod share;
+mod sid_index;
 
 pub use calls::{Answer, Ask, Asked, run_calls};
 pub use connection::Connection as Conn;

@@ -1,7 +1,8 @@
-ghost use Rattle.std.specs.Prelude.{◌≡◌, [], IfOk, ◌≤◌, ◌==◌, ◌++◌, length, map, position, take, OnOk, OnErr};
+ghost use Rattle.std.specs.Prelude.{◌≡◌, ◌∷◌, [], Some, IfOk, ◌≤◌, ◌==◌, ◌++◌, length, map, position, take, OnOk, OnErr};
 ghost use Rattle.std.specs.Option.{unwrap_or, option_copied};
 ghost use Rattle.hub_core.specs.Decided.{expected_at, Decided, user_at};
 ghost use Rattle.hub_core.specs.declared.seat.Removal.TheVariants as removals;
+ghost use Rattle.hub_core.specs.Index.{IsSetAt};
 ghost use Rattle.hub_core.specs.Leaving.{seat_told, has_ended, seat_after_take, lines_in, others_of, told_all_if};
 ghost use Rattle.hub_core.specs.Phases.{stage_in};
 ghost use Rattle.hub_core.specs.Seats.{given_seat, new_seat, removed_seat, at_seat};
@@ -12,6 +13,7 @@ ghost use Rattle.hub_core.specs.declared.seat.Seat.{Seat};
 ghost use Rattle.hub_core.specs.Numbers.{Rising, numbers};
 ghost use Rattle.hub_core.specs.State.{has_seat, HasSeat, IsPlace};
 
+use crate::sid_index::SidIndex;
 use adc_base32::Sid;
 use feature_route::FeatureSet;
 use hub_decisions::{Own, Sight, decide};
@@ -219,7 +221,8 @@ pub(crate) fn place(seats: &[Seat], number: u64) -> usize
     }
 }
 
-fn find(seats: &[Seat], number: u64) -> Option<usize>
+/// Finds the place of a connection's seat, where it has one.
+pub(crate) fn find(seats: &[Seat], number: u64) -> Option<usize>
     requires { Rising (numbers seats.now) }
     ensures { result ≡ position (λ (seat : Seat). seat.number == number) seats.now }
 {
@@ -235,6 +238,23 @@ pub(crate) fn has_seat(seats: &[Seat], number: u64) -> bool
     ensures { result ≡ has_seat number seats.now }
 {
     find(seats, number).is_some()
+}
+
+/// Puts a connection's seat behind the others, and its session identifier into the index, whole or not at all.
+pub(crate) fn add(seats: &mut Vec<Seat>, index: &mut SidIndex, seat: Seat) -> Result<(), AllocError>
+    ensures seats { OnOk result (seats.new.items ≡ seats.old.items ++ seat ∷ []) }
+    ensures index { OnOk result (IsSetAt seat.sid (Some seat.number) index.old index.new) }
+    ensures err { OnErr result ((seats.new.items ≡ seats.old.items) × (index.new ≡ index.old)) }
+{
+    let (sid, number, count) = (seat.sid, seat.number, seats.len());
+    if seats.push(seat).is_err() {
+        return Err(AllocError);
+    }
+    if index.put(sid, number).is_err() {
+        seats.truncate(count);
+        return Err(AllocError);
+    }
+    Ok(())
 }
 
 /// Removes a connection's seat.

@@ -1,14 +1,15 @@
-ghost use Rattle.std.specs.Prelude.{◌≡◌, ◌++◌, map, IfOk, IsTrue, OnOk};
+ghost use Rattle.std.specs.Prelude.{◌≡◌, ◌≤◌, ◌++◌, map, IfOk, OnOk};
+ghost use Rattle.hub_core.specs.Index.{AreIndexed, keys};
 ghost use Rattle.hub_core.specs.Numbers.{Rising, numbers};
-ghost use Rattle.hub_core.specs.Owed.{HeardByNone, given_all, share_at, shares_from};
+ghost use Rattle.hub_core.specs.Owed.{AreQuietBut, given_all, share_at, shares_from};
 ghost use Rattle.hub_core.specs.Phases.{is_among, phase_hears};
 ghost use Rattle.hub_core.specs.Seats.{removed_of, removed_seat, seat_share};
 ghost use Rattle.hub_core.specs.State.{IsPlace};
 ghost use Rattle.hub_core.specs.declared.seat.Removal.TheVariants.{User};
-ghost use Rattle.hub_rules.specs.declared.effect.Hearers.TheVariants.{Those};
-ghost use Rattle.feature_route.specs.declared.hearers.Audience.TheVariants.{Nobody};
 
+use crate::reach::reach;
 use crate::seat::{Phase, Removal, Seat};
+use crate::sid_index::SidIndex;
 use adc_base32::Sid;
 use feature_route::{Audience, FeatureSet};
 use hub_rules::{Change, Effect, Hearers, HubChange};
@@ -25,57 +26,47 @@ pub struct Share {
 }
 
 /// Makes what an effect of a connection owes to those connections that hear something. All of it is made before any is
-/// given. Where nobody but the connection itself can hear anything, the other seats are not looked at. Its own seat stands at
-/// the place that is passed.
+/// given. Where it is known who may hear something, the other seats are not looked at. Who sent the line has the seat at the
+/// place that is passed.
 pub(crate) fn shares(
     alloc: Global,
     seats: &[Seat],
+    index: &SidIndex,
     number: u64,
     place: usize,
     effect: &Effect<'_>,
 ) -> Result<Vec<Share>, AllocError>
     requires place { IsPlace number place seats.now }
     requires rising { Rising (numbers seats.now) }
+    requires indexed { AreIndexed index.now (keys seats.now) }
     ensures { IfOk result (λ shares. shares.items ≡ shares_from 0 (seat_share number effect.now) seats.now) }
 {
-    if is_heard_by_none(effect) {
-        own_share(alloc, seats, number, place, effect)
-    } else {
-        all_shares(alloc, seats, number, effect)
+    match reach(seats, index, number, place, effect) {
+        Some(other) if other < place => two_shares(alloc, seats, other, place, number, effect),
+        Some(other) => two_shares(alloc, seats, place, other, number, effect),
+        None => all_shares(alloc, seats, number, effect),
     }
 }
 
-/// Answers whether nothing is said to users, or to none of them.
-fn is_heard_by_none(effect: &Effect<'_>) -> bool
-    ensures { IsTrue result → HeardByNone effect.now }
-{
-    effect.others.is_empty() || are_none(&effect.hearers)
-}
-
-fn are_none(hearers: &Hearers<'_>) -> bool
-    ensures { IsTrue result → hearers.now ≡ Those Nobody }
-{
-    match hearers {
-        Hearers::Those(Audience::Nobody) => true,
-        Hearers::Those(_) | Hearers::Others => false,
-    }
-}
-
-fn own_share(
+/// Makes the shares of the seats at two places, which may be one, where no other is owed anything.
+fn two_shares(
     alloc: Global,
     seats: &[Seat],
+    first: usize,
+    second: usize,
     number: u64,
-    place: usize,
     effect: &Effect<'_>,
 ) -> Result<Vec<Share>, AllocError>
-    requires place { IsPlace number place seats.now }
-    requires rising { Rising (numbers seats.now) }
-    requires none { HeardByNone effect.now }
+    requires order { first ≤ second }
+    requires quiet { AreQuietBut first second (seat_share number effect.now) seats.now }
     ensures { IfOk result (λ shares. shares.items ≡ shares_from 0 (seat_share number effect.now) seats.now) }
 {
-    let lines = lines_owed(alloc, &seats[place], number, effect)?;
     let mut shares = Vec::new(alloc);
-    push_share(&mut shares, place, lines)?;
+    push_owed(alloc, &mut shares, first, &seats[first], number, effect)?;
+    if second == first {
+        return Ok(shares);
+    }
+    push_owed(alloc, &mut shares, second, &seats[second], number, effect)?;
     Ok(shares)
 }
 

@@ -1,5 +1,6 @@
-use Rattle.std.proofs.Common.{◌≡◌, ◌∙◌, ap, ap₂, refl, List, ◌+◌, length, arith, ◌++◌, ◌∷◌, []}
+use Rattle.std.proofs.Common.{◌≡◌, ◌∙◌, ap, ap₂, refl, List, ◌+◌, length, map, arith, ◌++◌, ◌∷◌, []}
 use Rattle.std.specs.Arc.{arc_value}
+use Rattle.std.specs.List.{Contains}
 use Rattle.adc_base32.specs.Turns.{next_free}
 use Rattle.outboxes.specs.Backlogs.{Backlog}
 use Rattle.hub_core.specs.declared.seat.Seat.{Seat}
@@ -8,6 +9,8 @@ use Rattle.hub_core.specs.Seats.{new_seat}
 use Rattle.hub_core.proofs.Standing.{full-moves, join-moves, joined_core, sids_in, spent-moves}
 use Rattle.std.proofs.Common.{rules, sym, subst}
 use Rattle.hub_core.specs.Numbers.{Ordered}
+use Rattle.hub_core.specs.Index.{AreIndexed, keys}
+use Rattle.hub_core.proofs.Indexed.{indexed-push, is-new}
 use Rattle.hub_core.proofs.Numbers.{ordered-push}
 use Rattle.hub_core.proofs.hub.Core.admit.Goals as goal
 
@@ -39,16 +42,22 @@ returns c =
     (c.next_free-sid.ensures.exact
     ∙ ap₂ next_free (ap (λ (s : CoreState). s.last) c.self.view_is) (c.deref-3.ensures.value ∙ c.in_ok-taken.ensures ∙ ap sids_in (c.deref-2.ensures.value ∙ seats)))
     (ap (λ (ss : List Seat). record { setup = arc_value c.self.inside.setup; joins = c.self.inside.joins + 1; last = c.number-self-inside.result; seats = ss; users = c.self.inside.commons.users; bans = c.self.inside.commons.bans; topic = c.self.inside.commons.topic })
-    (c.in_ok-push.ensures.items
-    ∙ ap (λ (seat : Seat). c.self.inside.seats.items ++ seat ∷ []) (c.new-2.ensures ∙ ap (λ (o : Backlog). record (new_seat (c.self.inside.joins + 1) c.next_free-sid.result c.args.peer c.args.challenge) { outbox = o }) c.in_ok-outbox.ensures))
+    (c.in_ok-add.ensures.seats
+    ∙ ap (λ (seat : Seat). c.self.inside.seats.items ++ seat ∷ []) (c.new-seat.ensures ∙ ap (λ (o : Backlog). record (new_seat (c.self.inside.joins + 1) c.next_free-sid.result c.args.peer c.args.challenge) { outbox = o }) c.in_ok-outbox.ensures))
     ∙ ap (λ n. record { setup = arc_value c.self.inside.setup; joins = c.self.inside.joins + 1; last = n; seats = c.self.inside.seats.items ++ new_seat (c.self.inside.joins + 1) c.next_free-sid.result c.args.peer c.args.challenge ∷ []; users = c.self.inside.commons.users; bans = c.self.inside.commons.bans; topic = c.self.inside.commons.topic })
     c.number-self-inside.ensures.exact
     ∙ ap (joined_core c.next_free-sid.result c.args.peer c.args.challenge) c.self.view_is)
 
 pub invariant_of-self-2 : goal.invariant_of-self-2
-invariant_of-self-2 c = (
-  c.self.invariant.0,
-  search rules,
-  subst (Ordered (c.self.inside.joins + 1)) (sym c.in_ok-push.ensures.items)
-      (ordered-push c.self.inside.joins c.self.inside.seats.items c.new-2.result (ap (λ (seat : Seat). seat.number) c.new-2.ensures) c.self.invariant.2),
-)
+invariant_of-self-2 c =
+    let is_sid = ap (λ (seat : Seat). seat.sid) c.new-seat.ensures in
+    let is_number = ap (λ (seat : Seat). seat.number) c.new-seat.ensures in
+    let taken : c.deref-3.result.now ≡ map (λ (seat : Seat). seat.sid) c.self.inside.seats.items = c.deref-3.ensures.value ∙ c.in_ok-taken.ensures ∙ ap sids_in c.deref-2.ensures.value in (
+      c.self.invariant.0,
+      search rules,
+      subst (Ordered (c.self.inside.joins + 1)) (sym c.in_ok-add.ensures.seats) (ordered-push c.self.inside.joins c.self.inside.seats.items c.new-seat.result is_number c.self.invariant.2),
+      subst (λ ss. AreIndexed c.add.new.index (keys ss)) (sym c.in_ok-add.ensures.seats)
+          (indexed-push c.self.inside.index c.add.new.index c.self.inside.seats.items c.new-seat.result c.new-seat.result.sid c.new-seat.result.number refl refl c.in_ok-add.ensures.index
+          (is-new c.new-seat.result.sid c.self.inside.seats.items (λ there. c.next_free-sid.ensures.free (subst (λ ns. Contains ns c.next_free-sid.result) (sym taken) (subst (Contains (sids_in c.self.inside.seats.items)) is_sid there))))
+          c.self.invariant.3),
+    )

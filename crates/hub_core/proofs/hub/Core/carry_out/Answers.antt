@@ -1,6 +1,6 @@
-use Rattle.std.proofs.Common.{◌≡◌, ◌∙◌, sym, ap, ap₂, length, map}
+use Rattle.std.proofs.Common.{◌≡◌, ◌∙◌, refl, sym, ap, ap₂, length, map}
 use Rattle.std.specs.Arc.{arc_value}
-use Rattle.std.specs.Vec.{with_item}
+use Rattle.std.specs.Vec.{with_item, with_items}
 use Rattle.std.proofs.lemmas.List.{length-set, with_items_is}
 use Rattle.hub_core.specs.CoreState.{CoreState}
 use Rattle.hub_core.specs.Seats.{changed_seat, seat_share, delivered_all}
@@ -9,8 +9,9 @@ use Rattle.hub_core.proofs.Carried.{carried-as}
 use Rattle.hub_core.proofs.Owed.{delivered-owed}
 use Rattle.hub_core.proofs.Places.{StandsFirst, found-alike}
 use Rattle.hub_core.proofs.Delivering.{length-delivered}
-use Rattle.hub_core.specs.Numbers.{numbers}
-use Rattle.hub_core.proofs.Numbers.{numbers-changed, numbers-delivered, ordered-same}
+use Rattle.hub_core.specs.Index.{keys}
+use Rattle.hub_core.proofs.Indexed.{indexed-same, keys-changed, keys-delivered}
+use Rattle.hub_core.proofs.Numbers.{ordered-kept}
 use Rattle.hub_core.proofs.Places.{set-read}
 use Rattle.hub_core.proofs.hub.Core.carry_out.Goals as goal
 
@@ -40,15 +41,13 @@ invariant_of-self-2 c =
     let given : c.deliver.new.seats ≡ delivered_all c.removal-removal.result c.deref_mut.result.now (map (seat_share c.args.number c.args.effect) c.self.inside.seats.items) =
     delivered-owed c.removal-removal.result (seat_share c.args.number c.args.effect) c.self.inside.seats.items c.deref.result.now c.deref_mut.result.now c.deliver.new.seats c.in_ok-shares.shares.items
     c.deliver.ensures c.in_ok-shares.ensures c.deref.ensures.value
-    (sym (ap length c.deref_mut.ensures.value ∙ length-set c.self.inside.seats.items c.args.place c.change.new.seat)) in (
-      c.self.invariant.0,
-      c.self.invariant.1,
-      ordered-same c.self.inside.joins c.self.inside.seats.items _
-          (ap numbers (with_items_is (with_item c.self.inside.seats c.args.place c.change.new.seat) c.deliver.new.seats
-          (ap length given ∙ length-delivered c.removal-removal.result c.deref_mut.result.now (map (seat_share c.args.number c.args.effect) c.self.inside.seats.items) ∙ c.deref_mut.ensures.len))
-          ∙ ap numbers given ∙ numbers-delivered c.removal-removal.result c.deref_mut.result.now (map (seat_share c.args.number c.args.effect) c.self.inside.seats.items)
-          ∙ ap numbers (c.deref_mut.ensures.value
-          ∙ set-read c.args.number (changed_seat c.args.effect.change) c.self.inside.seats.items c.args.place c.index_mut-seat.result.now c.change.new.seat at c.index_mut-seat.ensures.value
-          c.in_ok-change.ensures.seat)
-          ∙ numbers-changed c.args.number (changed_seat c.args.effect.change) (λ seat i. seat.number) c.self.inside.seats.items) c.self.invariant.2,
-    )
+    (sym (ap length c.deref_mut.ensures.value ∙ length-set c.self.inside.seats.items c.args.place c.change.new.seat)) in
+    let same : keys (with_items (with_item c.self.inside.seats c.args.place c.change.new.seat) c.deliver.new.seats).items ≡ keys c.self.inside.seats.items =
+    ap keys (with_items_is (with_item c.self.inside.seats c.args.place c.change.new.seat) c.deliver.new.seats
+    (ap length given ∙ length-delivered c.removal-removal.result c.deref_mut.result.now (map (seat_share c.args.number c.args.effect) c.self.inside.seats.items) ∙ c.deref_mut.ensures.len))
+    ∙ ap keys given ∙ keys-delivered c.removal-removal.result c.deref_mut.result.now (map (seat_share c.args.number c.args.effect) c.self.inside.seats.items)
+    ∙ ap keys (c.deref_mut.ensures.value
+    ∙ set-read c.args.number (changed_seat c.args.effect.change) c.self.inside.seats.items c.args.place c.index_mut-seat.result.now c.change.new.seat at c.index_mut-seat.ensures.value
+    c.in_ok-change.ensures.seat)
+    ∙ keys-changed c.args.number (changed_seat c.args.effect.change) (λ seat. refl) c.self.inside.seats.items in
+    (c.self.invariant.0, c.self.invariant.1, ordered-kept c.self.inside.joins _ _ same c.self.invariant.2, indexed-same c.self.inside.index _ _ same c.self.invariant.3)

@@ -1,12 +1,13 @@
-use Rattle.std.proofs.Common.{◌≡◌, ◌∙◌, ap, length, take}
+use Rattle.std.proofs.Common.{◌≡◌, ◌∙◌, refl, ap, length, take}
 use Rattle.std.specs.Arc.{arc_value}
 use Rattle.std.specs.List.{concat}
 use Rattle.hub_core.specs.CoreState.{CoreState}
 use Rattle.hub_core.specs.Leaving.{has_ended, core_after_take, lines_in}
 use Rattle.hub_core.proofs.Standing.{take-moves}
-use Rattle.hub_core.specs.Numbers.{numbers}
+use Rattle.hub_core.specs.Index.{keys}
 use Rattle.hub_core.specs.Leaving.{seat_after_take}
-use Rattle.hub_core.proofs.Numbers.{numbers-changed, ordered-same}
+use Rattle.hub_core.proofs.Indexed.{indexed-same, keys-changed}
+use Rattle.hub_core.proofs.Numbers.{ordered-kept}
 use Rattle.hub_core.proofs.hub.Core.take.Goals as goal
 
 pub returns : goal.returns
@@ -30,9 +31,7 @@ returns c =
     }
 
 pub invariant_of-self-2 : goal.invariant_of-self-2
-invariant_of-self-2 c = (
-  c.self.invariant.0,
-  c.self.invariant.1,
-  ordered-same c.self.inside.joins c.self.inside.seats.items c.take_lines.new.seats.items
-      (ap numbers c.in_ok-taken.ensures.ok ∙ numbers-changed c.connection.inside.number (seat_after_take c.args.count) (λ seat i. seat.number) c.self.inside.seats.items) c.self.invariant.2,
-)
+invariant_of-self-2 c =
+    let same : keys c.take_lines.new.seats.items ≡ keys c.self.inside.seats.items =
+    ap keys c.in_ok-taken.ensures.ok ∙ keys-changed c.connection.inside.number (seat_after_take c.args.count) (λ seat. refl) c.self.inside.seats.items in
+    (c.self.invariant.0, c.self.invariant.1, ordered-kept c.self.inside.joins _ _ same c.self.invariant.2, indexed-same c.self.inside.index _ _ same c.self.invariant.3)

@@ -1,0 +1,153 @@
+-- The index of the connections by session identifier, as they join, leave and change.
+use Rattle.std.proofs.Common.{◌≡◌, ◌∙◌, sym, ap, ap₂, refl, subst, ℕ, zero, suc, ◌<◌, Bool, true, false, cond, not, ◌==◌, List, [], ◌∷◌, ◌++◌, length, map, get_or, arith, Option, Some, None}
+use Rattle.std.specs.BTreeMap.{BTreeMap, UpdatesBy}
+use Rattle.std.specs.Cmp.{unsigned_tied}
+use Rattle.std.specs.List.{Contains}
+use Rattle.std.specs.Option.{unwrap_or}
+use Rattle.std.specs.Ordering.{nat_cmp}
+use Rattle.std.proofs.lemmas.Bool.{eqb-true, eq-eqb, false≢true}
+use Rattle.std.proofs.lemmas.List.{map-append}
+use Rattle.hub_core.specs.declared.seat.Removal.{Removal}
+use Rattle.hub_core.specs.declared.seat.Seat.{Seat}
+use Rattle.hub_core.specs.Index.{AreIndexed, IsSetAt, keys, number_at}
+use Rattle.hub_core.specs.Leaving.{others_of, seat_told, told_all_if, told_if}
+use Rattle.hub_core.specs.Numbers.{numbers}
+use Rattle.hub_core.specs.Phases.{stage_in}
+use Rattle.hub_core.specs.Seats.{at_seat, given_seat, gone_if, delivered_all}
+use Rattle.hub_core.proofs.Places.{StandsFirst}
+use Rattle.hub_rules.specs.Effects.{is_present}
+
+abbrev Keys : Type 0
+Keys = List (ℕ × ℕ)
+
+pub number-set : (sid : ℕ) (m n : BTreeMap ℕ ℕ) (found : Option ℕ) → UpdatesBy nat_cmp (nat_cmp sid) m n found → IsSetAt sid found m.entries n.entries
+number-set sid m n found updates = λ other. updates.0 other ∙ ap (λ b. cond b found (number_at m.entries other)) (unsigned_tied sid other)
+
+-- ---- seats that keep their identifiers and numbers
+
+number-keys : (seats : List Seat) → map (λ (key : ℕ × ℕ). key.1) (keys seats) ≡ numbers seats
+number-keys [] = refl
+number-keys (seat ∷ seats) = ap (λ ns. seat.number ∷ ns) (number-keys seats)
+
+pub numbers-kept : (before after : List Seat) → keys after ≡ keys before → numbers after ≡ numbers before
+numbers-kept before after same = sym (number-keys after) ∙ ap (λ (ks : Keys). map (λ (key : ℕ × ℕ). key.1) ks) same ∙ number-keys before
+
+abbrev key : Seat → ℕ × ℕ
+key seat = (seat.sid, seat.number)
+
+key-gone : (gone : Bool) (seat : Seat) → key (gone_if gone seat) ≡ key seat
+key-gone true seat = refl
+key-gone false seat = refl
+
+key-given : (share : List (List ℕ)) (seat : Seat) → key (given_seat share seat) ≡ key seat
+key-given [] seat = refl
+key-given (line ∷ lines) seat = refl
+
+pub keys-delivered : (removal : Removal) (seats : List Seat) (shares : List (List (List ℕ))) → keys (delivered_all removal seats shares) ≡ keys seats
+unfolding delivered_all
+keys-delivered removal [] shares = refl
+keys-delivered removal (seat ∷ seats) [] = refl
+keys-delivered removal (seat ∷ seats) (share ∷ shares) =
+    ap₂ (λ (k : ℕ × ℕ) (ks : Keys). k ∷ ks) (key-gone _ (given_seat share seat) ∙ key-given share seat) (keys-delivered removal seats shares)
+
+changed-one : (change : Seat → Seat) (seat : Seat) (seats rest : List Seat) (same : Bool) → key (change seat) ≡ key seat → keys rest ≡ keys seats
+    → keys (cond same (change seat ∷ seats) (seat ∷ rest)) ≡ key seat ∷ keys seats
+changed-one change seat seats rest true kept more = ap (λ (k : ℕ × ℕ). k ∷ keys seats) kept
+changed-one change seat seats rest false kept more = ap (λ (ks : Keys). key seat ∷ ks) more
+
+pub keys-changed : (c : ℕ) (change : Seat → Seat) → ((seat : Seat) → key (change seat) ≡ key seat) → (seats : List Seat) → keys (at_seat c change seats) ≡ keys seats
+unfolding at_seat
+keys-changed c change kept [] = refl
+keys-changed c change kept (seat ∷ seats) = changed-one change seat seats (at_seat c change seats) (seat.number == c) (kept seat) (keys-changed c change kept seats)
+
+key-told : (present : Bool) (sid : ℕ) (seat : Seat) → key (told_if present sid seat) ≡ key seat
+key-told true sid seat = refl
+key-told false sid seat = refl
+
+keys-map : (sid : ℕ) (seats : List Seat) → keys (map (seat_told sid) seats) ≡ keys seats
+keys-map sid [] = refl
+keys-map sid (seat ∷ seats) = ap₂ (λ (k : ℕ × ℕ) (ks : Keys). k ∷ ks) (key-told (is_present (stage_in seat.phase)) sid seat) (keys-map sid seats)
+
+pub keys-told : (was_present : Bool) (sid : ℕ) (seats : List Seat) → keys (told_all_if was_present sid seats) ≡ keys seats
+keys-told true sid seats = keys-map sid seats
+keys-told false sid seats = refl
+
+pub indexed-same : (index : Keys) (before after : List Seat) → keys after ≡ keys before → AreIndexed index (keys before) → AreIndexed index (keys after)
+indexed-same index before after same indexed = subst (λ ks. AreIndexed index ks) (sym same) indexed
+
+-- ---- what the index has of a seat
+
+pub indexed-at : (index : Keys) (seats : List Seat) (i : ℕ) (d : Seat) → AreIndexed index (keys seats) → i < length seats
+    → number_at index (get_or seats i d).sid ≡ Some (get_or seats i d).number
+unfolding AreIndexed
+indexed-at index [] i d indexed within = absurd (omega (arith, within))
+indexed-at index (seat ∷ seats) zero d indexed within = indexed.0
+indexed-at index (seat ∷ seats) (suc i) d indexed within = indexed-at index seats i d indexed.1 (omega (arith, within))
+
+-- the number of the seat that was read stands under its identifier
+pub indexed-read : (index : Keys) (c : ℕ) (seats : List Seat) (i : ℕ) (seat : Seat) → StandsFirst c seats i → seat ≡ get_or seats i seat → AreIndexed index (keys seats)
+    → number_at index seat.sid ≡ Some c
+indexed-read index c seats i seat at is indexed =
+    ap (λ (s : Seat). number_at index s.sid) is ∙ indexed-at index seats i seat indexed at.within
+    ∙ ap (λ n. Some n) (eqb-true (get_or seats i seat).number c (at.here seat))
+
+-- ---- one more seat
+
+-- nobody has this identifier
+unfoldable pub IsNew : ℕ → Keys → Type 0
+IsNew sid [] = Unit {0}
+IsNew sid (key ∷ keys) = ((sid == key.0) ≡ false) × IsNew sid keys
+
+differs-by : (sid other : ℕ) (same : Bool) → (sid == other) ≡ same → (sid ≡ other → ⊥) → same ≡ false
+differs-by sid other true is differs = absurd (differs (eqb-true sid other is))
+differs-by sid other false is differs = refl
+
+pub is-new : (sid : ℕ) (seats : List Seat) → (Contains (map (λ (seat : Seat). seat.sid) seats) sid → ⊥) → IsNew sid (keys seats)
+unfolding IsNew
+is-new sid [] free = tt
+is-new sid (seat ∷ seats) free = (
+  differs-by sid seat.sid (sid == seat.sid) refl (λ same. free (0, omega arith, sym same)),
+  is-new sid seats (λ there. free (suc there.0, omega (arith, there.1), there.2)),
+)
+
+-- what stands under other identifiers stays
+pub indexed-set : (index after : Keys) (sid : ℕ) (found : Option ℕ) (ks : Keys) → IsSetAt sid found index after → IsNew sid ks → AreIndexed index ks → AreIndexed after ks
+unfolding AreIndexed IsNew
+indexed-set index after sid found [] set new indexed = tt
+indexed-set index after sid found (k ∷ ks) set new indexed =
+    (set k.0 ∙ ap (λ b. cond b found (number_at index k.0)) new.0 ∙ indexed.0, indexed-set index after sid found ks set new.1 indexed.1)
+
+indexed-append : (index ks : Keys) (k : ℕ × ℕ) → AreIndexed index ks → number_at index k.0 ≡ Some k.1 → AreIndexed index (ks ++ k ∷ [])
+unfolding AreIndexed
+indexed-append index [] k indexed here = (here, tt)
+indexed-append index (first ∷ ks) k indexed here = (indexed.0, indexed-append index ks k indexed.1 here)
+
+pub indexed-push : (index after : Keys) (seats : List Seat) (seat : Seat) (sid number : ℕ) → seat.sid ≡ sid → seat.number ≡ number → IsSetAt sid (Some number) index after
+    → IsNew sid (keys seats) → AreIndexed index (keys seats) → AreIndexed after (keys (seats ++ seat ∷ []))
+indexed-push index after seats seat sid number is_sid is_number set new indexed =
+    subst (λ ks. AreIndexed after ks) (sym (map-append key seats (seat ∷ [])))
+    (indexed-append after (keys seats) (key seat) (indexed-set index after sid (Some number) (keys seats) set new indexed)
+    (ap (number_at after) is_sid ∙ set sid ∙ ap (λ b. cond b (Some number) (number_at index sid)) (eq-eqb sid sid refl) ∙ sym (ap (λ n. Some n) is_number)))
+
+-- ---- a seat less
+
+other-differs : (index : Keys) (c sid : ℕ) (seat : Seat) → number_at index sid ≡ Some c → number_at index seat.sid ≡ Some seat.number → (seat.number == c) ≡ false
+    → (sid ≡ seat.sid → ⊥)
+other-differs index c sid seat here there other same =
+    let both : Some seat.number ≡ Some c = sym there ∙ sym (ap (number_at index) same) ∙ here in
+    false≢true (sym other ∙ eq-eqb seat.number c (ap (λ o. unwrap_or o 0) both))
+
+left-one : (index after : Keys) (c sid : ℕ) (seat : Seat) (rest : List Seat) (same : Bool) → (seat.number == c) ≡ same → IsSetAt sid None index after → number_at index sid ≡ Some c
+    → number_at index seat.sid ≡ Some seat.number → AreIndexed after (keys rest) → AreIndexed after (keys (cond (not same) (seat ∷ rest) rest))
+unfolding AreIndexed
+left-one index after c sid seat rest true is set here there indexed = indexed
+left-one index after c sid seat rest false is set here there indexed =
+    let apart : (sid == seat.sid) ≡ false = differs-by sid seat.sid (sid == seat.sid) refl (other-differs index c sid seat here there is) in
+    (set seat.sid ∙ ap (λ b. cond b None (number_at index seat.sid)) apart ∙ there, indexed)
+
+pub indexed-left : (index after : Keys) (c sid : ℕ) (seats : List Seat) → IsSetAt sid None index after → number_at index sid ≡ Some c → AreIndexed index (keys seats)
+    → AreIndexed after (keys (others_of c seats))
+unfolding AreIndexed
+indexed-left index after c sid [] set here indexed = tt
+indexed-left index after c sid (seat ∷ seats) set here indexed =
+    left-one index after c sid seat (others_of c seats) (seat.number == c) refl set here indexed.0 (indexed-left index after c sid seats set here indexed.1)
