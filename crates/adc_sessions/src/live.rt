@@ -18,6 +18,9 @@ use tokio::io::{AsyncRead, AsyncWrite};
 /// The number of lines that one take asks for.
 const BATCH: usize = 256;
 
+/// The number of bytes for output that a session keeps room for while it rests.
+const KEPT: usize = 4_096;
+
 /// The number of turns that one poll makes at most.
 const TURNS: u8 = 64;
 
@@ -103,11 +106,26 @@ impl<S: AsyncRead + AsyncWrite, P: Port, B: Bell> Live<S, P, B> {
         for turn in 0..TURNS {
             match self.turn(cx) {
                 Turn::Again => {}
-                Turn::Rest => return Poll::Pending,
+                Turn::Rest => {
+                    self.shed();
+                    return Poll::Pending;
+                }
                 Turn::Over(end) => return Poll::Ready(end),
             }
         }
         cx.yield_now()
+    }
+
+    /// Gives back the room that only a burst of lines needed, where nothing waits to be written: most sessions rest most of
+    /// the time.
+    fn shed(&mut self)
+        ensures state { state_of self.new ≡ state_of self.old }
+        ensures listens { self.new.is_listening ≡ self.old.is_listening }
+    {
+        if self.output.capacity() > KEPT && self.written >= self.output.len() {
+            self.output = Vec::new(self.alloc);
+            self.written = 0;
+        }
     }
 
     /// Quits, and gives the stream back.
