@@ -14,6 +14,9 @@ use std::alloc::{AllocError, Global};
 /// The fields that an update or a user may have.
 pub(crate) const MAX_FIELDS: usize = 40;
 
+/// The number of bytes for which room is made at once where fields are written: those of most users take fewer.
+const USUAL_BYTES: usize = 256;
+
 /// The names and values in order. Strangers choose the names, but there are only 936 of two characters, so a hasher with a
 /// fixed seed serves.
 pub(crate) type Entries = IndexMap<FieldName, String>;
@@ -87,7 +90,7 @@ fn change(entries: &mut Entries, name: FieldName, value: String)
 pub(crate) fn print(alloc: Global, entries: &Entries) -> Result<String, AllocError>
     ensures { IfOk result (λ text. string_bytes text ≡ printed_fields (fields_of entries.now.entries)) }
 {
-    let mut text = String::new(alloc);
+    let mut text = String::with_capacity(alloc, USUAL_BYTES)?;
     for (name, value) in entries {
         push_entry(&mut text, *name, value)?;
     }
