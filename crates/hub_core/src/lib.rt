@@ -6,7 +6,6 @@ mod change;
 mod connection;
 mod hub;
 mod look;
-mod reach;
 mod refused;
 mod seat;
 mod share;

@@ -1,14 +1,14 @@
-ghost use Rattle.std.specs.Prelude.{◌≡◌, ◌≤◌, ◌++◌, map, IfOk, OnOk};
+ghost use Rattle.std.specs.Prelude.{◌≡◌, ◌≢◌, ◌<◌, ◌≤◌, ◌++◌, ℕ, get_or, length, map, IfNone, IfOk, IfSome, OnOk};
 ghost use Rattle.hub_core.specs.Index.{AreIndexed, keys};
 ghost use Rattle.hub_core.specs.Numbers.{Rising, numbers};
-ghost use Rattle.hub_core.specs.Owed.{AreQuietBut, given_all, share_at, shares_from};
+ghost use Rattle.hub_core.specs.Owed.{AreQuietBut, IsMeant, IsOnlyFor, given_all, share_at, shares_from};
 ghost use Rattle.hub_core.specs.Phases.{is_among, phase_hears};
 ghost use Rattle.hub_core.specs.Seats.{removed_of, removed_seat, seat_share};
 ghost use Rattle.hub_core.specs.State.{IsPlace};
 ghost use Rattle.hub_core.specs.declared.seat.Removal.TheVariants.{User};
+ghost use Rattle.hub_core.specs.declared.seat.Seat.{Seat};
 
-use crate::reach::reach;
-use crate::seat::{Phase, Removal, Seat};
+use crate::seat::{Phase, Removal, Seat, find};
 use crate::sid_index::SidIndex;
 use adc_base32::Sid;
 use feature_route::{Audience, FeatureSet};
@@ -46,6 +46,68 @@ pub(crate) fn shares(
         Some(other) => two_shares(alloc, seats, place, other, number, effect),
         None => all_shares(alloc, seats, number, effect),
     }
+}
+
+/// Finds the seat beside the sender's at which it has to be looked, since the effect may owe its connection something: `None`
+/// where that may be any. It is the sender's own where there is no other. A user whom a line names is found without a walk
+/// over the seats.
+fn reach(
+    seats: &[Seat],
+    index: &SidIndex,
+    number: u64,
+    place: usize,
+    effect: &Effect<'_>,
+) -> Option<usize>
+    requires place { IsPlace number place seats.now }
+    requires rising { Rising (numbers seats.now) }
+    requires indexed { AreIndexed index.now (keys seats.now) }
+    ensures { IfSome result (λ other. AreQuietBut place other (seat_share number effect.now) seats.now) }
+{
+    let own = seats[place].sid;
+    let sid = meant(effect, own)?;
+    if sid == own {
+        return Some(place);
+    }
+    match place_by_sid(seats, index, sid) {
+        Some(other) => Some(other),
+        None => Some(place),
+    }
+}
+
+/// Gives the session identifier of the only user beside the sender who may hear the others' lines of an effect: `None` where
+/// there may be more. It is the sender's own where nobody else hears them.
+fn meant(effect: &Effect<'_>, own: Sid) -> Option<Sid>
+    ensures { IfSome result (λ sid. IsMeant own sid effect.now) }
+{
+    if effect.others.is_empty() {
+        return Some(own);
+    }
+    match &effect.hearers {
+        Hearers::Others => None,
+        Hearers::Those(audience) => meant_by(audience, own),
+    }
+}
+
+fn meant_by(audience: &Audience<'_>, own: Sid) -> Option<Sid>
+    ensures { IfSome result (λ sid. IsOnlyFor own sid audience.now) }
+{
+    match audience {
+        Audience::Nobody => Some(own),
+        Audience::One(sid) => Some(*sid),
+        Audience::Two(sid, other) if *other == own => Some(*sid),
+        Audience::Two(_, _) | Audience::All | Audience::Having(_) => None,
+    }
+}
+
+/// Finds the place of the seat with this session identifier.
+fn place_by_sid(seats: &[Seat], index: &SidIndex, sid: Sid) -> Option<usize>
+    requires rising { Rising (numbers seats.now) }
+    requires indexed { AreIndexed index.now (keys seats.now) }
+    ensures some { IfSome result (λ place. (i : ℕ) (d : Seat) → i < length seats.now → i ≢ place → (get_or seats.now i d).sid ≢ sid) }
+    ensures within { IfSome result (λ place. place < length seats.now) }
+    ensures none { IfNone result ((i : ℕ) (d : Seat) → i < length seats.now → (get_or seats.now i d).sid ≢ sid) }
+{
+    find(seats, index.get(sid)?)
 }
 
 /// Makes the shares of the seats at two places, which may be one, where no other is owed anything.

@@ -2,7 +2,7 @@ use Rattle.std.proofs.Common.{◌∙◌, sym, subst, ℕ, ◌<◌, length, get_o
 use Rattle.std.specs.Prelude.{◌≢◌, IfNone}
 use Rattle.hub_core.specs.declared.seat.Seat.{Seat}
 use Rattle.hub_core.proofs.Reaching.{found-has, nobody-has, none-has}
-use Rattle.hub_core.proofs.reach.place_by_sid.Goals as goal
+use Rattle.hub_core.proofs.share.place_by_sid.Goals as goal
 
 pub returns-in_err-get-clause-none : goal.returns-in_err-get-clause-none
 returns-in_err-get-clause-none c =

@@ -3,7 +3,7 @@ use Rattle.std.proofs.lemmas.Bool.{eqb-true}
 use Rattle.feature_route.specs.declared.hearers.Audience.TheVariants.{Two}
 use Rattle.hub_core.specs.Owed.{IsOnlyFor}
 use Rattle.hub_core.proofs.Owed.{nobody-only, one-only, two-only}
-use Rattle.hub_core.proofs.reach.meant_by.Goals as goal
+use Rattle.hub_core.proofs.share.meant_by.Goals as goal
 
 pub returns-in-Nobody : goal.returns-in-Nobody
 returns-in-Nobody c = subst (IsOnlyFor c.args.own c.args.own) (sym c.in-Nobody.is) (nobody-only c.args.own c.args.own)
