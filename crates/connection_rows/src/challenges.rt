@@ -1,21 +1,23 @@
 use hub_challenges::Challenges;
 
+/// The first 72 bytes of ChaCha20's stream for a key of zeros: RFC 8439, appendix A.1, vectors 1 and 2.
+const STREAM: [&[u8]; 3] = [
+    b"\x76\xb8\xe0\xad\xa0\xf1\x3d\x90\x40\x5d\x6a\xe5\
+\x53\x86\xbd\x28\xbd\xd2\x19\xb8\xa0\x8d\xed\x1a",
+    b"\xa8\x36\xef\xcc\x8b\x77\x0d\xc7\xda\x41\x59\x7c\
+\x51\x57\x48\x8d\x77\x24\xe0\x3f\xb8\xd8\x4a\x37",
+    b"\x6a\x43\xb8\xf4\x15\x18\xa1\x1c\xc3\x87\xb6\x69\
+\xb2\xee\x65\x86\x9f\x07\xe7\xbe\x55\x51\x38\x7a",
+];
+
 #[test]
 fn deals_the_published_key_stream(rt: HostRuntime) {
-    // RFC 8439, appendix A.1, vectors 1 and 2: the first 72 bytes of ChaCha20's stream for a key of zeros.
-    let stream: [u8; 72] = [
-        0x76, 0xb8, 0xe0, 0xad, 0xa0, 0xf1, 0x3d, 0x90, 0x40, 0x5d, 0x6a, 0xe5, 0x53, 0x86, 0xbd,
-        0x28, 0xbd, 0xd2, 0x19, 0xb8, 0xa0, 0x8d, 0xed, 0x1a, 0xa8, 0x36, 0xef, 0xcc, 0x8b, 0x77,
-        0x0d, 0xc7, 0xda, 0x41, 0x59, 0x7c, 0x51, 0x57, 0x48, 0x8d, 0x77, 0x24, 0xe0, 0x3f, 0xb8,
-        0xd8, 0x4a, 0x37, 0x6a, 0x43, 0xb8, 0xf4, 0x15, 0x18, 0xa1, 0x1c, 0xc3, 0x87, 0xb6, 0x69,
-        0xb2, 0xee, 0x65, 0x86, 0x9f, 0x07, 0xe7, 0xbe, 0x55, 0x51, 0x38, 0x7a,
-    ];
     let mut challenges = Challenges::from_seed([0; 32]);
-    for wanted in stream.chunks_exact(24) {
+    for wanted in STREAM {
         assert!(rt; challenges.next().as_slice() == wanted);
     }
     // A seed with one byte more than zero makes another stream.
     let mut seed = [0; 32];
     seed[31] = 1;
-    assert!(rt; Challenges::from_seed(seed).next().as_slice() != &stream[..24]);
+    assert!(rt; Challenges::from_seed(seed).next().as_slice() != STREAM[0]);
 }

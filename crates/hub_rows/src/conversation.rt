@@ -198,7 +198,8 @@ impl<'t> Played<'t> {
     fn step(&mut self, rt: &impl Abort) {
         match self.place.text.split_once(": ") {
             Some((head, line)) => {
-                let line = self.spell(rt, line);
+                let line = stands_for(line, self.line, self.answer);
+                let line = spell(rt, self.alloc, line, self.round);
                 self.exchange(rt, head, &line);
             }
             None => match self.place.text.strip_suffix(':') {
@@ -206,15 +207,6 @@ impl<'t> Played<'t> {
                 None => self.happen(rt),
             },
         }
-    }
-
-    fn spell(&self, rt: &impl Abort, line: &str) -> Vec<u8> {
-        let line = match line {
-            "<line>" => self.line,
-            "<answer>" => self.answer,
-            _ => line,
-        };
-        spell(rt, self.alloc, line, self.round)
     }
 
     /// Plays a step with a line.
@@ -253,8 +245,7 @@ impl<'t> Played<'t> {
     }
 
     fn unknown(&self, rt: &impl Abort) -> ! {
-        let Place { number, text } = self.place;
-        panic!(rt; "line {number}, {text}: no step")
+        no_step(rt, self.place)
     }
 
     fn number(&self, rt: &impl Abort, told: &str) -> usize {
@@ -279,7 +270,8 @@ impl<'t> Played<'t> {
 
     /// Finds the connection that joined as this one, counted from 1 on.
     fn connection_of(&self, rt: &impl Abort, told: &str) -> Conn {
-        match self.joined.get(self.number(rt, told).wrapping_sub(1)) {
+        let place = self.number(rt, told).wrapping_sub(1);
+        match self.joined.get(place) {
             Some(joined) => joined.connection,
             None => self.unknown(rt),
         }
@@ -409,6 +401,20 @@ impl<'t> Played<'t> {
 
     fn sid(&self, rt: &impl Abort, who: &str) -> Sid {
         self.hub.sid(rt, self.connection(rt, who))
+    }
+}
+
+fn no_step(rt: &impl Abort, place: Place<'_>) -> ! {
+    let Place { number, text } = place;
+    panic!(rt; "line {number}, {text}: no step")
+}
+
+/// Gives the line that a line of a conversation stands for.
+fn stands_for<'a>(told: &'a str, line: &'a str, answer: &'a str) -> &'a str {
+    match told {
+        "<line>" => line,
+        "<answer>" => answer,
+        _ => told,
     }
 }
 

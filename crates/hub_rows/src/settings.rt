@@ -1,5 +1,5 @@
 use crate::hub::Hub;
-use crate::refusal::keep;
+use crate::refusal::{keep, unknown};
 use crate::spelling::spell;
 use hub_core::{Account, MenuEntry, MenuItem, Options, SetupRefused};
 use std::alloc::Global;
@@ -46,7 +46,7 @@ fn setting_lines(rt: &impl Abort, alloc: Global, text: &str) -> Vec<String> {
 fn told_text(rt: &impl Abort, alloc: Global, told: &str) -> String {
     match String::from_utf8(spell(rt, alloc, told, 0)) {
         Ok(told) => told,
-        Err(_) => panic!(rt; "with {told}: it is not UTF-8"),
+        Err(_) => unknown(rt, "text", told),
     }
 }
 
@@ -59,7 +59,7 @@ fn set<'a>(rt: &impl Abort, mut options: Options<'a>, name: &str, rest: &'a str)
         "max_users" => options.max_users = number(rt, rest),
         "opening" => options.opening = u64::from(number(rt, rest)),
         "registered_only" if rest.is_empty() => options.registered_only = true,
-        _ => panic!(rt; "unknown setting {name}"),
+        _ => unknown(rt, "setting", name),
     }
     options
 }
@@ -67,14 +67,14 @@ fn set<'a>(rt: &impl Abort, mut options: Options<'a>, name: &str, rest: &'a str)
 fn number(rt: &impl Abort, told: &str) -> u32 {
     match told.parse::<u32>() {
         Ok(number) => number,
-        Err(_) => panic!(rt; "no number: {told}"),
+        Err(_) => unknown(rt, "number", told),
     }
 }
 
 /// Reads `NICK PASSWORD`, and `operator` behind them for one.
 fn account<'a>(rt: &impl Abort, told: &'a str) -> Account<'a> {
     let Some((nick, rest)) = told.split_once(' ') else {
-        panic!(rt; "no account: {told}")
+        unknown(rt, "account", told)
     };
     match rest.split_once(' ') {
         None => Account {
@@ -87,22 +87,22 @@ fn account<'a>(rt: &impl Abort, told: &'a str) -> Account<'a> {
             password,
             operator: true,
         },
-        Some(_) => panic!(rt; "no account: {told}"),
+        Some(_) => unknown(rt, "account", told),
     }
 }
 
 /// Reads `NAME CONTEXT separator`, or `NAME CONTEXT text TEXT`.
 fn menu_entry<'a>(rt: &impl Abort, told: &'a str) -> MenuEntry<'a> {
     let Some((name, rest)) = told.split_once(' ') else {
-        panic!(rt; "no menu entry: {told}")
+        unknown(rt, "menu entry", told)
     };
     let (context, item) = match rest.split_once(' ') {
         Some((context, "separator")) => (context, MenuItem::Separator),
         Some((context, item)) => match item.strip_prefix("text ") {
             Some(text) => (context, MenuItem::Text(text)),
-            None => panic!(rt; "no menu entry: {told}"),
+            None => unknown(rt, "menu entry", told),
         },
-        None => panic!(rt; "no menu entry: {told}"),
+        None => unknown(rt, "menu entry", told),
     };
     match context.parse::<u8>() {
         Ok(context) => MenuEntry {
@@ -110,6 +110,6 @@ fn menu_entry<'a>(rt: &impl Abort, told: &'a str) -> MenuEntry<'a> {
             context,
             item,
         },
-        Err(_) => panic!(rt; "no context: {told}"),
+        Err(_) => unknown(rt, "menu entry", told),
     }
 }

@@ -1,6 +1,5 @@
-use crate::refusal::keep;
+use crate::refusal::{keep, unknown};
 use adc_base32::Sid;
-use second_try::again;
 use std::alloc::Global;
 use std::process::Abort;
 
@@ -26,14 +25,16 @@ pub(crate) fn spell(rt: &impl Abort, alloc: Global, text: &str, round: usize) ->
                 append_word(rt, &mut bytes, word, round);
                 append(rt, &mut bytes, rest.as_bytes());
             }
-            None => panic!(rt; "no > in {text}"),
+            None => unknown(rt, "spelling", text),
         }
     }
     bytes
 }
 
 fn append(rt: &impl Abort, bytes: &mut Vec<u8>, more: &[u8]) {
-    again!(rt; bytes.extend_from_slice(more));
+    if second_try::append(bytes, more).is_err() {
+        panic!(rt; "refused twice");
+    }
 }
 
 fn append_word(rt: &impl Abort, bytes: &mut Vec<u8>, word: &str, round: usize) {
@@ -59,13 +60,13 @@ fn append_counted(rt: &impl Abort, bytes: &mut Vec<u8>, word: &str) {
     match (word.split_once('*'), word.strip_prefix('x')) {
         (Some((count, what)), _) => match (count.parse::<usize>(), what.as_bytes()) {
             (Ok(count), [byte]) => repeat(rt, bytes, count, *byte),
-            _ => panic!(rt; "unknown <{word}>"),
+            _ => unknown(rt, "spelling", word),
         },
         (None, Some(hex)) => match u8::from_str_radix(hex, 16) {
             Ok(byte) => append(rt, bytes, &[byte]),
-            Err(_) => panic!(rt; "unknown <{word}>"),
+            Err(_) => unknown(rt, "spelling", word),
         },
-        _ => panic!(rt; "unknown <{word}>"),
+        _ => unknown(rt, "spelling", word),
     }
 }
 

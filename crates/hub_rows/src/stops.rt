@@ -163,7 +163,7 @@ fn a_setting_is_unknown(rt: HostRuntime) {
 }
 
 #[test]
-#[should_panic(expected = "unknown <P4>")]
+#[should_panic(expected = "unknown spelling P4")]
 fn a_spelling_is_unknown(rt: HostRuntime) {
     play(
         &rt,

@@ -31,7 +31,7 @@ pub(crate) type Accepts<'a, B, H, R, L, I> = Accept<
 #[derive(Drop)]
 pub(crate) enum Task<'a, B: OfHub<H>, H: SessionHash, R, L, I> {
     /// Keeps time.
-    Ticking(TimeTask<'a, B, H, R, L>),
+    Ticking(TimeTask<'a, Accepted<B, H>, R, L>),
     /// Serves the connections of one slot.
     Serving(SlotTask<'a, B, H, R, L>),
     /// Accepts connections.

@@ -19,7 +19,7 @@ use std::time::Clock;
 /// that accepts connections. So what comes later needs no memory for a task.
 #[derive(Drop)]
 pub(crate) struct Tasks<'a, B: OfHub<H>, H: SessionHash, R: Wait, L, I, W> {
-    time: Option<TimeTask<'a, B, H, R, L>>,
+    time: Option<TimeTask<'a, Accepted<B, H>, R, L>>,
     // The slot of the next task, and how many slots there are.
     next: usize,
     count: usize,
@@ -40,7 +40,7 @@ impl<
 > Tasks<'a, B, H, R, L, I, W> {
     /// Makes the tasks for so many slots.
     pub(crate) fn new(
-        time: TimeTask<'a, B, H, R, L>,
+        time: TimeTask<'a, Accepted<B, H>, R, L>,
         count: usize,
         accept: AcceptTask<'a, B, H, R, L, I>,
         startup: Startup<'a, Accepted<B, H>, R, W>,

@@ -1,8 +1,6 @@
 ghost use Rattle.futures.specs.Task.{IsArmed, Keeps};
 ghost use Rattle.futures.specs.Poll.{OnPending};
 
-use crate::accepted::Accepted;
-use crate::free_slot::OfHub;
 use connection_slots::Ticker;
 use futures::task::{Context, Poll};
 use hub_warnings::Warnings;
@@ -16,21 +14,21 @@ const PERIOD: u64 = 1;
 
 /// The task that keeps time: it ticks, and says each second how many equal warnings were counted in minutes that are over.
 #[derive(Drop)]
-pub(crate) struct TimeTask<'a, B: OfHub<H>, H, R, L> {
-    ticker: Ticker<'a, Accepted<B, H>, R>,
+pub(crate) struct TimeTask<'a, T, R, L> {
+    ticker: Ticker<'a, T, R>,
     timer: Sleep,
     rt: &'a R,
     warnings: &'a Warnings<L>,
 }
 
-impl<'a, B: OfHub<H>, H, R: Wait + Clock, L: Log> TimeTask<'a, B, H, R, L> {
+impl<'a, T: Drop, R: Wait + Clock, L: Log> TimeTask<'a, T, R, L> {
     /// Makes the task, which uses this timer, whatever it is set to.
     pub(crate) fn new(
-        ticker: Ticker<'a, Accepted<B, H>, R>,
+        ticker: Ticker<'a, T, R>,
         timer: Sleep,
         rt: &'a R,
         warnings: &'a Warnings<L>,
-    ) -> TimeTask<'a, B, H, R, L> {
+    ) -> TimeTask<'a, T, R, L> {
         TimeTask {
             ticker,
             timer,
@@ -59,17 +57,18 @@ impl<'a, B: OfHub<H>, H, R: Wait + Clock, L: Log> TimeTask<'a, B, H, R, L> {
             Poll::Pending => Poll::Pending,
             Poll::Ready(_) => {
                 self.warnings.tell_over(self.rt);
-                self.set();
+                set(&mut self.timer, self.rt);
                 cx.yield_now()
             }
         }
     }
+}
 
-    fn set(&mut self) {
-        if let Ok(now) = Instant::now(self.rt)
-            && let Some(next) = now.checked_add(Duration::from_secs(PERIOD))
-        {
-            self.timer.reset(next);
-        }
+/// Sets a timer to the next second, where the clock can be read.
+fn set<R: Clock>(timer: &mut Sleep, rt: &R) {
+    if let Ok(now) = Instant::now(rt)
+        && let Some(next) = now.checked_add(Duration::from_secs(PERIOD))
+    {
+        timer.reset(next);
     }
 }

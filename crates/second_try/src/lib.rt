@@ -1,8 +1,10 @@
 //! The second try of a call that may be refused memory: tests make the call once more, and see that it changed nothing.
 #![tactic(auto)]
 
+mod growth;
 mod said;
 
+pub use growth::{append, copy, push};
 pub use said::tell;
 
 /// Makes a call that a test needs beside those that it is about, once more where memory was refused.

@@ -49,23 +49,26 @@ impl GateHash {
     }
 
     fn waits(&self) -> bool {
-        for _turn in 0..TURNS {
-            if self.may_end.load(Ordering::SeqCst) {
-                return true;
-            }
-            yield_now();
-        }
-        false
+        becomes_true(&self.may_end)
     }
 
     /// Waits until a digest has begun.
     pub fn begins(&self) -> Option<()> {
-        for _turn in 0..TURNS {
-            if self.has_begun.load(Ordering::SeqCst) {
-                return Some(());
-            }
-            yield_now();
+        if becomes_true(&self.has_begun) {
+            Some(())
+        } else {
+            None
         }
-        None
     }
+}
+
+/// Waits until a flag is set, to its limit.
+fn becomes_true(flag: &AtomicBool) -> bool {
+    for _turn in 0..TURNS {
+        if flag.load(Ordering::SeqCst) {
+            return true;
+        }
+        yield_now();
+    }
+    false
 }

@@ -1,6 +1,5 @@
 use crate::rows::{Part, number, pair, play, say, say_bytes, say_number, small, twice, unknown};
 use adc_base32::{B32, Sid, decode, decode24, encode, encode24};
-use second_try::again;
 use std::alloc::{AllocGlobal, Global};
 use std::io::Print;
 use std::process::Abort;
@@ -61,7 +60,9 @@ fn sids_between(rt: &impl Abort, alloc: Global, from: u32, to: u32) -> Vec<Sid> 
     let mut taken = Vec::new(alloc);
     for number in from..to {
         if let Some(sid) = Sid::from_u32(number) {
-            again!(rt; taken.extend_from_slice(&[sid]));
+            if second_try::push(&mut taken, sid).is_err() {
+                unknown(rt, "refused twice");
+            }
         }
     }
     taken

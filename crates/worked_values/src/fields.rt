@@ -6,7 +6,7 @@ use inf_fields::{
     FieldName, Fields, InfFault, Update, dotted_decimal, merging_laws, shared_amount,
 };
 use second_try::again;
-use std::alloc::{AllocError, AllocGlobal};
+use std::alloc::{AllocError, AllocGlobal, Global};
 use std::io::Print;
 use std::process::Abort;
 
@@ -63,7 +63,21 @@ fn read(rt: &(impl Abort + AllocGlobal + Print), line: &str) -> Result<Update, I
 }
 
 fn read_words(rt: &(impl Abort + AllocGlobal + Print), words: &[&str]) -> Result<Update, InfFault> {
-    twice!(rt; "inf_fields::Update::read", InfFault::Memory, Update::read(rt.alloc(), words))
+    twice!(rt; "inf_fields::Update::read", InfFault::Memory, read_once(rt.alloc(), words))
+}
+
+// What these calls promise would be carried through each body that makes them: so each stands alone.
+
+fn read_once(alloc: Global, words: &[&str]) -> Result<Update, InfFault> {
+    Update::read(alloc, words)
+}
+
+fn print_once(alloc: Global, update: &Update) -> Result<String, InfFault> {
+    update.print(alloc)
+}
+
+fn clean_once(alloc: Global, update: &Update, peer: [u8; 4]) -> Result<Update, InfFault> {
+    update.clean(alloc, peer)
 }
 
 /// Reads an update that is one.
@@ -94,7 +108,8 @@ fn say_read(
 }
 
 fn say_update(rt: &(impl Abort + AllocGlobal + Print), said: &mut Vec<u8>, update: &Update) {
-    match twice!(rt; "inf_fields::Update::print", InfFault::Memory, update.print(rt.alloc())) {
+    match twice!(rt; "inf_fields::Update::print", InfFault::Memory, print_once(rt.alloc(), update))
+    {
         Ok(text) => {
             assert!(rt; update.is_empty() == text.is_empty());
             say(rt, said, &text);
@@ -105,7 +120,7 @@ fn say_update(rt: &(impl Abort + AllocGlobal + Print), said: &mut Vec<u8>, updat
 
 /// Makes an update as it is passed on from an address.
 fn clean_from(rt: &(impl Abort + AllocGlobal + Print), update: &Update, peer: [u8; 4]) -> Update {
-    match twice!(rt; "inf_fields::Update::clean", InfFault::Memory, update.clean(rt.alloc(), peer))
+    match twice!(rt; "inf_fields::Update::clean", InfFault::Memory, clean_once(rt.alloc(), update, peer))
     {
         Ok(update) => update,
         Err(_) => unknown(rt, "clean"),

@@ -84,16 +84,20 @@ fn spell_word(rt: &impl Abort, bytes: &mut Vec<u8>, word: &str) {
         Some((count, what)) => (number(rt, count), what),
         None => (1, word),
     };
-    let byte = match what.strip_prefix('x') {
-        Some(hex) => u8::from_str_radix(hex, 16).ok(),
-        None => None,
-    };
     for _ in 0..count {
-        match byte {
-            Some(byte) => say_bytes(rt, bytes, &[byte]),
-            None => say_bytes(rt, bytes, what.as_bytes()),
-        }
+        spell_once(rt, bytes, what);
     }
+}
+
+fn spell_once(rt: &impl Abort, bytes: &mut Vec<u8>, what: &str) {
+    match hex_byte(what) {
+        Some(byte) => say_bytes(rt, bytes, &[byte]),
+        None => say_bytes(rt, bytes, what.as_bytes()),
+    }
+}
+
+fn hex_byte(what: &str) -> Option<u8> {
+    u8::from_str_radix(what.strip_prefix('x')?, 16).ok()
 }
 
 pub(crate) fn unknown(rt: &impl Abort, what: &str) -> ! {
@@ -130,7 +134,9 @@ pub(crate) fn twenty_four(bytes: &[u8]) -> Option<[u8; 24]> {
 }
 
 pub(crate) fn say_bytes(rt: &impl Abort, said: &mut Vec<u8>, bytes: &[u8]) {
-    again!(rt; said.extend_from_slice(bytes));
+    if second_try::append(said, bytes).is_err() {
+        panic!(rt; "refused twice");
+    }
 }
 
 pub(crate) fn say(rt: &impl Abort, said: &mut Vec<u8>, text: &str) {

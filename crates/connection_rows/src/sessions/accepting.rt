@@ -4,32 +4,25 @@ use adc_sessions::{Accept, AcceptEnd, Incoming, Peer, Starter};
 use futures::task::{Context, Poll};
 use futures::test::MockTask;
 use second_try::again;
-use std::alloc::Global;
 use std::io;
 use std::process::Abort;
 use std::sync::atomic::{AtomicU32, Ordering};
 
-/// A script that brings streams and faults as it is told, and then lets wait.
+/// A script that brings so many faults, then so many streams, and both again, and then lets wait.
 #[derive(Drop)]
 struct Script {
-    // The turns: true where a stream comes.
-    steps: Vec<bool>,
+    faults: usize,
+    streams: usize,
     at: usize,
 }
 
 impl Script {
-    /// Makes a script of so many faults, then so many streams, and both again.
-    fn twice(rt: &impl Abort, alloc: Global, faults: usize, streams: usize) -> Script {
-        let mut steps = Vec::new(alloc);
-        for _ in 0..2 {
-            for _ in 0..faults {
-                again!(rt; steps.push(false));
-            }
-            for _ in 0..streams {
-                again!(rt; steps.push(true));
-            }
+    fn twice(faults: usize, streams: usize) -> Script {
+        Script {
+            faults,
+            streams,
+            at: 0,
         }
-        Script { steps, at: 0 }
     }
 }
 
@@ -39,11 +32,13 @@ impl Incoming for Script {
     ghost brings = { λ _ _ _. ⊤ };
 
     fn poll_incoming(&mut self, cx: &mut Context<'_>) -> Poll<io::Result<((), Peer)>> {
-        let Some(is_stream) = self.steps.get(self.at) else {
+        let half = self.faults.saturating_add(self.streams);
+        if self.at >= half.saturating_mul(2) {
             return cx.yield_now();
-        };
-        self.at += 1;
-        if *is_stream {
+        }
+        let place = self.at.checked_sub(half).unwrap_or(self.at);
+        self.at = self.at.saturating_add(1);
+        if place >= self.faults {
             let peer = Peer {
                 address: [127, 0, 0, 1],
             };
@@ -98,7 +93,7 @@ fn accepts(
 #[test]
 fn sixty_four_faults_in_a_row_are_too_many(rt: HostRuntime) {
     let task = again!(&rt; MockTask::new(&rt));
-    let script = Script::twice(&rt, rt.alloc(), 64, 1);
+    let script = Script::twice(64, 1);
     let ended = accepts(&rt, &task, script, Some(2));
     assert!(&rt; ended == (AcceptEnd::AcceptFailed, 0), "{ended:?}");
 }
@@ -106,7 +101,7 @@ fn sixty_four_faults_in_a_row_are_too_many(rt: HostRuntime) {
 #[test]
 fn sixty_three_faults_and_a_stream_are_not(rt: HostRuntime) {
     let task = again!(&rt; MockTask::new(&rt));
-    let script = Script::twice(&rt, rt.alloc(), 63, 1);
+    let script = Script::twice(63, 1);
     let ended = accepts(&rt, &task, script, Some(2));
     assert!(&rt; ended == (AcceptEnd::Stopped, 2), "{ended:?}");
 }
@@ -115,7 +110,7 @@ fn sixty_three_faults_and_a_stream_are_not(rt: HostRuntime) {
 fn the_set_number_of_streams_is_accepted(rt: HostRuntime) {
     let task = again!(&rt; MockTask::new(&rt));
     for number in [0, 1, 16, 17, 40] {
-        let script = Script::twice(&rt, rt.alloc(), 1, 50);
+        let script = Script::twice(1, 50);
         let ended = accepts(&rt, &task, script, Some(number));
         assert!(&rt; ended == (AcceptEnd::Stopped, number as u32), "{ended:?}");
     }
@@ -124,7 +119,7 @@ fn the_set_number_of_streams_is_accepted(rt: HostRuntime) {
 #[test]
 fn no_number_is_no_end(rt: HostRuntime) {
     let task = again!(&rt; MockTask::new(&rt));
-    let script = Script::twice(&rt, rt.alloc(), 3, 50);
+    let script = Script::twice(3, 50);
     let count = AtomicU32::new(0);
     let mut accept = Accept::new(script, Count { started: &count }, None);
     for _ in 0..1_000 {

@@ -35,12 +35,8 @@ pub(crate) struct Wire {
 
 impl Wire {
     pub(crate) fn new(rt: &impl Abort, alloc: Global, input: &[u8], room: usize) -> Wire {
-        let mut copy = Vec::new(alloc);
-        if copy.extend_from_slice(input).is_err() && copy.extend_from_slice(input).is_err() {
-            panic!(rt; "refused twice");
-        }
         Wire {
-            input: copy,
+            input: copied(rt, alloc, input),
             at: 0,
             room,
             trouble: Trouble::Nowhere,
@@ -119,10 +115,8 @@ impl AsyncWrite for Wire {
         }
         let count = self.room.min(buf.len());
         let taken = &buf[..count];
-        if self.written.extend_from_slice(taken).is_err() {
-            if let Err(refused) = self.written.extend_from_slice(taken) {
-                return Poll::Ready(Err(refused.into()));
-            }
+        if let Err(refused) = second_try::append(&mut self.written, taken) {
+            return Poll::Ready(Err(refused.into()));
         }
         Poll::Ready(Ok(count))
     }
@@ -133,5 +127,12 @@ impl AsyncWrite for Wire {
 
     fn poll_shutdown(&mut self, _cx: &mut Context<'_>) -> Poll<io::Result<()>> {
         Poll::Ready(Ok(()))
+    }
+}
+
+fn copied(rt: &impl Abort, alloc: Global, bytes: &[u8]) -> Vec<u8> {
+    match second_try::copy(alloc, bytes) {
+        Ok(copy) => copy,
+        Err(_) => panic!(rt; "refused twice"),
     }
 }
