@@ -1,1 +1,3 @@
 pub mod PortCalls
+pub mod Deeds
+pub mod ServedByHub

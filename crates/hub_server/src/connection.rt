@@ -1,17 +1,21 @@
-ghost use Rattle.std.specs.Prelude.{◌≡◌, IfOk};
+ghost use Rattle.std.specs.Prelude.{◌≡◌, IfOk, IfErr};
 ghost use Rattle.hub_rules.specs.Prepared.{prepared_line};
+ghost use Rattle.hub_server.specs.PortCalls.{Leaves};
+ghost use Rattle.hub_server.specs.ServedByHub.{ServesByHub};
 
 use crate::free_slot::{FreeSlot, OfHub};
 use crate::server::Server;
-use adc_sessions::{Bell, Port};
+use adc_sessions::{Bell, Port, Session, Stream};
 use connection_slots::{Throttle, Wakers};
+use futures::Future;
 use futures::task::Context;
 use hub_core::{LineRefused, Prepared, Setup, TakeRefused, Taken, Touched, Verdict, prepare};
 use hub_shared::Pass;
 use session_hash::SessionHash;
-use std::alloc::Global;
+use std::alloc::{AllocGlobal, Global};
 use std::sync::Wait;
 use std::time::Clock;
+use tokio::io::{AsyncRead, AsyncWrite};
 
 /// One connection of the hub, for its session.
 #[derive(Drop)]
@@ -37,6 +41,8 @@ impl<'a, B: OfHub<H>, H: SessionHash, R: Wait + Clock> Connection<'a, B, H, R> {
     ) -> Connection<'a, B, H, R>
         requires here { pass.home ≡ server.now.hub.now.home }
         requires challenged { pass.challenge ≡ challenge }
+        ensures server { result.server ≡ server.entry }
+        ensures pass { result.pass ≡ pass }
     {
         server.shared.wakers.occupy(slot);
         Connection {
@@ -164,6 +170,43 @@ impl<B: OfHub<H>, H: SessionHash, R: Wait + Clock> Port for Connection<'_, B, H,
         let visitor = server.hub.quit(server.rt, pass);
         wake_touched(&server.shared.wakers, visitor.touched(), slot);
         FreeSlot::new(visitor, slot)
+    }
+}
+
+/// The session of a connection of the hub, over this stream.
+pub type HubSession<'a, S, B, H, R> = Session<S, Connection<'a, B, H, R>, SlotBell<'a>>;
+
+/// Serves a stream for a pass that joined with this challenge, as the connection of this slot. The session is a future.
+///
+/// Whatever it ends with, the hub was sent the first lines of what was read from the stream, each once and in order, and the stream
+/// was written the first bytes of what the hub gave the connection, which has quit. All these calls stand in one legal
+/// history, as the caller's only ones after those that it had made (`specs/ServedByHub` has all that is promised).
+///
+/// Refused for want of memory; then the connection has quit, and the stream and the slot are given back.
+pub fn serve_connection<
+    'a,
+    S: AsyncRead + AsyncWrite,
+    B: OfHub<H>,
+    H: SessionHash,
+    R: Wait + Clock + AllocGlobal,
+>(
+    server: &'a Server<'a, B, H, R>,
+    stream: S,
+    pass: Pass<H>,
+    challenge: [u8; 24],
+    slot: usize,
+) -> Result<HubSession<'a, S, B, H, R>, (S, FreeSlot<B, H>)>
+    requires here { pass.home ≡ server.now.hub.now.home }
+    requires challenged { pass.challenge ≡ challenge }
+    ensures serves { IfOk result (λ session. ServesByHub server.now.hub.now.setup (H.digest_of server.now.hub.now.hash) ⟦<S as Stream>⟧.told stream pass (⟦<Session<S, Connection<'a, B, H, R>, SlotBell<'a>> as Future>⟧.gives session) (λ free. free.visitor)) }
+    ensures stream { IfErr result (λ back. back.0 ≡ stream) }
+    ensures left { IfErr result (λ back. Leaves server.now.hub.now.setup (H.digest_of server.now.hub.now.hash) pass back.1.visitor) }
+{
+    let connection = Connection::new(server, pass, challenge, slot);
+    let bell = connection.bell();
+    match Session::new(server.rt.alloc(), stream, connection, bell) {
+        Ok(session) => Ok(session),
+        Err((_, stream, connection, _bell)) => Err((stream, connection.quit())),
     }
 }
 

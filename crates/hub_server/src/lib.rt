@@ -14,7 +14,7 @@ mod tasks;
 mod time_task;
 
 pub use bind::Bind;
-pub use connection::{Connection, SlotBell, moment};
+pub use connection::{Connection, HubSession, SlotBell, moment, serve_connection};
 pub use free_slot::{FreeSlot, OfHub};
 pub use listener::{Listener, Listens};
 pub use serve::{serve_at, serve_for_journal, serve_on};

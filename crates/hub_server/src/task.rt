@@ -3,12 +3,12 @@ ghost use Rattle.futures.specs.Poll.{OnPending};
 
 use crate::accepted::Accepted;
 use crate::acceptor::Acceptor;
-use crate::connection::{Connection, SlotBell};
+use crate::connection::{HubSession, serve_connection};
 use crate::free_slot::{FreeSlot, OfHub};
 use crate::listener::{Listener, Listens};
 use crate::server::Server;
 use crate::time_task::TimeTask;
-use adc_sessions::{Accept, AcceptEnd, End, Port, Session};
+use adc_sessions::{Accept, AcceptEnd, End};
 use connection_slots::Fault;
 use futures::Future;
 use futures::task::{Context, Poll};
@@ -115,12 +115,10 @@ fn fault_of(end: AcceptEnd) -> Option<Fault> {
     }
 }
 
-type HubSession<'a, B, H, R> = Session<TcpStream, Connection<'a, B, H, R>, SlotBell<'a>>;
-
 /// The task that serves the connections of one slot, one after the other.
 #[derive(Drop)]
 pub(crate) struct SlotTask<'a, B: OfHub<H>, H: SessionHash, R, L> {
-    session: Option<HubSession<'a, B, H, R>>,
+    session: Option<HubSession<'a, TcpStream, B, H, R>>,
     server: &'a Server<'a, B, H, R>,
     slot: usize,
     // The address from which the connection of the session comes.
@@ -197,11 +195,9 @@ impl<'a, B: OfHub<H>, H: SessionHash, R: Wait + Clock + AllocGlobal, L: Log> Slo
             ..
         } = accepted;
         self.peer = Some(peer);
-        let connection = Connection::new(server, pass, challenge, self.slot);
-        let bell = connection.bell();
-        match Session::new(server.rt.alloc(), stream, connection, bell) {
+        match serve_connection(server, stream, pass, challenge, self.slot) {
             Ok(session) => self.session = Some(session),
-            Err((_, stream, connection, _bell)) => self.end(End::Memory, stream, connection.quit()),
+            Err((stream, free)) => self.end(End::Memory, stream, free),
         }
     }
 
