@@ -5,6 +5,7 @@ use Rattle.hub_core.specs.declared.hub.Core.TheInside.{Inside}
 use Rattle.hub_core.specs.CoreState.{CoreState}
 use Rattle.hub_core.specs.Index.{AreIndexed, keys}
 use Rattle.hub_core.specs.Numbers.{Ordered}
+use Rattle.hub_core.specs.Told.{AreTold}
 use Rattle.hub_rules.specs.Configured.{most_users}
 
 abbrev pub core_view : Inside → CoreState
@@ -13,12 +14,14 @@ core_view c = record {
   joins = c.joins;
   last = c.last;
   seats = c.seats.items;
-  users = c.commons.users;
+  users = c.commons.present.users;
   bans = c.commons.bans;
   topic = c.commons.topic;
 }
 
 -- no more connections are admitted than a hub may have, each identifier is one, and the seats stand in the order of their joins
--- and are found by their session identifiers
+-- and are found by their session identifiers; the lines that are kept are those of the users who are present
 abbrev pub IsCore : Inside → Type 0
-IsCore c = ((arc_value c.setup).max_users ≤ most_users) × (c.last < 1_048_576) × Ordered c.joins c.seats.items × AreIndexed c.index (keys c.seats.items)
+IsCore c =
+    ((arc_value c.setup).max_users ≤ most_users) × (c.last < 1_048_576) × Ordered c.joins c.seats.items × AreIndexed c.index (keys c.seats.items)
+    × AreTold (arc_value c.setup) c.commons.present

@@ -11,3 +11,4 @@ pub mod Promises
 pub mod Runs
 pub mod Seats
 pub mod State
+pub mod Told

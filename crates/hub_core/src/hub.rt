@@ -13,6 +13,7 @@ ghost use Rattle.hub_rules.specs.Legal.{verdict_of};
 use crate::change::Commons;
 use crate::connection::Connection;
 use crate::look::Look;
+use crate::present::Present;
 use crate::seat::{Seat, add, decide_at, forget, has_seat, place, sids, take_lines, tell_if};
 use crate::share::{Touched, deliver, removal, shares, touched_by, touched_by_quit};
 use crate::sid_index::SidIndex;
@@ -26,7 +27,7 @@ use outboxes::{Outbox, TakeRefused, Taken};
 use std::alloc::{AllocError, Global};
 use std::marker::Model;
 use std::sync::Arc;
-use user_table::{IndexedUsers, Totals, Users};
+use user_table::{Totals, Users};
 
 /// The number of lines that may wait for a connection.
 const MAX_LINES: usize = 1_024;
@@ -79,7 +80,7 @@ impl Core {
             seats,
             index: SidIndex::new(alloc),
             commons: Commons {
-                users: IndexedUsers::new(alloc),
+                present: Present::new(alloc),
                 bans: Bans::new(alloc),
                 topic,
             },
@@ -211,7 +212,7 @@ impl Core {
         let seat = &self.seats[place(&self.seats, connection.number)];
         Look {
             stage: seat.phase.stage(),
-            present: self.commons.users.totals().users,
+            present: self.commons.present.users.totals().users,
             waiting: seat.outbox.waiting(),
         }
     }
@@ -220,7 +221,7 @@ impl Core {
     pub fn totals(&self) -> Totals
         ensures { SumsUp result self.now }
     {
-        self.commons.users.totals()
+        self.commons.present.users.totals()
     }
 
     /// Gives how many joins were accepted. It takes no memory.
@@ -265,7 +266,8 @@ impl Core {
     {
         let hub = Sight {
             setup: &self.setup,
-            users: &self.commons.users,
+            users: &self.commons.present.users,
+            lines: &self.commons.present.lines,
             bans: &self.commons.bans,
             topic: &self.commons.topic,
         };
@@ -298,7 +300,7 @@ impl Core {
         forget(&mut self.seats, number);
         self.index.remove(sid);
         tell_if(&mut self.seats, was_present, sid);
-        self.commons.users.remove(sid);
+        self.commons.present.remove(sid);
     }
 
     /// Carries out what was decided of a line of a connection, whose seat stands at this place, whole or not at all.
@@ -316,7 +318,8 @@ impl Core {
         let shares = shares(alloc, &self.seats, &self.index, number, place, &effect)?;
         let removal = removal(&effect.change);
         let seat = &mut self.seats[place];
-        self.commons.change(seat, effect.change)?;
+        self.commons
+            .change(alloc, &self.setup, seat, effect.change)?;
         deliver(&mut self.seats, shares, &removal);
         Ok(())
     }

@@ -6,6 +6,7 @@ mod change;
 mod connection;
 mod hub;
 mod look;
+mod present;
 mod refused;
 mod seat;
 mod share;

@@ -1,4 +1,4 @@
-ghost use Rattle.std.specs.Prelude.{◌≡◌, ◌≢◌, ◌<◌, ◌≤◌, ◌++◌, ℕ, get_or, length, map, IfNone, IfOk, IfSome, OnOk};
+ghost use Rattle.std.specs.Prelude.{◌≡◌, ◌≢◌, ◌<◌, ◌≤◌, ◌++◌, [], ℕ, get_or, length, map, if◌then◌else◌, IfNone, IfOk, IfSome, OnOk};
 ghost use Rattle.hub_core.specs.Index.{AreIndexed, keys};
 ghost use Rattle.hub_core.specs.Numbers.{Rising, numbers};
 ghost use Rattle.hub_core.specs.Owed.{AreQuietBut, IsMeant, IsOnlyFor, given_all, share_at, shares_from};
@@ -159,10 +159,11 @@ fn push_owed(
     ensures { OnOk result (shares.new.items ≡ shares.old.items ++ share_at place (seat_share number effect.now seat.now)) }
 {
     let is_caller = seat.number == number;
-    if !is_caller && !hears(&seat.phase, is_caller, &effect.hearers, seat.sid) {
+    let hears = hears(&seat.phase, is_caller, &effect.hearers, seat.sid);
+    if !is_caller && !hears {
         return Ok(());
     }
-    let lines = lines_owed(alloc, seat, number, effect)?;
+    let lines = lines_owed(alloc, hears, is_caller, effect)?;
     push_share(shares, place, lines)
 }
 
@@ -184,19 +185,17 @@ fn push_share(shares: &mut Vec<Share>, place: usize, lines: Batch) -> Result<(),
     Ok(())
 }
 
+/// Makes the share of a connection that hears what others hear, or sent the line.
 fn lines_owed(
     alloc: Global,
-    seat: &Seat,
-    number: u64,
+    hears: bool,
+    is_caller: bool,
     effect: &Effect<'_>,
 ) -> Result<Batch, AllocError>
-    ensures { IfOk result (λ share. share ≡ seat_share number effect.now seat.now) }
+    ensures { IfOk result (λ share. share ≡ (if hears then effect.now.others else []) ++ (if is_caller then effect.now.own else [])) }
 {
-    let is_caller = seat.number == number;
     let mut share = Batch::new(alloc);
-    if hears(&seat.phase, is_caller, &effect.hearers, seat.sid)
-        && share.push_all(&effect.others).is_err()
-    {
+    if hears && share.push_all(&effect.others).is_err() {
         return Err(AllocError);
     }
     if is_caller && share.push_all(&effect.own).is_err() {

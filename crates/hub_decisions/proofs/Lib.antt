@@ -2,6 +2,7 @@ pub mod Grounds
 pub mod Found
 pub mod Told
 pub mod Held
+pub mod Keeping
 pub mod Knowing
 pub mod Logging
 pub mod Rivals

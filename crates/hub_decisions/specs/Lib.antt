@@ -4,3 +4,4 @@ pub mod OwnView
 pub mod Requested
 pub mod Commands
 pub mod Findings
+pub mod Present

@@ -7,11 +7,12 @@ ghost use Rattle.login_state.specs.Mentions.{ucmd};
 ghost use Rattle.login_state.specs.Support.{has_feature};
 
 use crate::effect::{one, push};
+use crate::lines::line_of;
 use crate::own::Own;
 use crate::sight::Sight;
 use bytes::Bytes;
 use hub_rules::{Change, Effect, Hearers, SenderChange};
-use hub_setup::{Setup, user_line};
+use hub_setup::Setup;
 use login_state::{Feature, Features};
 use outboxes::Batch;
 use std::alloc::{AllocError, Global};
@@ -28,7 +29,7 @@ pub(crate) fn effect_of_entry<'a>(
 ) -> Result<Effect<'a>, AllocError>
     ensures { IfOk result (λ effect. effect ≡ enters hub.now own.now user.now (Sender Enters)) }
 {
-    let line = line_of(alloc, hub, user)?;
+    let line = line_of(alloc, hub.setup, user)?;
     let shared = line.clone()?;
     Ok(Effect {
         own: welcome(alloc, hub, own.features, user, line)?,
@@ -63,25 +64,17 @@ fn with_menu(setup: &Setup, features: &Features, batch: Batch) -> Result<Batch, 
     setup.menu(batch)
 }
 
-/// Writes the lines of the users who are present, in order of entry.
+/// Makes the batch of the lines of the users who are present, in order of entry. Only those are written that are not kept.
 fn present_lines(alloc: Global, hub: &Sight<'_>) -> Result<Batch, AllocError>
     ensures { IfOk result (λ batch. batch ≡ map (line_of hub.now) hub.now.users) }
 {
-    let mut batch = Batch::new(alloc);
-    let count = hub.users.totals().users;
-    for place in 0..count {
-        let Some(user) = hub.users.at(place as usize) else {
+    let mut batch = hub.lines.share(alloc)?;
+    let count = hub.users.totals().users as usize;
+    for place in hub.lines.len()..count {
+        let Some(user) = hub.users.at(place) else {
             unreachable!()
         };
-        push(&mut batch, line_of(alloc, hub, user)?)?;
+        push(&mut batch, line_of(alloc, hub.setup, user)?)?;
     }
     Ok(batch)
-}
-
-/// Writes the line of a user, with what the hub says of it.
-fn line_of(alloc: Global, hub: &Sight<'_>, user: &User) -> Result<Bytes, AllocError>
-    ensures { IfOk result (λ line. line ≡ line_of hub.now user.now) }
-{
-    let account = hub.setup.account(user.key());
-    user_line(alloc, user.sid(), user.fields(), account)
 }

@@ -8,6 +8,7 @@ mod denial;
 mod effect;
 mod entering;
 mod given;
+mod lines;
 mod login;
 mod message;
 mod own;
@@ -19,5 +20,6 @@ mod update;
 mod words;
 
 pub use decision::decide;
+pub use lines::PresentLines;
 pub use own::Own;
 pub use sight::Sight;

@@ -1,3 +1,4 @@
+use crate::lines::PresentLines;
 use hub_rules::Topic;
 use hub_setup::Setup;
 use operator_acts::Bans;
@@ -11,6 +12,8 @@ pub struct Sight<'a> {
     pub setup: &'a Setup,
     /// The users who are present.
     pub users: &'a IndexedUsers,
+    /// The lines of the first of them, in order.
+    pub lines: &'a PresentLines,
     /// The bans that are held.
     pub bans: &'a Bans,
     /// The topic.
@@ -23,4 +26,8 @@ impl<'a> Model for Sight<'a> {
     ghost Value = { Seen };
 
     ghost view = { λ hub. record { setup = hub.setup.now; users = hub.users.now; bans = hub.bans.now; topic = hub.topic.now } };
+
+    ghost use Rattle.hub_decisions.specs.Present.{AreFirst};
+
+    ghost invariant = { λ hub. AreFirst hub.setup.now hub.users.now hub.lines.now };
 }

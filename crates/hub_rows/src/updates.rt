@@ -81,3 +81,38 @@ fn a_bad_nick_or_address_is_refused(rt: HostRuntime) {
     ",
     );
 }
+
+#[test]
+fn newcomers_are_told_of_all_as_they_are(rt: HostRuntime) {
+    play(
+        &rt,
+        r"
+        ana enters
+        bob enters
+        cy enters
+        bob: BINF AAAC DEhi
+        ana: BINF AAAB NIanna
+        ana quits
+        all take
+        dan joins
+        dan: HSUP ADBASE ADTIGR
+        all take
+        dan: BINF AAAE ID<P3> PD<P3> NIdan
+        dan hears: BINF AAAC ID<P1> NIbob SS5 SF1 SUTCP4 DEhi
+        dan hears: BINF AAAD ID<P2> NIcy
+        dan hears: BINF AAAE ID<P3> NIdan
+        dan hears nothing
+        cy: BINF AAAD DEho
+        bob: BINF AAAC DE SF2
+        ana joins
+        ana: HSUP ADBASE ADTIGR
+        all take
+        ana: BINF AAAF ID<P0> PD<P0> NIana
+        ana hears: BINF AAAC ID<P1> NIbob SS5 SF2 SUTCP4
+        ana hears: BINF AAAD ID<P2> NIcy DEho
+        ana hears: BINF AAAE ID<P3> NIdan
+        ana hears: BINF AAAF ID<P0> NIana
+        ana hears nothing
+    ",
+    );
+}

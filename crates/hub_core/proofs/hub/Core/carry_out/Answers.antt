@@ -1,10 +1,11 @@
-use Rattle.std.proofs.Common.{◌≡◌, ◌∙◌, refl, sym, ap, ap₂, length, map}
+use Rattle.std.proofs.Common.{◌≡◌, ◌∙◌, refl, sym, subst, ap, ap₂, length, map}
 use Rattle.std.specs.Arc.{arc_value}
 use Rattle.std.specs.Vec.{with_item, with_items}
 use Rattle.std.proofs.lemmas.List.{length-set, with_items_is}
 use Rattle.hub_core.specs.CoreState.{CoreState}
 use Rattle.hub_core.specs.Seats.{changed_seat, seat_share, delivered_all}
 use Rattle.hub_core.specs.State.{carried_out}
+use Rattle.hub_core.specs.Told.{AreTold}
 use Rattle.hub_core.proofs.Carried.{carried-as}
 use Rattle.hub_core.proofs.Owed.{delivered-owed}
 use Rattle.hub_core.proofs.Places.{StandsFirst, found-alike}
@@ -23,11 +24,11 @@ returns-clause-ok c =
     delivered-owed c.removal-removal.result (seat_share c.args.number c.args.effect) c.self.inside.seats.items c.deref.result.now c.deref_mut.result.now c.deliver.new.seats c.in_ok-shares.shares.items
     c.deliver.ensures c.in_ok-shares.ensures c.deref.ensures.value
     (sym (ap length c.deref_mut.ensures.value ∙ length-set c.self.inside.seats.items c.args.place c.change.new.seat)) in
-    ap (λ seats. record { setup = arc_value c.self.inside.setup; joins = c.self.inside.joins; last = c.self.inside.last; seats = seats; users = c.change.new.self.users; bans = c.change.new.self.bans; topic = c.change.new.self.topic })
+    ap (λ seats. record { setup = arc_value c.self.inside.setup; joins = c.self.inside.joins; last = c.self.inside.last; seats = seats; users = c.change.new.self.present.users; bans = c.change.new.self.bans; topic = c.change.new.self.topic })
     (with_items_is (with_item c.self.inside.seats c.args.place c.change.new.seat) c.deliver.new.seats
     (ap length given ∙ length-delivered c.removal-removal.result c.deref_mut.result.now (map (seat_share c.args.number c.args.effect) c.self.inside.seats.items) ∙ c.deref_mut.ensures.len))
-    ∙ carried-as (record { setup = arc_value c.self.inside.setup; joins = c.self.inside.joins; last = c.self.inside.last; seats = c.self.inside.seats.items; users = c.self.inside.commons.users; bans = c.self.inside.commons.bans; topic = c.self.inside.commons.topic })
-    c.args.number c.args.effect c.args.place c.index_mut-seat.result.now c.change.new.seat c.deliver.new.seats c.change.new.self.users c.change.new.self.bans c.change.new.self.topic
+    ∙ carried-as (record { setup = arc_value c.self.inside.setup; joins = c.self.inside.joins; last = c.self.inside.last; seats = c.self.inside.seats.items; users = c.self.inside.commons.present.users; bans = c.self.inside.commons.bans; topic = c.self.inside.commons.topic })
+    c.args.number c.args.effect c.args.place c.index_mut-seat.result.now c.change.new.seat c.deliver.new.seats c.change.new.self.present.users c.change.new.self.bans c.change.new.self.topic
     at c.index_mut-seat.ensures.value
     c.in_ok-change.ensures.seat
     (given ∙ ap₂ (λ r ss. delivered_all r ss (map (seat_share c.args.number c.args.effect) c.self.inside.seats.items)) c.removal-removal.ensures c.deref_mut.ensures.value)
@@ -49,5 +50,11 @@ invariant_of-self-2 c =
     ∙ ap keys (c.deref_mut.ensures.value
     ∙ set-read c.args.number (changed_seat c.args.effect.change) c.self.inside.seats.items c.args.place c.index_mut-seat.result.now c.change.new.seat at c.index_mut-seat.ensures.value
     c.in_ok-change.ensures.seat)
-    ∙ keys-changed c.args.number (changed_seat c.args.effect.change) (λ seat. refl) c.self.inside.seats.items in
-    (c.self.invariant.0, c.self.invariant.1, ordered-kept c.self.inside.joins _ _ same c.self.invariant.2, indexed-same c.self.inside.index _ _ same c.self.invariant.3)
+    ∙ keys-changed c.args.number (changed_seat c.args.effect.change) (λ seat. refl) c.self.inside.seats.items in (
+      c.self.invariant.0,
+      c.self.invariant.1,
+      ordered-kept c.self.inside.joins _ _ same c.self.invariant.2,
+      indexed-same c.self.inside.index _ _ same c.self.invariant.3,
+      subst (λ setup. AreTold setup c.change.new.self.present) c.deref-2.ensures
+          (c.in_ok-change.ensures.told (subst (λ setup. AreTold setup c.self.inside.commons.present) (sym c.deref-2.ensures) c.self.invariant.4)),
+    )

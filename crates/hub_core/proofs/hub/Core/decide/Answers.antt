@@ -16,6 +16,6 @@ returns c =
       is_seat = seat-at c.args.number c.self.inside.seats.items c.args.place c.index.result.now at c.index.ensures
           ∙ ap (λ (s : CoreState). in_seat c.args.number (λ x. x) c.index.result.now s.seats) c.self.view_is;
       decided = subst (λ (hub : Sight). Decided hub c.index.result.now c.args.line.now c.args.now c.in_ok-effect.effect)
-          (ap (λ (s : Configured). record { setup = s; users = c.self.inside.commons.users; bans = c.self.inside.commons.bans; topic = c.self.inside.commons.topic }) c.deref.ensures
+          (ap (λ (s : Configured). record { setup = s; users = c.self.inside.commons.present.users; bans = c.self.inside.commons.bans; topic = c.self.inside.commons.topic }) c.deref.ensures
           ∙ ap sight_in c.self.view_is) c.in_ok-effect.ensures;
     }

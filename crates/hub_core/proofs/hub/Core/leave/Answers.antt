@@ -27,7 +27,7 @@ returns c =
     ∙ ap₂ (λ b sid. told_all_if b sid (others_of c.args.number c.self.inside.seats.items))
     (c.is_present-was_present.ensures ∙ ap (λ p. is_present (stage_in p)) (sym (phase-at c.args.number c.self.inside.seats.items c.args.place c.index-seat.result.now at c.index-seat.ensures)))
     (sym (sid-at c.args.number c.self.inside.seats.items c.args.place c.index-seat.result.now at c.index-seat.ensures)))
-    (c.remove-2.ensures.left ∙ ap (λ sid. without_sid sid c.self.inside.commons.users) (sym (sid-at c.args.number c.self.inside.seats.items c.args.place c.index-seat.result.now at c.index-seat.ensures)))
+    (c.remove-2.ensures.users ∙ ap (λ sid. without_sid sid c.self.inside.commons.present.users) (sym (sid-at c.args.number c.self.inside.seats.items c.args.place c.index-seat.result.now at c.index-seat.ensures)))
     ∙ ap (left_core c.args.number) c.self.view_is
 
 pub invariant_of-self : goal.invariant_of-self
@@ -45,4 +45,5 @@ invariant_of-self c =
       indexed-same c.remove.new.self _ _ same
           (indexed-left c.self.inside.index c.remove.new.self c.args.number c.index-seat.result.now.sid c.self.inside.seats.items c.remove.ensures
           (indexed-read c.self.inside.index c.args.number c.self.inside.seats.items c.args.place c.index-seat.result.now at c.index-seat.ensures c.self.invariant.3) c.self.invariant.3),
+      c.remove-2.ensures.told (arc_value c.self.inside.setup) c.self.invariant.4,
     )

@@ -20,7 +20,7 @@ returns c =
         concat (take c.args.count (lines_in c.connection.inside.number c.self.inside.seats.items)),
         c.in_ok-taken.ensures.bytes,
         take-moves _ _ _ _ _ _ _
-            (ap (λ s. record { setup = arc_value c.self.inside.setup; joins = c.self.inside.joins; last = c.self.inside.last; seats = s; users = c.self.inside.commons.users; bans = c.self.inside.commons.bans; topic = c.self.inside.commons.topic }) c.in_ok-taken.ensures.ok
+            (ap (λ s. record { setup = arc_value c.self.inside.setup; joins = c.self.inside.joins; last = c.self.inside.last; seats = s; users = c.self.inside.commons.present.users; bans = c.self.inside.commons.bans; topic = c.self.inside.commons.topic }) c.in_ok-taken.ensures.ok
             ∙ ap (λ (core : CoreState). core_after_take c.connection.inside.number c.args.count core) c.self.view_is
             ∙ ap (λ n. core_after_take n c.args.count c.args.self.now) c.connection.view_is)
             (ap (λ m. concat (take c.args.count m)) lines)
@@ -34,4 +34,4 @@ pub invariant_of-self-2 : goal.invariant_of-self-2
 invariant_of-self-2 c =
     let same : keys c.take_lines.new.seats.items ≡ keys c.self.inside.seats.items =
     ap keys c.in_ok-taken.ensures.ok ∙ keys-changed c.connection.inside.number (seat_after_take c.args.count) (λ seat. refl) c.self.inside.seats.items in
-    (c.self.invariant.0, c.self.invariant.1, ordered-kept c.self.inside.joins _ _ same c.self.invariant.2, indexed-same c.self.inside.index _ _ same c.self.invariant.3)
+    (c.self.invariant.0, c.self.invariant.1, ordered-kept c.self.inside.joins _ _ same c.self.invariant.2, indexed-same c.self.inside.index _ _ same c.self.invariant.3, c.self.invariant.4)
