@@ -160,7 +160,10 @@ fn push_owed(
 {
     let is_caller = seat.number == number;
     let hears = hears(&seat.phase, is_caller, &effect.hearers, seat.sid);
-    if !is_caller && !hears {
+    if !is_caller {
+        if hears {
+            return push_share(shares, place, effect.others.share()?);
+        }
         return Ok(());
     }
     let lines = lines_owed(alloc, hears, is_caller, effect)?;

@@ -76,12 +76,14 @@ impl Batch {
         Ok(())
     }
 
-    /// Makes another batch of the same lines.
-    fn share(&self) -> Result<Batch, AllocError>
+    /// Makes another batch of the same lines. The bytes are shared and not copied.
+    pub fn share(&self) -> Result<Batch, AllocError>
         ensures { IfOk result (λ batch. batch ≡ self.now) }
     {
         let mut rest = Vec::new(*self.rest.allocator());
-        push_copies(&mut rest, &self.rest)?;
+        if !self.rest.is_empty() {
+            push_copies(&mut rest, &self.rest)?;
+        }
         Ok(Batch {
             first: self.first.clone()?,
             rest,

@@ -216,7 +216,12 @@ impl Outbox {
         write_first(&self.places, count, out)?;
         let left = self.places.len() - count;
         self.bytes -= out.len() - start;
-        self.places.truncate_front(left);
+        if left == 0 {
+            // So the next lines go to the places that were used last, which the processor has at hand.
+            self.places.clear();
+        } else {
+            self.places.truncate_front(left);
+        }
         Ok(Taken {
             lines: count as u64,
             ended: left == 0 && self.lags,
