@@ -42,6 +42,7 @@ pub mod Secrets
 pub mod Stages
 pub mod Steps
 pub mod Strangers
+pub mod Taking
 pub mod Telling
 pub mod Turning
 pub mod Updating

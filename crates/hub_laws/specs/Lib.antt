@@ -17,6 +17,7 @@ pub mod Lags
 pub mod Messages
 pub mod PasswordLogins
 pub mod Talking
+pub mod Taking
 pub mod Telling
 pub mod Visitors
 pub mod Welcoming

@@ -21,6 +21,7 @@ ghost use Rattle.hub_laws.specs.Registered.{NicksAreProved, OnlyAccountsEnter};
 ghost use Rattle.hub_laws.specs.Removing.{NamesakesComeLater, OnlyUsersAreRemoved, RemovalsAreHeard, RemovalsComeFirst};
 ghost use Rattle.hub_laws.specs.Routing.{EmptyLinesOweNothing, JoinsAndTakesOweNothing, MessagesAreRouted, QuietQuits, StrangersAreNotHeard, WhoIsOutIsNotHeard};
 ghost use Rattle.hub_laws.specs.Secrets.{InfoIsPublic, UpdatesAreHeard, UpdatesArePassed};
+ghost use Rattle.hub_laws.specs.Taking.{DecidedIsTaken};
 ghost use Rattle.hub_laws.specs.Telling.{ActsAreHeard};
 ghost use Rattle.hub_laws.specs.Welcoming.{EntrantsAreWelcomed, EntriesAreHeard};
 
@@ -162,4 +163,10 @@ pub fn knowledge_laws()
 pub fn counting_laws()
     ensures search { SearchIsTheLast }
     ensures totals { TotalsAreSums }
+{}
+
+/// Says of what is decided that it is carried out: who enters has a nick and a client identifier that nobody has, an update gives
+/// no other user's nick, and there is room for a ban. So where a line is refused, only memory can be wanting.
+pub fn decision_laws()
+    ensures { DecidedIsTaken }
 {}

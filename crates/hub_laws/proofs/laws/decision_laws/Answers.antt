@@ -1,0 +1,5 @@
+use Rattle.hub_laws.proofs.Taking.{decided_is_taken}
+use Rattle.hub_laws.proofs.laws.decision_laws.Goals as goal
+
+pub returns : goal.returns
+returns c = decided_is_taken
