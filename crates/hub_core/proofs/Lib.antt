@@ -11,4 +11,5 @@ pub mod Seating
 pub mod Sharing
 pub mod Standing
 pub mod Tests
+pub mod Touching
 pub mod Users

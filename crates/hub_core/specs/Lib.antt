@@ -12,3 +12,4 @@ pub mod Runs
 pub mod Seats
 pub mod State
 pub mod Told
+pub mod Touching

@@ -1,12 +1,15 @@
-ghost use Rattle.std.specs.Prelude.{◌≡◌, ◌≢◌, ◌<◌, ◌≤◌, ◌++◌, [], ℕ, get_or, length, map, if◌then◌else◌, IfNone, IfOk, IfSome, OnOk};
+ghost use Rattle.std.specs.Prelude.{◌≡◌, ◌≢◌, ◌<◌, ◌≤◌, ◌++◌, [], ℕ, true, get_or, length, map, if◌then◌else◌, IfNone, IfOk, IfSome, OnOk};
 ghost use Rattle.hub_core.specs.Index.{AreIndexed, keys};
 ghost use Rattle.hub_core.specs.Numbers.{Rising, numbers};
 ghost use Rattle.hub_core.specs.Owed.{AreQuietBut, IsMeant, IsOnlyFor, given_all, share_at, shares_from};
-ghost use Rattle.hub_core.specs.Phases.{is_among, phase_hears};
+ghost use Rattle.hub_core.specs.Phases.{is_among, phase_hears, stage_in};
 ghost use Rattle.hub_core.specs.Seats.{removed_of, removed_seat, seat_share};
 ghost use Rattle.hub_core.specs.State.{IsPlace};
+ghost use Rattle.hub_core.specs.Touching.{NamesHearers, NamesOthers, NamesOwed, names};
 ghost use Rattle.hub_core.specs.declared.seat.Removal.TheVariants.{User};
 ghost use Rattle.hub_core.specs.declared.seat.Seat.{Seat};
+ghost use Rattle.hub_rules.specs.declared.effect.Hearers.TheVariants.{Those};
+ghost use Rattle.hub_rules.specs.Effects.{is_present};
 
 use crate::seat::{Phase, Removal, Seat, find};
 use crate::sid_index::SidIndex;
@@ -282,15 +285,31 @@ pub enum Touched {
 }
 
 /// Names whom the effect of a line of the connection with this identifier concerns.
-pub(crate) fn touched_by(sid: Sid, effect: &Effect<'_>) -> Touched {
-    let hearing = if effect.others.is_empty() {
-        Touched::Nobody
-    } else {
-        hearing(&effect.hearers)
-    };
+pub(crate) fn touched_by(sid: Sid, effect: &Effect<'_>) -> Touched
+    ensures { NamesOwed result sid effect.now }
+{
+    let hearing = touched_others(effect);
     if effect.own.is_empty() {
         return hearing;
     }
+    with_sender(hearing, sid)
+}
+
+/// Names who may hear the lines of an effect that are for others.
+fn touched_others(effect: &Effect<'_>) -> Touched
+    ensures { NamesOthers result effect.now }
+{
+    if effect.others.is_empty() {
+        return Touched::Nobody;
+    }
+    hearing(&effect.hearers)
+}
+
+/// Names the sender of a line, too; everybody, where these are more than two.
+fn with_sender(hearing: Touched, sid: Sid) -> Touched
+    ensures hearing { (s : ℕ) → names hearing s ≡ true → names result s ≡ true }
+    ensures sender { names result sid ≡ true }
+{
     match hearing {
         Touched::Nobody => Touched::One(sid),
         Touched::One(one) => Touched::Two(one, sid),
@@ -299,7 +318,9 @@ pub(crate) fn touched_by(sid: Sid, effect: &Effect<'_>) -> Touched {
 }
 
 /// Names whom it concerns that a connection leaves which has come this far.
-pub(crate) fn touched_by_quit(phase: &Phase) -> Touched {
+pub(crate) fn touched_by_quit(phase: &Phase) -> Touched
+    ensures { is_present (stage_in phase.now) ≡ true → (sid : ℕ) → names result sid ≡ true }
+{
     if phase.is_present() {
         Touched::Everybody
     } else {
@@ -307,14 +328,18 @@ pub(crate) fn touched_by_quit(phase: &Phase) -> Touched {
     }
 }
 
-fn hearing(hearers: &Hearers<'_>) -> Touched {
+fn hearing(hearers: &Hearers<'_>) -> Touched
+    ensures { NamesHearers result hearers.now }
+{
     match hearers {
         Hearers::Others => Touched::Everybody,
         Hearers::Those(audience) => among(audience),
     }
 }
 
-fn among(audience: &Audience<'_>) -> Touched {
+fn among(audience: &Audience<'_>) -> Touched
+    ensures { NamesHearers result (Those audience.now) }
+{
     match audience {
         Audience::All | Audience::Having(_) => Touched::Everybody,
         Audience::One(sid) => Touched::One(*sid),
