@@ -271,7 +271,7 @@ pub(crate) fn removal(change: &Change) -> Removal
 }
 
 /// The users whom a call concerned: to whose connections it gave lines, or whom it shut out. It is a hint for those who
-/// wake what waits for lines: it may name somebody too many, and no promise rests on it.
+/// wake what waits for lines. Everybody to whom a line or a quit owes lines is named, and maybe somebody too many.
 #[derive(Clone, Copy, Debug, PartialEq, Eq)]
 pub enum Touched {
     /// No user.
