@@ -19,7 +19,7 @@ use tokio::io::{AsyncRead, AsyncWrite};
 const BATCH: usize = 256;
 
 /// The number of bytes for output that a session keeps room for while it rests.
-const KEPT: usize = 4_096;
+const KEPT: usize = 512;
 
 /// The number of turns that one poll makes at most.
 const TURNS: u8 = 64;
