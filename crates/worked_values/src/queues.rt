@@ -94,14 +94,22 @@ fn push(rt: &(impl Abort + Print), batch: &mut Batch, line: &Bytes) {
     }
 }
 
-/// Makes a batch of the same lines.
+/// Makes a batch of the same lines, by way of another.
 fn copy_of(rt: &(impl Abort + AllocGlobal + Print), batch: &Batch) -> Batch {
+    let shared = shared(rt, batch);
     let mut copy = Batch::new(rt.alloc());
-    if copy.push_all(batch).is_err() {
+    if copy.push_all(&shared).is_err() {
         say_refused_memory(rt, "outboxes::Batch::push_all", copy.is_empty());
-        assert!(rt; copy.push_all(batch).is_ok(), "not pushed");
+        assert!(rt; copy.push_all(&shared).is_ok(), "not pushed");
     }
     copy
+}
+
+fn shared(rt: &(impl Abort + AllocGlobal + Print), batch: &Batch) -> Batch {
+    match twice!(rt; "outboxes::Batch::share", AllocError, batch.share()) {
+        Ok(shared) => shared,
+        Err(_) => unknown(rt, "shares_again"),
+    }
 }
 
 impl Queue {
