@@ -3,7 +3,7 @@ use crate::rows::{
     Part, byte, number, pair, play, say, say_bytes, say_next, say_number, say_refused_memory,
     say_whether, small, twice, unknown,
 };
-use adc_ids::Cid;
+use adc_ids::{Cid, Nick};
 use operator_acts::{Act, ActFault, BanRefused, Bans, FreeText, Left};
 use std::alloc::{AllocGlobal, Global};
 use std::io::Print;
@@ -37,19 +37,19 @@ impl Part for Acts {
 fn say_act(rt: &(impl Abort + AllocGlobal + Print), said: &mut Vec<u8>, act: Act<'_>) {
     match act {
         Act::Kick { nick, reason } => {
-            say(rt, said, "kick ");
-            say(rt, said, &key(rt, &nick));
+            say_whom(rt, said, "kick ", &nick);
             say_text(rt, said, &reason);
+            drop(nick);
         }
         Act::Ban {
             nick,
             seconds,
             reason,
         } => {
-            say(rt, said, "ban ");
-            say(rt, said, &key(rt, &nick));
+            say_whom(rt, said, "ban ", &nick);
             say_number(rt, said, seconds as u128);
             say_text(rt, said, &reason);
+            drop(nick);
         }
         Act::Unban(cid) => {
             say(rt, said, "unban ");
@@ -60,6 +60,13 @@ fn say_act(rt: &(impl Abort + AllocGlobal + Print), said: &mut Vec<u8>, act: Act
             say_text(rt, said, &topic);
         }
     }
+}
+
+fn say_whom(rt: &(impl Abort + AllocGlobal + Print), said: &mut Vec<u8>, act: &str, nick: &Nick) {
+    let key = key(rt, nick);
+    say(rt, said, act);
+    say(rt, said, &key);
+    drop(key);
 }
 
 fn say_text(rt: &impl Abort, said: &mut Vec<u8>, text: &FreeText<'_>) {
@@ -86,21 +93,25 @@ impl Part for BanList {
     ) {
         match name {
             "alone" => say_what_is_left(rt, text, said),
-            "fill" => self.fill(rt, small(rt, text), said),
+            "fill" => fill(rt, &mut self.bans, small(rt, text), said),
             "count" => say_number(rt, said, self.bans.count() as u128),
-            _ => self.on_one(rt, name, text, said),
+            _ => on_one(rt, &mut self.bans, name, text, said),
         }
     }
 }
 
 /// Reads the client identifier that two numbers tell, and gives what stands behind them.
 fn cid_of<'t>(rt: &impl Abort, text: &'t str) -> (Cid, &'t str) {
-    let mut bytes = [0; 24];
     let (first, rest) = pair(text, ' ');
     let (last, rest) = pair(rest, ' ');
-    bytes[0] = byte(rt, first);
-    bytes[23] = byte(rt, last);
-    (Cid::from_bytes(bytes), rest)
+    (cid_between(byte(rt, first), byte(rt, last)), rest)
+}
+
+fn cid_between(first: u8, last: u8) -> Cid {
+    let mut bytes = [0; 24];
+    bytes[0] = first;
+    bytes[23] = last;
+    Cid::from_bytes(bytes)
 }
 
 /// Says what is left of the one ban before it is set and then, and of two others.
@@ -108,82 +119,86 @@ fn say_what_is_left(rt: &(impl Abort + AllocGlobal + Print), text: &str, said: &
     let (seconds, rest) = pair(text, ' ');
     let (from, now) = pair(rest, ' ');
     let now = number(rt, now);
-    let mut list = BanList {
-        bans: Bans::new(rt.alloc()),
-    };
-    let (cid, _) = cid_of(rt, "7 7");
-    say_left(rt, said, list.bans.left(cid, now));
-    let mut added = Vec::new(rt.alloc());
-    list.add(rt, cid, small(rt, seconds), number(rt, from), &mut added);
-    assert!(rt; added.as_slice() == b"ok".as_slice());
-    for other in ["7 7", "7 8", "8 7"] {
-        let (cid, _) = cid_of(rt, other);
-        say_left(rt, said, list.bans.left(cid, now));
+    let mut bans = Bans::new(rt.alloc());
+    say_left(rt, said, bans.left(cid_between(7, 7), now));
+    let added = add(
+        rt,
+        &mut bans,
+        cid_between(7, 7),
+        small(rt, seconds),
+        number(rt, from),
+    );
+    assert!(rt; added == "ok", "not added");
+    for (first, last) in [(7, 7), (7, 8), (8, 7)] {
+        say_left(rt, said, bans.left(cid_between(first, last), now));
+    }
+    drop(bans);
+}
+
+fn on_one<R: Abort + AllocGlobal + Print>(
+    rt: &R,
+    bans: &mut Bans,
+    name: &str,
+    text: &str,
+    said: &mut Vec<u8>,
+) {
+    let (cid, rest) = cid_of(rt, text);
+    match name {
+        "add" => {
+            let (seconds, now) = pair(rest, ' ');
+            let answer = add(rt, bans, cid, small(rt, seconds), number(rt, now));
+            say(rt, said, answer);
+        }
+        "left" => say_left(rt, said, bans.left(cid, number(rt, rest))),
+        "remove" => say_whether(rt, said, bans.remove(cid)),
+        _ => unknown(rt, name),
     }
 }
 
-impl BanList {
-    fn on_one<R: Abort + AllocGlobal + Print>(
-        &mut self,
-        rt: &R,
-        name: &str,
-        text: &str,
-        said: &mut Vec<u8>,
-    ) {
-        let (cid, rest) = cid_of(rt, text);
-        let (one, other) = pair(rest, ' ');
-        match name {
-            "add" => self.add(rt, cid, small(rt, one), number(rt, other), said),
-            "left" => say_left(rt, said, self.bans.left(cid, number(rt, one))),
-            "remove" => say_whether(rt, said, self.bans.remove(cid)),
-            _ => unknown(rt, name),
+/// Adds a ban, and gives what is answered. Where memory is refused all is as before, and the ban is added again.
+fn add(
+    rt: &(impl Abort + Print),
+    bans: &mut Bans,
+    cid: Cid,
+    seconds: u32,
+    now: u64,
+) -> &'static str {
+    let before = view_of(bans, cid, now);
+    let answer = match bans.add(cid, seconds, now) {
+        Err(BanRefused::Memory) => {
+            let same = view_of(bans, cid, now) == before;
+            say_refused_memory(rt, "operator_acts::Bans::add", same);
+            bans.add(cid, seconds, now)
         }
+        answer => answer,
+    };
+    match answer {
+        Ok(()) => "ok",
+        Err(BanRefused::Full) => "Full",
+        Err(BanRefused::Memory) => "Memory",
     }
+}
 
-    /// Adds a ban. Where memory is refused all is as before, and the ban is added again.
-    fn add(
-        &mut self,
-        rt: &(impl Abort + Print),
-        cid: Cid,
-        seconds: u32,
-        now: u64,
-        said: &mut Vec<u8>,
-    ) {
-        let (count, left) = (self.bans.count(), self.bans.left(cid, now));
-        let first = Cid::from_bytes([0; 24]);
-        let before = self.bans.left(first, now);
-        let answer = match self.bans.add(cid, seconds, now) {
-            Err(BanRefused::Memory) => {
-                let same = self.bans.count() == count && self.bans.left(cid, now) == left;
-                say_refused_memory(
-                    rt,
-                    "operator_acts::Bans::add",
-                    same && self.bans.left(first, now) == before,
-                );
-                self.bans.add(cid, seconds, now)
-            }
-            answer => answer,
-        };
-        match answer {
-            Ok(()) => say(rt, said, "ok"),
-            Err(BanRefused::Full) => say(rt, said, "Full"),
-            Err(BanRefused::Memory) => say(rt, said, "Memory"),
-        }
-    }
+/// Gives how many bans there are, and what is left of one and of that of the client identifier 0.
+fn view_of(bans: &Bans, cid: Cid, now: u64) -> (usize, Left, Left) {
+    (
+        bans.count(),
+        bans.left(cid, now),
+        bans.left(cid_between(0, 0), now),
+    )
+}
 
-    /// Bans so many for a second from the moment 0.
-    fn fill(&mut self, rt: &(impl Abort + Print), count: u32, said: &mut Vec<u8>) {
-        for number in 0..count {
-            let mut bytes = [0; 24];
-            bytes[0] = (number / 256 % 256) as u8;
-            bytes[23] = (number % 256) as u8;
-            said.clear();
-            self.add(rt, Cid::from_bytes(bytes), 1, 0, said);
-            if said.as_slice() != b"ok".as_slice() {
-                return;
-            }
+/// Bans so many for a second from the moment 0, until one is refused; says the last answer.
+fn fill(rt: &(impl Abort + Print), bans: &mut Bans, count: u32, said: &mut Vec<u8>) {
+    let mut answer = "";
+    for number in 0..count {
+        let cid = cid_between((number / 256 % 256) as u8, (number % 256) as u8);
+        answer = add(rt, bans, cid, 1, 0);
+        if answer != "ok" {
+            break;
         }
     }
+    say(rt, said, answer);
 }
 
 fn say_left(rt: &(impl Abort + AllocGlobal), said: &mut Vec<u8>, left: Left) {
@@ -304,13 +319,11 @@ fn refuses_other_texts(rt: HostRuntime) {
 }
 
 pub(crate) fn play_bans<R: Abort + AllocGlobal + Print>(rt: &R, rows: &str) {
-    play(
-        rt,
-        &mut BanList {
-            bans: Bans::new(rt.alloc()),
-        },
-        rows,
-    );
+    let mut list = BanList {
+        bans: Bans::new(rt.alloc()),
+    };
+    play(rt, &mut list, rows);
+    drop(list);
 }
 
 #[test]

@@ -26,31 +26,74 @@ impl Part for User {
         said: &mut Vec<u8>,
     ) {
         match name {
-            "read" => say_read(rt, said, read(rt, text).as_ref()),
-            "pass" => passed_on(rt, [127, 0, 0, 1], text, said),
-            "pass_10.0.0.1" => passed_on(rt, [10, 0, 0, 1], text, said),
-            "merge" => self.merge(rt, text, said),
-            "fits" => say_whether(rt, said, self.fields.fits(&update(rt, text))),
-            "print" => say(rt, said, &print_fields(rt, &self.fields)),
+            "merge" => merge(rt, &mut self.fields, text, said),
+            "fits" => say_whether(rt, said, fits(rt, &self.fields, text)),
+            "print" => say_fields(rt, said, &self.fields),
             "get" => say_value(rt, said, self.fields.get(field(rt, text))),
-            "name" => say_name(rt, said, bytes),
-            "known" => say_bytes(rt, said, &field(rt, text).bytes()),
-            "dotted" => say_spelling(rt, text, said),
-            "amount" => say_amount(rt, said, shared_amount(text)),
-            "bad_number" => say_field(rt, said, update(rt, text).bad_number()),
-            _ => say_told_value(rt, name, text, said),
+            _ => say_of_words(rt, name, text, bytes, said),
         }
     }
 }
 
-/// Says what an update tells of a field.
-fn say_told_value(
-    rt: &(impl Abort + AllocGlobal + Print),
+// Each of these calls knows few words: a body that tells many apart is dear to prove.
+
+/// Makes a call that needs no user.
+fn say_of_words<R: Abort + AllocGlobal + Print>(
+    rt: &R,
+    name: &str,
+    text: &str,
+    bytes: &[u8],
+    said: &mut Vec<u8>,
+) {
+    match name {
+        "name" => say_name(rt, said, bytes),
+        "known" => say_bytes(rt, said, &field(rt, text).bytes()),
+        "dotted" => say_spelling(rt, text, said),
+        "amount" => say_amount(rt, said, shared_amount(text)),
+        _ => say_of_update(rt, name, text, said),
+    }
+}
+
+/// Makes a call on the update that a line says.
+fn say_of_update<R: Abort + AllocGlobal + Print>(
+    rt: &R,
     name: &str,
     line: &str,
     said: &mut Vec<u8>,
 ) {
-    say_value(rt, said, update(rt, line).get(field(rt, name)));
+    match name {
+        "read" => say_read(rt, line, said),
+        "pass" => passed_on(rt, [127, 0, 0, 1], line, said),
+        "pass_10.0.0.1" => passed_on(rt, [10, 0, 0, 1], line, said),
+        _ => say_told(rt, name, line, said),
+    }
+}
+
+/// Says what an update tells of its numbers, or of a field.
+fn say_told(rt: &(impl Abort + AllocGlobal + Print), name: &str, line: &str, said: &mut Vec<u8>) {
+    let update = update(rt, line);
+    match name {
+        "bad_number" => say_field(rt, said, update.bad_number()),
+        _ => say_value(rt, said, update.get(field(rt, name))),
+    }
+    drop(update);
+}
+
+fn fits(rt: &(impl Abort + AllocGlobal + Print), fields: &Fields, line: &str) -> bool {
+    let update = update(rt, line);
+    let fits = fields.fits(&update);
+    drop(update);
+    fits
+}
+
+pub(crate) fn say_fields(
+    rt: &(impl Abort + AllocGlobal + Print),
+    said: &mut Vec<u8>,
+    fields: &Fields,
+) {
+    let text = print_fields(rt, fields);
+    say(rt, said, &text);
+    drop(text);
 }
 
 /// Reads the update that the words of a line say; a line without letters has no words.
@@ -58,8 +101,14 @@ fn read(rt: &(impl Abort + AllocGlobal + Print), line: &str) -> Result<Update, I
     if line.is_empty() {
         return read_words(rt, &[]);
     }
-    let words: Vec<&str> = again!(rt; line.split(' ').collect(rt.alloc()));
-    read_words(rt, &words)
+    let words = again!(rt; words_of(rt.alloc(), line));
+    let answer = read_words(rt, &words);
+    drop(words);
+    answer
+}
+
+fn words_of<'a>(alloc: Global, line: &'a str) -> Result<Vec<&'a str>, AllocError> {
+    line.split(' ').collect(alloc)
 }
 
 fn read_words(rt: &(impl Abort + AllocGlobal + Print), words: &[&str]) -> Result<Update, InfFault> {
@@ -96,24 +145,27 @@ fn fault_name(fault: InfFault) -> &'static str {
     }
 }
 
-fn say_read(
-    rt: &(impl Abort + AllocGlobal + Print),
-    said: &mut Vec<u8>,
-    answer: Result<&Update, &InfFault>,
-) {
-    match answer {
-        Ok(update) => say_update(rt, said, update),
-        Err(fault) => say(rt, said, fault_name(*fault)),
+fn say_read(rt: &(impl Abort + AllocGlobal + Print), line: &str, said: &mut Vec<u8>) {
+    match read(rt, line) {
+        Ok(update) => {
+            say_update(rt, said, &update);
+            drop(update);
+        }
+        Err(fault) => say(rt, said, fault_name(fault)),
     }
 }
 
 fn say_update(rt: &(impl Abort + AllocGlobal + Print), said: &mut Vec<u8>, update: &Update) {
+    let text = print_update(rt, update);
+    assert!(rt; update.is_empty() == text.is_empty(), "print");
+    say(rt, said, &text);
+    drop(text);
+}
+
+fn print_update(rt: &(impl Abort + AllocGlobal + Print), update: &Update) -> String {
     match twice!(rt; "inf_fields::Update::print", InfFault::Memory, print_once(rt.alloc(), update))
     {
-        Ok(text) => {
-            assert!(rt; update.is_empty() == text.is_empty());
-            say(rt, said, &text);
-        }
+        Ok(text) => text,
         Err(_) => unknown(rt, "print"),
     }
 }
@@ -133,7 +185,17 @@ fn passed_on(
     line: &str,
     said: &mut Vec<u8>,
 ) {
-    say_update(rt, said, &clean_from(rt, &update(rt, line), peer));
+    let update = clean_update(rt, line, peer);
+    say_update(rt, said, &update);
+    drop(update);
+}
+
+/// Makes the update that a line says, as it is passed on from an address.
+fn clean_update(rt: &(impl Abort + AllocGlobal + Print), line: &str, peer: [u8; 4]) -> Update {
+    let update = update(rt, line);
+    let clean = clean_from(rt, &update, peer);
+    drop(update);
+    clean
 }
 
 pub(crate) fn print_fields(rt: &(impl Abort + AllocGlobal + Print), fields: &Fields) -> String {
@@ -182,14 +244,23 @@ fn say_field(rt: &impl Abort, said: &mut Vec<u8>, name: Option<FieldName>) {
 }
 
 fn say_spelling(rt: &(impl Abort + AllocGlobal + Print), text: &str, said: &mut Vec<u8>) {
-    let (a, rest) = pair(text, ' ');
-    let (b, rest) = pair(rest, ' ');
-    let (c, d) = pair(rest, ' ');
-    let peer = [byte(rt, a), byte(rt, b), byte(rt, c), byte(rt, d)];
+    let peer = address(rt, text);
     match twice!(rt; "inf_fields::dotted_decimal", AllocError, dotted_decimal(rt.alloc(), peer)) {
         Ok(text) => say(rt, said, &text),
         Err(_) => unknown(rt, "dotted"),
     }
+}
+
+/// Reads four numbers with blanks between.
+fn address(rt: &impl Abort, text: &str) -> [u8; 4] {
+    let mut address = [0; 4];
+    let mut rest = text;
+    for number in &mut address {
+        let (front, behind) = pair(rest, ' ');
+        *number = byte(rt, front);
+        rest = behind;
+    }
+    address
 }
 
 fn say_amount(rt: &(impl Abort + AllocGlobal), said: &mut Vec<u8>, amount: Option<u64>) {
@@ -199,51 +270,75 @@ fn say_amount(rt: &(impl Abort + AllocGlobal), said: &mut Vec<u8>, amount: Optio
     }
 }
 
-impl User {
-    /// Merges a line, cleaned for 127.0.0.1, and tells what is known then. Where it is refused all is as before.
-    fn merge(&mut self, rt: &(impl Abort + AllocGlobal + Print), line: &str, said: &mut Vec<u8>) {
-        let update = clean_from(rt, &update(rt, line), [127, 0, 0, 1]);
-        let before = print_fields(rt, &self.fields);
-        let fits = self.fields.fits(&update);
-        let answer = match self.fields.merge(&update) {
-            Err(InfFault::Memory) => {
-                say_refused_memory(
-                    rt,
-                    "inf_fields::Fields::merge",
-                    print_fields(rt, &self.fields) == before,
-                );
-                self.fields.merge(&update)
-            }
-            answer => answer,
-        };
-        let after = print_fields(rt, &self.fields);
-        assert!(rt;
-            fits == answer.is_ok() && (fits || before == after),
-            "{line}"
-        );
-        match answer {
-            Ok(()) => say(rt, said, &after),
-            Err(fault) => say(rt, said, fault_name(fault)),
+/// Merges a line, cleaned for 127.0.0.1, and tells what is known then. Where it is refused all is as before.
+fn merge(
+    rt: &(impl Abort + AllocGlobal + Print),
+    fields: &mut Fields,
+    line: &str,
+    said: &mut Vec<u8>,
+) {
+    let update = clean_update(rt, line, [127, 0, 0, 1]);
+    let before = print_fields(rt, fields);
+    let fits = fields.fits(&update);
+    let answer = merge_twice(rt, fields, &update, &before);
+    assert!(rt; fits == answer.is_ok(), "fits");
+    match answer {
+        Ok(()) => say_fields(rt, said, fields),
+        Err(fault) => {
+            assert!(rt;
+                is_printed(rt, fields, &before),
+                "a refusal changed something"
+            );
+            say(rt, said, fault_name(fault));
         }
     }
+    drop(before);
+    drop(update);
+}
+
+/// Merges an update, once more where memory was refused: the fields are as before then.
+fn merge_twice(
+    rt: &(impl Abort + AllocGlobal + Print),
+    fields: &mut Fields,
+    update: &Update,
+    before: &str,
+) -> Result<(), InfFault> {
+    match merge_once(fields, update) {
+        Err(InfFault::Memory) => {
+            let same = is_printed(rt, fields, before);
+            say_refused_memory(rt, "inf_fields::Fields::merge", same);
+            merge_once(fields, update)
+        }
+        answer => answer,
+    }
+}
+
+fn merge_once(fields: &mut Fields, update: &Update) -> Result<(), InfFault> {
+    fields.merge(update)
+}
+
+fn is_printed(rt: &(impl Abort + AllocGlobal + Print), fields: &Fields, before: &str) -> bool {
+    let text = print_fields(rt, fields);
+    let same = text.as_str() == before;
+    drop(text);
+    same
 }
 
 /// Gives what is known of a user who said a line.
 pub(crate) fn fields_of_line(rt: &(impl Abort + AllocGlobal + Print), line: &str) -> Fields {
     let update = update(rt, line);
     let mut fields = Fields::new(rt.alloc());
-    again!(rt; fields.merge(&update));
+    again!(rt; merge_once(&mut fields, &update));
+    drop(update);
     fields
 }
 
 pub(crate) fn play_user<R: Abort + AllocGlobal + Print>(rt: &R, rows: &str) {
-    play(
-        rt,
-        &mut User {
-            fields: Fields::new(rt.alloc()),
-        },
-        rows,
-    );
+    let mut user = User {
+        fields: Fields::new(rt.alloc()),
+    };
+    play(rt, &mut user, rows);
+    drop(user);
 }
 
 #[test]

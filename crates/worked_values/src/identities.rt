@@ -20,29 +20,52 @@ impl Part for Identities {
     ) {
         match name {
             "identifier" => identifier(rt, bytes, said),
-            "nick" => match parse_nick(rt, text) {
-                Ok(nick) => say(rt, said, &key(rt, &nick)),
-                Err(NickFault::Invalid) => say(rt, said, "Invalid"),
-                Err(NickFault::Memory) => say(rt, said, "Memory"),
-            },
+            "nick" => say_nick(rt, text, said),
             "alike" => alike(rt, text, said),
             _ => unknown(rt, name),
         }
     }
 }
 
+fn say_nick(rt: &(impl Abort + AllocGlobal + Print), text: &str, said: &mut Vec<u8>) {
+    match parse_nick(rt, text) {
+        Ok(nick) => say_key(rt, said, nick),
+        Err(NickFault::Invalid) => say(rt, said, "Invalid"),
+        Err(NickFault::Memory) => say(rt, said, "Memory"),
+    }
+}
+
+fn say_key(rt: &(impl Abort + AllocGlobal + Print), said: &mut Vec<u8>, nick: Nick) {
+    let key = key(rt, &nick);
+    say(rt, said, &key);
+    drop(key);
+    drop(nick);
+}
+
 /// Says what a text says as a client identifier, and the same as a private one.
 fn identifier(rt: &impl Abort, text: &[u8], said: &mut Vec<u8>) {
-    match (Cid::parse(text), Pid::parse(text)) {
-        (Some(cid), Some(pid)) => {
-            let bytes = cid.bytes();
-            assert!(rt; cid == Cid::from_bytes(bytes) && pid.bytes() == bytes);
-            assert!(rt; cid.text().as_slice() == text);
+    match (cid_bytes(text), pid_bytes(text)) {
+        (Some(bytes), Some(private)) => {
+            assert!(rt; private == bytes && is_text_of(bytes, text), "they differ");
             say_bytes(rt, said, &bytes);
         }
         (None, None) => say(rt, said, "none"),
         _ => say(rt, said, "they differ"),
     }
+}
+
+fn cid_bytes(text: &[u8]) -> Option<[u8; 24]> {
+    Some(Cid::parse(text)?.bytes())
+}
+
+fn pid_bytes(text: &[u8]) -> Option<[u8; 24]> {
+    Some(Pid::parse(text)?.bytes())
+}
+
+/// Answers whether the client identifier of these bytes is the one that the text says, and is said so.
+fn is_text_of(bytes: [u8; 24], text: &[u8]) -> bool {
+    let cid = Cid::from_bytes(bytes);
+    cid.text().as_slice() == text && Cid::parse(text) == Some(cid)
 }
 
 fn parse_nick(rt: &(impl Abort + AllocGlobal + Print), text: &str) -> Result<Nick, NickFault> {
@@ -67,8 +90,17 @@ pub(crate) fn key(rt: &(impl Abort + AllocGlobal + Print), nick: &Nick) -> Strin
 /// Says whether two nicks have one key.
 fn alike(rt: &(impl Abort + AllocGlobal + Print), text: &str, said: &mut Vec<u8>) {
     let (one, other) = pair(text, ' ');
-    let (one, other) = (key(rt, &nick(rt, one)), key(rt, &nick(rt, other)));
+    let (one, other) = (key_of(rt, one), key_of(rt, other));
     say_whether(rt, said, one.as_str() == other.as_str());
+    drop(one);
+    drop(other);
+}
+
+pub(crate) fn key_of(rt: &(impl Abort + AllocGlobal + Print), text: &str) -> String {
+    let nick = nick(rt, text);
+    let key = key(rt, &nick);
+    drop(nick);
+    key
 }
 
 #[test]

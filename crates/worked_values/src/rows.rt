@@ -6,7 +6,7 @@
 //! likewise.
 
 use second_try::{again, tell};
-use std::alloc::{AllocGlobal, Global};
+use std::alloc::{AllocError, AllocGlobal, Global};
 use std::io::Print;
 use std::process::Abort;
 
@@ -35,22 +35,35 @@ pub(crate) fn play<R: Abort + AllocGlobal + Print, P: Part>(rt: &R, part: &mut P
 
 fn play_row<R: Abort + AllocGlobal + Print, P: Part>(rt: &R, part: &mut P, row: &str) {
     let Some((call, answer)) = row.split_once(" -> ") else {
-        panic!(rt; "{row}: no row")
+        unknown(rt, row)
     };
+    let said = answer_to(rt, part, call);
+    let wanted = spell(rt, rt.alloc(), answer);
+    if said != wanted {
+        is_another(rt, row, &said);
+    }
+    drop(wanted);
+    drop(said);
+}
+
+/// Makes the call of a row, and gives what it answers.
+fn answer_to<R: Abort + AllocGlobal + Print, P: Part>(rt: &R, part: &mut P, call: &str) -> Vec<u8> {
     let (name, given) = pair(call, ' ');
     let bytes = spell(rt, rt.alloc(), given);
-    let wanted = spell(rt, rt.alloc(), answer);
     let mut said = Vec::new(rt.alloc());
-    part.call(
-        rt,
-        name,
-        std::str::from_utf8(&bytes).unwrap_or(""),
-        &bytes,
-        &mut said,
-    );
-    if said != wanted {
-        let said = std::str::from_utf8(&said);
-        panic!(rt; "{row}: {said:?}");
+    part.call(rt, name, text_of(&bytes), &bytes, &mut said);
+    drop(bytes);
+    said
+}
+
+fn text_of(bytes: &[u8]) -> &str {
+    std::str::from_utf8(bytes).unwrap_or("")
+}
+
+fn is_another(rt: &impl Abort, row: &str, said: &[u8]) -> ! {
+    match std::str::from_utf8(said) {
+        Ok(said) => panic!(rt; "{row}: {said:?}"),
+        Err(_) => panic!(rt; "{row}: no UTF-8"),
     }
 }
 
@@ -156,8 +169,13 @@ pub(crate) fn say_next(rt: &impl Abort, said: &mut Vec<u8>, text: &str) {
 }
 
 pub(crate) fn say_number(rt: &(impl Abort + AllocGlobal), said: &mut Vec<u8>, number: u128) {
-    let digits = again!(rt; format!(in rt.alloc(); "{number}"));
+    let digits = again!(rt; decimal(rt.alloc(), number));
     say_next(rt, said, &digits);
+    drop(digits);
+}
+
+fn decimal(alloc: Global, number: u128) -> Result<String, AllocError> {
+    format!(in alloc; "{number}")
 }
 
 /// Tells that a call was refused memory, and stops the test where that changed something.

@@ -10,7 +10,7 @@ use crate::rows::{
     Part, byte, number, pair, play, say, say_bytes, say_number, say_refused_memory, say_whether,
     small, unknown,
 };
-use adc_ids::Cid;
+use adc_ids::{Cid, Nick};
 use std::alloc::AllocGlobal;
 use std::io::Print;
 use std::process::Abort;
@@ -32,16 +32,11 @@ impl<U: Users> Part for UserTable<U> {
         said: &mut Vec<u8>,
     ) {
         match name {
-            "enters" => self.enters(rt, entering(rt, text), said),
+            "enters" => self.enters(rt, text, said),
             "says" => self.says(rt, text, "", said),
             "renames" => self.renames(rt, text, said),
             "leaves" => self.leaves(rt, small(rt, text), said),
-            "takes" => self.takes(rt, text, said),
-            "order" => self.order(rt, said),
-            "totals" => say_totals(rt, said, &self.users),
-            "user" => say_user(rt, said, &entering(rt, text)),
-            "all" => say_bytes(rt, said, &say_users(rt, &self.users)),
-            _ => self.looks(rt, name, text, said),
+            _ => self.tells(rt, name, text, said),
         }
     }
 }
@@ -52,6 +47,23 @@ fn entering(rt: &(impl Abort + AllocGlobal + Print), text: &str) -> User {
     let (cid, rest) = pair(rest, ' ');
     let (name, line) = pair(rest, ' ');
     user(rt, small(rt, number), byte(rt, cid), name, line)
+}
+
+fn say_entering(rt: &(impl Abort + AllocGlobal + Print), text: &str, said: &mut Vec<u8>) {
+    let user = entering(rt, text);
+    say_user(rt, said, &user);
+    drop(user);
+}
+
+/// Reads a nick, unless the text is empty.
+pub(crate) fn nick_unless_empty(
+    rt: &(impl Abort + AllocGlobal + Print),
+    text: &str,
+) -> Option<Nick> {
+    if text.is_empty() {
+        return None;
+    }
+    Some(nick(rt, text))
 }
 
 fn say_answer(rt: &impl Abort, said: &mut Vec<u8>, refused: Option<TableRefused>) {
@@ -75,27 +87,65 @@ fn say_found(rt: &(impl Abort + AllocGlobal), said: &mut Vec<u8>, user: Option<&
 }
 
 impl<U: Users> UserTable<U> {
+    /// Makes a call that changes nothing.
+    fn tells<R: Abort + AllocGlobal + Print>(
+        &self,
+        rt: &R,
+        name: &str,
+        text: &str,
+        said: &mut Vec<u8>,
+    ) {
+        match name {
+            "takes" => self.takes(rt, text, said),
+            "order" => self.order(rt, said),
+            "totals" => say_totals(rt, said, &self.users),
+            "user" => say_entering(rt, text, said),
+            "all" => self.all(rt, said),
+            _ => self.looks(rt, name, text, said),
+        }
+    }
+
     /// Enters a user. Each refusal changes nothing, and one for memory is not repeated.
-    fn enters(&mut self, rt: &(impl Abort + AllocGlobal + Print), user: User, said: &mut Vec<u8>) {
+    fn enters(&mut self, rt: &(impl Abort + AllocGlobal + Print), text: &str, said: &mut Vec<u8>) {
         let before = say_users(rt, &self.users);
+        let user = entering(rt, text);
         let answer = match self.inserts(rt, user) {
             Err((TableRefused::Memory, user)) => {
-                let same = say_users(rt, &self.users) == before && self.is_absent(&user);
+                let same = self.is_said(rt, &before) && self.is_absent(&user);
                 say_refused_memory(rt, "user_table::Users::insert", same);
-                self.inserts(rt, user)
+                self.inserts_last(rt, user)
             }
-            answer => answer,
+            Err((refused, user)) => {
+                drop(user);
+                Some(refused)
+            }
+            Ok(()) => None,
         };
-        match answer {
-            Ok(()) => say_answer(rt, said, None),
-            Err((refused, _)) => {
-                assert!(rt;
-                    say_users(rt, &self.users) == before,
-                    "a refusal changed something"
-                );
-                say_answer(rt, said, Some(refused));
-            }
+        self.answers(rt, answer, &before, said);
+        drop(before);
+    }
+
+    /// Says an answer. Each refusal changes nothing.
+    fn answers(
+        &self,
+        rt: &(impl Abort + AllocGlobal + Print),
+        answer: Option<TableRefused>,
+        before: &[u8],
+        said: &mut Vec<u8>,
+    ) {
+        if answer.is_some() {
+            let same = self.is_said(rt, before);
+            assert!(rt; same, "a refusal changed something");
         }
+        say_answer(rt, said, answer);
+    }
+
+    /// Answers whether this is said of the users.
+    fn is_said(&self, rt: &(impl Abort + AllocGlobal + Print), before: &[u8]) -> bool {
+        let text = say_users(rt, &self.users);
+        let same = text.as_slice() == before;
+        drop(text);
+        same
     }
 
     fn is_absent(&self, user: &User) -> bool {
@@ -111,6 +161,23 @@ impl<U: Users> UserTable<U> {
         self.users.insert(user)
     }
 
+    /// Inserts a user, who is let go where that is refused.
+    fn inserts_last(&mut self, rt: &impl Abort, user: User) -> Option<TableRefused> {
+        match self.inserts(rt, user) {
+            Ok(()) => None,
+            Err((refused, user)) => {
+                drop(user);
+                Some(refused)
+            }
+        }
+    }
+
+    fn all(&self, rt: &(impl Abort + AllocGlobal + Print), said: &mut Vec<u8>) {
+        let text = say_users(rt, &self.users);
+        say_bytes(rt, said, &text);
+        drop(text);
+    }
+
     /// Says a line for the user with a number, who gets a nick unless that is empty. Each refusal changes nothing, and one
     /// for memory is not repeated.
     fn says(
@@ -120,47 +187,40 @@ impl<U: Users> UserTable<U> {
         name: &str,
         said: &mut Vec<u8>,
     ) {
-        let (number, line) = pair(text, ' ');
-        let number = small(rt, number);
-        let (before, holder) = (
-            say_users(rt, &self.users),
-            number_of(self.users.by_nick(name)),
-        );
-        let answer = match self.merges(rt, number, line, name) {
+        let before = say_users(rt, &self.users);
+        let holder = self.holder(name);
+        let answer = match self.merges(rt, text, name) {
             Some(TableRefused::Memory) => {
-                let same = say_users(rt, &self.users) == before
-                    && number_of(self.users.by_nick(name)) == holder;
+                let same = self.is_said(rt, &before) && self.holder(name) == holder;
                 say_refused_memory(rt, "user_table::Users::merge_info", same);
-                self.merges(rt, number, line, name)
+                self.merges(rt, text, name)
             }
             answer => answer,
         };
-        if answer.is_some() {
-            assert!(rt;
-                say_users(rt, &self.users) == before,
-                "a refusal changed something"
-            );
-        }
-        say_answer(rt, said, answer);
+        self.answers(rt, answer, &before, said);
+        drop(before);
+    }
+
+    /// Gives the number of who has a nick.
+    fn holder(&self, name: &str) -> Option<u32> {
+        number_of(self.users.by_nick(name))
     }
 
     fn merges(
         &mut self,
         rt: &(impl Abort + AllocGlobal + Print),
-        number: u32,
-        line: &str,
+        text: &str,
         name: &str,
     ) -> Option<TableRefused> {
-        let (sid, update) = (sid(rt, number), update(rt, line));
-        let given = if name.is_empty() {
-            None
-        } else {
-            Some(nick(rt, name))
-        };
+        let (number, line) = pair(text, ' ');
+        let (sid, update) = (sid(rt, small(rt, number)), update(rt, line));
         if !takes_update(&self.users, sid, &update) {
             unknown(rt, "no room");
         }
-        self.users.merge_info(sid, &update, given).err()
+        let given = nick_unless_empty(rt, name);
+        let answer = self.users.merge_info(sid, &update, given).err();
+        drop(update);
+        answer
     }
 
     /// Says for a user the line behind a nick, which the user gets.
@@ -170,13 +230,16 @@ impl<U: Users> UserTable<U> {
     }
 
     fn leaves(&mut self, rt: &(impl Abort + AllocGlobal), number: u32, said: &mut Vec<u8>) {
-        say_found(rt, said, self.users.remove(sid(rt, number)).as_ref());
+        let left = self.users.remove(sid(rt, number));
+        say_found(rt, said, left.as_ref());
+        drop(left);
     }
 
     fn takes(&self, rt: &(impl Abort + AllocGlobal + Print), text: &str, said: &mut Vec<u8>) {
         let (number, line) = pair(text, ' ');
-        let sid = sid(rt, small(rt, number));
-        say_whether(rt, said, takes_update(&self.users, sid, &update(rt, line)));
+        let (sid, update) = (sid(rt, small(rt, number)), update(rt, line));
+        say_whether(rt, said, takes_update(&self.users, sid, &update));
+        drop(update);
     }
 
     /// Says the numbers of the users in order of entry.
@@ -229,10 +292,14 @@ pub(crate) fn table<U: Users>(rt: &impl AllocGlobal) -> UserTable<U> {
 
 /// Makes the calls on both tables, in which there is nobody.
 pub(crate) fn play_nobody<R: Abort + AllocGlobal + Print>(rt: &R, rows: &str) {
-    let mut plain: UserTable<PlainUsers> = table(rt);
-    play(rt, &mut plain, rows);
-    let mut indexed: UserTable<IndexedUsers> = table(rt);
-    play(rt, &mut indexed, rows);
+    play_table::<PlainUsers>(rt, rows);
+    play_table::<IndexedUsers>(rt, rows);
+}
+
+/// Makes the calls on a table in which there is nobody.
+pub(crate) fn play_table<U: Users>(rt: &(impl Abort + AllocGlobal + Print), rows: &str) {
+    let mut users: UserTable<U> = table(rt);
+    play(rt, &mut users, rows);
 }
 
 #[test]

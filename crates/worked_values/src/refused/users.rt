@@ -1,12 +1,12 @@
-use crate::rows::{Part, play, say, say_refused_memory};
-use crate::users::alike::say_run;
+use crate::rows::{say, say_refused_memory, unknown};
+use crate::users::alike::{keep, say_run};
+use crate::users::play_table;
 use crate::users::samples::{say_totals, user};
-use crate::users::{UserTable, table};
 use second_try::again;
 use std::alloc::AllocGlobal;
 use std::io::Print;
 use std::process::Abort;
-use user_table::{Command, IndexedUsers, PlainUsers, RunRefused, Users, run_users};
+use user_table::{Answer, Command, IndexedUsers, PlainUsers, RunRefused, Users, run_users};
 
 const ENTER_AND_CHANGE: &str = "
     enters 1 1 ana NIana SS5 -> ok
@@ -24,22 +24,27 @@ const ENTER_AND_CHANGE: &str = "
 
 #[test]
 fn plain_users(rt: HostRuntime) {
-    let mut users: UserTable<PlainUsers> = table(&rt);
-    play(&rt, &mut users, ENTER_AND_CHANGE);
+    play_table::<PlainUsers>(&rt, ENTER_AND_CHANGE);
 }
 
 #[test]
 fn indexed_users(rt: HostRuntime) {
-    let mut users: UserTable<IndexedUsers> = table(&rt);
-    play(&rt, &mut users, ENTER_AND_CHANGE);
+    play_table::<IndexedUsers>(&rt, ENTER_AND_CHANGE);
 }
 
 fn commands(rt: &(impl Abort + AllocGlobal + Print)) -> Vec<Command> {
     let mut commands = again!(rt; Vec::with_capacity(rt.alloc(), 3));
-    let (ana, bob) = (user(rt, 1, 1, "ana", "SS5"), user(rt, 2, 2, "bob", "SS5"));
-    for command in [Command::Insert(ana), Command::Insert(bob), Command::Count] {
-        assert!(rt; commands.push(command).is_ok());
-    }
+    keep(
+        rt,
+        &mut commands,
+        Command::Insert(user(rt, 1, 1, "ana", "SS5")),
+    );
+    keep(
+        rt,
+        &mut commands,
+        Command::Insert(user(rt, 2, 2, "bob", "SS5")),
+    );
+    keep(rt, &mut commands, Command::Count);
     commands
 }
 
@@ -47,37 +52,36 @@ fn commands(rt: &(impl Abort + AllocGlobal + Print)) -> Vec<Command> {
 /// refused and the rest are made.
 fn runs<U: Users>(rt: &(impl Abort + AllocGlobal + Print)) {
     let mut users = U::new(rt.alloc());
-    let mut totals = Vec::new(rt.alloc());
-    let answers = match run_users(rt.alloc(), &mut users, commands(rt)) {
-        Ok(answers) => answers,
-        Err(RunRefused::Memory) => {
-            say_totals(rt, &mut totals, &users);
-            say_refused_memory(
-                rt,
-                "user_table::run_users",
-                totals.as_slice() == b"0 0 0".as_slice(),
-            );
-            totals.clear();
-            again!(rt; run_users(rt.alloc(), &mut users, commands(rt)))
-        }
-    };
     let mut said = Vec::new(rt.alloc());
-    for answer in answers.iter() {
+    for answer in run_twice(rt, &mut users).iter() {
         say_run(rt, &mut said, *answer);
         say(rt, &mut said, ";");
     }
-    say_totals(rt, &mut totals, &users);
     match said.as_slice() {
-        b"done;done; 2 10 0;" => assert!(rt; totals.as_slice() == b"2 10 0".as_slice()),
+        b"done;done; 2 10 0;" => assert!(rt; has_totals(rt, &users, "2 10 0")),
         b"Memory;done; 1 5 0;" | b"done;Memory; 1 5 0;" => {
-            say_refused_memory(
-                rt,
-                "user_table::run_users",
-                totals.as_slice() == b"1 5 0".as_slice(),
-            );
+            say_refused_memory(rt, "user_table::run_users", has_totals(rt, &users, "1 5 0"));
         }
-        _ => panic!(rt; "other answers"),
+        _ => unknown(rt, "other answers"),
     }
+    drop(users);
+}
+
+/// Runs the commands, once more where memory was refused: nobody is there then.
+fn run_twice<U: Users>(rt: &(impl Abort + AllocGlobal + Print), users: &mut U) -> Vec<Answer> {
+    match run_users(rt.alloc(), users, commands(rt)) {
+        Ok(answers) => answers,
+        Err(RunRefused::Memory) => {
+            say_refused_memory(rt, "user_table::run_users", has_totals(rt, users, "0 0 0"));
+            again!(rt; run_users(rt.alloc(), users, commands(rt)))
+        }
+    }
+}
+
+fn has_totals<U: Users>(rt: &(impl Abort + AllocGlobal), users: &U, wanted: &str) -> bool {
+    let mut totals = Vec::new(rt.alloc());
+    say_totals(rt, &mut totals, users);
+    totals.as_slice() == wanted.as_bytes()
 }
 
 #[test]

@@ -3,9 +3,9 @@ use crate::queues::outbox;
 use crate::rows::{Part, byte, pair, play, say, say_number, say_whether, small};
 use hub_rules::Topic;
 use hub_setup::done_line;
-use outboxes::Batch;
+use outboxes::{Batch, Outbox};
 use second_try::again;
-use std::alloc::AllocError;
+use std::alloc::{AllocError, Global};
 
 /// The things that a hub is set up with.
 #[derive(Drop)]
@@ -21,34 +21,47 @@ impl Part for Given {
         said: &mut Vec<u8>,
     ) {
         match name {
-            "max_users" => max_users(rt, small(rt, text), said),
-            "lists" => lists(rt, text, said),
-            "accounts" => accounts(rt, text, said),
-            "command" => command(rt, text, said),
-            "faults" => faults(rt, text, said),
             "tells" => tells(rt, text, said),
             "menu" => menu(rt, said),
             "listed" => say_entries(rt, said),
             "topic" => topic(rt, text, said),
-            _ => unknown(rt, name),
+            _ => refusal(rt, name, text, said),
         }
+    }
+}
+
+/// Says why some options are refused.
+fn refusal<R: Abort + AllocGlobal + Print>(rt: &R, name: &str, text: &str, said: &mut Vec<u8>) {
+    match name {
+        "max_users" => max_users(rt, small(rt, text), said),
+        "lists" => lists(rt, text, said),
+        "accounts" => accounts(rt, text, said),
+        "command" => command(rt, text, said),
+        "faults" => faults(rt, text, said),
+        _ => unknown(rt, name),
     }
 }
 
 /// Says why the options are refused.
 fn say_refusal(rt: &(impl Abort + AllocGlobal + Print), said: &mut Vec<u8>, options: &Options<'_>) {
-    say(
-        rt,
-        said,
-        match set_up(rt, options) {
-            Ok(_) => "ok",
-            Err(SetupRefused::Limit) => "Limit",
-            Err(SetupRefused::Name) => "Name",
-            Err(SetupRefused::Account) => "Account",
-            Err(SetupRefused::Command) => "Command",
-            Err(SetupRefused::Memory) => "Memory",
-        },
-    );
+    let word = match set_up(rt, options) {
+        Ok(setup) => {
+            drop(setup);
+            "ok"
+        }
+        Err(refused) => refusal_name(refused),
+    };
+    say(rt, said, word);
+}
+
+fn refusal_name(refused: SetupRefused) -> &'static str {
+    match refused {
+        SetupRefused::Limit => "Limit",
+        SetupRefused::Name => "Name",
+        SetupRefused::Account => "Account",
+        SetupRefused::Command => "Command",
+        SetupRefused::Memory => "Memory",
+    }
 }
 
 fn max_users(rt: &(impl Abort + AllocGlobal + Print), max_users: u32, said: &mut Vec<u8>) {
@@ -62,20 +75,30 @@ fn max_users(rt: &(impl Abort + AllocGlobal + Print), max_users: u32, said: &mut
 /// Says the answer to options with an account for each letter, and so many lines between menu entries.
 fn lists(rt: &(impl Abort + AllocGlobal + Print), text: &str, said: &mut Vec<u8>) {
     let (nicks, count) = pair(text, ' ');
-    let mut accounts = Vec::new(rt.alloc());
-    for nick in nicks.split(',') {
-        again!(rt; accounts.extend_from_slice(&[account(nick, "secret", true)]));
-    }
-    let mut commands = Vec::new(rt.alloc());
-    for _ in 0..small(rt, count) {
-        again!(rt; commands.extend_from_slice(&[entry("Help", 1, MenuItem::Separator)]));
-    }
+    let accounts = again!(rt; accounts_called(rt.alloc(), nicks));
+    let commands = again!(rt; separators(rt.alloc(), small(rt, count)));
     let options = Options {
         accounts: &accounts,
         commands: &commands,
         ..options("Hub")
     };
     say_refusal(rt, said, &options);
+}
+
+fn accounts_called<'a>(alloc: Global, nicks: &'a str) -> Result<Vec<Account<'a>>, AllocError> {
+    let mut accounts = Vec::new(alloc);
+    for nick in nicks.split(',') {
+        accounts.extend_from_slice(&[account(nick, "secret", true)])?;
+    }
+    Ok(accounts)
+}
+
+fn separators(alloc: Global, count: u32) -> Result<Vec<MenuEntry<'static>>, AllocError> {
+    let mut commands = Vec::new(alloc);
+    for _ in 0..count {
+        commands.extend_from_slice(&[entry("Help", 1, MenuItem::Separator)])?;
+    }
+    Ok(commands)
 }
 
 /// Says the answer to options with two accounts, `nick=password` each.
@@ -124,6 +147,18 @@ fn faults(rt: &(impl Abort + AllocGlobal + Print), text: &str, said: &mut Vec<u8
 
 /// Says what a setup tells of what it was given.
 fn tells(rt: &(impl Abort + AllocGlobal + Print), text: &str, said: &mut Vec<u8>) {
+    let setup = of_two(rt);
+    match text {
+        "name" => say(rt, said, setup.name()),
+        "topic" => say(rt, said, setup.topic()),
+        "registered_only" => say_whether(rt, said, setup.registered_only()),
+        _ => tells_number(rt, &setup, text, said),
+    }
+    drop(setup);
+}
+
+/// Makes a setup with two accounts.
+fn of_two(rt: &(impl Abort + AllocGlobal + Print)) -> Setup {
     let accounts = [
         account("\u{e9}", "secret", true),
         account("bob", "another", false),
@@ -137,19 +172,25 @@ fn tells(rt: &(impl Abort + AllocGlobal + Print), text: &str, said: &mut Vec<u8>
         opening: 1_000,
         ..options("Hub")
     };
-    let setup = setup(rt, &options);
-    match text {
-        "name" => say(rt, said, setup.name()),
-        "topic" => say(rt, said, setup.topic()),
-        "registered_only" => say_whether(rt, said, setup.registered_only()),
-        "search_interval" => say_number(rt, said, setup.search_interval() as u128),
-        "max_users" => say_number(rt, said, setup.max_users() as u128),
-        "opening" => say_number(rt, said, setup.opening() as u128),
-        nick => match setup.account(nick) {
-            Some(account) if account.is_operator() => say(rt, said, "an operator"),
-            Some(_) => say(rt, said, "a user"),
-            None => say(rt, said, "nobody"),
-        },
+    setup(rt, &options)
+}
+
+/// Says what a setup tells of a number, or of who has a nick.
+fn tells_number(rt: &(impl Abort + AllocGlobal), setup: &Setup, text: &str, said: &mut Vec<u8>) {
+    let number = match text {
+        "search_interval" => setup.search_interval() as u128,
+        "max_users" => setup.max_users() as u128,
+        "opening" => setup.opening() as u128,
+        nick => return say(rt, said, kind_of(setup, nick)),
+    };
+    say_number(rt, said, number);
+}
+
+fn kind_of(setup: &Setup, nick: &str) -> &'static str {
+    match setup.account(nick) {
+        Some(account) if account.is_operator() => "an operator",
+        Some(_) => "a user",
+        None => "nobody",
     }
 }
 
@@ -172,39 +213,65 @@ fn menu(rt: &(impl Abort + AllocGlobal + Print), said: &mut Vec<u8>) {
         commands: &COMMANDS,
         ..options("Hub")
     };
-    say_menu(rt, &setup(rt, &options), said);
+    let setup = setup(rt, &options);
+    say_menu(rt, &setup, said);
+    drop(setup);
 }
 
 /// Says the menu of a setup of lists.
 fn say_entries(rt: &(impl Abort + AllocGlobal + Print), said: &mut Vec<u8>) {
     let setup = of_lists(rt, &[account("ana", "secret", true)], &COMMANDS);
     say_menu(rt, &setup, said);
+    drop(setup);
 }
 
 /// Says the lines of a menu of two entries behind another line, each with its line feed.
 fn say_menu(rt: &(impl Abort + AllocGlobal + Print), setup: &Setup, said: &mut Vec<u8>) {
-    let lines = twice!(rt; "hub_setup::Setup::menu", AllocError, setup.menu(done_batch(rt)));
     let mut queue = outbox(rt, 8, 1000);
-    match lines {
-        Ok(lines) => queue.give(lines),
+    give(&mut queue, menu_lines(rt, setup));
+    if !takes_eight(&mut queue, said) && !takes_eight(&mut queue, said) {
+        unknown(rt, "refused twice");
+    }
+    drop(queue);
+}
+
+fn menu_lines(rt: &(impl Abort + AllocGlobal + Print), setup: &Setup) -> Batch {
+    match twice!(rt; "hub_setup::Setup::menu", AllocError, setup.menu(done_batch(rt))) {
+        Ok(lines) => lines,
         Err(_) => unknown(rt, "menu"),
     }
-    again!(rt; queue.take(8, said));
+}
+
+fn give(queue: &mut Outbox, lines: Batch) {
+    queue.give(lines);
+}
+
+fn takes_eight(queue: &mut Outbox, said: &mut Vec<u8>) -> bool {
+    queue.take(8, said).is_ok()
 }
 
 fn done_batch(rt: &(impl Abort + AllocGlobal)) -> Batch {
     let mut batch = Batch::new(rt.alloc());
-    let line = again!(rt; done_line(rt.alloc()));
-    if batch.push(line).is_err() {
-        let line = again!(rt; done_line(rt.alloc()));
-        assert!(rt; batch.push(line).is_ok(), "refused twice");
+    if !is_pushed(&mut batch, done(rt)) && !is_pushed(&mut batch, done(rt)) {
+        unknown(rt, "refused twice");
     }
     batch
 }
 
+fn done(rt: &(impl Abort + AllocGlobal)) -> Bytes {
+    again!(rt; done_line(rt.alloc()))
+}
+
+fn is_pushed(batch: &mut Batch, line: Bytes) -> bool {
+    batch.push(line).is_ok()
+}
+
 fn topic(rt: &(impl Abort + AllocGlobal + Print), text: &str, said: &mut Vec<u8>) {
     match twice!(rt; "hub_rules::Topic::new", AllocError, Topic::new(rt.alloc(), text)) {
-        Ok(topic) => say(rt, said, topic.as_str()),
+        Ok(topic) => {
+            say(rt, said, topic.as_str());
+            drop(topic);
+        }
         Err(_) => unknown(rt, "topic"),
     }
 }

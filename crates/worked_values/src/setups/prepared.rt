@@ -31,6 +31,7 @@ impl Part for Lines {
             "password" | "challenged" => say_digest(rt, said, line.password()),
             _ => unknown(rt, name),
         }
+        drop(line);
     }
 }
 
@@ -87,7 +88,9 @@ fn hub(rt: &(impl Abort + AllocGlobal + Print)) -> Setup {
 }
 
 pub(crate) fn play_lines<R: Abort + AllocGlobal + Print>(rt: &R, rows: &str) {
-    play(rt, &mut Lines { setup: hub(rt) }, rows);
+    let mut lines = Lines { setup: hub(rt) };
+    play(rt, &mut lines, rows);
+    drop(lines);
 }
 
 #[test]

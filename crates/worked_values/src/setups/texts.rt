@@ -4,9 +4,10 @@ use crate::lines::line;
 use crate::rows::{Part, pair, play, say, small, twenty_four};
 use adc_base32::Sid;
 use hub_setup::{
-    challenge_line, denial_line, done_line, hub_line, identifier_line, passed_line, ping_fields,
-    removal_line, support_line, topic_line, update_line, user_line,
+    Registered, challenge_line, denial_line, done_line, hub_line, identifier_line, passed_line,
+    ping_fields, removal_line, support_line, topic_line, update_line, user_line,
 };
+use inf_fields::Fields;
 use login_state::Deny;
 use second_try::again;
 use std::alloc::AllocError;
@@ -26,33 +27,80 @@ impl Part for Texts {
         said: &mut Vec<u8>,
     ) {
         match name {
-            "support" => say_line(rt, said, &again!(rt; support_line(rt.alloc()))),
-            "done" => say_line(rt, said, &again!(rt; done_line(rt.alloc()))),
-            "ping" => say(rt, said, &ping(rt)),
+            "ping" => say_ping(rt, said),
             "hub" => hub(rt, text, said),
             "user" => user(rt, text, said),
             "removal" => removal(rt, text, said),
-            _ => say_line(rt, said, &short(rt, name, text, bytes)),
+            _ => say_short(rt, name, text, bytes, said),
         }
     }
 }
 
-/// Writes a line that is told by few words.
-fn short(rt: &(impl Abort + AllocGlobal + Print), name: &str, text: &str, bytes: &[u8]) -> Bytes {
+fn say_ping(rt: &(impl Abort + AllocGlobal + Print), said: &mut Vec<u8>) {
+    let text = ping(rt);
+    say(rt, said, &text);
+    drop(text);
+}
+
+/// Says a line that is told by few words.
+fn say_short(
+    rt: &(impl Abort + AllocGlobal + Print),
+    name: &str,
+    text: &str,
+    bytes: &[u8],
+    said: &mut Vec<u8>,
+) {
     let made = match name {
+        "support" => support(rt),
+        "done" => done(rt),
+        _ => short(rt, name, text, bytes),
+    };
+    say_made(rt, said, made);
+}
+
+fn support(rt: &(impl Abort + AllocGlobal)) -> Result<Bytes, AllocError> {
+    Ok(again!(rt; support_line(rt.alloc())))
+}
+
+fn done(rt: &(impl Abort + AllocGlobal)) -> Result<Bytes, AllocError> {
+    Ok(again!(rt; done_line(rt.alloc())))
+}
+
+/// Says a line that could be made.
+fn say_made(rt: &impl Abort, said: &mut Vec<u8>, made: Result<Bytes, AllocError>) {
+    match made {
+        Ok(line) => {
+            say_line(rt, said, &line);
+            drop(line);
+        }
+        Err(_) => unknown(rt, "line"),
+    }
+}
+
+/// Makes a line that is told by few words.
+fn short(
+    rt: &(impl Abort + AllocGlobal + Print),
+    name: &str,
+    text: &str,
+    bytes: &[u8],
+) -> Result<Bytes, AllocError> {
+    match name {
         "identifier" => identifier(rt, sid(rt, text)),
-        "topic" => twice!(rt; "hub_setup::topic_line", AllocError, topic_line(rt.alloc(), text)),
+        "topic" => topic(rt, text),
         "challenge" => challenge(rt, bytes),
-        "password" =>
-            twice!(rt; "hub_setup::denial_line", AllocError, denial_line(rt.alloc(), Deny::Password)),
+        "password" => denial(rt),
         "passed" => pass_line(rt, bytes),
         "update" => line_of_update(rt, text),
         _ => unknown(rt, name),
-    };
-    match made {
-        Ok(line) => line,
-        Err(_) => unknown(rt, name),
     }
+}
+
+fn topic(rt: &(impl Abort + AllocGlobal + Print), text: &str) -> Result<Bytes, AllocError> {
+    twice!(rt; "hub_setup::topic_line", AllocError, topic_line(rt.alloc(), text))
+}
+
+fn denial(rt: &(impl Abort + AllocGlobal + Print)) -> Result<Bytes, AllocError> {
+    twice!(rt; "hub_setup::denial_line", AllocError, denial_line(rt.alloc(), Deny::Password))
 }
 
 fn sid(rt: &impl Abort, text: &str) -> Sid {
@@ -75,7 +123,9 @@ fn challenge(rt: &(impl Abort + AllocGlobal + Print), bytes: &[u8]) -> Result<By
 
 fn pass_line(rt: &(impl Abort + AllocGlobal + Print), bytes: &[u8]) -> Result<Bytes, AllocError> {
     let line = line(rt, bytes);
-    twice!(rt; "hub_setup::passed_line", AllocError, passed_line(rt.alloc(), &line))
+    let made = twice!(rt; "hub_setup::passed_line", AllocError, passed_line(rt.alloc(), &line));
+    drop(line);
+    made
 }
 
 fn line_of_update(
@@ -84,7 +134,10 @@ fn line_of_update(
 ) -> Result<Bytes, AllocError> {
     let (who, words) = pair(text, ' ');
     let (sid, update) = (sid(rt, who), update(rt, words));
-    twice!(rt; "hub_setup::update_line", AllocError, update_line(rt.alloc(), sid, &update))
+    let made =
+        twice!(rt; "hub_setup::update_line", AllocError, update_line(rt.alloc(), sid, &update));
+    drop(update);
+    made
 }
 
 /// Writes what a hub for 512 users says to who asks, 90 seconds after it opened, where one is present.
@@ -107,16 +160,26 @@ fn hub(rt: &(impl Abort + AllocGlobal + Print), text: &str, said: &mut Vec<u8>) 
     let (topic, asked) = pair(rest, ';');
     let setup = setup(rt, &options(name));
     let ping = ping(rt);
-    let ping = if asked == "ping" { ping.as_str() } else { "" };
-    match twice!(rt; "hub_setup::hub_line", AllocError, hub_line(rt.alloc(), &setup, topic, ping)) {
-        Ok(line) => say_line(rt, said, &line),
-        Err(_) => unknown(rt, "hub"),
-    }
+    let told = if asked == "ping" { ping.as_str() } else { "" };
+    let made =
+        twice!(rt; "hub_setup::hub_line", AllocError, hub_line(rt.alloc(), &setup, topic, told));
+    drop(setup);
+    drop(ping);
+    say_made(rt, said, made);
 }
 
 /// Says the line of a user who is AAAC, with the account of a nick, and said some words.
 fn user(rt: &(impl Abort + AllocGlobal + Print), text: &str, said: &mut Vec<u8>) {
     let (nick, words) = pair(text, ' ');
+    let (setup, known) = (of_ana_and_bob(rt), fields_of_line(rt, words));
+    let made = line_of_user(rt, &known, setup.account(nick));
+    drop(setup);
+    drop(known);
+    say_made(rt, said, made);
+}
+
+/// Makes a setup in which ana is an operator and bob is registered.
+fn of_ana_and_bob(rt: &(impl Abort + AllocGlobal + Print)) -> Setup {
     let accounts = [
         account("ana", "secret", true),
         account("bob", "secret", false),
@@ -125,16 +188,16 @@ fn user(rt: &(impl Abort + AllocGlobal + Print), text: &str, said: &mut Vec<u8>)
         accounts: &accounts,
         ..options("Hub")
     };
-    let (setup, known, sid) = (
-        setup(rt, &options),
-        fields_of_line(rt, words),
-        sid(rt, "AAAC"),
-    );
-    match twice!(rt; "hub_setup::user_line", AllocError, user_line(rt.alloc(), sid, &known, setup.account(nick)))
-    {
-        Ok(line) => say_line(rt, said, &line),
-        Err(_) => unknown(rt, "user"),
-    }
+    setup(rt, &options)
+}
+
+fn line_of_user(
+    rt: &(impl Abort + AllocGlobal + Print),
+    known: &Fields,
+    account: Option<&Registered>,
+) -> Result<Bytes, AllocError> {
+    let sid = sid(rt, "AAAC");
+    twice!(rt; "hub_setup::user_line", AllocError, user_line(rt.alloc(), sid, known, account))
 }
 
 /// Says the line for AAAC whom AAAB removes for so many seconds, `-` where none are told, for a reason.
@@ -144,12 +207,16 @@ fn removal(rt: &(impl Abort + AllocGlobal + Print), text: &str, said: &mut Vec<u
         "-" => None,
         _ => Some(small(rt, seconds)),
     };
+    say_made(rt, said, line_of_removal(rt, seconds, reason));
+}
+
+fn line_of_removal(
+    rt: &(impl Abort + AllocGlobal + Print),
+    seconds: Option<u32>,
+    reason: &str,
+) -> Result<Bytes, AllocError> {
     let (target, operator) = (sid(rt, "AAAC"), sid(rt, "AAAB"));
-    match twice!(rt; "hub_setup::removal_line", AllocError, removal_line(rt.alloc(), target, operator, seconds, reason))
-    {
-        Ok(line) => say_line(rt, said, &line),
-        Err(_) => unknown(rt, "removal"),
-    }
+    twice!(rt; "hub_setup::removal_line", AllocError, removal_line(rt.alloc(), target, operator, seconds, reason))
 }
 
 #[test]

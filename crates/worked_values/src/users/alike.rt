@@ -40,10 +40,16 @@ fn draw_commands(rt: &(impl Abort + AllocGlobal + Print)) -> Vec<Command> {
     let mut draws = Draws { state: 2026 };
     let mut commands = again!(rt; Vec::with_capacity(rt.alloc(), COUNT));
     for _ in 0..COUNT {
-        let command = command(rt, &mut draws);
-        assert!(rt; commands.push(command).is_ok());
+        keep(rt, &mut commands, command(rt, &mut draws));
     }
     commands
+}
+
+/// Puts a command last.
+pub(crate) fn keep(rt: &impl Abort, commands: &mut Vec<Command>, command: Command) {
+    if second_try::push(commands, command).is_err() {
+        unknown(rt, "refused twice");
+    }
 }
 
 fn kind_of(answer: &Answer) -> u32 {
@@ -70,24 +76,39 @@ fn count(answers: &[Answer], kind: u32) -> u32 {
 
 #[test]
 fn answer_2000_commands_alike(rt: HostRuntime) {
-    let (plain, answers): (PlainUsers, Vec<Answer>) = run(&rt);
-    let (indexed, others): (IndexedUsers, Vec<Answer>) = run(&rt);
-    assert!(rt; answers.len() == COUNT && answers == others);
-    assert!(rt; say_users(&rt, &plain) == say_users(&rt, &indexed));
-    // Each kind of answer comes often, and a command is seldom skipped.
-    for (kind, least) in [
-        (0, 100),
-        (1, 200),
-        (2, 20),
-        (3, 50),
-        (4, 100),
-        (5, 50),
-        (6, 20),
-    ] {
-        let count = count(&answers, kind);
+    let (users, answers) = run_and_say::<PlainUsers>(&rt);
+    let (other_users, other_answers) = run_and_say::<IndexedUsers>(&rt);
+    assert!(rt; answers.len() == COUNT && answers == other_answers);
+    assert!(rt; users == other_users);
+    come_often(&rt, &answers);
+}
+
+/// Runs the commands, and gives what is said of the users then, and the answers.
+fn run_and_say<U: Users>(rt: &(impl Abort + AllocGlobal + Print)) -> (Vec<u8>, Vec<Answer>) {
+    let (users, answers): (U, Vec<Answer>) = run(rt);
+    let said = say_users(rt, &users);
+    drop(users);
+    (said, answers)
+}
+
+/// How often each kind of answer comes at least.
+const LEAST: [(u32, u32); 7] = [
+    (0, 100),
+    (1, 200),
+    (2, 20),
+    (3, 50),
+    (4, 100),
+    (5, 50),
+    (6, 20),
+];
+
+/// Tests that each kind of answer comes often, and a command is seldom skipped.
+fn come_often(rt: &impl Abort, answers: &[Answer]) {
+    for (kind, least) in LEAST {
+        let count = count(answers, kind);
         assert!(rt; count > least, "{count} of {kind}");
     }
-    assert!(rt; count(&answers, 0) < 1_000);
+    assert!(rt; count(answers, 0) < 1_000);
 }
 
 /// Users on whom commands are run, one at a time.
@@ -109,21 +130,22 @@ impl<U: Users> Part for CommandRun<U> {
         for _ in 0..2 {
             match self.run(rt, command_of(rt, name, text)) {
                 Some(answer) => return say_run(rt, said, answer),
-                None => say_refused_memory(
-                    rt,
-                    "user_table::run_users",
-                    say_users(rt, &self.users) == before,
-                ),
+                None => self.is_unchanged(rt, &before),
             }
         }
     }
 }
 
 impl<U: Users> CommandRun<U> {
+    fn is_unchanged(&self, rt: &(impl Abort + AllocGlobal + Print), before: &[u8]) {
+        let same = say_users(rt, &self.users).as_slice() == before;
+        say_refused_memory(rt, "user_table::run_users", same);
+    }
+
     /// Gives the answer to a command, or nothing where memory is refused.
     fn run(&mut self, rt: &(impl Abort + AllocGlobal), command: Command) -> Option<Answer> {
         let mut commands = again!(rt; Vec::with_capacity(rt.alloc(), 1));
-        assert!(rt; commands.push(command).is_ok());
+        keep(rt, &mut commands, command);
         match run_users(rt.alloc(), &mut self.users, commands) {
             Err(RunRefused::Memory) => None,
             Ok(answers) => match answers.first() {

@@ -1,7 +1,7 @@
 // Commands that a small generator draws, the same from the same seed.
+use super::nick_unless_empty;
 use super::samples::{sid, user};
 use crate::fields::update;
-use crate::identities::nick;
 use adc_ids::Cid;
 use second_try::again;
 use std::alloc::{AllocError, AllocGlobal, Global};
@@ -35,19 +35,34 @@ pub(crate) fn command(rt: &(impl Abort + AllocGlobal + Print), draws: &mut Draws
     let cid = (draws.byte() % 48) as u8;
     let amount = draws.byte();
     match kind % 16 {
-        0..=5 => {
-            let line = again!(rt; text(rt.alloc(), &name, amount));
-            Command::Insert(user(rt, number, cid, &name, &line))
-        }
-        8 | 9 => {
-            let line = again!(rt; text(rt.alloc(), &name, amount));
-            renewal(rt, number, &line, &name)
-        }
+        0..=5 => insertion(rt, number, cid, &name, amount),
+        8 | 9 => whole_renewal(rt, number, &name, amount),
         10 => renewal(rt, number, "SS7 SF7 DEhere", ""),
         11 => renewal(rt, number, "NIother", &name),
         14 => Command::ByNick(name),
         kind => look(rt, kind, number, cid, amount),
     }
+}
+
+fn insertion(
+    rt: &(impl Abort + AllocGlobal + Print),
+    number: u32,
+    cid: u8,
+    name: &str,
+    amount: u32,
+) -> Command {
+    let line = again!(rt; text(rt.alloc(), name, amount));
+    Command::Insert(user(rt, number, cid, name, &line))
+}
+
+fn whole_renewal(
+    rt: &(impl Abort + AllocGlobal + Print),
+    number: u32,
+    name: &str,
+    amount: u32,
+) -> Command {
+    let line = again!(rt; text(rt.alloc(), name, amount));
+    renewal(rt, number, &line, name)
 }
 
 /// Reads the update that a line says, with a nick unless that is empty.
@@ -57,11 +72,7 @@ pub(crate) fn renewal(
     line: &str,
     name: &str,
 ) -> Command {
-    let given = if name.is_empty() {
-        None
-    } else {
-        Some(nick(rt, name))
-    };
+    let given = nick_unless_empty(rt, name);
     Command::MergeInfo(sid(rt, number), update(rt, line), given)
 }
 

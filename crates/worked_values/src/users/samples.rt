@@ -1,6 +1,6 @@
 // Users for tests.
-use crate::fields::fields_of_line;
-use crate::identities::{key, nick};
+use crate::fields::{fields_of_line, say_fields};
+use crate::identities::key_of;
 use crate::rows::{say, say_number, unknown};
 use adc_base32::Sid;
 use adc_ids::Cid;
@@ -24,7 +24,7 @@ pub(crate) fn user(
     name: &str,
     line: &str,
 ) -> User {
-    let key = key(rt, &nick(rt, name));
+    let key = key_of(rt, name);
     User::new(
         sid(rt, number),
         Cid::from_bytes([cid; 24]),
@@ -51,26 +51,27 @@ pub(crate) fn say_users<U: Users>(rt: &(impl Abort + AllocGlobal + Print), users
 }
 
 pub(crate) fn say_user(rt: &(impl Abort + AllocGlobal + Print), said: &mut Vec<u8>, user: &User) {
-    let [cid, ..] = user.cid().bytes();
-    assert!(rt; user.cid().bytes() == [cid; 24]);
     say_number(rt, said, user.sid().number() as u128);
-    say_number(rt, said, cid as u128);
+    say_number(rt, said, cid_number(rt, user) as u128);
     say(rt, said, " ");
     say(rt, said, user.key());
-    say(rt, said, &crate::fields::print_fields(rt, user.fields()));
+    say_fields(rt, said, user.fields());
     say(rt, said, ";");
 }
 
+/// Gives the number of equal bytes that the client identifier is.
+fn cid_number(rt: &impl Abort, user: &User) -> u8 {
+    let bytes = user.cid().bytes();
+    assert!(rt; bytes == [bytes[0]; 24], "other bytes");
+    bytes[0]
+}
+
 fn is_found<U: Users>(rt: &impl Abort, users: &U, user: &User) {
-    let sid = user.sid().number();
-    let found = [
-        users.by_sid(user.sid()),
-        users.by_cid(user.cid()),
-        users.by_nick(user.key()),
-    ];
-    for other in found {
-        assert!(rt; number_of(other) == Some(sid), "not found");
-    }
+    let sid = Some(user.sid().number());
+    let is_found = number_of(users.by_sid(user.sid())) == sid
+        && number_of(users.by_cid(user.cid())) == sid
+        && number_of(users.by_nick(user.key())) == sid;
+    assert!(rt; is_found, "not found");
 }
 
 /// Gives the number of the session identifier.
