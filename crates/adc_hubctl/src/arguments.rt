@@ -15,29 +15,63 @@ const STATUSES: &str =
     "Statuses: 0 done, 1 arguments or settings are at fault, 2 no Tiger's tables, 3 the address cannot be reached, \
 4 memory ran out, 5 the connection failed, 6 wrong password, 7 banned, 8 refused by the hub, 9 no answer in time";
 
+/// A subcommand.
+#[derive(Clone, Copy)]
+enum Verb {
+    Check,
+    Kick,
+    Ban,
+    Unban,
+    Topic,
+    Who,
+    Say,
+    Ping,
+}
+
+const VERBS: [Verb; 8] = [
+    Verb::Check,
+    Verb::Kick,
+    Verb::Ban,
+    Verb::Unban,
+    Verb::Topic,
+    Verb::Who,
+    Verb::Say,
+    Verb::Ping,
+];
+
 /// The tool's command line.
 pub(crate) fn commands<'a>(alloc: Global) -> Result<Command<'a>, AllocError> {
-    let whole = Command::new(alloc, "adc_hubctl")
+    let mut whole = tool(alloc);
+    for verb in VERBS {
+        whole = with_verb(alloc, whole, verb)?;
+    }
+    Ok(whole)
+}
+
+fn tool<'a>(alloc: Global) -> Command<'a> {
+    Command::new(alloc, "adc_hubctl")
         .about("The tool of a hub's operator")
         .version("1.0")
         .propagate_version(true)
         .subcommand_required(true)
         .after_help(STATUSES)
-        .subcommand(check_command(alloc)?)?;
-    let whole = with_acts(alloc, whole)?;
-    whole
-        .subcommand(who_command(alloc)?)?
-        .subcommand(say_command(alloc)?)?
-        .subcommand(ping_command(alloc)?)
 }
 
-/// With what operators do.
-fn with_acts<'a>(alloc: Global, whole: Command<'a>) -> Result<Command<'a>, AllocError> {
-    whole
-        .subcommand(kick_command(alloc)?)?
-        .subcommand(ban_command(alloc)?)?
-        .subcommand(unban_command(alloc)?)?
-        .subcommand(topic_command(alloc)?)
+fn with_verb<'a>(alloc: Global, whole: Command<'a>, verb: Verb) -> Result<Command<'a>, AllocError> {
+    whole.subcommand(command_of(alloc, verb)?)
+}
+
+fn command_of<'a>(alloc: Global, verb: Verb) -> Result<Command<'a>, AllocError> {
+    match verb {
+        Verb::Check => check_command(alloc),
+        Verb::Kick => kick_command(alloc),
+        Verb::Ban => ban_command(alloc),
+        Verb::Unban => unban_command(alloc),
+        Verb::Topic => topic_command(alloc),
+        Verb::Who => who_command(alloc),
+        Verb::Say => say_command(alloc),
+        Verb::Ping => ping_command(alloc),
+    }
 }
 
 fn check_command<'a>(alloc: Global) -> Result<Command<'a>, AllocError> {
@@ -50,95 +84,137 @@ fn check_command<'a>(alloc: Global) -> Result<Command<'a>, AllocError> {
 }
 
 fn kick_command<'a>(alloc: Global) -> Result<Command<'a>, AllocError> {
-    login(alloc, "kick", "Sends a user away")?
-        .arg(word(alloc, "USER", "The user's nick"))?
-        .arg(text(alloc, "REASON", "What all are told"))
+    let command = login(alloc, "kick", "Sends a user away");
+    let command = with(command, user(alloc));
+    with(command, reason(alloc))
 }
 
 fn ban_command<'a>(alloc: Global) -> Result<Command<'a>, AllocError> {
-    login(alloc, "ban", "Sends a user away and keeps its client out")?
-        .arg(word(alloc, "USER", "The user's nick"))?
-        .arg(word(alloc, "SECONDS", "For how long; 0 is for good").value_parser(value_parser!(
-            u32
-        )))?
-        .arg(text(alloc, "REASON", "What all are told"))
+    let command = login(alloc, "ban", "Sends a user away and keeps its client out");
+    let command = with(command, user(alloc));
+    let command = with(command, ban_seconds(alloc));
+    with(command, reason(alloc))
+}
+
+fn ban_seconds<'a>(alloc: Global) -> Arg<'a> {
+    word(alloc, "SECONDS", "For how long; 0 is for good").value_parser(value_parser!(u32))
 }
 
 fn unban_command<'a>(alloc: Global) -> Result<Command<'a>, AllocError> {
-    login(alloc, "unban", "Takes a ban back")?.arg(word(
-        alloc,
-        "CID",
-        "The client identifier that is banned",
-    ))
+    let command = login(alloc, "unban", "Takes a ban back");
+    with(
+        command,
+        word(alloc, "CID", "The client identifier that is banned"),
+    )
 }
 
 fn topic_command<'a>(alloc: Global) -> Result<Command<'a>, AllocError> {
-    login(alloc, "topic", "Sets the topic, or none")?.arg(text(alloc, "TOPIC", "The topic"))
+    let command = login(alloc, "topic", "Sets the topic, or none");
+    with(command, text(alloc, "TOPIC", "The topic"))
 }
 
 fn who_command<'a>(alloc: Global) -> Result<Command<'a>, AllocError> {
-    login(alloc, "who", "Lists who is present")?.arg(json(alloc))
+    let command = login(alloc, "who", "Lists who is present");
+    with(command, json(alloc))
 }
 
 fn say_command<'a>(alloc: Global) -> Result<Command<'a>, AllocError> {
-    login(alloc, "say", "Says something to all")?.arg(word(alloc, "TEXT", "What to say"))
+    let command = login(alloc, "say", "Says something to all");
+    with(command, word(alloc, "TEXT", "What to say"))
 }
 
 fn ping_command<'a>(alloc: Global) -> Result<Command<'a>, AllocError> {
-    subcommand(alloc, "ping", "Tells what a hub says of itself")
-        .arg(address(alloc))?
-        .arg(json(alloc))?
-        .arg(seconds(alloc))
+    let command = subcommand(alloc, "ping", "Tells what a hub says of itself").arg(address(alloc));
+    let command = with(command, json(alloc));
+    with(command, seconds(alloc))
+}
+
+/// Adds an argument, unless memory ran out before.
+fn with<'a>(
+    command: Result<Command<'a>, AllocError>,
+    arg: Arg<'a>,
+) -> Result<Command<'a>, AllocError> {
+    command?.arg(arg)
 }
 
 fn subcommand<'a>(alloc: Global, name: &'a str, about: &'a str) -> Command<'a> {
     Command::new(alloc, name).about(about).after_help(STATUSES)
 }
 
+/// An argument of each subcommand that logs in.
+#[derive(Clone, Copy)]
+enum LoginArg {
+    Address,
+    Nick,
+    PasswordFile,
+    Hash,
+    Tables,
+    Seconds,
+}
+
+const LOGIN_ARGS: [LoginArg; 6] = [
+    LoginArg::Address,
+    LoginArg::Nick,
+    LoginArg::PasswordFile,
+    LoginArg::Hash,
+    LoginArg::Tables,
+    LoginArg::Seconds,
+];
+
 /// A subcommand that logs in. Each argument is made where it is added, so that few are held where memory runs out.
 fn login<'a>(alloc: Global, name: &'a str, about: &'a str) -> Result<Command<'a>, AllocError> {
-    subcommand(alloc, name, about)
-        .arg(address(alloc))?
-        .arg(nick(alloc))?
-        .arg(password_file(alloc))?
-        .arg(hash(alloc))?
-        .arg(tables(alloc))?
-        .arg(seconds(alloc))
+    let mut command = subcommand(alloc, name, about);
+    for arg in LOGIN_ARGS {
+        command = command.arg(login_arg(alloc, arg))?;
+    }
+    Ok(command)
+}
+
+fn login_arg<'a>(alloc: Global, arg: LoginArg) -> Arg<'a> {
+    match arg {
+        LoginArg::Address => address(alloc),
+        LoginArg::Nick => nick(alloc),
+        LoginArg::PasswordFile => password_file(alloc),
+        LoginArg::Hash => hash(alloc),
+        LoginArg::Tables => tables(alloc),
+        LoginArg::Seconds => seconds(alloc),
+    }
+}
+
+/// An option that takes a value.
+fn option<'a>(alloc: Global, name: &'a str, value: &'a str, help: &'a str) -> Arg<'a> {
+    Arg::new(alloc, name)
+        .long(name)
+        .value_name(value)
+        .help(help)
 }
 
 fn nick<'a>(alloc: Global) -> Arg<'a> {
-    Arg::new(alloc, "nick")
-        .long("nick")
-        .value_name("NICK")
-        .required(true)
-        .help("As whom to log in")
+    option(alloc, "nick", "NICK", "As whom to log in").required(true)
 }
 
 fn password_file<'a>(alloc: Global) -> Arg<'a> {
-    Arg::new(alloc, "password-file")
-        .long("password-file")
-        .value_name("FILE")
-        .help(
-            "The file whose first line is the password; else it is that of standard input, once the hub asks",
-        )
+    option(
+        alloc,
+        "password-file",
+        "FILE",
+        "The file whose first line is the password; else it is that of standard input, once the hub asks",
+    )
 }
 
 fn hash<'a>(alloc: Global) -> Arg<'a> {
-    Arg::new(alloc, "hash")
-        .long("hash")
-        .value_name("HASH")
+    option(alloc, "hash", "HASH", "The hub's hash")
         .value_parser(["tiger", "first24"].as_slice())
         .default_value("tiger")
-        .help("The hub's hash")
 }
 
 fn tables<'a>(alloc: Global) -> Arg<'a> {
-    Arg::new(alloc, "tables")
-        .long("tables")
-        .value_name("FILE")
-        .help(
-            "The file of Tiger's tables [default: tiger.bin, or else /usr/share/adc-hub/tiger.bin]",
-        )
+    option(
+        alloc,
+        "tables",
+        "FILE",
+        "The file of Tiger's tables [default: tiger.bin, or else /usr/share/adc-hub/tiger.bin]",
+    )
 }
 
 fn word<'a>(alloc: Global, name: &'a str, help: &'a str) -> Arg<'a> {
@@ -146,6 +222,14 @@ fn word<'a>(alloc: Global, name: &'a str, help: &'a str) -> Arg<'a> {
         .required(true)
         .action(ArgAction::Set)
         .help(help)
+}
+
+fn user<'a>(alloc: Global) -> Arg<'a> {
+    word(alloc, "USER", "The user's nick")
+}
+
+fn reason<'a>(alloc: Global) -> Arg<'a> {
+    text(alloc, "REASON", "What all are told")
 }
 
 fn text<'a>(alloc: Global, name: &'a str, help: &'a str) -> Arg<'a> {
@@ -168,12 +252,9 @@ fn json<'a>(alloc: Global) -> Arg<'a> {
 }
 
 fn seconds<'a>(alloc: Global) -> Arg<'a> {
-    Arg::new(alloc, "seconds")
-        .long("seconds")
-        .value_name("N")
+    option(alloc, "seconds", "N", "How long to wait for each answer")
         .value_parser(value_parser!(u32))
         .default_value("10")
-        .help("How long to wait for each answer")
 }
 
 /// Does what a command line asks for.
