@@ -8,4 +8,6 @@ mod sessions;
 #[cfg(test)]
 mod streams;
 #[cfg(test)]
+mod texts;
+#[cfg(test)]
 mod writes;

@@ -1,23 +1,20 @@
 mod fakes;
 
 use crate::streams::fakes::{Input, Output};
+use crate::texts::{ENTERED, GREETING, LOGIN};
 use hub_core::{MenuEntry, MenuItem, Options, Setup};
 use hub_stream::{RunFault, run_one};
+use second_try::again;
 use session_hash::First24;
 use std::alloc::{AllocGlobal, Global};
 use std::process::Abort;
 use std::sync::Arc;
 
-const GREETING: &[u8] =
-    b"ISUP ADBASE ADTIGR ADPING ADUCMD\nISID AAAB\nIINF CT32 NIHub VEadc-hub\\s1.0\n";
+const GREET: &[u8] = b"HSUP ADBASE ADTIGR\n";
 
-/// The identifiers of a client are 39 letters A each, which are 24 zero bytes.
-const LOGIN: &[u8] = b"HSUP ADBASE ADTIGR\nBINF AAAB IDAAAAAAAAAAAAAAAAAAAAAAAAAAAAAAAAAAAAAAA \
-PDAAAAAAAAAAAAAAAAAAAAAAAAAAAAAAAAAAAAAAA NIana SS10 SF2 I40.0.0.0 SUTCP4,SEGA\n";
-
-const ENTERED: &[u8] =
-    b"ISUP ADBASE ADTIGR ADPING ADUCMD\nISID AAAB\nIINF CT32 NIHub VEadc-hub\\s1.0\n\
-BINF AAAB IDAAAAAAAAAAAAAAAAAAAAAAAAAAAAAAAAAAAAAAA NIana SS10 SF2 I4127.0.0.1 SUTCP4,SEGA\n";
+/// The greeting, and what a line is answered that is none.
+const GREETING_AND_DENIAL: &[u8] =
+    b"ISUP ADBASE ADTIGR ADPING ADUCMD\nISID AAAB\nIINF CT32 NIHub VEadc-hub\\s1.0\nISTA 140 Protocol\\serror\n";
 
 /// The outcome of a run: what it answered, and what it left of its reader and its writer.
 #[derive(Drop)]
@@ -95,11 +92,18 @@ fn ends<'a, R: AllocGlobal + Abort>(
     ran
 }
 
+/// Makes so many bytes, which begin like this; the others are letters.
+fn padded(rt: &impl Abort, alloc: Global, front: &[u8], length: usize) -> Vec<u8> {
+    let mut bytes = again!(rt; Vec::from_slice(alloc, front));
+    again!(rt; bytes.resize(length, b'x'));
+    bytes
+}
+
 #[test]
 fn answers_the_lines_that_it_reads(rt: HostRuntime) {
     let denied: &[u8] = b"ISTA 140 Protocol\\serror\n";
     let rows: [(&[u8], &[u8]); 8] = [
-        (b"HSUP ADBASE ADTIGR\n", GREETING),
+        (GREET, GREETING),
         (LOGIN, ENTERED),
         (b"\n\nHSUP ADBASE ADTIGR\n", GREETING),
         (b"x\n", denied),
@@ -129,15 +133,14 @@ fn ends_once_the_connection_is_shut_out(rt: HostRuntime) {
         );
     }
     // A line that is too long behind that line is not looked at.
-    let mut long = [b'x'; 80_000];
-    long[..12].copy_from_slice(b"HSUP ADBASE\n");
+    let long = padded(&rt, rt.alloc(), b"HSUP ADBASE\n", 80_000);
     ends(&rt, Input::of(&long, 4096), Ok(()), wanted);
 }
 
 #[test]
 fn ends_once_the_connection_is_owed_too_much(rt: HostRuntime) {
     // A newcomer is owed its own line and 64 commands at once, of over 20,000 bytes each: over 1,048,576 bytes together.
-    let text = [b'x'; 20_000];
+    let text = padded(&rt, rt.alloc(), b"", 20_000);
     let Ok(text) = std::str::from_utf8(&text) else {
         panic!(rt; "no text");
     };
@@ -159,16 +162,16 @@ PDAAAAAAAAAAAAAAAAAAAAAAAAAAAAAAAAAAAAAAA NIana\nBMSG AAAB hi\n";
 #[test]
 fn stops_at_a_line_that_is_too_long(rt: HostRuntime) {
     // A line of 65,536 bytes may come to an end yet, and one of 65,537 is too long.
-    let mut bytes = [b'x'; 65_556];
-    bytes[..19].copy_from_slice(b"HSUP ADBASE ADTIGR\n");
-    ends(&rt, Input::of(&bytes[..65_555], 4096), Ok(()), GREETING);
+    let bytes = padded(&rt, rt.alloc(), GREET, 65_555);
+    ends(&rt, Input::of(&bytes, 4096), Ok(()), GREETING);
+    let bytes = padded(&rt, rt.alloc(), GREET, 65_556);
     let answer = Err(RunFault::TooLong);
     ends(&rt, Input::of(&bytes, 4096), answer, GREETING);
 }
 
 #[test]
 fn writes_on_as_the_writer_takes(rt: HostRuntime) {
-    let input = Input::of(b"HSUP ADBASE ADTIGR\n", 4096);
+    let input = Input::of(GREET, 4096);
     for most in [1, 2, 73] {
         let ran = run_with(&rt, &[], input, most, 0, GREETING);
         assert!(rt; ran.answer == Ok(()), "by {most}: {:?}", ran.answer);
@@ -181,13 +184,11 @@ fn writes_on_as_the_writer_takes(rt: HostRuntime) {
 #[test]
 fn stops_at_a_write_that_fails(rt: HostRuntime) {
     let input = Input::of(b"HSUP ADBASE ADTIGR\nx\n", 4096);
-    let mut whole = [0; 99];
-    whole[..74].copy_from_slice(GREETING);
-    whole[74..].copy_from_slice(b"ISTA 140 Protocol\\serror\n");
-    let good = run_with(&rt, &[], input, 10, 0, &whole);
-    assert!(rt; good.answer == Ok(()) && good.output.got.as_slice() == whole.as_slice());
+    let whole = GREETING_AND_DENIAL;
+    let good = run_with(&rt, &[], input, 10, 0, whole);
+    assert!(rt; good.answer == Ok(()) && good.output.got.as_slice() == whole);
     for bad in 1..=good.output.calls {
-        let ran = run_with(&rt, &[], input, 10, bad, &whole);
+        let ran = run_with(&rt, &[], input, 10, bad, whole);
         assert!(rt;
             ran.answer == Err(RunFault::Write),
             "call {bad}: {:?}",
@@ -206,7 +207,7 @@ fn stops_at_a_write_that_fails(rt: HostRuntime) {
 fn stops_at_a_read_that_fails(rt: HostRuntime) {
     // The 19 bytes of the line come in three reads.
     for (bad, wanted) in [(1, b"".as_slice()), (2, b""), (3, b""), (4, GREETING)] {
-        let mut input = Input::of(b"HSUP ADBASE ADTIGR\n", 7);
+        let mut input = Input::of(GREET, 7);
         input.bad = bad;
         ends(&rt, input, Err(RunFault::Read), wanted);
     }
@@ -215,9 +216,8 @@ fn stops_at_a_read_that_fails(rt: HostRuntime) {
 #[test]
 fn reads_so_often_and_no_more(rt: HostRuntime) {
     // Sixteen lines of 65,536 bytes, to which a hub says nothing, are read byte by byte.
-    let mut line = [b'x'; 65_536];
-    line[..9].copy_from_slice(b"HSTA 000 ");
-    line[65_535] = b'\n';
+    let mut line = padded(&rt, rt.alloc(), b"HSTA 000 ", 65_535);
+    again!(&rt; line.push(b'\n'));
     let mut input = Input::of(b"", 1);
     input.again = &line;
     let ran = ends(&rt, input, Err(RunFault::Turns), b"");

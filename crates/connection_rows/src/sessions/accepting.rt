@@ -4,8 +4,10 @@ use adc_sessions::{Accept, AcceptEnd, Incoming, Peer, Starter};
 use futures::task::{Context, Poll};
 use futures::test::MockTask;
 use second_try::again;
+use std::alloc::AllocGlobal;
 use std::io;
 use std::process::Abort;
+use std::random::RandomSource;
 use std::sync::atomic::{AtomicU32, Ordering};
 
 /// A script that brings so many faults, then so many streams, and both again, and then lets wait.
@@ -66,13 +68,14 @@ impl Starter<()> for Count<'_> {
     }
 }
 
-/// Polls until it is over, and tells how; at most 16 streams come of one poll.
-fn accepts(
+/// Polls until it is over, at most so often, and tells how it ended and how many streams were started; at most 16 streams come
+/// of one poll.
+fn polls(
     rt: &impl Abort,
     task: &MockTask,
     script: Script,
     stop_after: Option<u64>,
-) -> (AcceptEnd, u32) {
+) -> (Option<AcceptEnd>, u32) {
     let count = AtomicU32::new(0);
     let mut accept = Accept::new(script, Count { started: &count }, stop_after);
     for _ in 0..1_000 {
@@ -84,47 +87,46 @@ fn accepts(
             "{before} and then {started}"
         );
         if let Poll::Ready(end) = polled {
-            return (end, started);
+            return (Some(end), started);
         }
     }
-    panic!(rt; "polled a thousand times")
+    (None, count.load(Ordering::Relaxed))
+}
+
+/// Stops the test unless it ends like this, or not within a thousand polls, once so many streams were started.
+fn accepts<R: Abort + RandomSource + AllocGlobal>(
+    rt: &R,
+    script: Script,
+    stop_after: Option<u64>,
+    end: Option<AcceptEnd>,
+    count: u32,
+) {
+    let task = again!(rt; MockTask::new(rt));
+    let (ended, started) = polls(rt, &task, script, stop_after);
+    assert!(rt; ended == end && started == count, "{ended:?}, {started}");
 }
 
 #[test]
 fn sixty_four_faults_in_a_row_are_too_many(rt: HostRuntime) {
-    let task = again!(&rt; MockTask::new(&rt));
-    let script = Script::twice(64, 1);
-    let ended = accepts(&rt, &task, script, Some(2));
-    assert!(&rt; ended == (AcceptEnd::AcceptFailed, 0), "{ended:?}");
+    let end = Some(AcceptEnd::AcceptFailed);
+    accepts(&rt, Script::twice(64, 1), Some(2), end, 0);
 }
 
 #[test]
 fn sixty_three_faults_and_a_stream_are_not(rt: HostRuntime) {
-    let task = again!(&rt; MockTask::new(&rt));
-    let script = Script::twice(63, 1);
-    let ended = accepts(&rt, &task, script, Some(2));
-    assert!(&rt; ended == (AcceptEnd::Stopped, 2), "{ended:?}");
+    let end = Some(AcceptEnd::Stopped);
+    accepts(&rt, Script::twice(63, 1), Some(2), end, 2);
 }
 
 #[test]
 fn the_set_number_of_streams_is_accepted(rt: HostRuntime) {
-    let task = again!(&rt; MockTask::new(&rt));
+    let end = Some(AcceptEnd::Stopped);
     for number in [0, 1, 16, 17, 40] {
-        let script = Script::twice(1, 50);
-        let ended = accepts(&rt, &task, script, Some(number));
-        assert!(&rt; ended == (AcceptEnd::Stopped, number as u32), "{ended:?}");
+        accepts(&rt, Script::twice(1, 50), Some(number), end, number as u32);
     }
 }
 
 #[test]
 fn no_number_is_no_end(rt: HostRuntime) {
-    let task = again!(&rt; MockTask::new(&rt));
-    let script = Script::twice(3, 50);
-    let count = AtomicU32::new(0);
-    let mut accept = Accept::new(script, Count { started: &count }, None);
-    for _ in 0..1_000 {
-        assert!(&rt; task.poll(&mut accept) == Poll::Pending);
-    }
-    let started = count.load(Ordering::Relaxed);
-    assert!(&rt; started == 100, "{started}");
+    accepts(&rt, Script::twice(3, 50), None, None, 100);
 }

@@ -1,28 +1,24 @@
 use adc_sessions::Bell;
 use futures::task::{Context, Poll, Source, Waker};
 
-/// A bell that is always rung.
-#[derive(Drop)]
-pub(crate) struct AlwaysRung;
-
-impl Bell for AlwaysRung {
-    fn ring(&self) {}
-
-    fn wait(&mut self, _cx: &mut Context<'_>) -> bool {
-        true
-    }
+/// A bell that is always rung, or that never is.
+#[derive(Clone, Copy)]
+pub(crate) enum Rung {
+    Always,
+    Never,
 }
 
-/// A bell that never is.
-#[derive(Drop)]
-pub(crate) struct NeverRung;
-
-impl Bell for NeverRung {
+impl Bell for Rung {
     fn ring(&self) {}
 
     fn wait(&mut self, cx: &mut Context<'_>) -> bool {
-        let _: Poll<()> = cx.yield_now();
-        false
+        match self {
+            Rung::Always => true,
+            Rung::Never => {
+                let _: Poll<()> = cx.yield_now();
+                false
+            }
+        }
     }
 }
 

@@ -1,90 +1,77 @@
-use super::bells::{AlwaysRung, NeverRung};
-use super::hub_port::HubPort;
-use super::running::{begins, make_session, run};
+use super::bells::Rung;
+use super::hub_port::meet;
+use super::running::begins;
 use super::wire::Wire;
-use adc_sessions::{Bell, End};
+use crate::texts::{ENTERED, GREETING, LOGIN};
+use adc_sessions::End;
 use futures::test::MockTask;
 use second_try::again;
 use std::alloc::Global;
 use std::process::Abort;
 
-const GREETING: &[u8] =
-    b"ISUP ADBASE ADTIGR ADPING ADUCMD\nISID AAAB\nIINF CT32 NIHub VEadc-hub\\s1.0\n";
-
-const LOGIN: &[u8] = b"HSUP ADBASE ADTIGR\nBINF AAAB IDAAAAAAAAAAAAAAAAAAAAAAAAAAAAAAAAAAAAAAA \
-PDAAAAAAAAAAAAAAAAAAAAAAAAAAAAAAAAAAAAAAA NIana SS10 SF2 I40.0.0.0 SUTCP4,SEGA\n";
-
-const ENTERED: &[u8] = b"ISUP ADBASE ADTIGR ADPING ADUCMD\nISID AAAB\n\
-IINF CT32 NIHub VEadc-hub\\s1.0\nBINF AAAB IDAAAAAAAAAAAAAAAAAAAAAAAAAAAAAAAAAAAAAAA NIana SS10 SF2 \
-I4127.0.0.1 SUTCP4,SEGA\n";
-
-/// Holds a conversation with a new hub, once more where memory was refused, and compares what the client gets.
-fn holds<B: Bell>(
-    rt: &impl Abort,
-    alloc: Global,
-    task: &MockTask,
-    input: &[u8],
+/// A conversation with a new hub: what the client sends, how many bytes one call moves at most, how it ends, and what the
+/// client gets.
+#[derive(Clone, Copy)]
+struct Talk<'a> {
+    input: &'a [u8],
     room: usize,
-    bells: (B, B),
     end: End,
-    output: &[u8],
-) {
-    let (first, second) = bells;
-    if is_held(rt, alloc, task, input, room, first, end, output) {
-        return;
+    output: &'a [u8],
+}
+
+/// Holds a conversation, once more where memory was refused, and compares what the client gets: with a bell that never is
+/// rung, and with one that always is.
+fn holds(rt: &impl Abort, alloc: Global, task: &MockTask, talk: Talk<'_>) {
+    for bell in [Rung::Never, Rung::Always] {
+        if !is_held(rt, alloc, task, talk, bell) {
+            let is_held = is_held(rt, alloc, task, talk, bell);
+            assert!(rt; is_held, "refused twice");
+        }
     }
-    let is_held = is_held(rt, alloc, task, input, room, second, end, output);
-    assert!(rt; is_held, "refused twice");
 }
 
 /// Holds a conversation; not where memory was refused.
-fn is_held<B: Bell>(
-    rt: &impl Abort,
-    alloc: Global,
-    task: &MockTask,
-    input: &[u8],
-    room: usize,
-    bell: B,
-    end: End,
-    output: &[u8],
-) -> bool {
-    let wire = Wire::new(rt, alloc, input, room).slow();
-    let mut session = make_session(rt, alloc, wire, HubPort::open(rt, alloc, &[]), bell);
-    let (ended, wire, _, _) = run(rt, task, &mut session);
-    if ended == End::Memory {
-        begins(rt, wire.sent_bytes(), output);
+fn is_held(rt: &impl Abort, alloc: Global, task: &MockTask, talk: Talk<'_>, bell: Rung) -> bool {
+    let wire = Wire::new(rt, alloc, talk.input, talk.room).slow();
+    let (end, wire) = talks(rt, alloc, task, wire, bell);
+    if end == End::Memory {
+        begins(rt, wire.sent_bytes(), talk.output);
         return false;
     }
-    assert!(rt; ended == end, "{ended:?}");
-    assert!(rt; wire.sent_bytes() == output, "{:?}", wire.sent_bytes());
+    assert!(rt; end == talk.end, "{end:?}");
+    assert!(rt; wire.sent_bytes() == talk.output, "{:?}", wire.sent_bytes());
     true
+}
+
+/// Lets a client talk with a new hub.
+fn talks(rt: &impl Abort, alloc: Global, task: &MockTask, wire: Wire, bell: Rung) -> (End, Wire) {
+    let (end, wire, _) = meet(rt, alloc, task, None, wire, bell);
+    (end, wire)
+}
+
+/// Lets a client say this to a new hub, once more where memory was refused.
+fn says(rt: &impl Abort, alloc: Global, task: &MockTask, input: &[u8], room: usize) -> (End, Wire) {
+    for _ in 0..2 {
+        let wire = Wire::new(rt, alloc, input, room);
+        let (end, wire) = talks(rt, alloc, task, wire, Rung::Never);
+        if end != End::Memory {
+            return (end, wire);
+        }
+    }
+    panic!(rt; "refused twice")
 }
 
 #[test]
 fn a_client_is_greeted(rt: HostRuntime) {
     let task = again!(&rt; MockTask::new(&rt));
-    let input = b"HSUP ADBASE ADTIGR\n";
     for room in [1, 7, 4_096] {
-        holds(
-            &rt,
-            rt.alloc(),
-            &task,
-            input,
+        let talk = Talk {
+            input: b"HSUP ADBASE ADTIGR\n",
             room,
-            (NeverRung, NeverRung),
-            End::Closed,
-            GREETING,
-        );
-        holds(
-            &rt,
-            rt.alloc(),
-            &task,
-            input,
-            room,
-            (AlwaysRung, AlwaysRung),
-            End::Closed,
-            GREETING,
-        );
+            end: End::Closed,
+            output: GREETING,
+        };
+        holds(&rt, rt.alloc(), &task, talk);
     }
 }
 
@@ -92,75 +79,40 @@ fn a_client_is_greeted(rt: HostRuntime) {
 fn single_bytes_give_the_same_lines(rt: HostRuntime) {
     let task = again!(&rt; MockTask::new(&rt));
     for room in [1, 4_096] {
-        holds(
-            &rt,
-            rt.alloc(),
-            &task,
-            LOGIN,
+        let talk = Talk {
+            input: LOGIN,
             room,
-            (NeverRung, NeverRung),
-            End::Closed,
-            ENTERED,
-        );
-        holds(
-            &rt,
-            rt.alloc(),
-            &task,
-            LOGIN,
-            room,
-            (AlwaysRung, AlwaysRung),
-            End::Closed,
-            ENTERED,
-        );
+            end: End::Closed,
+            output: ENTERED,
+        };
+        holds(&rt, rt.alloc(), &task, talk);
     }
 }
 
 #[test]
 fn a_client_without_the_hash_is_shut_out(rt: HostRuntime) {
     let task = again!(&rt; MockTask::new(&rt));
-    let output = b"ISTA 247 No\\scommon\\shash\n";
     for input in [
         b"HSUP ADBASE\n".as_slice(),
         b"HSUP ADBASE\nHSUP ADBASE ADTIGR\n",
     ] {
-        holds(
-            &rt,
-            rt.alloc(),
-            &task,
+        let talk = Talk {
             input,
-            12,
-            (NeverRung, NeverRung),
-            End::Ended,
-            output,
-        );
-        holds(
-            &rt,
-            rt.alloc(),
-            &task,
-            input,
-            12,
-            (AlwaysRung, AlwaysRung),
-            End::Ended,
-            output,
-        );
+            room: 12,
+            end: End::Ended,
+            output: b"ISTA 247 No\\scommon\\shash\n",
+        };
+        holds(&rt, rt.alloc(), &task, talk);
     }
 }
 
 #[test]
 fn nothing_is_read_from_a_client_that_is_shut_out(rt: HostRuntime) {
     let task = again!(&rt; MockTask::new(&rt));
-    for _ in 0..2 {
-        let wire = Wire::new(&rt, rt.alloc(), b"HSUP ADBASE\nHSUP ADBASE ADTIGR\n", 12);
-        let port = HubPort::open(&rt, rt.alloc(), &[]);
-        let mut session = make_session(&rt, rt.alloc(), wire, port, NeverRung);
-        let (end, wire, _, _) = run(&rt, &task, &mut session);
-        if end != End::Memory {
-            assert!(&rt; end == End::Ended, "{end:?}");
-            assert!(&rt; wire.unread() == 19, "{}", wire.unread());
-            return;
-        }
-    }
-    panic!(&rt; "refused twice")
+    let input = b"HSUP ADBASE\nHSUP ADBASE ADTIGR\n";
+    let (end, wire) = says(&rt, rt.alloc(), &task, input, 12);
+    assert!(&rt; end == End::Ended, "{end:?}");
+    assert!(&rt; wire.unread() == 19, "{}", wire.unread());
 }
 
 /// A line that everybody gets.
@@ -180,41 +132,19 @@ fn five_thousand_lines_without_pause_come_back(rt: HostRuntime) {
     let task = again!(&rt; MockTask::new(&rt));
     let input = chatter(&rt, rt.alloc(), LOGIN, 5_000);
     let output = chatter(&rt, rt.alloc(), ENTERED, 5_000);
-    holds(
-        &rt,
-        rt.alloc(),
-        &task,
-        &input,
-        4_096,
-        (NeverRung, NeverRung),
-        End::Closed,
-        &output,
-    );
-    holds(
-        &rt,
-        rt.alloc(),
-        &task,
-        &input,
-        4_096,
-        (AlwaysRung, AlwaysRung),
-        End::Closed,
-        &output,
-    );
+    let talk = Talk {
+        input: &input,
+        room: 4_096,
+        end: End::Closed,
+        output: &output,
+    };
+    holds(&rt, rt.alloc(), &task, talk);
 }
 
 #[test]
 fn one_write_carries_what_one_take_gave(rt: HostRuntime) {
     let task = again!(&rt; MockTask::new(&rt));
-    for _ in 0..2 {
-        let wire = Wire::new(&rt, rt.alloc(), b"HSUP ADBASE ADTIGR\n", 4_096);
-        let port = HubPort::open(&rt, rt.alloc(), &[]);
-        let mut session = make_session(&rt, rt.alloc(), wire, port, NeverRung);
-        let (end, wire, _, _) = run(&rt, &task, &mut session);
-        if end != End::Memory {
-            assert!(&rt; wire.sent_bytes() == GREETING, "{:?}", wire.sent_bytes());
-            assert!(&rt; wire.writes() == 1, "{}", wire.writes());
-            return;
-        }
-    }
-    panic!(&rt; "refused twice")
+    let (_, wire) = says(&rt, rt.alloc(), &task, b"HSUP ADBASE ADTIGR\n", 4_096);
+    assert!(&rt; wire.sent_bytes() == GREETING, "{:?}", wire.sent_bytes());
+    assert!(&rt; wire.writes() == 1, "{}", wire.writes());
 }

@@ -1,6 +1,6 @@
-use super::bells::NeverRung;
-use super::hub_port::{HubPort, take_lines};
-use super::running::{begins, make_session, run};
+use super::bells::Rung;
+use super::hub_port::meet;
+use super::running::begins;
 use super::wire::{Trouble, Wire};
 use adc_sessions::End;
 use futures::test::MockTask;
@@ -19,7 +19,7 @@ IINF CT32 NIHub VEadc-hub\\s1.0\nBINF AAAB IDAAAAAAAAAAAAAAAAAAAAAAAAAAAAAAAAAAA
 BINF AAAC IDAAAAAAAAAAAAAAAAAAAAAAAAAAAAAAAAAAAAAAA NIana SS10 SF2 I4127.0.0.1 SUTCP4,SEGA\nBMSG AAAC hi\n";
 
 /// The calls that go wrong.
-#[derive(Clone, Copy, Debug, PartialEq, Eq)]
+#[derive(Clone, Copy)]
 enum Kind {
     Read,
     Write,
@@ -41,19 +41,30 @@ fn is_told(bob: &[u8]) -> bool {
     bob.is_empty() || bob == LOGIN_ALONE || bob == WHOLE
 }
 
-/// Plays a visit: bob is there; ana enters and says hi, byte by byte, and something goes wrong. Tells how it ended.
+/// A visit: how it ended, what ana got of it, and what bob.
+#[derive(Drop)]
+struct Heard {
+    end: End,
+    ana: Wire,
+    bob: Vec<u8>,
+}
+
+/// Plays a visit: bob is there; ana enters and says hi, byte by byte, and something goes wrong.
+fn play(rt: &impl Abort, alloc: Global, task: &MockTask, trouble: Trouble) -> Heard {
+    let wire = Wire::new(rt, alloc, ANA, 1).with_trouble(trouble);
+    let (end, ana, mut left) = meet(rt, alloc, task, Some(BOB), wire, Rung::Never);
+    let bob = left.heard(rt, alloc);
+    Heard { end, ana, bob }
+}
+
+/// Plays a visit, once more where memory was refused, and tells how it ended.
 fn visit(rt: &impl Abort, alloc: Global, task: &MockTask, trouble: Trouble) -> End {
     for _ in 0..2 {
-        let port = HubPort::open(rt, alloc, &[BOB]);
-        let wire = Wire::new(rt, alloc, ANA, 1).with_trouble(trouble);
-        let mut session = make_session(rt, alloc, wire, port, NeverRung);
-        let (end, wire, left, _) = run(rt, task, &mut session);
-        begins(rt, wire.sent_bytes(), ANA_GETS);
-        let mut core = left.core;
-        let bob = take_lines(rt, alloc, &mut core, left.first);
+        let Heard { end, ana, bob } = play(rt, alloc, task, trouble);
+        begins(rt, ana.sent_bytes(), ANA_GETS);
         assert!(rt; is_told(&bob), "{bob:?}");
         if end == End::Closed {
-            assert!(rt; wire.sent_bytes() == ANA_GETS && bob.as_slice() == WHOLE);
+            assert!(rt; ana.sent_bytes() == ANA_GETS && bob.as_slice() == WHOLE);
         }
         if end != End::Memory {
             return end;

@@ -1,18 +1,28 @@
 ghost use Rattle.std.specs.Prelude.{⊤, ◌≤◌};
 
-use adc_sessions::Port;
+use super::bells::Rung;
+use super::running::hold;
+use super::wire::Wire;
+use adc_sessions::{End, Port};
+use futures::test::MockTask;
 use hub_core::{Conn, Core, LineRefused, Options, Setup, TakeRefused, Taken, Verdict, prepare};
 use second_try::again;
 use session_hash::First24;
-use std::alloc::Global;
+use std::alloc::{AllocError, Global};
 use std::process::Abort;
 use std::sync::Arc;
 
-/// A connection of a hub for one thread.
+/// A hub for one thread, and how it was set up.
 #[derive(Drop)]
-pub(crate) struct HubPort {
+struct OneHub {
     setup: Arc<Setup>,
     core: Core,
+}
+
+/// A connection of a hub for one thread.
+#[derive(Drop)]
+struct HubPort {
+    hub: OneHub,
     me: Conn,
     first: Conn,
 }
@@ -20,56 +30,89 @@ pub(crate) struct HubPort {
 /// The things that a connection leaves: the hub, and who joined it first.
 #[derive(Drop)]
 pub(crate) struct HubLeft {
-    pub(crate) core: Core,
-    pub(crate) first: Conn,
+    hub: OneHub,
+    first: Conn,
+}
+
+// Each call of the core stands in a function of its own, which promises nothing.
+impl OneHub {
+    fn new(alloc: Global) -> Result<OneHub, AllocError> {
+        let Ok(setup) = Setup::new(alloc, &Options::named("Hub")) else {
+            return Err(AllocError);
+        };
+        OneHub::with(alloc, Arc::new(alloc, setup)?)
+    }
+
+    fn with(alloc: Global, setup: Arc<Setup>) -> Result<OneHub, AllocError> {
+        match Core::open(alloc, setup.clone()?) {
+            Ok(core) => Ok(OneHub { setup, core }),
+            Err(_) => Err(AllocError),
+        }
+    }
+
+    fn join(&mut self, alloc: Global) -> Result<Conn, AllocError> {
+        match self.core.join(alloc, [127, 0, 0, 1], [0; 24], 0) {
+            Ok(joined) => Ok(joined),
+            Err(_) => Err(AllocError),
+        }
+    }
+
+    fn line(&mut self, alloc: Global, who: Conn, line: &[u8]) -> Result<Verdict, LineRefused> {
+        let line = prepare(alloc, &self.setup, &First24, [0; 24], line)?;
+        if !self.core.is_open(who) {
+            return Err(LineRefused::Memory);
+        }
+        self.core.line(alloc, who, &line, 0)
+    }
+
+    /// Takes up to 256 lines of a connection that is open.
+    fn take(&mut self, alloc: Global, who: Conn) -> Result<Vec<u8>, TakeRefused> {
+        let mut heard = Vec::new(alloc);
+        if !self.core.is_open(who) {
+            return Err(TakeRefused::Memory);
+        }
+        self.core.take(who, 256, &mut heard)?;
+        Ok(heard)
+    }
+
+    fn quit(&mut self, who: Conn) {
+        if self.core.is_open(who) {
+            self.core.quit(who);
+        }
+    }
+
+    /// Has one come by greeting and this login line, and take what is for it.
+    fn admit(&mut self, rt: &impl Abort, alloc: Global, login: &[u8]) -> Conn {
+        let who = again!(rt; self.join(alloc));
+        again!(rt; self.line(alloc, who, b"HSUP ADBASE ADTIGR"));
+        again!(rt; self.line(alloc, who, login));
+        again!(rt; self.take(alloc, who));
+        who
+    }
 }
 
 impl HubPort {
-    /// Opens a new hub, to which others have come, each by greeting and this login line; and one more connection.
-    pub(crate) fn open(rt: &impl Abort, alloc: Global, others: &[&[u8]]) -> HubPort {
-        let options = Options::named("Hub");
-        let setup = again!(rt; Setup::new(alloc, &options));
-        let setup = match Arc::new(alloc, setup) {
-            Ok(setup) => setup,
-            Err(refused) => match Arc::new(alloc, refused.value) {
-                Ok(setup) => setup,
-                Err(_) => panic!(rt; "refused twice"),
-            },
+    /// Opens a new hub, to which another may have come, by greeting and this login line; and one more connection.
+    fn open(rt: &impl Abort, alloc: Global, other: Option<&[u8]>) -> HubPort {
+        let mut hub = again!(rt; OneHub::new(alloc));
+        let first = match other {
+            Some(login) => Some(hub.admit(rt, alloc, login)),
+            None => None,
         };
-        let mut core = again!(rt; Core::open(alloc, again!(rt; setup.clone())));
-        let mut first = None;
-        for login in others {
-            let other = again!(rt; core.join(alloc, [127, 0, 0, 1], [0; 24], 0));
-            for line in [b"HSUP ADBASE ADTIGR".as_slice(), *login] {
-                let line = again!(rt; prepare(alloc, &setup, &First24, [0; 24], line));
-                assert!(rt; core.is_open(other));
-                again!(rt; core.line(alloc, other, &line, 0));
-            }
-            take_lines(rt, alloc, &mut core, other);
-            first = first.or(Some(other));
-        }
-        let me = again!(rt; core.join(alloc, [127, 0, 0, 1], [0; 24], 0));
-        let first = first.unwrap_or(me);
+        let me = again!(rt; hub.join(alloc));
         HubPort {
-            setup,
-            core,
+            hub,
             me,
-            first,
+            first: first.unwrap_or(me),
         }
     }
 }
 
-/// Takes up to 256 lines of a connection that is open.
-pub(crate) fn take_lines(
-    rt: &impl Abort,
-    alloc: Global,
-    core: &mut Core,
-    connection: Conn,
-) -> Vec<u8> {
-    assert!(rt; core.is_open(connection));
-    let mut heard = Vec::new(alloc);
-    again!(rt; core.take(connection, 256, &mut heard));
-    heard
+impl HubLeft {
+    /// Takes up to 256 lines of who joined first, who is there yet.
+    pub(crate) fn heard(&mut self, rt: &impl Abort, alloc: Global) -> Vec<u8> {
+        again!(rt; self.hub.take(alloc, self.first))
+    }
 }
 
 impl Port for HubPort {
@@ -80,28 +123,34 @@ impl Port for HubPort {
     ghost leaves = { λ _ _. ⊤ };
 
     fn line(&mut self, alloc: Global, line: &[u8]) -> Result<Verdict, LineRefused> {
-        let line = prepare(alloc, &self.setup, &First24, [0; 24], line)?;
-        if !self.core.is_open(self.me) {
-            return Err(LineRefused::Memory);
-        }
-        self.core.line(alloc, self.me, &line, 0)
+        self.hub.line(alloc, self.me, line)
     }
 
     fn take(&mut self, count: usize, out: &mut Vec<u8>) -> Result<Taken, TakeRefused> {
-        if !self.core.is_open(self.me) {
+        if !self.hub.core.is_open(self.me) {
             return Err(TakeRefused::Memory);
         }
-        self.core.take(self.me, count, out)
+        self.hub.core.take(self.me, count, out)
     }
 
     fn quit(self) -> HubLeft {
-        let mut core = self.core;
-        if core.is_open(self.me) {
-            core.quit(self.me);
-        }
-        HubLeft {
-            core,
-            first: self.first,
-        }
+        let HubPort { hub, me, first } = self;
+        let mut hub = hub;
+        hub.quit(me);
+        HubLeft { hub, first }
     }
+}
+
+/// Holds a session with a new hub, to which another may have come as [`HubPort::open`] tells, and gives what it leaves.
+pub(crate) fn meet(
+    rt: &impl Abort,
+    alloc: Global,
+    task: &MockTask,
+    other: Option<&[u8]>,
+    wire: Wire,
+    bell: Rung,
+) -> (End, Wire, HubLeft) {
+    let port = HubPort::open(rt, alloc, other);
+    let (end, wire, left, _) = hold(rt, alloc, task, wire, port, bell);
+    (end, wire, left)
 }

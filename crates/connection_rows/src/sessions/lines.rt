@@ -1,7 +1,7 @@
 ghost use Rattle.std.specs.Prelude.{⊤};
 
-use super::bells::NeverRung;
-use super::running::{make_session, run};
+use super::bells::Rung;
+use super::running::hold;
 use super::wire::Wire;
 use adc_sessions::{End, Port};
 use futures::test::MockTask;
@@ -11,7 +11,7 @@ use std::alloc::Global;
 use std::process::Abort;
 
 /// A port that notes how long its lines are.
-#[derive(Drop)]
+#[derive(Clone, Copy)]
 struct Ledger {
     lines: u32,
     longest: usize,
@@ -19,7 +19,7 @@ struct Ledger {
 }
 
 impl Port for Ledger {
-    type Left = (u32, usize, u32);
+    type Left = Ledger;
 
     ghost step = { λ _ _ _. ⊤ };
 
@@ -39,9 +39,27 @@ impl Port for Ledger {
         })
     }
 
-    fn quit(self) -> (u32, usize, u32) {
-        (self.lines, self.longest, self.takes)
+    fn quit(self) -> Ledger {
+        self
     }
+}
+
+/// Hands these bytes to a session, once more where memory was refused. Tells how it ended, what its port noted, and how many
+/// polls came before the last.
+fn hands(rt: &impl Abort, alloc: Global, task: &MockTask, input: &[u8]) -> (End, Ledger, u32) {
+    let port = Ledger {
+        lines: 0,
+        longest: 0,
+        takes: 0,
+    };
+    for _ in 0..2 {
+        let wire = Wire::new(rt, alloc, input, 4_096);
+        let (end, _, noted, polls) = hold(rt, alloc, task, wire, port, Rung::Never);
+        if end != End::Memory {
+            return (end, noted, polls);
+        }
+    }
+    panic!(rt; "refused twice")
 }
 
 /// Reads so many letters, with a line feed behind them or without.
@@ -57,20 +75,8 @@ fn reads(
     if is_ended {
         again!(rt; input.push(b'\n'));
     }
-    for _ in 0..2 {
-        let wire = Wire::new(rt, alloc, &input, 4_096);
-        let port = Ledger {
-            lines: 0,
-            longest: 0,
-            takes: 0,
-        };
-        let mut session = make_session(rt, alloc, wire, port, NeverRung);
-        let (end, _, (lines, longest, _), _) = run(rt, task, &mut session);
-        if end != End::Memory {
-            return (end, lines, longest);
-        }
-    }
-    panic!(rt; "refused twice")
+    let (end, noted, _) = hands(rt, alloc, task, &input);
+    (end, noted.lines, noted.longest)
 }
 
 #[test]
@@ -104,20 +110,7 @@ fn each_poll_takes(rt: HostRuntime) {
     for _ in 0..1_000 {
         again!(&rt; input.extend_from_slice(b"hi\n"));
     }
-    for _ in 0..2 {
-        let wire = Wire::new(&rt, rt.alloc(), &input, 4_096);
-        let port = Ledger {
-            lines: 0,
-            longest: 0,
-            takes: 0,
-        };
-        let mut session = make_session(&rt, rt.alloc(), wire, port, NeverRung);
-        let (end, _, (lines, _, takes), polls) = run(&rt, &task, &mut session);
-        if end != End::Memory {
-            assert!(&rt; end == End::Closed && lines == 1_000, "{end:?} {lines}");
-            assert!(&rt; 15 <= polls && polls < takes, "{polls} {takes}");
-            return;
-        }
-    }
-    panic!(&rt; "refused twice")
+    let (end, Ledger { lines, takes, .. }, polls) = hands(&rt, rt.alloc(), &task, &input);
+    assert!(&rt; end == End::Closed && lines == 1_000, "{end:?} {lines}");
+    assert!(&rt; 15 <= polls && polls < takes, "{polls} {takes}");
 }

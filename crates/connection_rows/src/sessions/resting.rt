@@ -2,14 +2,14 @@ ghost use Rattle.std.specs.Prelude.{⊤};
 
 use super::bells::Silent;
 use super::running::make_session;
-use adc_sessions::{End, Port};
+use adc_sessions::{Bell, End, Port, Session};
 use futures::task::Poll;
 use futures::test::MockTask;
 use hub_core::{LineRefused, TakeRefused, Taken, Verdict};
 use second_try::again;
 use std::alloc::Global;
 use std::process::Abort;
-use tokio::io::{duplex, read_exact};
+use tokio::io::{AsyncRead, AsyncWrite, duplex, read_exact};
 
 /// The number of lines that wait: more than three takes give.
 const LINES: usize = 1_000;
@@ -60,24 +60,42 @@ impl Port for Store {
     fn quit(self) {}
 }
 
-/// Polls a session as often as it is woken. Its client says nothing and closes nothing, and nobody rings for it.
-fn hears_all(rt: &impl Abort, alloc: Global, task: &MockTask, client: &MockTask) -> bool {
-    let (near, far) = again!(rt; duplex(alloc, 4_096));
-    let mut session = make_session(rt, alloc, near, Store::new(rt, alloc), Silent::new());
+/// Polls a session as often as it is woken. Its client says nothing and closes nothing, and nobody rings for it. It ends only where
+/// memory was refused.
+fn rests<S: AsyncRead + AsyncWrite, P: Port, B: Bell>(
+    rt: &impl Abort,
+    task: &MockTask,
+    session: &mut Session<S, P, B>,
+) -> bool {
     for _ in 0..1_000 {
-        if let Poll::Ready((end, _, ())) = task.poll(&mut session) {
+        if let Poll::Ready((end, _, _)) = task.poll(session) {
             assert!(rt; end == End::Memory, "{end:?}");
             return false;
         }
         if !task.is_woken() {
-            break;
+            return true;
         }
     }
-    assert!(rt; !task.is_woken(), "polled a thousand times");
+    panic!(rt; "polled a thousand times")
+}
+
+/// Reads so many bytes, which are there.
+fn hears<S: AsyncRead>(rt: &impl Abort, alloc: Global, client: &MockTask, far: S) -> Vec<u8> {
     let room = again!(rt; vec![in alloc; 0; LINES * 3]);
     let Poll::Ready(Ok((_, heard))) = client.poll(&mut read_exact(far, room)) else {
         panic!(rt; "it rests while lines wait");
     };
+    heard
+}
+
+/// Lets a session rest, and compares what its client gets; not where memory was refused.
+fn hears_all(rt: &impl Abort, alloc: Global, task: &MockTask, client: &MockTask) -> bool {
+    let (near, far) = again!(rt; duplex(alloc, 4_096));
+    let mut session = make_session(rt, alloc, near, Store::new(rt, alloc), Silent::new());
+    if !rests(rt, task, &mut session) {
+        return false;
+    }
+    let heard = hears(rt, alloc, client, far);
     assert!(rt; heard == Store::new(rt, alloc).bytes);
     true
 }

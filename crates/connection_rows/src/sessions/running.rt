@@ -1,3 +1,4 @@
+// Sessions of any kind. They are begun and polled here alone, so that no test has a session of its own kind to let go of.
 use adc_sessions::{Bell, End, Port, Session, SessionRefused};
 use futures::task::Poll;
 use futures::test::MockTask;
@@ -28,7 +29,7 @@ pub(crate) fn make_session<S: AsyncRead + AsyncWrite, P: Port, B: Bell>(
 }
 
 /// Polls a session to its end, and tells how many polls came before the last.
-pub(crate) fn run<S: AsyncRead + AsyncWrite, P: Port, B: Bell>(
+fn run<S: AsyncRead + AsyncWrite, P: Port, B: Bell>(
     rt: &impl Abort,
     task: &MockTask,
     session: &mut Session<S, P, B>,
@@ -39,6 +40,19 @@ pub(crate) fn run<S: AsyncRead + AsyncWrite, P: Port, B: Bell>(
         }
     }
     panic!(rt; "polled a million times")
+}
+
+/// Holds a session to its end, and tells how many polls came before the last.
+pub(crate) fn hold<S: AsyncRead + AsyncWrite, P: Port, B: Bell>(
+    rt: &impl Abort,
+    alloc: Global,
+    task: &MockTask,
+    stream: S,
+    port: P,
+    bell: B,
+) -> (End, S, P::Left, u32) {
+    let mut session = make_session(rt, alloc, stream, port, bell);
+    run(rt, task, &mut session)
 }
 
 /// Stops the test unless the second begins with the first.

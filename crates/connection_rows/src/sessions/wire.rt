@@ -7,7 +7,7 @@ use std::process::Abort;
 use tokio::io::{AsyncRead, AsyncWrite};
 
 /// The call of a stream that goes wrong, counted from 1.
-#[derive(Clone, Copy, Debug, PartialEq, Eq)]
+#[derive(Clone, Copy)]
 pub(crate) enum Trouble {
     Nowhere,
     /// A read that fails.
@@ -84,7 +84,7 @@ impl AsyncRead for Wire {
 
     fn poll_read(&mut self, cx: &mut Context<'_>, buf: &mut [u8]) -> Poll<io::Result<usize>> {
         self.reads = self.reads.saturating_add(1);
-        if self.trouble == Trouble::Read(self.reads) {
+        if matches!(self.trouble, Trouble::Read(call) if call == self.reads) {
             return Poll::Ready(Err(io::ErrorKind::ConnectionReset.into()));
         }
         if self.is_slow && self.reads % 2 == 1 {
@@ -107,10 +107,10 @@ impl AsyncWrite for Wire {
 
     fn poll_write(&mut self, _cx: &mut Context<'_>, buf: &[u8]) -> Poll<io::Result<usize>> {
         self.writes = self.writes.saturating_add(1);
-        if self.trouble == Trouble::Write(self.writes) {
+        if matches!(self.trouble, Trouble::Write(call) if call == self.writes) {
             return Poll::Ready(Err(io::ErrorKind::ConnectionReset.into()));
         }
-        if self.trouble == Trouble::Full(self.writes) {
+        if matches!(self.trouble, Trouble::Full(call) if call == self.writes) {
             return Poll::Ready(Ok(0));
         }
         let count = self.room.min(buf.len());

@@ -1,0 +1,13 @@
+// What one says to a hub, and what it gets.
+
+pub(crate) const GREETING: &[u8] =
+    b"ISUP ADBASE ADTIGR ADPING ADUCMD\nISID AAAB\nIINF CT32 NIHub VEadc-hub\\s1.0\n";
+
+/// The identifiers of a client are 39 letters A each, which are 24 zero bytes.
+pub(crate) const LOGIN: &[u8] =
+    b"HSUP ADBASE ADTIGR\nBINF AAAB IDAAAAAAAAAAAAAAAAAAAAAAAAAAAAAAAAAAAAAAA \
+PDAAAAAAAAAAAAAAAAAAAAAAAAAAAAAAAAAAAAAAA NIana SS10 SF2 I40.0.0.0 SUTCP4,SEGA\n";
+
+pub(crate) const ENTERED: &[u8] =
+    b"ISUP ADBASE ADTIGR ADPING ADUCMD\nISID AAAB\nIINF CT32 NIHub VEadc-hub\\s1.0\n\
+BINF AAAB IDAAAAAAAAAAAAAAAAAAAAAAAAAAAAAAAAAAAAAAA NIana SS10 SF2 I4127.0.0.1 SUTCP4,SEGA\n";
