@@ -63,6 +63,10 @@ fn a_list_of_calls_is_answered_in_turn(rt: HostRuntime) {
         assert!(&rt; is_as_expected(answer, expected), "{answer:?}");
     }
     assert!(&rt; core.joins() == 2 && core.totals().users == 1);
+    drop(core);
+    drop(answers);
+    drop(lines);
+    drop(setup);
 }
 
 fn setup(rt: &impl Abort, alloc: Global) -> Arc<Setup> {

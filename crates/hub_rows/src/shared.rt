@@ -84,7 +84,7 @@ fn what_one_thread_says_another_hears(rt: HostRuntime) {
 fn who_finds_no_room_may_join_later(rt: HostRuntime) {
     let (hall, mut host) = open_hall(&rt, rt.alloc(), 2);
     let first = join_and_login(&rt, rt.alloc(), &hall, host.admit(&hall.hub), ANA);
-    let _second = join_and_login(&rt, rt.alloc(), &hall, host.admit(&hall.hub), BOB);
+    let second = join_and_login(&rt, rt.alloc(), &hall, host.admit(&hall.hub), BOB);
     let third = host.admit(&hall.hub);
     let Err((why, third)) = join(&rt, rt.alloc(), &hall, third) else {
         panic!(rt; "a third connection")
@@ -109,6 +109,11 @@ fn who_finds_no_room_may_join_later(rt: HostRuntime) {
             == b"ISUP ADBASE ADTIGR ADPING ADUCMD\nISID AAAD\nIINF CT32 NIHub VEadc-hub\\s1.0\n".as_slice(),
         "{heard:?}"
     );
+    drop(third);
+    drop(second);
+    drop(first);
+    drop(host);
+    drop(hall);
 }
 
 #[test]
@@ -179,4 +184,10 @@ fn a_line_is_heard_by_all_or_by_nobody(rt: HostRuntime) {
     hears_it_once(&rt, rt.alloc(), &hall, &mut bob);
     hears_it_once(&rt, rt.alloc(), &hall, &mut cy);
     hears_it_once(&rt, rt.alloc(), &hall, &mut dan);
+    drop(dan);
+    drop(cy);
+    drop(bob);
+    drop(ana);
+    drop(host);
+    drop(hall);
 }

@@ -66,6 +66,7 @@ fn says(rt: &(impl Abort + Print), alloc: Global, hall: &mut Hall, number: usize
     let verdict =
         once!(rt; call, LineRefused::Memory, view_of(hall), hall.core.line(alloc, connection, &line, 0));
     assert!(rt; verdict == Verdict::Kept);
+    drop(line);
 }
 
 /// Takes what waits for one, behind a byte that stays.
@@ -111,6 +112,7 @@ fn a_line_to_three(rt: HostRuntime) {
             }
             && hall.core.joins() == 3
     );
+    drop(hall);
 }
 
 fn asks<'a>(rt: &impl Abort, alloc: Global) -> Vec<Asked<'a>> {
@@ -138,4 +140,7 @@ fn calls(rt: HostRuntime) {
         assert!(rt; tell(rt, call), "not written");
         assert!(rt; matches!(answers.as_slice(), [Answer::Memory, Answer::Skipped]));
     }
+    drop(core);
+    drop(answers);
+    drop(setup);
 }

@@ -21,4 +21,9 @@ fn a_line_to_three(rt: HostRuntime) {
     assert!(rt; hears(rt, alloc, &hall, &mut cy).as_slice() == b"BMSG AAAB hi\n".as_slice());
     let look = looks(rt, &hall, &mut cy);
     assert!(rt; look.stage == Stage::Normal && look.present == 3 && look.waiting == 0);
+    drop(cy);
+    drop(bob);
+    drop(ana);
+    drop(host);
+    drop(hall);
 }

@@ -134,7 +134,9 @@ pub(crate) fn sends<R: Wait + Abort>(
     ensures { guest.new.pass.home ≡ hall.now.hub.home }
 {
     let line = prepare_line(rt, alloc, &hall.setup, guest.challenge, bytes);
-    hall.hub.line(rt, alloc, &mut guest.pass, &line, 0)
+    let said = hall.hub.line(rt, alloc, &mut guest.pass, &line, 0);
+    drop(line);
+    said
 }
 
 /// Sends a line, and where memory is refused, once more: the speaker then sees what it saw.
