@@ -51,10 +51,24 @@ impl<'a> Door<'a> {
         let digits = digits(admitted + 1);
         let visitor = self.host.admit(&self.shared.hub);
         let mut user = User::new(rt, alloc, self.shared, visitor, digits)?;
-        user.say(rt, alloc, b"HSUP ADBASE ADTIGR")?;
-        user.say(rt, alloc, &login(alloc, digits)?)?;
-        Ok(user)
+        match log_in(rt, alloc, &mut user, digits) {
+            Ok(()) => Ok(user),
+            Err(refused) => {
+                drop(user);
+                Err(refused.into())
+            }
+        }
     }
+}
+
+fn log_in<R: Wait>(
+    rt: &R,
+    alloc: Global,
+    user: &mut User<'_>,
+    digits: [u8; 2],
+) -> Result<(), AllocError> {
+    user.say(rt, alloc, b"HSUP ADBASE ADTIGR")?;
+    user.say(rt, alloc, &login(alloc, digits)?)
 }
 
 /// Gives the two digits of a number below 1,024, with which its session identifier ends.

@@ -39,7 +39,9 @@ impl SoloHub {
         for _ in 0..users {
             let user = self.join()?;
             let login = self.login(user)?;
-            self.say(user, &login)?;
+            let said = self.say(user, &login);
+            drop(login);
+            said?;
             self.users.push(user)?;
             self.clear()?;
         }
@@ -52,7 +54,9 @@ impl SoloHub {
             return Err(AllocError.into());
         };
         let support = self.prepare_line(b"HSUP ADBASE ADTIGR")?;
-        self.say(user, &support)?;
+        let said = self.say(user, &support);
+        drop(support);
+        said?;
         Ok(user)
     }
 

@@ -52,6 +52,32 @@ pub fn deliveries<R: Threads + Wait + Clock + Sync>(
 ) -> io::Result<Figures> {
     let (shared, host) = open_hub(alloc)?;
     let mut door = Door::new(&shared, host);
+    let figures = measured(rt, alloc, &mut door, threads);
+    // By calls, in one place: a body that lets go of much where each of its calls may fail is dear to prove.
+    drop(door);
+    drop(shared);
+    figures
+}
+
+fn measured<R: Threads + Wait + Clock + Sync>(
+    rt: &R,
+    alloc: Global,
+    door: &mut Door<'_>,
+    threads: u32,
+) -> io::Result<Figures> {
+    let crowds = settled(rt, alloc, door, threads)?;
+    let start = Instant::now(rt)?;
+    let crowds = chat(rt, crowds, LINES.checked_div(threads).ok_or(AllocError)?)?;
+    added_up(&crowds, start.elapsed(rt)?.as_nanos())
+}
+
+/// Lets the users in, shared out among so many threads, for whom nothing waits.
+fn settled<'a, R: Wait>(
+    rt: &R,
+    alloc: Global,
+    door: &mut Door<'a>,
+    threads: u32,
+) -> io::Result<Vec<Crowd<'a>>> {
     let users = USERS.checked_div(threads).ok_or(AllocError)?;
     let mut crowds = Vec::with_capacity(alloc, threads as usize)?;
     for _ in 0..threads {
@@ -60,9 +86,7 @@ pub fn deliveries<R: Threads + Wait + Clock + Sync>(
     for crowd in crowds.iter_mut() {
         crowd.settle(rt)?;
     }
-    let start = Instant::now(rt)?;
-    let crowds = chat(rt, crowds, LINES.checked_div(threads).ok_or(AllocError)?)?;
-    added_up(&crowds, start.elapsed(rt)?.as_nanos())
+    Ok(crowds)
 }
 
 /// Lets all chat.

@@ -11,8 +11,14 @@ use std::time::Clock;
 /// Reports what calls take where so many users are present.
 pub fn report_calls<R: Clock + Print>(rt: &R, alloc: Global, users: u32) -> io::Result<()> {
     let mut hub = SoloHub::open(alloc)?;
+    let done = measure_hub(rt, &mut hub, users);
+    drop(hub);
+    done
+}
+
+fn measure_hub<R: Clock + Print>(rt: &R, hub: &mut SoloHub, users: u32) -> io::Result<()> {
     hub.fill(users)?;
-    measure_calls(rt, &mut hub, users)
+    measure_calls(rt, hub, users)
 }
 
 fn measure_calls<R: Clock + Print, M: Measured>(rt: &R, hub: &mut M, users: u32) -> io::Result<()> {

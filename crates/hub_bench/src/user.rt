@@ -61,7 +61,9 @@ impl<'a> User<'a> {
         let Ok(line) = prepare_line(alloc, &shared.setup, self.challenge, line) else {
             return Err(AllocError);
         };
-        match shared.hub.line(rt, alloc, &mut self.pass, &line, 0) {
+        let said = shared.hub.line(rt, alloc, &mut self.pass, &line, 0);
+        drop(line);
+        match said {
             Ok(_) => Ok(()),
             Err(_) => Err(AllocError),
         }
