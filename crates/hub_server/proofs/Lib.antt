@@ -1,2 +1,5 @@
 pub mod Matching
 pub mod Serving
+pub mod Sockets
+pub mod Visiting
+pub mod Closing

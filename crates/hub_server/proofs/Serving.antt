@@ -179,8 +179,18 @@ module _ {H S : Type 0} (setup : Configured) (hash : List ℕ → List ℕ) (tol
       let quits : entry last.caller.number (Quit last.connection) Left ≡ quit_of pass = ap₂ (λ n d. entry n (Quit d) Left) follows.number follows.connection in
       record {
         deeds = deeds;
-        streams = f.streams;
-        own_calls = all-own p c events deeds m;
+        conversed = record {
+          streams = f.streams;
+          own_calls = all-own p c events deeds m;
+          first_lines = (served.first_lines.0, ap lines read ∙ served.first_lines.1 ∙ ap (λ ls. ls ++ served.first_lines.0) (sym sent));
+          all_lines = λ all. ap lines read ∙ served.all_lines all ∙ sym sent;
+          first_bytes = (served.first_bytes.0, given ∙ served.first_bytes.1 ∙ ap (λ bs. bs ++ served.first_bytes.0) (sym written));
+          all_bytes = λ all. given ∙ served.all_bytes all ∙ sym written;
+          is_written = written-first p c events deeds 0 m served.is_written;
+          stops = stops-at p c events deeds m served.stops;
+          silent = falls-silent p c events deeds false m served.silent;
+          cause = cause-of end p c events deeds m served.cause;
+        };
         home = served.quit.0 ∙ follows.home;
         number = left.number ∙ follows.number;
         mine = left.mine ∙ ap₂ (λ e (es : List Entry). e ∷ es) quits follows.mine;
@@ -191,14 +201,6 @@ module _ {H S : Type 0} (setup : Configured) (hash : List ℕ → List ℕ) (tol
         );
         legal = left.legal;
         own = left.own;
-        first_lines = (served.first_lines.0, ap lines read ∙ served.first_lines.1 ∙ ap (λ ls. ls ++ served.first_lines.0) (sym sent));
-        all_lines = λ all. ap lines read ∙ served.all_lines all ∙ sym sent;
-        first_bytes = (served.first_bytes.0, given ∙ served.first_bytes.1 ∙ ap (λ bs. bs ++ served.first_bytes.0) (sym written));
-        all_bytes = λ all. given ∙ served.all_bytes all ∙ sym written;
-        is_written = written-first p c events deeds 0 m served.is_written;
-        stops = stops-at p c events deeds m served.stops;
-        silent = falls-silent p c events deeds false m served.silent;
-        cause = cause-of end p c events deeds m served.cause;
       }
 
 -- a port that has a pass, and a key that no call changes, by which its hub is known

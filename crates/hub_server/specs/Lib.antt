@@ -1,3 +1,6 @@
 pub mod PortCalls
 pub mod Deeds
 pub mod ServedByHub
+pub mod Visits
+pub mod Ending
+pub mod ServedAll

@@ -34,24 +34,14 @@ Cause ends.Memory caller connection deeds = ⊤
 abbrev pub quit_of : {H : Type 0} → PassState H → Entry
 quit_of pass = entry pass.caller.number (Quit pass.connection) Left
 
--- the hub: its setup, and what its hash means; and what a stream tells of its calls
-module _ {H S : Type 0} (setup : Configured) (hash : List ℕ → List ℕ) (told : S → StreamCall → S → Type 0) where
-  -- what it comes to that this stream was served for this pass: the end, the stream and the visitor
-  pub record ServedByHub (stream : S) (pass : PassState H) (end : End) (stream' : S) (visitor : VisitorState H) : Type 0 where
-    pub deeds : List Deed
+-- what a stream tells of its calls
+module _ {S : Type 0} (told : S → StreamCall → S → Type 0) where
+  -- these deeds served a connection of this caller over the stream, until this end
+  pub record Conversed (stream : S) (caller connection : ℕ) (end : End) (stream' : S) (deeds : List Deed) : Type 0 where
     -- all calls of the stream, from its first state to its last
     pub streams : Streams told stream deeds stream'
-    -- each call of the hub is the pass's caller's, and sends a line of its connection or takes what waits for it
-    pub own_calls : All (IsFor pass.caller.number pass.connection) deeds
-    pub home : visitor.home ≡ pass.home
-    pub number : visitor.caller.number ≡ pass.caller.number
-    -- the caller has made these calls and then the quit, after those that it had made
-    pub mine : visitor.caller.mine ≡ quit_of pass ∷ reverse (hub_calls deeds) ++ pass.caller.mine
-    -- it has seen a legal history that begins with what it had seen and ends with the quit
-    pub seen : (between : List Entry) × (visitor.caller.seen ≡ quit_of pass ∷ between ++ pass.caller.seen)
-    pub legal : Legal setup hash visitor.caller.seen
-    -- all its entries in that history are these calls and those before
-    pub own : entries_of visitor.caller.number visitor.caller.seen ≡ visitor.caller.mine
+    -- each call of the hub is the caller's, and sends a line of its connection or takes what waits for it
+    pub own_calls : All (IsFor caller connection) deeds
     -- the lines that the hub was sent are the first lines of the bytes read
     pub first_lines : (more : List (List ℕ)) × (lines (bytes_from deeds) ≡ lines_sent deeds ++ more)
     pub all_lines : handed_all end ≡ true → lines (bytes_from deeds) ≡ lines_sent deeds
@@ -64,7 +54,24 @@ module _ {H S : Type 0} (setup : Configured) (hash : List ℕ → List ℕ) (tol
     pub stops : StopsAtFailure deeds
     -- once the hub has shut the connection out, nothing is read and no line is sent
     pub silent : FallsSilent false deeds
-    pub cause : Cause end pass.caller.number pass.connection deeds
+    pub cause : Cause end caller connection deeds
+
+-- the hub: its setup, and what its hash means; and what a stream tells of its calls
+module _ {H S : Type 0} (setup : Configured) (hash : List ℕ → List ℕ) (told : S → StreamCall → S → Type 0) where
+  -- what it comes to that this stream was served for this pass: the end, the stream and the visitor
+  pub record ServedByHub (stream : S) (pass : PassState H) (end : End) (stream' : S) (visitor : VisitorState H) : Type 0 where
+    -- the deeds that served the connection of the pass
+    pub deeds : List Deed
+    pub conversed : Conversed told stream pass.caller.number pass.connection end stream' deeds
+    pub home : visitor.home ≡ pass.home
+    pub number : visitor.caller.number ≡ pass.caller.number
+    -- the caller has made their calls of the hub and then the quit, after those that it had made
+    pub mine : visitor.caller.mine ≡ quit_of pass ∷ reverse (hub_calls deeds) ++ pass.caller.mine
+    -- it has seen a legal history that begins with what it had seen and ends with the quit
+    pub seen : (between : List Entry) × (visitor.caller.seen ≡ quit_of pass ∷ between ++ pass.caller.seen)
+    pub legal : Legal setup hash visitor.caller.seen
+    -- all its entries in that history are these calls and those before
+    pub own : entries_of visitor.caller.number visitor.caller.seen ≡ visitor.caller.mine
 
   -- whatever serving this stream for this pass ends with, that holds of it
   abbrev pub ServesByHub : {Rest : Type 0} → S → PassState H → (End × S × Rest → Type 0) → (Rest → VisitorState H) → Type 0

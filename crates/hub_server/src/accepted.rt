@@ -1,12 +1,14 @@
 ghost use Rattle.std.specs.Prelude.{◌≡◌, Some};
+ghost use Rattle.hub_server.specs.Visits.{HasEntered};
 
 use crate::free_slot::OfHub;
+use adc_sessions::Stream;
 use hub_shared::Pass;
 use std::marker::PhantomData;
 use std::net::SocketAddrV4;
 use tokio::net::TcpStream;
 
-/// A connection that was accepted, and has joined the named hub.
+/// A connection that was accepted, and has joined the named hub for a visitor whose calls before are visits.
 #[derive(Drop)]
 pub(crate) struct Accepted<B: OfHub<H>, H> {
     pub(crate) stream: TcpStream,
@@ -16,6 +18,7 @@ pub(crate) struct Accepted<B: OfHub<H>, H> {
     of: PhantomData<B>,
     pub(crate) ghost here: { B.home ≡ Some pass.home },
     pub(crate) ghost challenged: { pass.challenge ≡ challenge },
+    pub(crate) ghost entered: { HasEntered ⟦<TcpStream as Stream>⟧.told pass },
 }
 
 impl<B: OfHub<H>, H> Accepted<B, H> {
@@ -28,6 +31,7 @@ impl<B: OfHub<H>, H> Accepted<B, H> {
     ) -> Accepted<B, H>
         requires here { B.home ≡ Some pass.home }
         requires challenged { pass.challenge ≡ challenge }
+        requires entered { HasEntered ⟦<TcpStream as Stream>⟧.told pass }
     {
         Accepted {
             stream,

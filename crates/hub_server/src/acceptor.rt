@@ -1,10 +1,11 @@
 ghost use Rattle.std.specs.Prelude.{◌≡◌, Some, IfOk};
+ghost use Rattle.hub_server.specs.Visits.{HasEntered};
 
 use crate::accepted::Accepted;
 use crate::connection::moment;
 use crate::free_slot::{FreeSlot, OfHub};
 use crate::server::Server;
-use adc_sessions::{Peer, Starter};
+use adc_sessions::{Peer, Starter, Stream};
 use hub_challenges::Challenges;
 use hub_core::JoinRefused;
 use hub_shared::Pass;
@@ -51,6 +52,7 @@ impl<'a, B: OfHub<H>, H: SessionHash, R: Wait + Clock + AllocGlobal, L: Log> Acc
     fn join(&self, peer: Peer, challenge: [u8; 24]) -> Result<(Pass<H>, usize), JoinRefused>
         ensures here { IfOk result (λ r. B.home ≡ Some r.0.home) }
         ensures challenged { IfOk result (λ r. r.0.challenge ≡ challenge) }
+        ensures entered { IfOk result (λ r. HasEntered ⟦<TcpStream as Stream>⟧.told r.0) }
     {
         let server = self.server;
         let Some(free) = server.take_slot() else {

@@ -3,7 +3,8 @@ ghost use Rattle.hub_rules.specs.Prepared.{prepared_line};
 ghost use Rattle.hub_server.specs.PortCalls.{Leaves};
 ghost use Rattle.hub_server.specs.ServedByHub.{ServesByHub};
 
-use crate::free_slot::{FreeSlot, OfHub};
+use crate::free_slot::OfHub;
+use crate::left_slot::LeftSlot;
 use crate::server::Server;
 use adc_sessions::{Bell, Port, Session, Stream};
 use connection_slots::{Throttle, Wakers};
@@ -123,7 +124,7 @@ impl<B: OfHub<H>, H: SessionHash, R: Wait + Clock> Port for Connection<'_, B, H,
     ghost use Rattle.std.specs.Prelude.{◌≡◌};
     ghost use Rattle.hub_server.specs.PortCalls.{Calls, Leaves};
 
-    type Left = FreeSlot<B, H>;
+    type Left = LeftSlot<H>;
 
     ghost step = { λ a call b. (b.server ≡ a.server) × Calls a.server.now.hub.now.setup (H.digest_of a.server.now.hub.now.hash) a.pass call b.pass };
 
@@ -157,7 +158,7 @@ impl<B: OfHub<H>, H: SessionHash, R: Wait + Clock> Port for Connection<'_, B, H,
         Ok(taken)
     }
 
-    fn quit(mut self) -> FreeSlot<B, H> {
+    fn quit(mut self) -> LeftSlot<H> {
         self.wake_owed();
         let Connection {
             server,
@@ -169,7 +170,7 @@ impl<B: OfHub<H>, H: SessionHash, R: Wait + Clock> Port for Connection<'_, B, H,
         } = self;
         let visitor = server.hub.quit(server.rt, pass);
         wake_touched(&server.shared.wakers, visitor.touched(), slot);
-        FreeSlot::new(visitor, slot)
+        LeftSlot { visitor, slot }
     }
 }
 
@@ -195,10 +196,10 @@ pub fn serve_connection<
     pass: Pass<H>,
     challenge: [u8; 24],
     slot: usize,
-) -> Result<HubSession<'a, S, B, H, R>, (S, FreeSlot<B, H>)>
+) -> Result<HubSession<'a, S, B, H, R>, (S, LeftSlot<H>)>
     requires here { pass.home ≡ server.now.hub.now.home }
     requires challenged { pass.challenge ≡ challenge }
-    ensures serves { IfOk result (λ session. ServesByHub server.now.hub.now.setup (H.digest_of server.now.hub.now.hash) ⟦<S as Stream>⟧.told stream pass (⟦<Session<S, Connection<'a, B, H, R>, SlotBell<'a>> as Future>⟧.gives session) (λ free. free.visitor)) }
+    ensures serves { IfOk result (λ session. ServesByHub server.now.hub.now.setup (H.digest_of server.now.hub.now.hash) ⟦<S as Stream>⟧.told stream pass (⟦<Session<S, Connection<'a, B, H, R>, SlotBell<'a>> as Future>⟧.gives session) (λ left. left.visitor)) }
     ensures stream { IfErr result (λ back. back.0 ≡ stream) }
     ensures left { IfErr result (λ back. Leaves server.now.hub.now.setup (H.digest_of server.now.hub.now.hash) pass back.1.visitor) }
 {

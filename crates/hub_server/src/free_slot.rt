@@ -1,7 +1,10 @@
 ghost use Rattle.std.specs.Prelude.{◌≡◌, Some};
+ghost use Rattle.hub_server.specs.Visits.{HasVisited};
 
+use adc_sessions::Stream;
 use hub_shared::Visitor;
 use std::marker::{Brand, PhantomData};
+use tokio::net::TcpStream;
 
 /// A name of the hub that all is about which travels through tasks: a proof picks it.
 pub trait OfHub<H> {
@@ -18,19 +21,21 @@ impl<H> OfHub<H> for Brand {
     ghost home = { None };
 }
 
-/// A slot without a connection, and the visitor of the named hub who joins for the next one.
+/// A slot without a connection, and the visitor of the named hub who joins for the next one. All its calls so far are visits.
 #[derive(Drop)]
 pub struct FreeSlot<B: OfHub<H>, H> {
     pub(crate) visitor: Visitor<H>,
     pub(crate) slot: usize,
     of: PhantomData<B>,
     pub(crate) ghost here: { B.home ≡ Some visitor.home },
+    pub(crate) ghost visits: { HasVisited ⟦<TcpStream as Stream>⟧.told visitor },
 }
 
 impl<B: OfHub<H>, H> FreeSlot<B, H> {
-    /// Gives this slot to a visitor of the named hub.
+    /// Gives this slot to a visitor of the named hub whose calls are visits.
     pub fn new(visitor: Visitor<H>, slot: usize) -> FreeSlot<B, H>
         requires here { B.home ≡ Some visitor.home }
+        requires visits { HasVisited ⟦<TcpStream as Stream>⟧.told visitor }
         ensures { result.visitor ≡ visitor }
     {
         FreeSlot {

@@ -2,6 +2,8 @@ ghost use Rattle.std.specs.Prelude.{◌≡◌, ◌≤◌, [], Some, IfOk};
 ghost use Rattle.std.specs.List.{All};
 ghost use Rattle.one_history.specs.States.{Home};
 ghost use Rattle.hub_shared.specs.declared.about.About.{About};
+ghost use Rattle.hub_server.specs.ServedAll.{ServedAll};
+ghost use Rattle.hub_server.specs.Visits.{HasVisited};
 
 use crate::acceptor::Acceptor;
 use crate::bind::Bind;
@@ -12,7 +14,7 @@ use crate::server::Server;
 use crate::task::AcceptTask;
 use crate::tasks::Tasks;
 use crate::time_task::TimeTask;
-use adc_sessions::Accept;
+use adc_sessions::{Accept, Stream};
 use connection_slots::{Fault, Startup, Ticker, descriptor_limit, descriptors_needed};
 use hub_challenges::Challenges;
 use hub_endings::Ending;
@@ -30,6 +32,7 @@ use std::random::RandomSource;
 use std::sync::{Arc, Wait};
 use std::thread::Threads;
 use std::time::{Clock, Duration};
+use tokio::net::TcpStream;
 use tokio::runtime::Runtime;
 use tokio::time::{self, Sleep};
 
@@ -163,7 +166,7 @@ fn reason_of(ending: Ending) -> &'static str {
     }
 }
 
-/// Serves, and gives the number of joins that were accepted.
+/// Serves, says the report, and gives the number of joins that were accepted.
 fn serve<H, R, A, W, L>(
     rt: &R,
     settings: &Settings,
@@ -180,6 +183,46 @@ where
     A: Bind,
     W: Write,
     L: Log + Sync,
+{
+    let report = serve_hub(
+        rt,
+        settings,
+        hash,
+        seed,
+        address,
+        settings_file,
+        output,
+        warnings,
+    )?;
+    say_report(&report, output)?;
+    Ok(report.joins)
+}
+
+/// Serves all connections that come to a hub of these settings and this hash, until as many were accepted as the settings say
+/// and all are over, and gives the report of the hub.
+///
+/// All calls of the hub then stand in one legal history of a hub for one thread, and nobody is present at its end. The calls of
+/// each caller in it are visits, one after another and in their order: a join that was refused; or a join, the calls by which
+/// its connection was served, and its quit. The lines that a connection sent are the first lines of the bytes read, and the bytes
+/// written are the first of what its takes were answered (`specs/ServedAll` and `specs/Visits` have all that is promised).
+pub fn serve_hub<H, R, A, W, L>(
+    rt: &R,
+    settings: &Settings,
+    hash: &H,
+    seed: [u8; 32],
+    address: A,
+    settings_file: Option<&str>,
+    output: &mut W,
+    warnings: &Warnings<L>,
+) -> Result<Report, Ending>
+where
+    H: SessionHash + Send + Sync,
+    R: Wait + Threads + Clock + Net + RandomSource + AllocGlobal + Sync,
+    A: Bind,
+    W: Write,
+    L: Log + Sync,
+    ensures all { IfOk result (λ report. ServedAll ⟦<TcpStream as Stream>⟧.told settings.now.hub (H.digest_of hash.now) report.joins) }
+    ensures nobody { IfOk result (λ report. report.present ≡ 0) }
 {
     let (hub, host) = open(rt.alloc(), settings, hash)?;
     // Settings ask for one at least.
@@ -198,13 +241,32 @@ where
         output,
         warnings,
     )?;
-    match hub.close(host, visitors) {
-        Ok(report) => {
-            say_report(&report, output)?;
-            Ok(report.joins)
-        }
-        Err(_) => Err(Ending::Memory),
-    }
+    close(settings, hash, hub, host, visitors)
+}
+
+/// Closes the hub of these settings and this hash for which the visitors are back, and gives its report.
+fn close<H: SessionHash>(
+    settings: &Settings,
+    hash: &H,
+    hub: Hub<H>,
+    host: Host<H>,
+    visitors: Vec<Visitor<H>>,
+) -> Result<Report, Ending>
+    requires set { hub.setup ≡ settings.now.hub }
+    requires hashed { hub.hash ≡ hash.now }
+    requires here { host.home ≡ hub.home }
+    requires visitors { All (λ v. v.home ≡ hub.home) visitors.items }
+    requires visits { All (λ v. HasVisited ⟦<TcpStream as Stream>⟧.told v) visitors.items }
+    ensures all { IfOk result (λ report. ServedAll ⟦<TcpStream as Stream>⟧.told settings.now.hub (H.digest_of hash.now) report.joins) }
+    ensures nobody { IfOk result (λ report. report.present ≡ 0) }
+{
+    // They only say which hub it is.
+    let _ = settings;
+    let _ = hash;
+    let Ok(report) = hub.close(host, visitors) else {
+        return Err(Ending::Memory);
+    };
+    Ok(report)
 }
 
 /// Opens the hub of these settings, and gives who admits visitors to it.
@@ -248,6 +310,7 @@ where
     requires hashed { hub.now.hash ≡ hash.now }
     ensures host { IfOk result (λ r. r.0.home ≡ hub.now.home) }
     ensures visitors { IfOk result (λ r. All (λ v. v.home ≡ hub.now.home) r.1.items) }
+    ensures visits { IfOk result (λ r. All (λ v. HasVisited ⟦<TcpStream as Stream>⟧.told v) r.1.items) }
 {
     let alloc = rt.alloc();
     let users = settings.setup().max_users();
@@ -398,6 +461,7 @@ fn admit<B: OfHub<H>, H: SessionHash>(
 fn leave<B: OfHub<H>, H>(free: Vec<FreeSlot<B, H>>, visitors: Vec<Visitor<H>>) -> Vec<Visitor<H>>
     requires none { visitors.items ≡ [] }
     ensures here { (home : Home (About H)) → B.home ≡ Some home → All (λ v. v.home ≡ home) result.items }
+    ensures visits { All (λ v. HasVisited ⟦<TcpStream as Stream>⟧.told v) result.items }
 {
     let mut visitors = visitors;
     for slot in free {

@@ -3,9 +3,11 @@ ghost use Rattle.futures.specs.Poll.{OnPending};
 
 use crate::accepted::Accepted;
 use crate::acceptor::Acceptor;
-use crate::connection::{HubSession, serve_connection};
+use crate::connection::serve_connection;
 use crate::free_slot::{FreeSlot, OfHub};
+use crate::left_slot::LeftSlot;
 use crate::listener::{Listener, Listens};
+use crate::served_slot::ServedSlot;
 use crate::server::Server;
 use crate::time_task::TimeTask;
 use adc_sessions::{Accept, AcceptEnd, End};
@@ -118,7 +120,7 @@ fn fault_of(end: AcceptEnd) -> Option<Fault> {
 /// The task that serves the connections of one slot, one after the other.
 #[derive(Drop)]
 pub(crate) struct SlotTask<'a, B: OfHub<H>, H: SessionHash, R, L> {
-    session: Option<HubSession<'a, TcpStream, B, H, R>>,
+    served: ServedSlot<'a, B, H, R>,
     server: &'a Server<'a, B, H, R>,
     slot: usize,
     // The address from which the connection of the session comes.
@@ -139,7 +141,7 @@ impl<'a, B: OfHub<H>, H: SessionHash, R: Wait + Clock + AllocGlobal, L: Log> Slo
         warnings: &'a Warnings<L>,
     ) -> SlotTask<'a, B, H, R, L> {
         SlotTask {
-            session: None,
+            served: ServedSlot::new(),
             server,
             slot,
             peer: None,
@@ -152,13 +154,10 @@ impl<'a, B: OfHub<H>, H: SessionHash, R: Wait + Clock + AllocGlobal, L: Log> Slo
         ensures registered { OnPending result (IsArmed cx.new) }
         ensures kept { Keeps cx.old cx.new }
     {
-        let Some(session) = &mut self.session else {
-            return self.wait(cx);
-        };
-        match session.poll(cx) {
+        match self.served.poll_over(cx) {
             Poll::Pending => Poll::Pending,
-            Poll::Ready((end, stream, free)) => {
-                self.session = None;
+            Poll::Ready(None) => self.wait(cx),
+            Poll::Ready(Some((end, stream, free))) => {
                 self.end(end, stream, free);
                 cx.yield_now()
             }
@@ -196,8 +195,11 @@ impl<'a, B: OfHub<H>, H: SessionHash, R: Wait + Clock + AllocGlobal, L: Log> Slo
         } = accepted;
         self.peer = Some(peer);
         match serve_connection(server, stream, pass, challenge, self.slot) {
-            Ok(session) => self.session = Some(session),
-            Err((stream, free)) => self.end(End::Memory, stream, free),
+            Ok(session) => self.served.begin(session),
+            Err((stream, left)) => {
+                let LeftSlot { visitor, slot } = left;
+                self.end(End::Memory, stream, FreeSlot::new(visitor, slot));
+            }
         }
     }
 
