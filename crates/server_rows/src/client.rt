@@ -23,35 +23,6 @@ const WHISPER: usize = 2_000;
 
 const WHISPERS: usize = 200;
 
-/// An act of a client: what it does, or waits for.
-#[derive(Clone, Copy)]
-pub enum Act<'a> {
-    /// Sends this, with a line feed.
-    Says(&'a [u8]),
-    /// Says a line, each byte by itself.
-    SaysSlowly(&'a [u8]),
-    /// Reads this line, with its line feed, and nothing behind it.
-    Hears(&'a [u8]),
-    /// Says long lines under this header, so many that who does not read them is shut out, and hears each.
-    ChatsLong(&'a [u8]),
-    /// Says many lines of 2,000 letters under this header.
-    Whispers(&'a [u8]),
-    /// Reads these.
-    HearsWhispers(&'a [u8]),
-    /// Sends 65,537 bytes `x`, or as many as are taken.
-    Floods,
-    /// Reads to the end, and something comes before, but not all that was said in long lines.
-    HearsAPart,
-    /// Reads to the end, and nothing more comes.
-    HearsTheEnd,
-    /// Waits until the server closes, however it does.
-    WaitsForClose,
-    /// Says that it is done, and waits until the server is, too.
-    Leaves,
-    /// Breaks off, once there is something that it has not read: so the other side is told that it was lost.
-    BreaksOff,
-}
-
 /// A client.
 #[derive(Drop)]
 pub struct Client<S> {
@@ -68,21 +39,23 @@ pub fn connect<R: Net>(rt: &R, address: SocketAddr) -> Option<Client<R::Stream>>
 }
 
 impl<S: Read + Write + OpenStream + Drop> Client<S> {
-    /// Does this, and gives nothing where it does not come to pass. Who has left or broken off is to be dropped.
-    pub fn does(&mut self, act: Act<'_>) -> Option<()> {
-        match act {
-            Act::Says(line) => self.says(line),
-            Act::SaysSlowly(line) => self.says_slowly(line),
-            Act::Hears(line) => self.hears(line),
-            Act::ChatsLong(header) => self.chats_long(header),
-            Act::Whispers(header) => self.whispers(header),
-            Act::HearsWhispers(header) => self.hears_whispers(header),
-            Act::Floods => self.floods(),
-            Act::HearsAPart => self.hears_a_part(),
-            Act::HearsTheEnd => self.hears_the_end(),
-            Act::WaitsForClose => self.waits_for_close(),
-            Act::Leaves => self.leaves(),
-            Act::BreaksOff => self.breaks_off(),
+    /// Does what this word says, with this line or header, and gives nothing where it does not come to pass. The page of
+    /// conversations tells the words.
+    pub fn does(&mut self, word: &str, line: &[u8]) -> Option<()> {
+        match word {
+            "says" => self.says(line),
+            "says-slowly" => self.says_slowly(line),
+            "hears" => self.hears(line),
+            "chats-long" => self.chats_long(line),
+            "whispers" => self.whispers(line),
+            "hears-whispers" => self.hears_whispers(line),
+            "floods" => self.floods(),
+            "hears-a-part" => self.hears_a_part(),
+            "hears-the-end" => self.hears_the_end(),
+            "waits-for-close" => self.waits_for_close(),
+            "leaves" => self.leaves(),
+            "breaks-off" => self.breaks_off(),
+            _ => None,
         }
     }
 
@@ -100,13 +73,16 @@ impl<S: Read + Write + OpenStream + Drop> Client<S> {
     }
 
     fn hears(&mut self, line: &[u8]) -> Option<()> {
-        let mut bytes = [0; 1024];
-        let bytes = bytes.get_mut(..line.len().checked_add(1)?)?;
+        self.reads(line)?;
+        self.reads(b"\n")
+    }
+
+    /// Reads these bytes, at most `PIECE`.
+    fn reads(&mut self, wanted: &[u8]) -> Option<()> {
+        let mut bytes = [0; PIECE];
+        let bytes = bytes.get_mut(..wanted.len())?;
         self.stream.read_exact(bytes).ok()?;
-        match bytes.split_last() {
-            Some((b'\n', heard)) if *heard == *line => Some(()),
-            _ => None,
-        }
+        if *bytes == *wanted { Some(()) } else { None }
     }
 
     fn chats_long(&mut self, header: &[u8]) -> Option<()> {
@@ -126,19 +102,11 @@ impl<S: Read + Write + OpenStream + Drop> Client<S> {
     }
 
     fn hears_long(&mut self, header: &[u8]) -> Option<()> {
-        let mut bytes = [0; PIECE];
-        let front = bytes.get_mut(..header.len())?;
-        self.stream.read_exact(front).ok()?;
-        if *front != *header {
-            return None;
-        }
+        self.reads(header)?;
         for _piece in 0..LONG / PIECE {
-            self.stream.read_exact(&mut bytes).ok()?;
-            if bytes != [b'x'; PIECE] {
-                return None;
-            }
+            self.reads(&[b'x'; PIECE])?;
         }
-        self.hears(b"")
+        self.reads(b"\n")
     }
 
     fn whispers(&mut self, header: &[u8]) -> Option<()> {
@@ -151,18 +119,10 @@ impl<S: Read + Write + OpenStream + Drop> Client<S> {
     }
 
     fn hears_whispers(&mut self, header: &[u8]) -> Option<()> {
-        let mut bytes = [0; WHISPER];
         for _line in 0..WHISPERS {
-            let front = bytes.get_mut(..header.len())?;
-            self.stream.read_exact(front).ok()?;
-            if *front != *header {
-                return None;
-            }
-            self.stream.read_exact(&mut bytes).ok()?;
-            if bytes != [b'x'; WHISPER] {
-                return None;
-            }
-            self.hears(b"")?;
+            self.reads(header)?;
+            self.reads(&[b'x'; WHISPER])?;
+            self.reads(b"\n")?;
         }
         Some(())
     }

@@ -137,7 +137,15 @@ where
 }
 
 fn judge<R: AllocGlobal + Abort>(rt: &R, setup: &Arc<Setup>, history: &[Entry]) -> Judgement {
-    again!(rt; check_history(rt.alloc(), again!(rt; setup.clone()), &First24, history))
+    again!(rt; try_judge(rt.alloc(), setup, history))
+}
+
+fn try_judge(
+    alloc: Global,
+    setup: &Arc<Setup>,
+    history: &[Entry],
+) -> Result<Judgement, AllocError> {
+    check_history(alloc, setup.clone()?, &First24, history)
 }
 
 /// Counts those who joined, and those who left.

@@ -24,6 +24,8 @@ mod run;
 #[cfg(test)]
 mod scenes;
 #[cfg(test)]
+mod sessions;
+#[cfg(test)]
 mod slots;
 #[cfg(test)]
 mod warnings;

@@ -1,7 +1,8 @@
 // A session over memory, with a connection of the server.
 ghost use Rattle.std.specs.Prelude.{◌≡◌, Some, ⊤};
 
-use adc_sessions::{End, Session};
+use crate::sessions::hold;
+use adc_sessions::End;
 use futures::task::{Context, Poll};
 use futures::test::MockTask;
 use hub_core::{Options, Setup};
@@ -16,9 +17,6 @@ use std::random::RandomSource;
 use std::sync::{Arc, Wait};
 use std::time::Clock;
 use tokio::io::{AsyncRead, AsyncWrite};
-
-/// The number of times that a session is polled at most.
-const POLLS: u32 = 1_000;
 
 const CHALLENGE: [u8; 24] = [0; 24];
 
@@ -95,16 +93,9 @@ fn session<B: OfHub<First24>, R: Wait + Clock + RandomSource + AllocGlobal>(
         rest: input,
         written,
     };
-    let Ok(mut session) = Session::new(rt.alloc(), wire, connection, bell) else {
-        return None;
-    };
     let task = MockTask::new(rt).ok()?;
-    for _poll in 0..POLLS {
-        if let Poll::Ready((end, wire, _free)) = task.poll(&mut session) {
-            return Some((end, wire.written));
-        }
-    }
-    None
+    let (end, wire) = hold(rt.alloc(), &task, wire, connection, bell)?;
+    Some((end, wire.written))
 }
 
 fn attempt<R: Wait + Clock + RandomSource + AllocGlobal>(

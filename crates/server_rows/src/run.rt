@@ -1,5 +1,5 @@
 // A server over loopback sockets, and the clients that it serves.
-use crate::conversation::{Step, plays};
+use crate::conversation::plays;
 use crate::flaky::Flaky;
 use crate::gate::GateHash;
 use futures::spin::lock;
@@ -125,7 +125,7 @@ impl Heard {
 
     /// Plays these parts, once the server listens. Answers whether the clients do all of this, and whether the server waited for
     /// others after them.
-    fn sees<R: Clock + Net>(&self, rt: &R, gate: &GateHash, parts: &[&[Step<'_>]]) -> (bool, bool) {
+    fn sees<R: Clock + Net>(&self, rt: &R, gate: &GateHash, parts: &[&str]) -> (bool, bool) {
         self.begin();
         let Some(address) = self.waits_for_address(rt) else {
             return (false, false);
@@ -212,7 +212,7 @@ fn attempt<R>(
     text: &str,
     way: Way,
     hash: &Arc<GateHash>,
-    parts: &[&[Step<'_>]],
+    parts: &[&str],
 ) -> Result<Ran, AllocError>
 where
     R: Wait
@@ -266,7 +266,7 @@ where
 }
 
 /// Serves while the clients play these parts, and once more where memory was refused.
-pub fn runs<R>(rt: &R, text: &str, way: Way, hash: &Arc<GateHash>, parts: &[&[Step<'_>]]) -> Ran
+pub fn runs<R>(rt: &R, text: &str, way: Way, hash: &Arc<GateHash>, parts: &[&str]) -> Ran
 where
     R: Wait
         + Threads

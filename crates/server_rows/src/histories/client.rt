@@ -4,6 +4,7 @@ ghost use Rattle.std.specs.Prelude.{◌≡◌, Some, ⊤};
 use crate::histories::clock::StillClock;
 use crate::histories::play::{Deed, Step};
 use crate::histories::record::Desk;
+use crate::sessions::begin;
 use adc_sessions::{Port, Session};
 use futures::task::{Context, Poll};
 use history_check::Call;
@@ -235,5 +236,5 @@ fn begins<'a, B: OfHub<First24>, R: Wait>(
         caller: who,
         connection: number,
     };
-    Session::new(alloc, wire, port, bell).ok()
+    begin(alloc, wire, port, bell)
 }

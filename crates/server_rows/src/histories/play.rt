@@ -121,10 +121,7 @@ where
         CLIENTS,
         free,
     ).ok()?;
-    match way {
-        Way::Alone => play_alone(rt, hub, &server, desk, steps, guests),
-        Way::Apart => play_apart(rt, hub, &server, desk, steps, guests),
-    }
+    make_steps(rt, hub, &server, desk, steps, way, guests)
 }
 
 /// Admits as many guests as a conversation has clients.
@@ -144,39 +141,15 @@ fn admits<B: OfHub<First24>>(
     Some(guests)
 }
 
-/// Makes the steps one after the other. After each, its client goes on as far as it can, and then all others.
-fn play_alone<'a, B: OfHub<First24>, R: Wait + RandomSource + AllocGlobal>(
+/// Makes the steps one after the other. On one thread its client goes on as far as it can after each, and then all others;
+/// otherwise each goes on by itself once all have joined, on a thread of its own.
+fn make_steps<'a, B: OfHub<First24> + Send + Sync, R>(
     rt: &R,
     hub: &Hub<First24>,
     server: &'a Server<'a, B, First24, StillClock<R>>,
     desk: &'a Desk<R>,
     steps: &'a [Step<'a>],
-    guests: Vec<Guest<B>>,
-) -> Option<()>
-    requires { B.home ≡ Some hub.now.home }
-{
-    let mut guests = guests;
-    let task = MockTask::new(rt).ok()?;
-    let mut talks = Vec::new(rt.alloc());
-    for (place, step) in steps.iter().enumerate() {
-        desk.allow(place.wrapping_add(1));
-        if let Deed::Joins(_) = step.deed {
-            let guest = guests.pop()?;
-            let talk = joins(rt.alloc(), hub, server, desk, steps, *step, guest)?;
-            talks.push(talk).ok()?;
-        }
-        go_round(&task, desk, &mut talks, step.who.wrapping_sub(1) as usize);
-    }
-    are_over(&talks).then_some(())
-}
-
-/// Has all clients join, and then lets each go on by itself, on a thread of its own.
-fn play_apart<'a, B: OfHub<First24> + Send + Sync, R>(
-    rt: &R,
-    hub: &Hub<First24>,
-    server: &'a Server<'a, B, First24, StillClock<R>>,
-    desk: &'a Desk<R>,
-    steps: &'a [Step<'a>],
+    way: Way,
     guests: Vec<Guest<B>>,
 ) -> Option<()>
 where
@@ -184,16 +157,23 @@ where
     requires { B.home ≡ Some hub.now.home }
 {
     let mut guests = guests;
+    let task = MockTask::new(rt).ok()?;
     let mut talks = Vec::new(rt.alloc());
-    for step in steps {
+    for (place, step) in steps.iter().enumerate() {
         if let Deed::Joins(_) = step.deed {
             let guest = guests.pop()?;
             let talk = joins(rt.alloc(), hub, server, desk, steps, *step, guest)?;
             talks.push(talk).ok()?;
         }
+        if let Way::Alone = way {
+            desk.allow(place.wrapping_add(1));
+            go_round(&task, desk, &mut talks, step.who.wrapping_sub(1) as usize);
+        }
     }
-    desk.allow(steps.len());
-    go_apart(rt, desk, &mut talks);
+    if let Way::Apart = way {
+        desk.allow(steps.len());
+        go_apart(rt, desk, &mut talks);
+    }
     are_over(&talks).then_some(())
 }
 

@@ -135,21 +135,23 @@ pub(crate) fn asks<
     T: Wait + Threads + Clock + Net + RandomSource + AllocGlobal + Files + Env + Sync + Abort,
 >(rt: &T, words: &[&str], broken: Broken, status: u8, output: &[u8], errors: &[u8]) {
     let left = run(rt, words, broken);
-    assert!(rt;
-        left.status == status,
-        "{words:?}, {broken:?}: {}",
-        left.status
-    );
-    assert!(rt;
-        left.output.got.as_slice() == output,
-        "{words:?}, {broken:?}"
-    );
-    assert!(rt;
-        left.errors.got.as_slice() == errors,
-        "{words:?}, {broken:?}"
-    );
-    assert!(rt;
-        status != 0 || left.errors.calls == 0,
-        "{words:?}, {broken:?}"
-    );
+    let asked = Asked { words, broken };
+    asked.holds(rt, left.status == status, "status");
+    asked.holds(rt, left.output.got.as_slice() == output, "standard output");
+    asked.holds(rt, left.errors.got.as_slice() == errors, "standard error");
+    asked.holds(rt, status != 0 || left.errors.calls == 0, "calls");
+}
+
+/// The words that the program is asked by, and its file that fails.
+#[derive(Clone, Copy)]
+struct Asked<'a> {
+    words: &'a [&'a str],
+    broken: Broken,
+}
+
+impl Asked<'_> {
+    /// Stops the test unless this is as it should be.
+    fn holds(&self, rt: &impl Abort, is_so: bool, what: &str) {
+        assert!(rt; is_so, "{what} of {:?}, {:?}", self.words, self.broken);
+    }
 }
