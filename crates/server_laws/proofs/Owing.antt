@@ -1,0 +1,271 @@
+-- What was written to the connection of a visit is the first of what it was owed.
+use Rattle.std.proofs.Common.{◌≡◌, ◌∙◌, sym, ap, ap₂, refl, subst, ℕ, Bool, true, false, ◌==◌, ◌||◌, cond, List, [], ◌∷◌, ◌++◌, reverse, take, drop, append-nil, append_assoc}
+use Rattle.std.specs.List.{All, concat, flat_map}
+use Rattle.std.proofs.lemmas.Bool.{false≢true, eq-eqb}
+use Rattle.std.proofs.lemmas.List.{reverse-append, take-append-drop}
+use Rattle.std.proofs.lemmas.List.Elements.{All-nil, All-cons, All-head, All-tail}
+use Rattle.std.proofs.lemmas.List.Folds.{concat-append, list_any-append}
+use Rattle.std.proofs.Math.Logic.{∥∥₁_map}
+use Rattle.adc_sessions.specs.Events.{StreamCall}
+use Rattle.hub_core.specs.Moves.{entry}
+use Rattle.hub_rules.specs.declared.history.Call.{Call}
+use Rattle.hub_rules.specs.declared.history.Call.TheVariants.{Join, Line, Quit, Take}
+use Rattle.hub_rules.specs.declared.history.Entry.{Entry}
+use Rattle.hub_rules.specs.declared.history.Reply.{Reply}
+use Rattle.hub_rules.specs.declared.history.Reply.TheVariants.{Joined, Full, JoinsSpent, Said, Left, Took}
+use Rattle.hub_rules.specs.Configured.{Configured}
+use Rattle.hub_rules.specs.Facts.{Facts, facts, has_place, has_joins}
+use Rattle.hub_rules.specs.History.{lines_owed, count_taken}
+use Rattle.hub_rules.specs.Legal.{Legal, join_reply, reply}
+use Rattle.hub_rules.specs.Opening.{has_joined, joins_as}
+use Rattle.hub_invariants.proofs.Members.{or-parts}
+use Rattle.hub_invariants.proofs.Sound.{or-true}
+use Rattle.hub_laws.specs.Delivery.{bytes_of_take, bytes_taken, bytes_delivered}
+use Rattle.hub_laws.proofs.Delivery.{delivered_are_the_first}
+use Rattle.hub_shared.specs.Connections.{entries_of}
+use Rattle.hub_server.specs.Deeds.{Deed, streamed, called, bytes_in, hub_calls, bytes_given, bytes_to, IsServing, IsFor}
+use Rattle.hub_server.specs.ServedAll.{ServedAll}
+use Rattle.hub_server.specs.Visits.{Visit, turned_away, let_go, served, calls_within, calls_of, IsVisit, AreVisits}
+use Rattle.server_laws.specs.Payment.{IsPaid, VisitsArePaid, WrittenIsOwed}
+use Rattle.server_laws.proofs.Takes.{delivered-none, delivered-more, delivered-append, JoinsOnce, joins-once, delivered-by}
+
+-- ---- only takes give bytes
+
+abbrev Fits : Call → Reply → Type 0
+Fits (Take c count) reply = Unit {0}
+Fits (Join peer challenge now) reply = bytes_in reply ≡ []
+Fits (Line c bytes now) reply = bytes_in reply ≡ []
+Fits (Quit c) reply = bytes_in reply ≡ []
+
+abbrev IsFit : Entry → Type 0
+IsFit e = Fits e.call e.reply
+
+join-fits : (place counted : Bool) (joins : ℕ) → bytes_in (join_reply place counted joins) ≡ []
+join-fits true true joins = refl
+join-fits true false joins = refl
+join-fits false counted joins = refl
+
+reply-fits : (setup : Configured) (hash : List ℕ → List ℕ) (f : Facts) (caller : ℕ) (call : Call) → Fits call (reply setup hash f caller call)
+unfolding reply
+reply-fits setup hash f caller (Join peer challenge now) = join-fits (has_place setup f) (has_joins f) f.joins
+reply-fits setup hash f caller (Line c bytes now) = refl
+reply-fits setup hash f caller (Quit c) = refl
+reply-fits setup hash f caller (Take c count) = tt
+
+all-fit : (setup : Configured) (hash : List ℕ → List ℕ) (h : List Entry) → Legal setup hash h → All IsFit h
+unfolding Legal
+all-fit setup hash [] legal = All-nil IsFit
+all-fit setup hash (e ∷ h) legal =
+    All-cons IsFit e h (subst (Fits e.call) (sym legal.2) (reply-fits setup hash (facts setup hash h) e.caller e.call)) (all-fit setup hash h legal.0)
+
+own-fit : (p : ℕ) (e : Entry) (h : List Entry) (is : Bool) → IsFit e → All IsFit (entries_of p h) → All IsFit (cond is (e ∷ entries_of p h) (entries_of p h))
+own-fit p e h true fits rest = All-cons IsFit e (entries_of p h) fits rest
+own-fit p e h false fits rest = rest
+
+all-own-fit : (p : ℕ) (h : List Entry) → All IsFit h → All IsFit (entries_of p h)
+all-own-fit p [] fits = fits
+all-own-fit p (e ∷ h) fits = own-fit p e h (e.caller == p) (All-head IsFit e h fits) (all-own-fit p h (All-tail IsFit e h fits))
+
+module _ {X : Type 0} (P : X → Type 0) where
+  all-first : (xs ys : List X) → All P (xs ++ ys) → All P xs
+  all-first [] ys all = All-nil P
+  all-first (x ∷ xs) ys all = All-cons P x xs (All-head P x (xs ++ ys) all) (all-first xs ys (All-tail P x (xs ++ ys) all))
+
+  all-rest : (xs ys : List X) → All P (xs ++ ys) → All P ys
+  all-rest [] ys all = all
+  all-rest (x ∷ xs) ys all = all-rest xs ys (All-tail P x (xs ++ ys) all)
+
+last-fits : (e : Entry) (es : List Entry) → All IsFit (reverse (e ∷ es)) → All IsFit (reverse es ++ e ∷ [])
+last-fits e es fits = subst (All IsFit) (reverse-append (e ∷ []) es) fits
+
+-- ---- what the deeds of a connection give
+
+first-delivered : (c : ℕ) (e : Entry) (es : List Entry) → bytes_delivered c (reverse (e ∷ es)) ≡ bytes_taken c e.call e.reply ++ bytes_delivered c (reverse es)
+first-delivered c e es =
+    ap (bytes_delivered c) (reverse-append (e ∷ []) es) ∙ delivered-append c (reverse es) (e ∷ [])
+    ∙ ap (λ bs. bs ++ bytes_delivered c (reverse es)) (delivered-more c e [] ∙ ap (λ bs. bs ++ bytes_taken c e.call e.reply) (delivered-none c))
+
+taken-is : (is : Bool) → is ≡ true → (r : Reply) → bytes_of_take is r ≡ bytes_in r
+taken-is false same r = absurd (false≢true same)
+taken-is true same (Joined c) = refl
+taken-is true same Full = refl
+taken-is true same JoinsSpent = refl
+taken-is true same (Said verdict) = refl
+taken-is true same Left = refl
+taken-is true same (Took bytes count ended) = refl
+
+serving-takes : (c : ℕ) (call : Call) (r : Reply) → IsServing c call → Fits call r → bytes_taken c call r ≡ bytes_in r
+serving-takes c (Take d count) r is fits = taken-is (d == c) (eq-eqb d c is) r
+serving-takes c (Line d bytes now) r is fits = sym fits
+serving-takes c (Join peer challenge now) r is fits = absurd is
+serving-takes c (Quit d) r is fits = absurd is
+
+pub given-delivered : (p c : ℕ) (deeds : List Deed) → All (IsFor p c) deeds → All IsFit (reverse (hub_calls deeds)) → bytes_delivered c (reverse (hub_calls deeds)) ≡ bytes_given deeds
+given-delivered p c [] own fits = delivered-none c
+given-delivered p c (streamed call ∷ deeds) own fits = given-delivered p c deeds (All-tail (IsFor p c) (streamed call) deeds own) fits
+given-delivered p c (called e ∷ deeds) own fits =
+    let es = hub_calls deeds in
+    let parts = last-fits e es fits in
+    first-delivered c e es
+    ∙ ap₂ ◌++◌ (serving-takes c e.call e.reply (All-head (IsFor p c) (called e) deeds own).1 (All-head IsFit e [] (all-rest IsFit (reverse es) (e ∷ []) parts)))
+    (given-delivered p c deeds (All-tail (IsFor p c) (called e) deeds own) (all-first IsFit (reverse es) (e ∷ []) parts))
+
+none-is : (is : Bool) → is ≡ false → (r : Reply) → bytes_of_take is r ≡ []
+none-is true same r = absurd (false≢true (sym same))
+none-is false same r = refl
+
+serving-other : (c d : ℕ) (call : Call) (r : Reply) → IsServing d call → (d == c) ≡ false → bytes_taken c call r ≡ []
+serving-other c d (Take x count) r is other = none-is (x == c) (ap (λ n. n == c) is ∙ other) r
+serving-other c d (Line x bytes now) r is other = refl
+serving-other c d (Join peer challenge now) r is other = absurd is
+serving-other c d (Quit x) r is other = absurd is
+
+other-delivered : (p c d : ℕ) (deeds : List Deed) → All (IsFor p d) deeds → (d == c) ≡ false → bytes_delivered c (reverse (hub_calls deeds)) ≡ []
+other-delivered p c d [] own other = delivered-none c
+other-delivered p c d (streamed call ∷ deeds) own other = other-delivered p c d deeds (All-tail (IsFor p d) (streamed call) deeds own) other
+other-delivered p c d (called e ∷ deeds) own other =
+    first-delivered c e (hub_calls deeds)
+    ∙ ap₂ ◌++◌ (serving-other c d e.call e.reply (All-head (IsFor p d) (called e) deeds own).1 other) (other-delivered p c d deeds (All-tail (IsFor p d) (called e) deeds own) other)
+
+-- ---- visits
+
+joined-append : (c : ℕ) (xs ys : List Entry) → has_joined c (xs ++ ys) ≡ (has_joined c xs || has_joined c ys)
+joined-append c xs ys = list_any-append (λ (e : Entry). joins_as c e.reply) xs ys
+
+-- no more is delivered in a visit than between its join and its quit
+within-delivered : (p c d : ℕ) (peer challenge : List ℕ) (now : ℕ) (between : List Entry) → bytes_delivered c (calls_within p peer challenge now d between) ≡ bytes_delivered c between
+within-delivered p c d peer challenge now between =
+    let join = entry p (Join peer challenge now) (Joined d) in
+    delivered-more c (entry p (Quit d) Left) (between ++ join ∷ []) ∙ append-nil (bytes_delivered c (between ++ join ∷ []))
+    ∙ delivered-append c between (join ∷ [])
+    ∙ ap (λ bs. bs ++ bytes_delivered c between) (delivered-more c join [] ∙ append-nil (bytes_delivered c []) ∙ delivered-none c)
+
+within-joined : (p c d : ℕ) (peer challenge : List ℕ) (now : ℕ) (between : List Entry) → has_joined c (calls_within p peer challenge now d between) ≡ (has_joined c between || ((d == c) || false))
+within-joined p c d peer challenge now between = joined-append c between (entry p (Join peer challenge now) (Joined d) ∷ [])
+
+-- as another connection nobody joined in the visit
+another : (p c d : ℕ) (peer challenge : List ℕ) (now : ℕ) (between : List Entry) → has_joined c (calls_within p peer challenge now d between) ≡ false → (d == c) ≡ false
+another p c d peer challenge now between none =
+    (or-parts (d == c) false (or-parts (has_joined c between) ((d == c) || false) (sym (within-joined p c d peer challenge now between) ∙ none)).1).0
+
+as-itself : (p c : ℕ) (peer challenge : List ℕ) (now : ℕ) (between : List Entry) → has_joined c (calls_within p peer challenge now c between) ≡ true
+as-itself p c peer challenge now between =
+    within-joined p c c peer challenge now between ∙ ap (λ b. has_joined c between || (b || false)) (eq-eqb c c refl) ∙ or-true (has_joined c between)
+
+once-rest : (c : ℕ) (xs ys : List Entry) → JoinsOnce c (xs ++ ys) → JoinsOnce c ys
+once-rest c [] ys once = once
+once-rest c (x ∷ xs) ys once = once-rest c xs ys once.1
+
+once-head : (c : ℕ) (x : Entry) (xs ys : List Entry) → JoinsOnce c (x ∷ xs ++ ys) → (has_joined c xs ≡ true → has_joined c ys ≡ false) → (is : Bool) → joins_as c x.reply ≡ is
+    → (is || has_joined c xs) ≡ true → has_joined c ys ≡ false
+once-head c x xs ys once rest true is there = (or-parts (has_joined c xs) (has_joined c ys) (sym (joined-append c xs ys) ∙ once.0 is)).1
+once-head c x xs ys once rest false is there = rest there
+
+-- who joined later had not joined before
+once-before : (c : ℕ) (xs ys : List Entry) → JoinsOnce c (xs ++ ys) → has_joined c xs ≡ true → has_joined c ys ≡ false
+once-before c [] ys once there = absurd (false≢true there)
+once-before c (x ∷ xs) ys once there = once-head c x xs ys once (once-before c xs ys once.1) (joins_as c x.reply) refl there
+
+module _ {S : Type 0} (told : S → StreamCall → S → Type 0) (p : ℕ) where
+  abbrev calls : List Visit → List Entry
+  calls = flat_map (calls_of p)
+
+  -- nothing is delivered to a connection in a visit that did not join as it
+  silent : (c : ℕ) (v : Visit) → IsVisit told p v → has_joined c (calls_of p v) ≡ false → bytes_delivered c (calls_of p v) ≡ []
+  silent c (turned_away peer challenge now r) is none =
+      delivered-more c (entry p (Join peer challenge now) r) [] ∙ append-nil (bytes_delivered c []) ∙ delivered-none c
+  silent c (let_go peer challenge now d) is none = within-delivered p c d peer challenge now [] ∙ delivered-none c
+  silent c (served peer challenge now d end deeds) is none =
+      let between = reverse (hub_calls deeds) in
+      within-delivered p c d peer challenge now between ∙ other-delivered p c d deeds is.2.own_calls (another p c d peer challenge now between none)
+
+  -- it joined in these calls, and what its deeds gave was delivered by them
+  abbrev Delivers : List Entry → Visit → Type 0
+  Delivers mine (turned_away peer challenge now r) = Unit {0}
+  Delivers mine (let_go peer challenge now c) = Unit {0}
+  Delivers mine (served peer challenge now c end deeds) = (has_joined c mine ≡ true) × (bytes_delivered c mine ≡ bytes_given deeds)
+
+  first-delivers : (v : Visit) (mine : List Entry) → IsVisit told p v → All IsFit (calls_of p v) → ((c : ℕ) → has_joined c (calls_of p v) ≡ true → bytes_delivered c mine ≡ [])
+      → Delivers (calls_of p v ++ mine) v
+  first-delivers (turned_away peer challenge now r) mine is fits before = tt
+  first-delivers (let_go peer challenge now c) mine is fits before = tt
+  first-delivers (served peer challenge now c end deeds) mine is fits before =
+      let between = reverse (hub_calls deeds) in
+      let join = entry p (Join peer challenge now) (Joined c) in
+      let own = calls_within p peer challenge now c between in
+      let joins = as-itself p c peer challenge now between in
+      let parts = all-first IsFit between (join ∷ []) (All-tail IsFit (entry p (Quit c) Left) (between ++ join ∷ []) fits) in (
+        joined-append c own mine ∙ ap (λ b. b || has_joined c mine) joins,
+        delivered-append c own mine ∙ ap₂ ◌++◌ (before c joins) (within-delivered p c c peer challenge now between ∙ given-delivered p c deeds is.2.own_calls parts),
+      )
+
+  later-delivers : (v w : Visit) (mine : List Entry) → IsVisit told p v → ((c : ℕ) → has_joined c mine ≡ true → has_joined c (calls_of p v) ≡ false) → Delivers mine w
+      → Delivers (calls_of p v ++ mine) w
+  later-delivers v (turned_away peer challenge now r) mine is before d = tt
+  later-delivers v (let_go peer challenge now c) mine is before d = tt
+  later-delivers v (served peer challenge now c end deeds) mine is before d = (
+    joined-append c (calls_of p v) mine ∙ ap (λ b. has_joined c (calls_of p v) || b) d.0 ∙ or-true (has_joined c (calls_of p v)),
+    delivered-append c (calls_of p v) mine ∙ ap (λ bs. bytes_delivered c mine ++ bs) (silent c v is (before c d.0)) ∙ append-nil (bytes_delivered c mine) ∙ d.1,
+  )
+
+  -- nothing is delivered to who has not joined
+  all-silent : (c : ℕ) (vs : List Visit) → All (IsVisit told p) vs → has_joined c (calls vs) ≡ false → bytes_delivered c (calls vs) ≡ []
+  all-silent c [] each none = delivered-none c
+  all-silent c (v ∷ vs) each none =
+      let parts = or-parts (has_joined c (calls_of p v)) (has_joined c (calls vs)) (sym (joined-append c (calls_of p v) (calls vs)) ∙ none) in
+      delivered-append c (calls_of p v) (calls vs)
+      ∙ ap₂ ◌++◌ (all-silent c vs (All-tail (IsVisit told p) v vs each) parts.1) (silent c v (All-head (IsVisit told p) v vs each) parts.0)
+
+  only-later : (c : ℕ) (xs ys : List Entry) → JoinsOnce c (xs ++ ys) → has_joined c ys ≡ true → (is : Bool) → has_joined c xs ≡ is → is ≡ false
+  only-later c xs ys once there true is = absurd (false≢true (sym (once-before c xs ys once is) ∙ there))
+  only-later c xs ys once there false is = refl
+
+  all-deliver : (vs : List Visit) → All (IsVisit told p) vs → All IsFit (calls vs) → ((c : ℕ) → JoinsOnce c (calls vs)) → All (Delivers (calls vs)) vs
+  all-deliver [] each fits once = All-nil (Delivers (calls []))
+  all-deliver (v ∷ vs) each fits once =
+      let rest = all-deliver vs (All-tail (IsVisit told p) v vs each) (all-rest IsFit (calls_of p v) (calls vs) fits) (λ c. once-rest c (calls_of p v) (calls vs) (once c)) in
+      let is = All-head (IsVisit told p) v vs each in
+      All-cons (Delivers (calls (v ∷ vs))) v vs
+      (first-delivers v (calls vs) is (all-first IsFit (calls_of p v) (calls vs) fits)
+      (λ c there. all-silent c vs (All-tail (IsVisit told p) v vs each) (once-before c (calls_of p v) (calls vs) (once c) there)))
+      (λ k d l. later-delivers v _ (calls vs) is (λ c there. only-later c (calls_of p v) (calls vs) (once c) there (has_joined c (calls_of p v)) refl) (rest k d l))
+
+module _ {S : Type 0} (told : S → StreamCall → S → Type 0) (setup : Configured) (hash : List ℕ → List ℕ) (log : List Entry) (legal : Legal setup hash log) (p : ℕ) where
+  first-of : (c : ℕ) (deeds : List Deed) (more : List ℕ) → bytes_delivered c log ≡ bytes_given deeds → bytes_given deeds ≡ bytes_to deeds ++ more
+      → concat (lines_owed setup hash log c) ≡ bytes_to deeds ++ (more ++ concat (drop (count_taken setup hash log c) (lines_owed setup hash log c)))
+  first-of c deeds more given written =
+      let owed = lines_owed setup hash log c in
+      let n = count_taken setup hash log c in
+      ap concat (sym (take-append-drop n owed)) ∙ concat-append (take n owed) (drop n owed)
+      ∙ ap (λ bs. bs ++ concat (drop n owed)) (sym (delivered_are_the_first setup hash log legal c) ∙ given ∙ written)
+      ∙ append_assoc (bytes_to deeds) more (concat (drop n owed))
+
+  paid-one : (mine : List Entry) → entries_of p log ≡ mine → (v : Visit) → IsVisit told p v → Delivers told p mine v → IsPaid setup hash log v
+  paid-one mine are (turned_away peer challenge now r) is d = tt
+  paid-one mine are (let_go peer challenge now c) is d = tt
+  paid-one mine are (served peer challenge now c end deeds) is d =
+      let owed = lines_owed setup hash log c in
+      let more = is.2.first_bytes in
+      let given = delivered-by setup hash log legal p c (ap (has_joined c) are ∙ d.0) ∙ ap (bytes_delivered c) are ∙ d.1 in
+      record {
+        first = (more.0 ++ concat (drop (count_taken setup hash log c) owed), first-of c deeds more.0 given more.1);
+        whole = λ all. sym (is.2.all_bytes all) ∙ sym given ∙ delivered_are_the_first setup hash log legal c;
+      }
+
+  pub all-paid : (v : AreVisits told p (entries_of p log)) → All (IsPaid setup hash log) v.visits
+  all-paid v =
+      let fits = subst (All IsFit) v.calls (all-own-fit p log (all-fit setup hash log legal)) in
+      let once = λ (c : ℕ). subst (JoinsOnce c) v.calls (joins-once setup hash log legal p c) in
+      let deliver = all-deliver told p v.visits v.each fits once in
+      λ k d l. paid-one (calls told p v.visits) v.calls _ (v.each k d l) (deliver k d l)
+
+module _ {S : Type 0} (told : S → StreamCall → S → Type 0) where
+  pub visits_are_paid : VisitsArePaid told
+  visits_are_paid setup hash log legal caller its = all-paid told setup hash log legal caller its
+
+  paid-visits : (setup : Configured) (hash : List ℕ → List ℕ) (joins : ℕ) (all : ServedAll told setup hash joins) (caller : ℕ)
+      → AreVisits told caller (entries_of caller all.log) → (its : AreVisits told caller (entries_of caller all.log)) × All (IsPaid setup hash all.log) its.visits
+  paid-visits setup hash joins all caller its = (its, all-paid told setup hash all.log all.legal caller its)
+
+  pub written_is_owed : WrittenIsOwed told
+  written_is_owed setup hash joins all caller = ∥∥₁_map (all.visits caller) (paid-visits setup hash joins all caller)
