@@ -1,2 +1,3 @@
+mod Ended
 mod Takes
 mod Owing

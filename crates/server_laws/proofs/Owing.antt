@@ -2,11 +2,14 @@
 use Rattle.std.proofs.Common.{◌≡◌, ◌∙◌, sym, ap, ap₂, refl, subst, ℕ, Bool, true, false, ◌==◌, ◌||◌, cond, List, [], ◌∷◌, ◌++◌, reverse, take, drop, append-nil, append_assoc}
 use Rattle.std.specs.List.{All, concat, flat_map}
 use Rattle.std.proofs.lemmas.Bool.{false≢true, eq-eqb}
+use Rattle.std.proofs.lemmas.Grind.{flat_map-append}
 use Rattle.std.proofs.lemmas.List.{reverse-append, take-append-drop}
 use Rattle.std.proofs.lemmas.List.Elements.{All-nil, All-cons, All-head, All-tail}
 use Rattle.std.proofs.lemmas.List.Folds.{concat-append, list_any-append}
 use Rattle.std.proofs.Math.Logic.{∥∥₁_map}
+use Rattle.adc_sessions.specs.declared.ending.End.TheVariants as ends
 use Rattle.adc_sessions.specs.Events.{StreamCall}
+use Rattle.adc_sessions.specs.Served.{wrote_all}
 use Rattle.hub_core.specs.Moves.{entry}
 use Rattle.hub_rules.specs.declared.history.Call.{Call}
 use Rattle.hub_rules.specs.declared.history.Call.TheVariants.{Join, Line, Quit, Take}
@@ -23,10 +26,12 @@ use Rattle.hub_invariants.proofs.Sound.{or-true}
 use Rattle.hub_laws.specs.Delivery.{bytes_of_take, bytes_taken, bytes_delivered}
 use Rattle.hub_laws.proofs.Delivery.{delivered_are_the_first}
 use Rattle.hub_shared.specs.Connections.{entries_of}
-use Rattle.hub_server.specs.Deeds.{Deed, streamed, called, bytes_in, hub_calls, bytes_given, bytes_to, IsServing, IsFor}
+use Rattle.hub_server.specs.Deeds.{Deed, streamed, called, bytes_in, entry_by, hub_calls, bytes_given, bytes_to, IsServing, IsEnded, IsFor}
+use Rattle.hub_server.specs.ServedByHub.{Cause}
 use Rattle.hub_server.specs.ServedAll.{ServedAll}
 use Rattle.hub_server.specs.Visits.{Visit, turned_away, let_go, served, calls_within, calls_of, IsVisit, AreVisits}
 use Rattle.server_laws.specs.Payment.{IsPaid, VisitsArePaid, WrittenIsOwed}
+use Rattle.server_laws.proofs.Ended.{told_so, is_ended_by, has_ended_in, ended-by, all-taken}
 use Rattle.server_laws.proofs.Takes.{delivered-none, delivered-more, delivered-append, JoinsOnce, joins-once, delivered-by}
 
 -- ---- only takes give bytes
@@ -127,6 +132,25 @@ other-delivered p c d (called e ∷ deeds) own other =
     first-delivered c e (hub_calls deeds)
     ∙ ap₂ ◌++◌ (serving-other c d e.call e.reply (All-head (IsFor p d) (called e) deeds own).1 other) (other-delivered p c d deeds (All-tail (IsFor p d) (called e) deeds own) other)
 
+-- ---- the take that was told that nothing will follow
+
+ended-append : (c : ℕ) (xs ys : List Entry) → has_ended_in c (xs ++ ys) ≡ (has_ended_in c xs || has_ended_in c ys)
+ended-append c xs ys = list_any-append (λ (e : Entry). is_ended_by c e.call e.reply) xs ys
+
+-- whatever stands before and behind it
+ends-within : (c : ℕ) (e : Entry) (xs ys : List Entry) → is_ended_by c e.call e.reply ≡ true → has_ended_in c (reverse (xs ++ e ∷ ys)) ≡ true
+ends-within c e xs ys is =
+    ap (has_ended_in c) (reverse-append xs (e ∷ ys) ∙ ap (λ zs. zs ++ reverse xs) (reverse-append (e ∷ []) ys))
+    ∙ ended-append c (reverse ys ++ e ∷ []) (reverse xs)
+    ∙ ap (λ b. b || has_ended_in c (reverse xs))
+    (ended-append c (reverse ys) (e ∷ []) ∙ ap (λ b. has_ended_in c (reverse ys) || (b || false)) is ∙ or-true (has_ended_in c (reverse ys)))
+
+told-ended : (p c : ℕ) (deeds : List Deed) → IsEnded p c deeds → has_ended_in c (reverse (hub_calls deeds)) ≡ true
+told-ended p c deeds is =
+    let last = entry p (Take c is.2) (Took is.3 is.4 true) in
+    ap (λ ds. has_ended_in c (reverse (hub_calls ds))) is.5 ∙ ap (λ es. has_ended_in c (reverse es)) (flat_map-append entry_by is.0 (called last ∷ is.1))
+    ∙ ends-within c last (hub_calls is.0) (hub_calls is.1) (ap (λ b. told_so b (Took is.3 is.4 true)) (eq-eqb c c refl))
+
 -- ---- visits
 
 joined-append : (c : ℕ) (xs ys : List Entry) → has_joined c (xs ++ ys) ≡ (has_joined c xs || has_joined c ys)
@@ -147,6 +171,9 @@ within-joined p c d peer challenge now between = joined-append c between (entry 
 another : (p c d : ℕ) (peer challenge : List ℕ) (now : ℕ) (between : List Entry) → has_joined c (calls_within p peer challenge now d between) ≡ false → (d == c) ≡ false
 another p c d peer challenge now between none =
     (or-parts (d == c) false (or-parts (has_joined c between) ((d == c) || false) (sym (within-joined p c d peer challenge now between) ∙ none)).1).0
+
+within-ended : (p c : ℕ) (peer challenge : List ℕ) (now : ℕ) (between : List Entry) → has_ended_in c between ≡ true → has_ended_in c (calls_within p peer challenge now c between) ≡ true
+within-ended p c peer challenge now between is = ended-append c between (entry p (Join peer challenge now) (Joined c) ∷ []) ∙ ap (λ b. b || false) is
 
 as-itself : (p c : ℕ) (peer challenge : List ℕ) (now : ℕ) (between : List Entry) → has_joined c (calls_within p peer challenge now c between) ≡ true
 as-itself p c peer challenge now between =
@@ -179,11 +206,11 @@ module _ {S : Type 0} (told : S → StreamCall → S → Type 0) (p : ℕ) where
       let between = reverse (hub_calls deeds) in
       within-delivered p c d peer challenge now between ∙ other-delivered p c d deeds is.2.own_calls (another p c d peer challenge now between none)
 
-  -- it joined in these calls, and what its deeds gave was delivered by them
+  -- it joined in these calls, what its deeds gave was delivered by them, and what ended it stands among them
   abbrev Delivers : List Entry → Visit → Type 0
   Delivers mine (turned_away peer challenge now r) = Unit {0}
   Delivers mine (let_go peer challenge now c) = Unit {0}
-  Delivers mine (served peer challenge now c end deeds) = (has_joined c mine ≡ true) × (bytes_delivered c mine ≡ bytes_given deeds)
+  Delivers mine (served peer challenge now c end deeds) = (has_joined c mine ≡ true) × (bytes_delivered c mine ≡ bytes_given deeds) × (end ≡ ends.Ended → has_ended_in c mine ≡ true)
 
   first-delivers : (v : Visit) (mine : List Entry) → IsVisit told p v → All IsFit (calls_of p v) → ((c : ℕ) → has_joined c (calls_of p v) ≡ true → bytes_delivered c mine ≡ [])
       → Delivers (calls_of p v ++ mine) v
@@ -197,6 +224,8 @@ module _ {S : Type 0} (told : S → StreamCall → S → Type 0) (p : ℕ) where
       let parts = all-first IsFit between (join ∷ []) (All-tail IsFit (entry p (Quit c) Left) (between ++ join ∷ []) fits) in (
         joined-append c own mine ∙ ap (λ b. b || has_joined c mine) joins,
         delivered-append c own mine ∙ ap₂ ◌++◌ (before c joins) (within-delivered p c c peer challenge now between ∙ given-delivered p c deeds is.2.own_calls parts),
+        λ e. ended-append c own mine
+            ∙ ap (λ b. b || has_ended_in c mine) (within-ended p c peer challenge now between (told-ended p c deeds (subst (λ x. Cause x p c deeds) e is.2.cause))),
       )
 
   later-delivers : (v w : Visit) (mine : List Entry) → IsVisit told p v → ((c : ℕ) → has_joined c mine ≡ true → has_joined c (calls_of p v) ≡ false) → Delivers mine w
@@ -206,6 +235,7 @@ module _ {S : Type 0} (told : S → StreamCall → S → Type 0) (p : ℕ) where
   later-delivers v (served peer challenge now c end deeds) mine is before d = (
     joined-append c (calls_of p v) mine ∙ ap (λ b. has_joined c (calls_of p v) || b) d.0 ∙ or-true (has_joined c (calls_of p v)),
     delivered-append c (calls_of p v) mine ∙ ap (λ bs. bytes_delivered c mine ++ bs) (silent c v is (before c d.0)) ∙ append-nil (bytes_delivered c mine) ∙ d.1,
+    λ e. ended-append c (calls_of p v) mine ∙ ap (λ b. has_ended_in c (calls_of p v) || b) (d.2 e) ∙ or-true (has_ended_in c (calls_of p v)),
   )
 
   -- nothing is delivered to who has not joined
@@ -247,9 +277,12 @@ module _ {S : Type 0} (told : S → StreamCall → S → Type 0) (setup : Config
       let owed = lines_owed setup hash log c in
       let more = is.2.first_bytes in
       let given = delivered-by setup hash log legal p c (ap (has_joined c) are ∙ d.0) ∙ ap (bytes_delivered c) are ∙ d.1 in
+      let whole = λ (wrote : wrote_all end ≡ true). sym (is.2.all_bytes wrote) ∙ sym given ∙ delivered_are_the_first setup hash log legal c in
+      let told = λ (e : end ≡ ends.Ended). ended-by c p log (ap (has_ended_in c) are ∙ d.2 e) in
       record {
         first = (more.0 ++ concat (drop (count_taken setup hash log c) owed), first-of c deeds more.0 given more.1);
-        whole = λ all. sym (is.2.all_bytes all) ∙ sym given ∙ delivered_are_the_first setup hash log legal c;
+        whole = whole;
+        all = λ e. whole (ap wrote_all e) ∙ ap concat (all-taken setup hash log c legal (told e));
       }
 
   pub all-paid : (v : AreVisits told p (entries_of p log)) → All (IsPaid setup hash log) v.visits

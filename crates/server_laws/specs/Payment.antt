@@ -2,6 +2,7 @@
 use Rattle.std.specs.Prelude.{◌≡◌, ℕ, true, List, ◌++◌, take, ⊤}
 use Rattle.std.specs.List.{All, concat}
 use Rattle.adc_sessions.specs.declared.ending.End.{End}
+use Rattle.adc_sessions.specs.declared.ending.End.TheVariants as ends
 use Rattle.adc_sessions.specs.Events.{StreamCall}
 use Rattle.adc_sessions.specs.Served.{wrote_all}
 use Rattle.hub_rules.specs.declared.history.Entry.{Entry}
@@ -19,8 +20,10 @@ module _ (setup : Configured) (hash : List ℕ → List ℕ) (log : List Entry) 
   pub record IsOwed (connection : ℕ) (end : End) (deeds : List Deed) : Type 0 where
     -- the bytes written are the first of those of the lines that it is owed
     pub first : (more : List ℕ) × (concat (lines_owed setup hash log connection) ≡ bytes_to deeds ++ more)
-    -- at an end at which all is written they are those of the lines that it took, to the last byte
+    -- at an end behind which nothing waits to be written, they are those of all lines that it took
     pub whole : wrote_all end ≡ true → bytes_to deeds ≡ concat (take (count_taken setup hash log connection) (lines_owed setup hash log connection))
+    -- where the hub said that nothing will follow, they are those of all lines that it is owed
+    pub all : end ≡ ends.Ended → bytes_to deeds ≡ concat (lines_owed setup hash log connection)
 
   -- that holds of the connection of a visit, where one was served
   abbrev pub IsPaid : Visit → Type 0
