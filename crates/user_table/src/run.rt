@@ -1,7 +1,8 @@
-ghost use Rattle.std.specs.Prelude.{◌≡◌, IfOk, OnErr};
+ghost use Rattle.user_table.specs.Changes.{key_of};
+ghost use Rattle.std.specs.Prelude.{◌≡◌, IfOk, OnErr, Some};
 ghost use Rattle.std.specs.Option.{option_copied, option_map};
 ghost use Rattle.std.specs.String.{string_bytes};
-ghost use Rattle.user_table.specs.Commands.{HaveRun, IsAnswered, said_key, says_nick};
+ghost use Rattle.user_table.specs.Commands.{HaveRun, IsAnswered, is_key, said_key, says_nick};
 ghost use Rattle.user_table.specs.Indexes.{sid_of};
 ghost use Rattle.user_table.specs.declared.command.Command.TheVariants as commands;
 ghost use Rattle.user_table.specs.declared.command.Answer.TheVariants as answers;
@@ -87,21 +88,31 @@ fn insert<U: Users>(users: &mut U, user: User) -> Answer
     ensures { IsAnswered (U.listed users.old) (commands.Insert user) result (U.listed users.new) }
 {
     if users.by_sid(user.sid()).is_some() {
+        drop(user);
         return Answer::Skipped;
     }
     match users.insert(user) {
         Ok(()) => Answer::Done,
-        Err((refused, _)) => Answer::Refused(refused),
+        Err(back) => refused(back),
     }
+}
+
+/// Lets go of a user who was not put in.
+fn refused(back: (TableRefused, User)) -> Answer
+    ensures { result ≡ answers.Refused back.0 }
+{
+    let (refused, user) = back;
+    drop(user);
+    Answer::Refused(refused)
 }
 
 fn remove<U: Users>(users: &mut U, sid: Sid) -> Answer
     ensures { IsAnswered (U.listed users.old) (commands.Remove sid) result (U.listed users.new) }
 {
-    match users.remove(sid) {
-        Some(user) => Answer::Found(Some(user.sid())),
-        None => Answer::Found(None),
-    }
+    let removed = users.remove(sid);
+    let found = sid_of(removed.as_ref());
+    drop(removed);
+    Answer::Found(found)
 }
 
 fn merge_info<U: Users>(
@@ -134,11 +145,28 @@ fn says_nick(alloc: Global, update: &Update, nick: &Option<Nick>) -> Result<bool
     let Some(nick) = nick else {
         return Ok(true);
     };
-    let key = nick.key(alloc)?;
-    let said = said_key(alloc, update)?;
-    match &said {
-        Some(said) => Ok(*said == key),
+    match said_key(alloc, update)? {
+        Some(said) => is_key_of(alloc, nick, said),
         None => Ok(false),
+    }
+}
+
+/// Tests whether this is the key of a nick.
+fn is_key_of(alloc: Global, nick: &Nick, said: String) -> Result<bool, AllocError>
+    ensures { IfOk result (λ same. same ≡ is_key (key_of nick.now) (Some (string_bytes said))) }
+{
+    let key = nick.key(alloc);
+    let is_key = match &key {
+        Ok(key) => *key == said,
+        Err(AllocError) => false,
+    };
+    drop(said);
+    match key {
+        Ok(key) => {
+            drop(key);
+            Ok(is_key)
+        }
+        Err(AllocError) => Err(AllocError),
     }
 }
 
@@ -150,7 +178,11 @@ fn said_key(alloc: Global, update: &Update) -> Result<Option<String>, AllocError
         return Ok(None);
     };
     match unescape(alloc, value) {
-        Ok(text) => Ok(Some(to_nfc(alloc, &text)?)),
+        Ok(text) => {
+            let key = to_nfc(alloc, &text);
+            drop(text);
+            Ok(Some(key?))
+        }
         Err(UnescapeFault::Memory) => Err(AllocError),
         Err(UnescapeFault::Escape) => Ok(None),
     }
