@@ -5,7 +5,7 @@ pub use hub_challenges::Challenges;
 use hub_endings::Ending;
 pub use hub_program::program;
 pub use hub_server::serve_on;
-pub use hub_stream::{RunFault, run_one};
+pub use hub_stream::{CountedRead, CountedWrite, Counting, Failures, RunFault, run_one};
 use std::alloc::Global;
 use std::process::ExitCode;
 use std::{env, io};
@@ -14,8 +14,8 @@ fn main(rt: HostRuntime) -> ExitCode {
     let mut errors = rt.stderr();
     let status = match arguments(&rt, rt.alloc()) {
         Ok(words) => {
-            let mut input = rt.reader();
-            let mut output = io::writer(&rt);
+            let mut input = Counting::new(rt.reader());
+            let mut output = Counting::new(io::writer(&rt));
             program(&rt, &words, &mut input, &mut output, &mut errors)
         }
         Err(ending) => ending.tell(&mut errors),

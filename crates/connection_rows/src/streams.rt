@@ -3,7 +3,7 @@ mod fakes;
 use crate::streams::fakes::{Input, Output};
 use crate::texts::{ENTERED, GREETING, LOGIN};
 use hub_core::{MenuEntry, MenuItem, Options, Setup};
-use hub_stream::{RunFault, run_one};
+use hub_stream::{Counting, Failures, RunFault, run_one};
 use second_try::again;
 use session_hash::First24;
 use std::alloc::{AllocGlobal, Global};
@@ -16,12 +16,24 @@ const GREET: &[u8] = b"HSUP ADBASE ADTIGR\n";
 const GREETING_AND_DENIAL: &[u8] =
     b"ISUP ADBASE ADTIGR ADPING ADUCMD\nISID AAAB\nIINF CT32 NIHub VEadc-hub\\s1.0\nISTA 140 Protocol\\serror\n";
 
+/// What is counted where each call succeeded.
+const NONE: Failures = Failures {
+    count: 0,
+    is_last: false,
+};
+
+/// What is counted where the last call failed, and no other.
+const ONE: Failures = Failures {
+    count: 1,
+    is_last: true,
+};
+
 /// The outcome of a run: what it answered, and what it left of its reader and its writer.
 #[derive(Drop)]
 struct Ran<'a> {
     answer: Result<(), RunFault>,
-    input: Input<'a>,
-    output: Output,
+    input: Counting<Input<'a>>,
+    output: Counting<Output>,
 }
 
 /// Makes a hub with this menu.
@@ -37,11 +49,12 @@ fn hub_with(alloc: Global, menu: &[MenuEntry<'_>]) -> Option<Arc<Setup>> {
 fn attempt<'a>(
     alloc: Global,
     menu: &[MenuEntry<'_>],
-    mut input: Input<'a>,
+    input: Input<'a>,
     most: usize,
     bad: usize,
 ) -> Option<Ran<'a>> {
-    let mut output = Output::new(alloc, most, bad).ok()?;
+    let mut input = Counting::new(input);
+    let mut output = Counting::new(Output::new(alloc, most, bad).ok()?);
     let setup = hub_with(alloc, menu)?;
     let answer = run_one(alloc, setup, &First24, &mut input, &mut output);
     Some(Ran {
@@ -65,7 +78,7 @@ fn run_with<'a, R: AllocGlobal + Abort>(
         if ran.answer != Err(RunFault::Memory) {
             return ran;
         }
-        assert!(rt; whole.starts_with(&ran.output.got));
+        assert!(rt; whole.starts_with(&ran.output.get_ref().got));
     }
     match attempt(rt.alloc(), menu, input, most, bad) {
         Some(ran) => ran,
@@ -82,12 +95,12 @@ fn ends<'a, R: AllocGlobal + Abort>(
 ) -> Ran<'a> {
     let ran = run_with(rt, &[], input, 4096, 0, wanted);
     assert!(rt;
-        ran.answer == answer && ran.output.got.as_slice() == wanted,
+        ran.answer == answer && ran.output.get_ref().got.as_slice() == wanted,
         "by {}, bad {}: {:?}, {:?}",
         input.most,
         input.bad,
         ran.answer,
-        ran.output.got
+        ran.output.get_ref().got
     );
     ran
 }
@@ -127,9 +140,9 @@ fn ends_once_the_connection_is_shut_out(rt: HostRuntime) {
     for (most, reads) in [(1, 12), (12, 1), (4096, 1)] {
         let ran = ends(&rt, Input::of(input, most), Ok(()), wanted);
         assert!(rt;
-            ran.input.reads == reads,
+            ran.input.get_ref().reads == reads,
             "by {most}: {} reads",
-            ran.input.reads
+            ran.input.get_ref().reads
         );
     }
     // A line that is too long behind that line is not looked at.
@@ -155,8 +168,8 @@ PDAAAAAAAAAAAAAAAAAAAAAAAAAAAAAAAAAAAAAAA NIana\nBMSG AAAB hi\n";
     // All that comes behind the line that is owed too much is not read.
     let ran = run_with(&rt, &menu, Input::of(first, 1), 4096, 0, GREETING);
     assert!(rt; ran.answer == Ok(()), "{:?}", ran.answer);
-    assert!(rt; ran.output.got.as_slice() == GREETING);
-    assert!(rt; ran.input.rest == b"BMSG AAAB hi\n".as_slice());
+    assert!(rt; ran.output.get_ref().got.as_slice() == GREETING);
+    assert!(rt; ran.input.get_ref().rest == b"BMSG AAAB hi\n".as_slice());
 }
 
 #[test]
@@ -175,10 +188,14 @@ fn writes_on_as_the_writer_takes(rt: HostRuntime) {
     for most in [1, 2, 73] {
         let ran = run_with(&rt, &[], input, most, 0, GREETING);
         assert!(rt; ran.answer == Ok(()), "by {most}: {:?}", ran.answer);
-        assert!(rt; ran.output.got.as_slice() == GREETING, "by {most}");
+        assert!(rt;
+            ran.output.get_ref().got.as_slice() == GREETING,
+            "by {most}"
+        );
     }
     let ran = run_with(&rt, &[], input, 0, 0, GREETING);
-    assert!(rt; ran.answer == Err(RunFault::Write) && ran.output.got.is_empty());
+    assert!(rt; ran.answer == Err(RunFault::Write) && ran.output.get_ref().got.is_empty());
+    assert!(rt; ran.output.failures() == ONE);
 }
 
 #[test]
@@ -186,19 +203,22 @@ fn stops_at_a_write_that_fails(rt: HostRuntime) {
     let input = Input::of(b"HSUP ADBASE ADTIGR\nx\n", 4096);
     let whole = GREETING_AND_DENIAL;
     let good = run_with(&rt, &[], input, 10, 0, whole);
-    assert!(rt; good.answer == Ok(()) && good.output.got.as_slice() == whole);
-    for bad in 1..=good.output.calls {
+    assert!(rt; good.answer == Ok(()) && good.output.get_ref().got.as_slice() == whole);
+    assert!(rt; good.output.failures() == NONE);
+    for bad in 1..=good.output.get_ref().calls {
         let ran = run_with(&rt, &[], input, 10, bad, whole);
         assert!(rt;
             ran.answer == Err(RunFault::Write),
             "call {bad}: {:?}",
             ran.answer
         );
-        assert!(rt; whole.starts_with(&ran.output.got), "call {bad}");
+        assert!(rt; whole.starts_with(&ran.output.get_ref().got), "call {bad}");
+        assert!(rt; ran.output.failures() == ONE, "call {bad}");
+        assert!(rt; ran.input.failures() == NONE, "call {bad}");
         assert!(rt;
-            ran.output.calls == bad,
+            ran.output.get_ref().calls == bad,
             "call {bad}: {} calls",
-            ran.output.calls
+            ran.output.get_ref().calls
         );
     }
 }
@@ -209,7 +229,9 @@ fn stops_at_a_read_that_fails(rt: HostRuntime) {
     for (bad, wanted) in [(1, b"".as_slice()), (2, b""), (3, b""), (4, GREETING)] {
         let mut input = Input::of(GREET, 7);
         input.bad = bad;
-        ends(&rt, input, Err(RunFault::Read), wanted);
+        let ran = ends(&rt, input, Err(RunFault::Read), wanted);
+        assert!(rt; ran.input.failures() == ONE, "read {bad}");
+        assert!(rt; ran.output.failures() == NONE, "read {bad}");
     }
 }
 
@@ -221,5 +243,6 @@ fn reads_so_often_and_no_more(rt: HostRuntime) {
     let mut input = Input::of(b"", 1);
     input.again = &line;
     let ran = ends(&rt, input, Err(RunFault::Turns), b"");
-    assert!(rt; ran.input.reads == 1_048_576, "{} reads", ran.input.reads);
+    let reads = ran.input.get_ref().reads;
+    assert!(rt; reads == 1_048_576, "{reads} reads");
 }

@@ -1,6 +1,7 @@
-use flushed_writes::write_and_flush;
+use flushed_writes::{CountedRead, Counting, write_and_flush, write_and_flush_counted};
+use second_try::again;
 use std::alloc::{AllocError, AllocGlobal, Global};
-use std::io::{self, Write};
+use std::io::{self, Read, Write};
 use std::process::Abort;
 
 /// A writer that takes at most `most` bytes a write, and fails at the call of number `bad`, from 1 on.
@@ -55,13 +56,7 @@ fn writes<R: AllocGlobal + Abort>(
     got: &[u8],
     calls: usize,
 ) {
-    let taker = match Taker::new(rt.alloc(), most, bad) {
-        Ok(taker) => Ok(taker),
-        Err(_) => Taker::new(rt.alloc(), most, bad),
-    };
-    let Ok(mut taker) = taker else {
-        panic!(rt; "refused twice");
-    };
+    let mut taker = again!(rt; Taker::new(rt.alloc(), most, bad));
     let answer = write_and_flush(&mut taker, bytes).map_err(|error| error.kind());
     assert!(rt; answer == wanted, "by {most}, bad {bad}: {answer:?}");
     assert!(rt; taker.got.as_slice() == got, "by {most}, bad {bad}");
@@ -82,5 +77,72 @@ fn writes_all_or_the_front(rt: HostRuntime) {
     // The fourth call is the flush.
     for (bad, got) in [(1, b"".as_slice()), (2, b"ab"), (3, b"abcd"), (4, b"abcde")] {
         writes(&rt, b"abcde", 2, bad, broken, got, bad);
+    }
+}
+
+/// Stops the test unless these bytes, by a writer that counts, are written like this, and so many calls are counted.
+fn counts<R: AllocGlobal + Abort>(
+    rt: &R,
+    bytes: &[u8],
+    most: usize,
+    bad: usize,
+    wanted: Result<(), io::ErrorKind>,
+    got: &[u8],
+    failed: u64,
+) {
+    let mut taker = Counting::new(again!(rt; Taker::new(rt.alloc(), most, bad)));
+    let answer = write_and_flush_counted(&mut taker, bytes).map_err(|error| error.kind());
+    assert!(rt; answer == wanted, "by {most}, bad {bad}: {answer:?}");
+    assert!(rt;
+        taker.get_ref().got.as_slice() == got,
+        "by {most}, bad {bad}"
+    );
+    let failures = taker.failures();
+    assert!(rt;
+        failures.count == failed && failures.is_last == (failed > 0),
+        "by {most}, bad {bad}: {failures:?}"
+    );
+}
+
+#[test]
+fn counts_the_write_that_fails(rt: HostRuntime) {
+    let broken = Err(io::ErrorKind::BrokenPipe);
+    counts(&rt, b"", 2, 1, Ok(()), b"", 0);
+    counts(&rt, b"abcde", 2, 0, Ok(()), b"abcde", 0);
+    counts(&rt, b"abcde", 0, 0, Err(io::ErrorKind::WriteZero), b"", 1);
+    // The fourth call is the flush.
+    for (bad, got) in [(1, b"".as_slice()), (2, b"ab"), (3, b"abcd"), (4, b"abcde")] {
+        counts(&rt, b"abcde", 2, bad, broken, got, 1);
+    }
+}
+
+/// A reader that fails at each second call, from the first on.
+#[derive(Drop)]
+struct Stutterer {
+    is_well: bool,
+}
+
+impl Read for Stutterer {
+    fn read(&mut self, _buf: &mut [u8]) -> io::Result<usize> {
+        self.is_well = !self.is_well;
+        if self.is_well {
+            return Err(io::ErrorKind::BrokenPipe.into());
+        }
+        Ok(0)
+    }
+}
+
+#[test]
+fn counts_the_reads_that_fail(rt: HostRuntime) {
+    let mut reader = Counting::new(Stutterer { is_well: false });
+    let mut buffer = [0; 4];
+    for (count, is_last) in [(1, true), (1, false), (2, true), (2, false)] {
+        let answer = reader.read_counted(&mut buffer);
+        let failures = reader.failures();
+        assert!(rt; answer.is_err() == is_last);
+        assert!(rt;
+            failures.count == count && failures.is_last == is_last,
+            "{failures:?}"
+        );
     }
 }

@@ -1,7 +1,9 @@
 ghost use Rattle.std.specs.Prelude.{◌≡◌, [], IsOk, OnOk, OnErr};
 ghost use Rattle.std.specs.Io.KnownBytes.{Appends};
+ghost use Rattle.flushed_writes.specs.Calls.{Counts};
 ghost use Rattle.flushed_writes.specs.Parts.{AppendsFront};
 
+use crate::counted::CountedWrite;
 use std::io::{self, Write};
 
 /// Writes all bytes and flushes; nothing is done where there are none.
@@ -25,4 +27,24 @@ pub fn write_and_flush<W: Write>(writer: &mut W, bytes: &[u8]) -> io::Result<()>
         }
     }
     writer.flush()
+}
+
+/// Writes and flushes as [`write_and_flush`] does. It makes no further call once one has failed.
+pub fn write_and_flush_counted<W: CountedWrite>(writer: &mut W, bytes: &[u8]) -> io::Result<()>
+    ensures ok { OnOk result (Appends (W.contents writer.old) (W.contents writer.new) bytes.now) }
+    ensures err { OnErr result (AppendsFront (W.contents writer.old) (W.contents writer.new) bytes.now) }
+    ensures nothing { bytes.now ≡ [] → IsOk result }
+    ensures counts { Counts result (W.failures writer.old) (W.failures writer.new) }
+{
+    if bytes.is_empty() {
+        return Ok(());
+    }
+    let mut taken = 0;
+    while taken < bytes.len() {
+        match writer.write_counted(&bytes[taken..]) {
+            Ok(count) => taken += count,
+            Err(error) => return Err(error),
+        }
+    }
+    writer.flush_counted()
 }

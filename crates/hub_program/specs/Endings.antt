@@ -1,6 +1,7 @@
 -- The tasks that the program is asked for, and its endings.
 use Rattle.std.specs.Prelude.{◌≡◌, ℕ, List, [], ◌∷◌, codes, Option}
 use Rattle.std.specs.Io.KnownBytes.{Keeps}
+use Rattle.flushed_writes.specs.declared.failures.Failures.{Failures}
 use Rattle.hub_rules.specs.Configured.{Configured}
 use Rattle.hub_rules.specs.Configured.{plain_hub}
 use Rattle.session_hash.specs.First24.{first_24}
@@ -9,7 +10,7 @@ use Rattle.hub_endings.specs.declared.ending.Ending.{Ending}
 use Rattle.hub_endings.specs.declared.ending.Ending.TheVariants as endings
 use Rattle.hub_stream.specs.declared.fault.RunFault.{RunFault}
 use Rattle.hub_stream.specs.declared.fault.RunFault.TheVariants as faults
-use Rattle.hub_stream.specs.Faults.{StopsBy}
+use Rattle.hub_stream.specs.Faults.{StopsBy, NothingFailed, Told, told}
 use Rattle.flushed_writes.specs.Parts.{AppendsFront}
 use Rattle.hub_stream.specs.Runs.{IsServed}
 
@@ -33,22 +34,27 @@ abbrev pub stdin_setup : Configured
 stdin_setup = plain_hub (codes "Hub")
 
 -- what an ending says of the input and the output
-abbrev pub EndsBy : Ending → List (List ℕ) → Option (List ℕ) → Option (List ℕ) → Option (List ℕ) → Option (List ℕ) → Type 0
-EndsBy endings.Served words unread left held holds = AsksForStdin words × IsServed stdin_setup first_24 unread left held holds
-EndsBy endings.Usage words unread left held holds = (AsksForStdin words → ⊥) × Keeps unread left × Keeps held holds
-EndsBy endings.Tables words unread left held holds = ⊥
-EndsBy endings.Address words unread left held holds = ⊥
-EndsBy endings.Memory words unread left held holds = AsksForStdin words × StopsBy faults.Memory stdin_setup first_24 unread left held holds
-EndsBy endings.Transfer words unread left held holds =
-    AsksForStdin words × ((fault : RunFault) × (ending_of fault ≡ endings.Transfer) × StopsBy fault stdin_setup first_24 unread left held holds)
+abbrev pub EndsBy : Ending → List (List ℕ) → Told → Told → Type 0
+EndsBy endings.Served words before after =
+    AsksForStdin words × IsServed stdin_setup first_24 before.unread after.unread before.held after.held × NothingFailed before after
+EndsBy endings.Usage words before after =
+    (AsksForStdin words → ⊥) × Keeps before.unread after.unread × Keeps before.held after.held × NothingFailed before after
+EndsBy endings.Tables words before after = ⊥
+EndsBy endings.Address words before after = ⊥
+EndsBy endings.Memory words before after = AsksForStdin words × StopsBy faults.Memory stdin_setup first_24 before after
+EndsBy endings.Transfer words before after =
+    AsksForStdin words × ((fault : RunFault) × (ending_of fault ≡ endings.Transfer) × StopsBy fault stdin_setup first_24 before after)
 
 -- the status is that of an ending that the words, the input and the output bear out
-abbrev pub Ends : ℕ → List (List ℕ) → Option (List ℕ) → Option (List ℕ) → Option (List ℕ) → Option (List ℕ) → Type 0
-Ends status words unread left held holds = (ending : Ending) × (status ≡ status_of ending) × EndsBy ending words unread left held holds
+abbrev pub Ends : ℕ → List (List ℕ) → Told → Told → Type 0
+Ends status words before after = (ending : Ending) × (status ≡ status_of ending) × EndsBy ending words before after
 
 -- the same, unless a server is asked for, by what input and output tell of themselves
-abbrev pub EndsOver : {I O : Type 0} → ℕ → List (List ℕ) → (I → Option (List ℕ)) → I → I → (O → Option (List ℕ)) → O → O → Type 0
-EndsOver status words remains before after holds old new = (AsksToServe words → ⊥) → Ends status words (remains before) (remains after) (holds old) (holds new)
+abbrev pub EndsOver : {I O : Type 0} → ℕ → List (List ℕ) → (I → Option (List ℕ)) → (I → Failures) → I → I
+    → (O → Option (List ℕ)) → (O → Failures) → O → O → Type 0
+EndsOver status words remains reads before after holds writes old new =
+    (AsksToServe words → ⊥)
+    → Ends status words (told (remains before) (holds old) (reads before) (writes old)) (told (remains after) (holds new) (reads after) (writes new))
 
 -- the message of that ending was written, or its front
 abbrev pub Tells : ℕ → Option (List ℕ) → Option (List ℕ) → Type 0

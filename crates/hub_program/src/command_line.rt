@@ -2,9 +2,11 @@ ghost use Rattle.std.specs.Prelude.{◌≡◌, ◌↔◌, IsTrue, IfOk, IfSome, 
 ghost use Rattle.std.specs.Arc.{arc_value};
 ghost use Rattle.std.specs.String.{string_bytes};
 ghost use Rattle.hub_setup.specs.Settings.{configured_hub};
+ghost use Rattle.hub_stream.specs.Faults.{told};
 ghost use Rattle.hub_program.specs.Endings.{AsksForStdin, AsksToServe, stdin_setup, ending_of, EndsBy, Ends, EndsOver, Tells};
 
 use crate::start::serve_file;
+use flushed_writes::{CountedRead, CountedWrite};
 use hub_core::{Options, Setup, SetupRefused};
 use hub_endings::Ending;
 use hub_stream::{RunFault, run_one};
@@ -12,7 +14,7 @@ use session_hash::First24;
 use std::alloc::{AllocError, AllocGlobal, Global};
 use std::env::Env;
 use std::fs::Files;
-use std::io::{Read, Write};
+use std::io::Write;
 use std::net::Net;
 use std::random::RandomSource;
 use std::sync::{Arc, Wait};
@@ -38,10 +40,10 @@ pub fn program<R, I, O, E>(
 ) -> u8
 where
     R: Wait + Threads + Clock + Net + RandomSource + AllocGlobal + Files + Env + Sync,
-    I: Read,
-    O: Write,
+    I: CountedRead,
+    O: CountedWrite,
     E: Write + Send,
-    ensures ends { EndsOver result (map string_bytes words.now) I.remaining input.old input.new O.contents output.old output.new }
+    ensures ends { EndsOver result (map string_bytes words.now) I.remaining I.failures input.old input.new O.contents O.failures output.old output.new }
     ensures tells { (AsksToServe (map string_bytes words.now) → ⊥) → Tells result (E.contents errors.old) (E.contents errors.new) }
 {
     if let Some(path) = settings_path(words) {
@@ -75,8 +77,14 @@ fn settings_path(words: &[String]) -> Option<&str>
 }
 
 /// Runs a hub with the default settings for one connection.
-fn serve_stdin<I: Read, O: Write>(alloc: Global, input: &mut I, output: &mut O) -> Ending
-    ensures { (words : _) → AsksForStdin words → EndsBy result words (I.remaining input.old) (I.remaining input.new) (O.contents output.old) (O.contents output.new) }
+fn serve_stdin<I: CountedRead, O: CountedWrite>(
+    alloc: Global,
+    input: &mut I,
+    output: &mut O,
+) -> Ending
+    ensures { (words : _) → AsksForStdin words → EndsBy result words
+        (told (I.remaining input.old) (O.contents output.old) (I.failures input.old) (O.failures output.old))
+        (told (I.remaining input.new) (O.contents output.new) (I.failures input.new) (O.failures output.new)) }
 {
     let Ok(setup) = stdin_setup(alloc) else {
         return Ending::Memory;

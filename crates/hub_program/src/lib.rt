@@ -5,3 +5,4 @@ mod command_line;
 mod start;
 
 pub use command_line::program;
+pub use flushed_writes::{CountedRead, CountedWrite, Counting};

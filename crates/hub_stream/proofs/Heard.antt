@@ -1,6 +1,6 @@
 -- The lines of a run after some reads.
 use Rattle.std.proofs.Common.{◌≡◌, ◌∙◌, sym, ap, refl, subst, ℕ, ◌+◌, ◌<◌, ◌≤◌, Bool, true, false, zero-le, List, [], ◌∷◌, ◌++◌, length, take, map, arith, append-nil, append_assoc, take_all, length-append, length-take, inl, inr}
-use Rattle.std.specs.Prelude.{Option}
+use Rattle.std.specs.Prelude.{Option, ⊤}
 use Rattle.std.specs.List.{concat}
 use Rattle.std.specs.Io.KnownBytes.{Appends, Consumes, IsAtEnd, Keeps}
 use Rattle.std.proofs.KnownBytes.{Appends-nil, Consumes-nil, Consumes-trans, Consumes-kept}
@@ -10,6 +10,8 @@ use Rattle.std.proofs.lemmas.List.Elements.{All-nil, All-append}
 use Rattle.adc_line.specs.Frames.{is_lf}
 use Rattle.adc_line.specs.Stream.{lines, joined_lines, IsLine}
 use Rattle.adc_line.proofs.FrameLemmas.{lines-more}
+use Rattle.flushed_writes.specs.Calls.{NoneFailed}
+use Rattle.flushed_writes.specs.declared.failures.Failures.{Failures}
 use Rattle.hub_core.specs.CoreState.{CoreState}
 use Rattle.hub_rules.specs.declared.history.Entry.{Entry}
 use Rattle.hub_rules.specs.Configured.{Configured}
@@ -18,9 +20,9 @@ use Rattle.hub_rules.specs.Legal.{Legal}
 use Rattle.hub_rules.specs.Shares.{About}
 use Rattle.hub_stream.specs.declared.fault.RunFault.{RunFault}
 use Rattle.hub_stream.specs.declared.fault.RunFault.TheVariants as faults
-use Rattle.hub_stream.specs.Faults.{StopsBy, most_reads}
+use Rattle.hub_stream.specs.Faults.{StopsBy, most_reads, told}
 use Rattle.hub_stream.specs.Runs.{first, join, says, owed_in, IsCaughtUp, IsOwn, IsOver, IsAnswered, IsAnsweredInPart, IsServed}
-use Rattle.hub_stream.specs.Serving.{about_first, IsUnderWay, IsReady, IsCutInto, Starts, BreaksOff, HandlesAll, StopsHearing}
+use Rattle.hub_stream.specs.Serving.{about_first, IsUnderWay, IsReady, IsCutInto, Starts, BreaksOff, HandlesAll, StopsHearing, WritesStop}
 use Rattle.hub_stream.proofs.Hearing.{lines_of_cut}
 
 -- so many reads at most gave what was read; its lines were handled, and all that the connection is owed was written
@@ -89,10 +91,10 @@ module _ (setup : Configured) (hash : List ℕ → List ℕ) (unread left held h
       let consumed = subst (λ (xs : List ℕ). Consumes unread now xs) (append-nil heard.read) (Consumes-trans unread left now heard.read [] heard.consumed nothing) in
       (heard.read, heard.history, heard_answered now consumed, inl (gave.1 none room, (rest, rest_heard, short)))
 
-  pub heard_to_failure : (now : Option (List ℕ)) → Keeps left now → StopsBy faults.Read setup hash unread now held holds
-  heard_to_failure now kept = (heard.read, heard.history, heard_answered now (Consumes-kept unread left now heard.read heard.consumed kept))
+  pub heard_to_failure : (now : Option (List ℕ)) → Keeps left now → (read : List ℕ) × (h : List Entry) × IsAnswered setup hash unread now held holds read h × ⊤
+  heard_to_failure now kept = (heard.read, heard.history, heard_answered now (Consumes-kept unread left now heard.read heard.consumed kept), tt)
 
-  pub heard_too_often : turns ≡ most_reads → StopsBy faults.Turns setup hash unread left held holds
+  pub heard_too_often : turns ≡ most_reads → (read : List ℕ) × (h : List Entry) × IsAnswered setup hash unread left held holds read h × (most_reads ≤ length read)
   heard_too_often e = (heard.read, heard.history, heard_answered left heard.consumed, omega (arith, heard.often))
 
 module _ (setup : Configured) (hash : List ℕ → List ℕ) (unread left held holds : Option (List ℕ)) (core : CoreState) (rest : List ℕ) (turns : ℕ) (heard : IsHeard setup hash unread left held holds core rest turns) where
@@ -154,19 +156,25 @@ module _ (setup : Configured) (hash : List ℕ → List ℕ) (unread left held h
           },
         )
 
-    pub heard_stopped : (fault : RunFault) (new : CoreState) (further : Option (List ℕ)) (left_over : List ℕ) → 0 < length piece
-        → StopsHearing fault setup hash (rest ++ piece) left_over core new holds further → StopsBy fault setup hash unread now held further
-    heard_stopped faults.Memory new further left_over some stops = heard_part further stops
-    heard_stopped faults.Read new further left_over some stops = absurd stops
-    heard_stopped faults.Write new further left_over some stops = heard_part further stops
-    heard_stopped faults.TooLong new further left_over some stops =
-        let more = heard_more false new further left_over stops.0 some in (
-          more.read,
-          more.history,
-          heard_answered setup hash unread now held further new left_over (turns + 1) more now more.consumed,
-          (left_over, rest_heard setup hash unread now held further new left_over (turns + 1) more, stops.1, stops.2),
-        )
-    heard_stopped faults.Turns new further left_over some stops = absurd stops
+    -- and where the writer's calls are as well as the fault says
+    module _ (reads_before reads_now writes_before writes_now : Failures) (reads : NoneFailed reads_before reads_now) where
+      pub heard_stopped : (fault : RunFault) (new : CoreState) (further : Option (List ℕ)) (left_over : List ℕ) → 0 < length piece
+          → StopsHearing fault setup hash (rest ++ piece) left_over core new holds further → WritesStop fault writes_before writes_now
+          → StopsBy fault setup hash (told unread held reads_before writes_before) (told now further reads_now writes_now)
+      heard_stopped faults.Memory new further left_over some stops writes = (heard_part further stops, (reads, writes))
+      heard_stopped faults.Read new further left_over some stops writes = absurd stops
+      heard_stopped faults.Write new further left_over some stops writes = (heard_part further stops, (reads, writes))
+      heard_stopped faults.TooLong new further left_over some stops writes =
+          let more = heard_more false new further left_over stops.0 some in (
+            (
+              more.read,
+              more.history,
+              heard_answered setup hash unread now held further new left_over (turns + 1) more now more.consumed,
+              (left_over, rest_heard setup hash unread now held further new left_over (turns + 1) more, stops.1, stops.2),
+            ),
+            (reads, writes),
+          )
+      heard_stopped faults.Turns new further left_over some stops writes = absurd stops
 
 -- before the first call
 before_all : (setup : Configured) (hash : List ℕ → List ℕ) → IsOwn setup hash []
@@ -178,17 +186,21 @@ unfolding facts
 nothing_owed setup hash = refl
 
 -- no hub was opened
-pub never_began : (setup : Configured) (hash : List ℕ → List ℕ) (unread held : Option (List ℕ)) → StopsBy faults.Memory setup hash unread unread held held
-never_began setup hash unread held = (
-  [],
-  [],
-  record {
-    consumed = Consumes-nil unread;
-    history = before_all setup hash;
-    calls = (join ∷ map says (lines []), refl);
-    in_turn = tt;
-    written = ([], [], nothing_owed setup hash, Appends-nil held);
-  },
+pub never_began : (setup : Configured) (hash : List ℕ → List ℕ) (unread held : Option (List ℕ)) (reads writes : Failures)
+    → StopsBy faults.Memory setup hash (told unread held reads writes) (told unread held reads writes)
+never_began setup hash unread held reads writes = (
+  (
+    [],
+    [],
+    record {
+      consumed = Consumes-nil unread;
+      history = before_all setup hash;
+      calls = (join ∷ map says (lines []), refl);
+      in_turn = tt;
+      written = ([], [], nothing_owed setup hash, Appends-nil held);
+    },
+  ),
+  (refl, refl),
 )
 
 -- a read of so many bytes gave some

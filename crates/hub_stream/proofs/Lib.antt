@@ -1,3 +1,4 @@
+pub mod Failing
 pub mod Refusals
 pub mod Steps
 pub mod Joins

@@ -1,9 +1,11 @@
 -- Invariants of the steps of a run.
-use Rattle.std.specs.Prelude.{◌≡◌, ℕ, ◌+◌, ◌<◌, Bool, true, false, List, [], ◌∷◌, ◌++◌, length, take, map, Option}
+use Rattle.std.specs.Prelude.{◌≡◌, ℕ, ◌+◌, ◌<◌, Bool, true, false, List, [], ◌∷◌, ◌++◌, length, take, map, MatchResult, Option, Result}
 use Rattle.std.specs.List.{All, concat}
 use Rattle.std.specs.Io.KnownBytes.{Appends}
 use Rattle.adc_line.specs.Frames.{max_line, HasNoLf}
 use Rattle.adc_line.specs.Stream.{lines, joined_lines, IsLine}
+use Rattle.flushed_writes.specs.Calls.{LastFailed, NoneFailed}
+use Rattle.flushed_writes.specs.declared.failures.Failures.{Failures}
 use Rattle.hub_core.specs.CoreState.{CoreState}
 use Rattle.hub_core.specs.Moves.{StandsAt}
 use Rattle.hub_rules.specs.declared.history.Entry.{Entry}
@@ -126,3 +128,14 @@ IsInAnswering faults.Read = ⊥
 IsInAnswering faults.Write = Unit {0}
 IsInAnswering faults.TooLong = ⊥
 IsInAnswering faults.Turns = ⊥
+
+-- the last call of the writer failed where that is the fault, and no other
+abbrev pub WritesStop : RunFault → Failures → Failures → Type 0
+WritesStop faults.Memory before after = NoneFailed before after
+WritesStop faults.Read before after = NoneFailed before after
+WritesStop faults.Write before after = LastFailed before after
+WritesStop faults.TooLong before after = NoneFailed before after
+WritesStop faults.Turns before after = NoneFailed before after
+
+abbrev pub WritesEnd : {A : Type 0} → Result A RunFault → Failures → Failures → Type 0
+WritesEnd answer before after = MatchResult answer (λ _. NoneFailed before after) (λ fault. WritesStop fault before after)

@@ -6,4 +6,5 @@ mod run;
 mod session;
 
 pub use fault::RunFault;
+pub use flushed_writes::{CountedRead, CountedWrite, Counting, Failures};
 pub use run::run_one;

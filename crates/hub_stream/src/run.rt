@@ -1,13 +1,14 @@
 ghost use Rattle.std.specs.Prelude.{IfErr, OnOk};
 ghost use Rattle.std.specs.Arc.{arc_value};
+ghost use Rattle.flushed_writes.specs.Calls.{NoneFailed};
 ghost use Rattle.hub_stream.specs.Streams.{RunServes, RunStops};
 
 use crate::fault::RunFault;
 use crate::session::StreamSession;
+use flushed_writes::{CountedRead, CountedWrite};
 use hub_core::Setup;
 use session_hash::SessionHash;
 use std::alloc::Global;
-use std::io::{Read, Write};
 use std::sync::Arc;
 
 /// The number of bytes that are read at once.
@@ -23,9 +24,9 @@ const MOST_READS: u32 = 1_048_576;
 /// or once nothing more will come from the hub, as the connection was shut out or was owed more at once than may wait. All
 /// that it is owed is written then, and what the reader has left is not read.
 ///
-/// Refused: `Memory`; `Read`; `Write`; `TooLong` where a line has over 65,536 bytes, once those before it were answered
+/// Refused: `Memory`; `Read` at a read that failed; `Write` at a write or a flush that failed; `TooLong` where a line has over 65,536 bytes, once those before it were answered
 /// (ADC 1.0, "Message syntax"); `Turns` after 1,048,576 reads.
-pub fn run_one<H: SessionHash, R: Read, W: Write>(
+pub fn run_one<H: SessionHash, R: CountedRead, W: CountedWrite>(
     alloc: Global,
     setup: Arc<Setup>,
     hash: &H,
@@ -33,12 +34,15 @@ pub fn run_one<H: SessionHash, R: Read, W: Write>(
     writer: &mut W,
 ) -> Result<(), RunFault>
     ensures ok { OnOk result (RunServes (arc_value setup) (H.digest_of hash.now) R.remaining reader.old reader.new W.contents writer.old writer.new) }
-    ensures fault { IfErr result (λ fault. RunStops fault (arc_value setup) (H.digest_of hash.now) R.remaining reader.old reader.new W.contents writer.old writer.new) }
+    ensures reads { OnOk result (NoneFailed (R.failures reader.old) (R.failures reader.new)) }
+    ensures writes { OnOk result (NoneFailed (W.failures writer.old) (W.failures writer.new)) }
+    ensures fault { IfErr result (λ fault.
+        RunStops fault (arc_value setup) (H.digest_of hash.now) R.remaining R.failures reader.old reader.new W.contents W.failures writer.old writer.new) }
 {
     let mut session = StreamSession::open(alloc, &setup)?;
     let mut buffer = [0; READ_LENGTH];
     for _turn in 0..MOST_READS {
-        match reader.read(&mut buffer) {
+        match reader.read_counted(&mut buffer) {
             Ok(0) => return Ok(()),
             Ok(count) => {
                 if session.hear(alloc, &setup, hash, &buffer[..count], writer)? {

@@ -3,15 +3,14 @@ ghost use Rattle.std.specs.Arc.{arc_value};
 ghost use Rattle.hub_core.specs.Moves.{StandsAt};
 ghost use Rattle.hub_rules.specs.Configured.{Configured};
 ghost use Rattle.hub_stream.specs.Runs.{first};
-ghost use Rattle.hub_stream.specs.Serving.{IsReady, IsRunning, Starts, FallsShort, IsInAnswering};
+ghost use Rattle.hub_stream.specs.Serving.{IsReady, IsRunning, Starts, FallsShort, IsInAnswering, WritesEnd};
 
 use crate::fault::RunFault;
 use adc_line::{Framer, Next};
-use flushed_writes::write_and_flush;
+use flushed_writes::{CountedWrite, write_and_flush_counted};
 use hub_core::{Conn, Core, JoinRefused, Setup, prepare};
 use session_hash::SessionHash;
 use std::alloc::Global;
-use std::io::Write;
 use std::sync::Arc;
 
 /// The address from which the connection comes.
@@ -64,7 +63,7 @@ impl StreamSession {
     ///
     /// Refused: `Memory`, `Write`; `TooLong` once all lines before the one that is too long were
     /// handled, unless nothing more will come from the hub.
-    pub(crate) fn hear<H: SessionHash, W: Write>(
+    pub(crate) fn hear<H: SessionHash, W: CountedWrite>(
         &mut self,
         alloc: Global,
         setup: &Arc<Setup>,
@@ -75,6 +74,7 @@ impl StreamSession {
         requires ready { IsReady (arc_value setup.now) (H.digest_of hash.now) self.old.core (W.contents writer.old) }
         ensures ok { IfOk result (λ ended. HearsPiece (arc_value setup.now) (H.digest_of hash.now) self.old piece.now ended self.new W.contents writer.old writer.new) }
         ensures fault { IfErr result (λ fault. StopsInPiece fault (arc_value setup.now) (H.digest_of hash.now) self.old piece.now self.new W.contents writer.old writer.new) }
+        ensures writes { WritesEnd result (W.failures writer.old) (W.failures writer.new) }
     {
         self.framer.feed(piece)?;
         let mut ended = false;
@@ -90,7 +90,7 @@ impl StreamSession {
 
     /// Handles the line that was framed last, and writes all that the connection is owed. It tells whether
     /// nothing more will come from the hub.
-    fn answer<H: SessionHash, W: Write>(
+    fn answer<H: SessionHash, W: CountedWrite>(
         &mut self,
         alloc: Global,
         setup: &Arc<Setup>,
@@ -102,6 +102,7 @@ impl StreamSession {
         ensures framer { self.new.framer ≡ self.old.framer }
         ensures err { OnErr result (BreaksInLine (arc_value setup.now) (H.digest_of hash.now) self.old W.contents writer.old writer.new) }
         ensures fault { IfErr result IsInAnswering }
+        ensures writes { WritesEnd result (W.failures writer.old) (W.failures writer.new) }
     {
         let line = prepare(alloc, setup, hash, CHALLENGE, &self.line)?;
         let _verdict = self.core.line(alloc, self.connection, &line, NOW)?;
@@ -110,19 +111,20 @@ impl StreamSession {
     }
 
     /// Takes all that waits for the connection, and writes it. It tells whether nothing more will come.
-    fn write_waiting<W: Write>(&mut self, writer: &mut W) -> Result<bool, RunFault>
+    fn write_waiting<W: CountedWrite>(&mut self, writer: &mut W) -> Result<bool, RunFault>
         requires running { (setup : Configured) × (hash : List ℕ → List ℕ) × IsRunning setup hash self.old.core (W.contents writer.old) }
         ensures ok { IfOk result (λ ended. WritesAll ended self.old self.new W.contents writer.old writer.new) }
         ensures framer { self.new.framer ≡ self.old.framer }
         ensures err { OnErr result ((setup : Configured) (hash : List ℕ → List ℕ) → FallsShort setup hash self.old.core (W.contents writer.old) (W.contents writer.new)) }
         ensures fault { IfErr result IsInAnswering }
+        ensures writes { WritesEnd result (W.failures writer.old) (W.failures writer.new) }
     {
         loop {
             self.output.clear();
             let taken = self
                 .core
                 .take(self.connection, MOST_TAKEN, &mut self.output)?;
-            let Ok(()) = write_and_flush(writer, &self.output) else {
+            let Ok(()) = write_and_flush_counted(writer, &self.output) else {
                 return Err(RunFault::Write);
             };
             if taken.lines < MOST_TAKEN as u64 {

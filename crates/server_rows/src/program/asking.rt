@@ -1,5 +1,5 @@
 // The program over memory: what it is asked for, and what it leaves.
-use hub_program::program;
+use hub_program::{Counting, program};
 use second_try::again;
 use std::alloc::{AllocError, AllocGlobal, Global};
 use std::env::Env;
@@ -80,7 +80,7 @@ impl Write for Output {
 #[derive(Drop)]
 struct Left {
     status: u8,
-    output: Output,
+    output: Counting<Output>,
     errors: Output,
 }
 
@@ -100,11 +100,11 @@ fn attempt<T: Wait + Threads + Clock + Net + RandomSource + AllocGlobal + Files 
     broken: Broken,
 ) -> Result<Left, AllocError> {
     let words = strings(rt.alloc(), words)?;
-    let mut input = Input {
+    let mut input = Counting::new(Input {
         rest: b"HSUP ADBASE ADTIGR\n",
         is_broken: broken == Broken::Input,
-    };
-    let mut output = Output::new(rt.alloc(), broken == Broken::Output)?;
+    });
+    let mut output = Counting::new(Output::new(rt.alloc(), broken == Broken::Output)?);
     let mut errors = Output::new(rt.alloc(), broken == Broken::Errors)?;
     let status = program(rt, &words, &mut input, &mut output, &mut errors);
     Ok(Left {
@@ -137,7 +137,7 @@ pub(crate) fn asks<
     let left = run(rt, words, broken);
     let asked = Asked { words, broken };
     asked.holds(rt, left.status == status, "status");
-    asked.holds(rt, left.output.got.as_slice() == output, "standard output");
+    asked.holds(rt, left.output.get_ref().got.as_slice() == output, "standard output");
     asked.holds(rt, left.errors.got.as_slice() == errors, "standard error");
     asked.holds(rt, status != 0 || left.errors.calls == 0, "calls");
 }

@@ -1,6 +1,7 @@
 use Rattle.std.proofs.Common.{◌≡◌, length}
 use Rattle.std.specs.Arc.{arc_value}
 use Rattle.adc_line.specs.Stream.{IsLine}
+use Rattle.flushed_writes.specs.Calls.{NoneFailed}
 use Rattle.hub_stream.proofs.Heard.{IsHeard}
 use Rattle.hub_stream.proofs.run.run_one.Given as goal
 
@@ -10,4 +11,6 @@ invariant-loop-turn g l = record {
       l.session.core l.session.framer l._turn;
   short : IsLine l.session.framer;
   room : length l.buffer ≡ 4096;
+  reads : NoneFailed (g.R.CountedRead.failures l.fn.reader) (g.R.CountedRead.failures l.reader);
+  writes : NoneFailed (g.W.CountedWrite.failures l.fn.writer) (g.W.CountedWrite.failures l.writer);
 }

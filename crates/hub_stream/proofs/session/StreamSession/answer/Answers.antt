@@ -1,7 +1,9 @@
-use Rattle.std.proofs.Common.{◌∙◌, ap₂}
+use Rattle.std.proofs.Common.{◌∙◌, ap₂, refl}
 use Rattle.std.specs.Arc.{arc_value}
 use Rattle.hub_rules.specs.Prepared.{prepared_line}
 use Rattle.hub_stream.specs.Runs.{zeros}
+use Rattle.hub_stream.specs.declared.fault.RunFault.TheVariants.{Memory}
+use Rattle.hub_stream.proofs.Failing.{end_by}
 use Rattle.hub_stream.proofs.Refusals.{at_refusal}
 use Rattle.hub_stream.proofs.Lines.{breaks_at_once, ready_seated, said_running, said_whole, said_short}
 use Rattle.hub_stream.proofs.session.StreamSession.answer.Goals as goal
@@ -40,3 +42,17 @@ returns-clause-ok g c =
     (c.in_ok-line.ensures ∙ ap₂ (λ s bytes. prepared_line s (g.H.SessionHash.digest_of c.args.hash.now) zeros bytes) c.deref.ensures c.deref-2.ensures.value)
     c.in_ok-_verdict.ensures.moves c.write_waiting.new.self.core _ c.in_ok-ended.ended
     (c.in_ok-ended.ensures.ok (arc_value c.args.setup.now) (g.H.SessionHash.digest_of c.args.hash.now))
+
+pub returns-in_err-line-clause-writes : goal.returns-in_err-line-clause-writes
+returns-in_err-line-clause-writes g c =
+    end_by c.from_residual.result Memory (g.W.CountedWrite.failures c.args.writer.now) (g.W.CountedWrite.failures c.args.writer.now) c.from_residual.ensures.1 refl
+
+pub returns-in_err-_verdict-clause-writes : goal.returns-in_err-_verdict-clause-writes
+returns-in_err-_verdict-clause-writes g c =
+    end_by c.from_residual-in_err-_verdict.result Memory (g.W.CountedWrite.failures c.args.writer.now) (g.W.CountedWrite.failures c.args.writer.now)
+    c.from_residual-in_err-_verdict.ensures.1 refl
+
+pub returns-in_err-ended-clause-writes : goal.returns-in_err-ended-clause-writes
+returns-in_err-ended-clause-writes g c =
+    end_by c.from_residual-in_err-ended.result c.in_err-ended.field-0.0 (g.W.CountedWrite.failures c.args.writer.now) (g.W.CountedWrite.failures c.write_waiting.new.writer)
+    c.from_residual-in_err-ended.ensures.1 c.in_err-ended.ensures.writes

@@ -1,4 +1,5 @@
 use Rattle.std.proofs.Common.{◌≡◌}
+use Rattle.flushed_writes.specs.Calls.{NoneFailed}
 use Rattle.hub_stream.proofs.Takes.{TakesOn, first_waits}
 use Rattle.hub_stream.proofs.session.StreamSession.write_waiting.Given as goal
 
@@ -6,6 +7,7 @@ abbrev pub invariant-loop-taken : goal.invariant-loop-taken
 invariant-loop-taken g l = record {
   takes : TakesOn l.fn.self.core l.self.core (g.W.Write.contents l.fn.writer) (g.W.Write.contents l.writer);
   framer : l.self.framer ≡ l.fn.self.framer;
+  writes : NoneFailed (g.W.CountedWrite.failures l.fn.writer) (g.W.CountedWrite.failures l.writer);
 }
 
 abbrev pub decreases-loop-taken : goal.decreases-loop-taken
