@@ -6,7 +6,7 @@ use futures::task::{Context, Poll, Source, Waker};
 use std::alloc::{AllocError, Global};
 use std::sync::{Mutex, Wait};
 use std::time::{Clock, Duration, Instant};
-use tokio::net::TcpStream;
+use tokio::io::{AsyncRead, AsyncWrite};
 
 /// The number of sockets that linger at a time at most.
 const MOST: usize = 16;
@@ -17,20 +17,20 @@ const SECONDS: u64 = 2;
 /// The sockets whose sessions are over, or for which the hub had no room, while their last lines are on the way: 16 at most,
 /// each for 2 seconds.
 #[derive(Drop)]
-pub struct Lingering {
+pub struct Lingering<S> {
     source: Source,
-    held: Mutex<Held>,
+    held: Mutex<Held<S>>,
 }
 
 #[derive(Drop)]
-struct Held {
-    places: Vec<Option<LingeringSocket>>,
+struct Held<S> {
+    places: Vec<Option<LingeringSocket<S>>>,
     ticker: Option<Waker>,
 }
 
-impl Lingering {
+impl<S: AsyncRead + AsyncWrite> Lingering<S> {
     /// Makes room for all sockets that ever linger at a time. Refused only where memory runs out.
-    pub fn new(alloc: Global) -> Result<Lingering, AllocError> {
+    pub fn new(alloc: Global) -> Result<Lingering<S>, AllocError> {
         let mut places = Vec::with_capacity(alloc, MOST)?;
         for _place in 0..MOST {
             places.push(None)?;
@@ -46,7 +46,7 @@ impl Lingering {
 
     /// Lets a socket go by and by, at once where the clock cannot be read. Where too many linger, the oldest of them is
     /// closed.
-    pub fn let_out<R: Wait + Clock>(&self, rt: &R, stream: TcpStream) {
+    pub fn let_out<R: Wait + Clock>(&self, rt: &R, stream: S) {
         let Ok(now) = Instant::now(rt) else {
             return;
         };
@@ -71,16 +71,18 @@ impl Lingering {
         };
         self.held.lock(rt).linger(cx, &self.source, now)
     }
+}
 
+impl<S> Lingering<S> {
     /// Wakes the task that reads them.
     pub fn wake_ticker<R: Wait>(&self, rt: &R) {
         self.held.lock(rt).ticker = None;
     }
 }
 
-impl Held {
+impl<S: AsyncRead + AsyncWrite> Held<S> {
     /// Holds this one, and gives back what was held in its place.
-    fn replace(&mut self, socket: LingeringSocket) -> Option<LingeringSocket> {
+    fn replace(&mut self, socket: LingeringSocket<S>) -> Option<LingeringSocket<S>> {
         self.ticker = None;
         let place = self.place();
         match self.places.get_mut(place) {

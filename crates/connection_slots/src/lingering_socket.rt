@@ -3,7 +3,6 @@ ghost use Rattle.futures.specs.Task.{Keeps};
 use futures::task::{Context, Poll};
 use std::time::Instant;
 use tokio::io::{AsyncRead, AsyncWrite};
-use tokio::net::TcpStream;
 
 /// The number of bytes of a client that are read and dropped at most.
 const MOST_BYTES: usize = 1_048_576;
@@ -17,16 +16,16 @@ const ROOM: usize = 4_096;
 /// A socket whose session is over. Its client may still send, and is read until it ends: a socket that is closed with
 /// bytes unread resets the connection, and what the client was told last is lost.
 #[derive(Drop)]
-pub(crate) struct LingeringSocket {
-    stream: TcpStream,
+pub(crate) struct LingeringSocket<S> {
+    stream: S,
     until: Instant,
     left: usize,
     is_shut: bool,
 }
 
-impl LingeringSocket {
+impl<S: AsyncRead + AsyncWrite> LingeringSocket<S> {
     /// Holds a socket until this moment at most.
-    pub(crate) fn new(stream: TcpStream, until: Instant) -> LingeringSocket {
+    pub(crate) fn new(stream: S, until: Instant) -> LingeringSocket<S> {
         LingeringSocket {
             stream,
             until,

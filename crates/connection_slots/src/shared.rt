@@ -8,22 +8,24 @@ use crate::wakers::Wakers;
 use futures::task::{Context, Poll};
 use std::alloc::{AllocError, Global};
 use std::sync::Wait;
+use tokio::io::{AsyncRead, AsyncWrite};
 
-/// All that the tasks of a server share beside its hub: whatever they need of memory to find one another.
+/// All that the tasks of a server share beside its hub: whatever they need of memory to find one another. `T` is what is handed
+/// from task to task for a connection that was accepted, and `S` its stream.
 #[derive(Drop)]
-pub struct Shared<T> {
+pub struct Shared<T, S> {
     /// The wakers of the slots.
     pub wakers: Wakers,
     /// The places in which accepted connections wait for the tasks of their slots.
     pub handoff: Handoff<T>,
     /// The sockets whose last lines are on the way.
-    pub lingering: Lingering,
+    pub lingering: Lingering<S>,
     lifecycle: Lifecycle,
 }
 
-impl<T: Drop> Shared<T> {
+impl<T: Drop, S: AsyncRead + AsyncWrite> Shared<T, S> {
     /// Makes all that is shared for `count` slots. Refused only where memory runs out.
-    pub fn new(alloc: Global, count: usize) -> Result<Shared<T>, AllocError> {
+    pub fn new(alloc: Global, count: usize) -> Result<Shared<T, S>, AllocError> {
         Ok(Shared {
             wakers: Wakers::new(alloc, count)?,
             handoff: Handoff::new(alloc, count)?,
@@ -33,7 +35,7 @@ impl<T: Drop> Shared<T> {
     }
 }
 
-impl<T> Shared<T> {
+impl<T, S> Shared<T, S> {
     /// Opens the server: all of its tasks came to be.
     pub fn open(&self) {
         self.lifecycle.open();

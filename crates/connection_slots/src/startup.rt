@@ -5,22 +5,22 @@ use std::net::SocketAddr;
 use std::sync::Wait;
 
 /// A server that is about to open. Where it is dropped before, the server is closed: not all of its tasks came to be.
-pub struct Startup<'a, T, R: Wait, W> {
-    shared: &'a Shared<T>,
+pub struct Startup<'a, T, S, R: Wait, W> {
+    shared: &'a Shared<T, S>,
     rt: &'a R,
     output: &'a mut W,
     address: SocketAddr,
     is_over: bool,
 }
 
-impl<'a, T, R: Wait, W: Write> Startup<'a, T, R, W> {
+impl<'a, T, S, R: Wait, W: Write> Startup<'a, T, S, R, W> {
     /// Prepares to say on `output` that the server listens there.
     pub fn new(
-        shared: &'a Shared<T>,
+        shared: &'a Shared<T, S>,
         rt: &'a R,
         output: &'a mut W,
         address: SocketAddr,
-    ) -> Startup<'a, T, R, W> {
+    ) -> Startup<'a, T, S, R, W> {
         Startup {
             shared,
             rt,
@@ -45,7 +45,7 @@ impl<'a, T, R: Wait, W: Write> Startup<'a, T, R, W> {
     }
 }
 
-impl<T, R: Wait, W> Drop for Startup<'_, T, R, W> {
+impl<T, S, R: Wait, W> Drop for Startup<'_, T, S, R, W> {
     fn drop(self) {
         let Startup {
             shared,

@@ -5,6 +5,7 @@ use crate::shared::Shared;
 use futures::task::{Context, Poll};
 use std::sync::Wait;
 use std::time::{Clock, Duration, Instant};
+use tokio::io::{AsyncRead, AsyncWrite};
 use tokio::time::Sleep;
 
 /// The number of milliseconds that a tick takes.
@@ -13,15 +14,15 @@ const TICK: u64 = 5;
 /// The task that keeps time while somebody gives way or lingers: every 5 ms it wakes those who give way, and closes the
 /// sockets that have lingered for long. Otherwise it rests.
 #[derive(Drop)]
-pub struct Ticker<'a, T, R> {
-    shared: &'a Shared<T>,
+pub struct Ticker<'a, T, S, R> {
+    shared: &'a Shared<T, S>,
     rt: &'a R,
     timer: Sleep,
 }
 
-impl<'a, T, R: Wait + Clock> Ticker<'a, T, R> {
+impl<'a, T, S: AsyncRead + AsyncWrite, R: Wait + Clock> Ticker<'a, T, S, R> {
     /// Makes the task, which uses this timer, whatever it is set to.
-    pub fn new(shared: &'a Shared<T>, rt: &'a R, timer: Sleep) -> Ticker<'a, T, R> {
+    pub fn new(shared: &'a Shared<T, S>, rt: &'a R, timer: Sleep) -> Ticker<'a, T, S, R> {
         Ticker { shared, rt, timer }
     }
 

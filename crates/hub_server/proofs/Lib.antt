@@ -1,5 +1,4 @@
 pub mod Matching
 pub mod Serving
-pub mod Sockets
 pub mod Visiting
 pub mod Closing

@@ -6,32 +6,32 @@ use adc_sessions::Stream;
 use hub_shared::Pass;
 use std::marker::PhantomData;
 use std::net::SocketAddrV4;
-use tokio::net::TcpStream;
+use tokio::io::{AsyncRead, AsyncWrite};
 
 /// A connection that was accepted, and has joined the named hub for a visitor whose calls before are visits.
 #[derive(Drop)]
-pub(crate) struct Accepted<B: OfHub<H>, H> {
-    pub(crate) stream: TcpStream,
+pub(crate) struct Accepted<B: OfHub<H>, S: Stream, H> {
+    pub(crate) stream: S,
     pub(crate) pass: Pass<H>,
     pub(crate) challenge: [u8; 24],
     pub(crate) peer: SocketAddrV4,
     of: PhantomData<B>,
     pub(crate) ghost here: { B.home ≡ Some pass.home },
     pub(crate) ghost challenged: { pass.challenge ≡ challenge },
-    pub(crate) ghost entered: { HasEntered ⟦<TcpStream as Stream>⟧.told pass },
+    pub(crate) ghost entered: { HasEntered ⟦<S as Stream>⟧.told pass },
 }
 
-impl<B: OfHub<H>, H> Accepted<B, H> {
+impl<B: OfHub<H>, S: AsyncRead + AsyncWrite, H> Accepted<B, S, H> {
     /// Keeps a socket with the pass for which it joined, and the address from which it comes.
     pub(crate) fn new(
-        stream: TcpStream,
+        stream: S,
         pass: Pass<H>,
         challenge: [u8; 24],
         peer: SocketAddrV4,
-    ) -> Accepted<B, H>
+    ) -> Accepted<B, S, H>
         requires here { B.home ≡ Some pass.home }
         requires challenged { pass.challenge ≡ challenge }
-        requires entered { HasEntered ⟦<TcpStream as Stream>⟧.told pass }
+        requires entered { HasEntered ⟦<S as Stream>⟧.told pass }
     {
         Accepted {
             stream,

@@ -5,6 +5,7 @@ use crate::accepted::Accepted;
 use crate::connection::moment;
 use crate::free_slot::{FreeSlot, OfHub};
 use crate::server::Server;
+use crate::socket::Socket;
 use adc_sessions::{Peer, Starter, Stream};
 use hub_challenges::Challenges;
 use hub_core::JoinRefused;
@@ -16,31 +17,31 @@ use std::alloc::AllocGlobal;
 use std::net::{Ipv4Addr, SocketAddr, SocketAddrV4};
 use std::sync::Wait;
 use std::time::Clock;
-use tokio::net::TcpStream;
 
 /// The line for a connection for which the hub has no room.
 const HUB_FULL: &[u8] = b"ISTA 211 Hub\\sfull\n";
 
 /// The acceptor, which joins the hub for each connection that is accepted, and hands it to the task of its slot.
 #[derive(Drop)]
-pub(crate) struct Acceptor<'a, B: OfHub<H>, H: SessionHash, R, L> {
-    server: &'a Server<'a, B, H, R>,
+pub(crate) struct Acceptor<'a, B: OfHub<H>, S: Stream, H: SessionHash, R, L> {
+    server: &'a Server<'a, B, S, H, R>,
     challenges: Challenges,
     warnings: &'a Warnings<L>,
 }
 
-impl<'a, B: OfHub<H>, H: SessionHash, R: Wait + Clock + AllocGlobal, L: Log> Acceptor<
+impl<'a, B: OfHub<H>, S: Socket, H: SessionHash, R: Wait + Clock + AllocGlobal, L: Log> Acceptor<
     'a,
     B,
+    S,
     H,
     R,
     L,
 > {
     pub(crate) fn new(
-        server: &'a Server<'a, B, H, R>,
+        server: &'a Server<'a, B, S, H, R>,
         challenges: Challenges,
         warnings: &'a Warnings<L>,
-    ) -> Acceptor<'a, B, H, R, L> {
+    ) -> Acceptor<'a, B, S, H, R, L> {
         Acceptor {
             server,
             challenges,
@@ -52,7 +53,7 @@ impl<'a, B: OfHub<H>, H: SessionHash, R: Wait + Clock + AllocGlobal, L: Log> Acc
     fn join(&self, peer: Peer, challenge: [u8; 24]) -> Result<(Pass<H>, usize), JoinRefused>
         ensures here { IfOk result (λ r. B.home ≡ Some r.0.home) }
         ensures challenged { IfOk result (λ r. r.0.challenge ≡ challenge) }
-        ensures entered { IfOk result (λ r. HasEntered ⟦<TcpStream as Stream>⟧.told r.0) }
+        ensures entered { IfOk result (λ r. HasEntered ⟦<S as Stream>⟧.told r.0) }
     {
         let server = self.server;
         let Some(free) = server.take_slot() else {
@@ -77,7 +78,7 @@ impl<'a, B: OfHub<H>, H: SessionHash, R: Wait + Clock + AllocGlobal, L: Log> Acc
     }
 
     /// Leaves the connection for the task of its slot. It is let go where that cannot be.
-    fn hand_over(&self, accepted: Accepted<B, H>, slot: usize) {
+    fn hand_over(&self, accepted: Accepted<B, S, H>, slot: usize) {
         let server = self.server;
         if let Some(accepted) = server.shared.handoff.put(server.rt, slot, accepted) {
             let Accepted { stream, pass, .. } = accepted;
@@ -89,15 +90,15 @@ impl<'a, B: OfHub<H>, H: SessionHash, R: Wait + Clock + AllocGlobal, L: Log> Acc
     }
 
     /// Says that the hub is full. It is one line on a fresh socket, which takes all of it or is not worth more.
-    fn refuse(&self, stream: TcpStream) {
+    fn refuse(&self, mut stream: S) {
         let _ = stream.try_write(HUB_FULL);
         self.server.shared.lingering.let_out(self.server.rt, stream);
         self.server.shared.wakers.make_room();
     }
 }
 
-impl<B: OfHub<H>, H: SessionHash, R: Wait + Clock + AllocGlobal, L: Log> Starter<TcpStream>
-    for Acceptor<'_, B, H, R, L> {
+impl<B: OfHub<H>, S: Socket, H: SessionHash, R: Wait + Clock + AllocGlobal, L: Log> Starter<S>
+    for Acceptor<'_, B, S, H, R, L> {
     ghost use Rattle.std.specs.Prelude.{◌≡◌};
     ghost use Rattle.hub_challenges.specs.Dealing.{after_dealt};
     ghost use Rattle.hub_challenges.proofs.Dealing.{after-more, after-none};
@@ -109,7 +110,7 @@ impl<B: OfHub<H>, H: SessionHash, R: Wait + Clock + AllocGlobal, L: Log> Starter
 
     ghost starts_in_order = { λ a n b m c. after-more n m a.challenges b.challenges c.challenges };
 
-    fn start(&mut self, stream: TcpStream, peer: Peer) {
+    fn start(&mut self, stream: S, peer: Peer) {
         let challenge = self.challenges.next();
         let address = address_of(&stream, peer);
         // Lines are written in one piece each, so that waiting for more would only delay them.
@@ -132,7 +133,7 @@ impl<B: OfHub<H>, H: SessionHash, R: Wait + Clock + AllocGlobal, L: Log> Starter
 
 /// Gives the address and the port from which a connection comes, for who reads warnings. The port is 0 where the connection is
 /// gone already.
-fn address_of(stream: &TcpStream, peer: Peer) -> SocketAddrV4 {
+fn address_of<S: Socket>(stream: &S, peer: Peer) -> SocketAddrV4 {
     match stream.peer_addr() {
         Ok(SocketAddr::V4(address)) => address,
         _ => {

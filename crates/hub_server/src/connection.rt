@@ -20,8 +20,8 @@ use tokio::io::{AsyncRead, AsyncWrite};
 
 /// One connection of the hub, for its session.
 #[derive(Drop)]
-pub struct Connection<'a, B: OfHub<H>, H: SessionHash, R> {
-    server: &'a Server<'a, B, H, R>,
+pub struct Connection<'a, B: OfHub<H>, S: Stream, H: SessionHash, R> {
+    server: &'a Server<'a, B, S, H, R>,
     pass: Pass<H>,
     challenge: [u8; 24],
     slot: usize,
@@ -32,14 +32,20 @@ pub struct Connection<'a, B: OfHub<H>, H: SessionHash, R> {
     ghost challenged: { pass.challenge ≡ challenge },
 }
 
-impl<'a, B: OfHub<H>, H: SessionHash, R: Wait + Clock> Connection<'a, B, H, R> {
+impl<'a, B: OfHub<H>, S: AsyncRead + AsyncWrite, H: SessionHash, R: Wait + Clock> Connection<
+    'a,
+    B,
+    S,
+    H,
+    R,
+> {
     /// Makes the connection of a pass that joined with this challenge, and gives it the slot.
     pub fn new(
-        server: &'a Server<'a, B, H, R>,
+        server: &'a Server<'a, B, S, H, R>,
         pass: Pass<H>,
         challenge: [u8; 24],
         slot: usize,
-    ) -> Connection<'a, B, H, R>
+    ) -> Connection<'a, B, S, H, R>
         requires here { pass.home ≡ server.now.hub.now.home }
         requires challenged { pass.challenge ≡ challenge }
         ensures server { result.server ≡ server.entry }
@@ -120,7 +126,8 @@ fn prepare_line<H: SessionHash>(
     prepare(alloc, setup, hash, challenge, line)
 }
 
-impl<B: OfHub<H>, H: SessionHash, R: Wait + Clock> Port for Connection<'_, B, H, R> {
+impl<B: OfHub<H>, S: AsyncRead + AsyncWrite, H: SessionHash, R: Wait + Clock> Port
+    for Connection<'_, B, S, H, R> {
     ghost use Rattle.std.specs.Prelude.{◌≡◌};
     ghost use Rattle.hub_server.specs.PortCalls.{Calls, Leaves};
 
@@ -175,7 +182,7 @@ impl<B: OfHub<H>, H: SessionHash, R: Wait + Clock> Port for Connection<'_, B, H,
 }
 
 /// The session of a connection of the hub, over this stream.
-pub type HubSession<'a, S, B, H, R> = Session<S, Connection<'a, B, H, R>, SlotBell<'a>>;
+pub type HubSession<'a, B, S, H, R> = Session<S, Connection<'a, B, S, H, R>, SlotBell<'a>>;
 
 /// Serves a stream for a pass that joined with this challenge, as the connection of this slot. The session is a future.
 ///
@@ -186,20 +193,20 @@ pub type HubSession<'a, S, B, H, R> = Session<S, Connection<'a, B, H, R>, SlotBe
 /// Refused for want of memory; then the connection has quit, and the stream and the slot are given back.
 pub fn serve_connection<
     'a,
-    S: AsyncRead + AsyncWrite,
     B: OfHub<H>,
+    S: AsyncRead + AsyncWrite,
     H: SessionHash,
     R: Wait + Clock + AllocGlobal,
 >(
-    server: &'a Server<'a, B, H, R>,
+    server: &'a Server<'a, B, S, H, R>,
     stream: S,
     pass: Pass<H>,
     challenge: [u8; 24],
     slot: usize,
-) -> Result<HubSession<'a, S, B, H, R>, (S, LeftSlot<H>)>
+) -> Result<HubSession<'a, B, S, H, R>, (S, LeftSlot<H>)>
     requires here { pass.home ≡ server.now.hub.now.home }
     requires challenged { pass.challenge ≡ challenge }
-    ensures serves { IfOk result (λ session. ServesByHub server.now.hub.now.setup (H.digest_of server.now.hub.now.hash) ⟦<S as Stream>⟧.told stream pass (⟦<Session<S, Connection<'a, B, H, R>, SlotBell<'a>> as Future>⟧.gives session) (λ left. left.visitor)) }
+    ensures serves { IfOk result (λ session. ServesByHub server.now.hub.now.setup (H.digest_of server.now.hub.now.hash) ⟦<S as Stream>⟧.told stream pass (⟦<Session<S, Connection<'a, B, S, H, R>, SlotBell<'a>> as Future>⟧.gives session) (λ left. left.visitor)) }
     ensures stream { IfErr result (λ back. back.0 ≡ stream) }
     ensures left { IfErr result (λ back. Leaves server.now.hub.now.setup (H.digest_of server.now.hub.now.hash) pass back.1.visitor) }
 {

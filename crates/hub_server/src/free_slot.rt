@@ -4,7 +4,7 @@ ghost use Rattle.hub_server.specs.Visits.{HasVisited};
 use adc_sessions::Stream;
 use hub_shared::Visitor;
 use std::marker::{Brand, PhantomData};
-use tokio::net::TcpStream;
+use tokio::io::{AsyncRead, AsyncWrite};
 
 /// A name of the hub that all is about which travels through tasks: a proof picks it.
 pub trait OfHub<H> {
@@ -21,21 +21,22 @@ impl<H> OfHub<H> for Brand {
     ghost home = { None };
 }
 
-/// A slot without a connection, and the visitor of the named hub who joins for the next one. All its calls so far are visits.
+/// A slot without a connection, and the visitor of the named hub who joins for the next one. All its calls so far are visits,
+/// whose connections were streams `S`.
 #[derive(Drop)]
-pub struct FreeSlot<B: OfHub<H>, H> {
+pub struct FreeSlot<B: OfHub<H>, S: Stream, H> {
     pub(crate) visitor: Visitor<H>,
     pub(crate) slot: usize,
-    of: PhantomData<B>,
+    of: PhantomData<(B, S)>,
     pub(crate) ghost here: { B.home ≡ Some visitor.home },
-    pub(crate) ghost visits: { HasVisited ⟦<TcpStream as Stream>⟧.told visitor },
+    pub(crate) ghost visits: { HasVisited ⟦<S as Stream>⟧.told visitor },
 }
 
-impl<B: OfHub<H>, H> FreeSlot<B, H> {
+impl<B: OfHub<H>, S: AsyncRead + AsyncWrite, H> FreeSlot<B, S, H> {
     /// Gives this slot to a visitor of the named hub whose calls are visits.
-    pub fn new(visitor: Visitor<H>, slot: usize) -> FreeSlot<B, H>
+    pub fn new(visitor: Visitor<H>, slot: usize) -> FreeSlot<B, S, H>
         requires here { B.home ≡ Some visitor.home }
-        requires visits { HasVisited ⟦<TcpStream as Stream>⟧.told visitor }
+        requires visits { HasVisited ⟦<S as Stream>⟧.told visitor }
         ensures { result.visitor ≡ visitor }
     {
         FreeSlot {

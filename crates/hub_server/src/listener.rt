@@ -2,6 +2,7 @@ ghost use Rattle.std.specs.Prelude.{◌≡◌, false};
 ghost use Rattle.futures.specs.Task.{IsArmed, Keeps};
 ghost use Rattle.futures.specs.Poll.{OnPending};
 
+use crate::socket::Socket;
 use adc_sessions::{Incoming, Peer};
 use connection_slots::{AcceptError, Wakers, accept_error_of};
 use futures::task::{Context, Poll};
@@ -22,8 +23,11 @@ const ATTEMPTS: u8 = 16;
 
 /// A listening socket, or what stands for it.
 pub trait Listens: Drop {
+    /// The sockets that it accepts.
+    type Socket: Socket;
+
     /// Accepts the next connection, and says where it comes from.
-    fn poll_accept(&mut self, cx: &mut Context<'_>) -> Poll<io::Result<(TcpStream, SocketAddr)>>
+    fn poll_accept(&mut self, cx: &mut Context<'_>) -> Poll<io::Result<(Self::Socket, SocketAddr)>>
         ensures registered { OnPending result (IsArmed cx.new) }
         ensures kept { Keeps cx.old cx.new };
 
@@ -32,6 +36,8 @@ pub trait Listens: Drop {
 }
 
 impl Listens for TcpListener {
+    type Socket = TcpStream;
+
     fn poll_accept(&mut self, cx: &mut Context<'_>) -> Poll<io::Result<(TcpStream, SocketAddr)>> {
         TcpListener::poll_accept(self, cx)
     }
@@ -118,14 +124,14 @@ impl<'a, R: Wait + Clock, L: Log, I: Listens> Listener<'a, R, L, I> {
 }
 
 impl<R: Wait + Clock, L: Log, I: Listens> Incoming for Listener<'_, R, L, I> {
-    type Stream = TcpStream;
+    type Stream = I::Socket;
 
     ghost use Rattle.std.specs.Prelude.{⊤};
 
-    // A socket's contract says nothing of who comes, so nothing is said of whom a listener brings.
+    // The contract of a listening socket says nothing of who comes, so nothing is said of whom a listener brings.
     ghost brings = { λ _ _ _. ⊤ };
 
-    fn poll_incoming(&mut self, cx: &mut Context<'_>) -> Poll<io::Result<(TcpStream, Peer)>> {
+    fn poll_incoming(&mut self, cx: &mut Context<'_>) -> Poll<io::Result<(I::Socket, Peer)>> {
         for attempt in 0..ATTEMPTS {
             if !self.has_rested(cx) {
                 return Poll::Pending;
@@ -151,7 +157,7 @@ impl<R: Wait + Clock, L: Log, I: Listens> Incoming for Listener<'_, R, L, I> {
 }
 
 /// Gives a stream and its peer, which has an IPv4 address, as what is listened at has.
-fn accept_ipv4(stream: TcpStream, address: &SocketAddr) -> io::Result<(TcpStream, Peer)> {
+fn accept_ipv4<S: Drop>(stream: S, address: &SocketAddr) -> io::Result<(S, Peer)> {
     match address {
         SocketAddr::V4(address) => {
             let peer = Peer {

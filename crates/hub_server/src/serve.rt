@@ -11,6 +11,7 @@ use crate::connection::moment;
 use crate::free_slot::{FreeSlot, OfHub};
 use crate::listener::{Listener, Listens};
 use crate::server::Server;
+use crate::socket::Socket;
 use crate::task::AcceptTask;
 use crate::tasks::Tasks;
 use crate::time_task::TimeTask;
@@ -32,7 +33,7 @@ use std::random::RandomSource;
 use std::sync::{Arc, Wait};
 use std::thread::Threads;
 use std::time::{Clock, Duration};
-use tokio::net::TcpStream;
+use tokio::io::{AsyncRead, AsyncWrite};
 use tokio::runtime::Runtime;
 use tokio::time::{self, Sleep};
 
@@ -221,7 +222,7 @@ where
     A: Bind,
     W: Write,
     L: Log + Sync,
-    ensures all { IfOk result (λ report. ServedAll ⟦<TcpStream as Stream>⟧.told settings.now.hub (H.digest_of hash.now) report.joins) }
+    ensures all { IfOk result (λ report. ServedAll ⟦<A::Socket as Stream>⟧.told settings.now.hub (H.digest_of hash.now) report.joins) }
     ensures nobody { IfOk result (λ report. report.present ≡ 0) }
 {
     let (hub, host) = open(rt.alloc(), settings, hash)?;
@@ -241,11 +242,11 @@ where
         output,
         warnings,
     )?;
-    close(settings, hash, hub, host, visitors)
+    close::<A::Socket, H>(settings, hash, hub, host, visitors)
 }
 
 /// Closes the hub of these settings and this hash for which the visitors are back, and gives its report.
-fn close<H: SessionHash>(
+fn close<S: AsyncRead + AsyncWrite, H: SessionHash>(
     settings: &Settings,
     hash: &H,
     hub: Hub<H>,
@@ -256,8 +257,8 @@ fn close<H: SessionHash>(
     requires hashed { hub.hash ≡ hash.now }
     requires here { host.home ≡ hub.home }
     requires visitors { All (λ v. v.home ≡ hub.home) visitors.items }
-    requires visits { All (λ v. HasVisited ⟦<TcpStream as Stream>⟧.told v) visitors.items }
-    ensures all { IfOk result (λ report. ServedAll ⟦<TcpStream as Stream>⟧.told settings.now.hub (H.digest_of hash.now) report.joins) }
+    requires visits { All (λ v. HasVisited ⟦<S as Stream>⟧.told v) visitors.items }
+    ensures all { IfOk result (λ report. ServedAll ⟦<S as Stream>⟧.told settings.now.hub (H.digest_of hash.now) report.joins) }
     ensures nobody { IfOk result (λ report. report.present ≡ 0) }
 {
     // They only say which hub it is.
@@ -310,14 +311,14 @@ where
     requires hashed { hub.now.hash ≡ hash.now }
     ensures host { IfOk result (λ r. r.0.home ≡ hub.now.home) }
     ensures visitors { IfOk result (λ r. All (λ v. v.home ≡ hub.now.home) r.1.items) }
-    ensures visits { IfOk result (λ r. All (λ v. HasVisited ⟦<TcpStream as Stream>⟧.told v) r.1.items) }
+    ensures visits { IfOk result (λ r. All (λ v. HasVisited ⟦<A::Socket as Stream>⟧.told v) r.1.items) }
 {
     let alloc = rt.alloc();
     let users = settings.setup().max_users();
     // One more joins where the hub is full, to be told so.
     let count = users as usize + 1;
     let mut host = host;
-    let free = admit::<B, H>(alloc, &mut host, hub, count)?;
+    let free = admit::<B, A::Socket, H>(alloc, &mut host, hub, count)?;
     let visitors = Vec::with_capacity(alloc, count)?;
     let server = Server::new(alloc, rt, hub, hash, settings.setup(), count, free)?;
     warn_of_descriptors(rt, &warnings.log, users);
@@ -342,9 +343,9 @@ where
 }
 
 /// Serves all connections that come.
-fn serve_all<'a, B, H, R, L, I, W>(
+fn serve_all<'a, B, S, H, R, L, I, W>(
     runtime: &mut Runtime,
-    server: &'a Server<'a, B, H, R>,
+    server: &'a Server<'a, B, S, H, R>,
     warnings: &'a Warnings<L>,
     listener: I,
     challenges: Challenges,
@@ -353,10 +354,11 @@ fn serve_all<'a, B, H, R, L, I, W>(
 ) -> Result<(), Ending>
 where
     B: OfHub<H> + Send + Sync,
+    S: Socket + Send,
     H: SessionHash + Send + Sync,
     R: Wait + Threads + Clock + Net + RandomSource + AllocGlobal + Sync,
     L: Log + Sync,
-    I: Listens + Send,
+    I: Listens<Socket = S> + Send,
     W: Write,
 {
     let time = runtime.handle().time();
@@ -374,20 +376,21 @@ where
 }
 
 /// Makes the task that accepts connections.
-fn accept_task<'a, B, H, R, L, I>(
-    server: &'a Server<'a, B, H, R>,
+fn accept_task<'a, B, S, H, R, L, I>(
+    server: &'a Server<'a, B, S, H, R>,
     warnings: &'a Warnings<L>,
     listener: I,
     challenges: Challenges,
     settings: &Settings,
     time: &time::Handle,
-) -> Result<AcceptTask<'a, B, H, R, L, I>, Ending>
+) -> Result<AcceptTask<'a, B, S, H, R, L, I>, Ending>
 where
     B: OfHub<H>,
+    S: Socket,
     H: SessionHash,
     R: Wait + Clock + AllocGlobal,
     L: Log,
-    I: Listens,
+    I: Listens<Socket = S>,
 {
     let stop_after = match settings.stop_after() {
         0 => None,
@@ -439,12 +442,12 @@ fn say_start<R: Clock, L: Log>(rt: &R, log: &L, settings: &str, address: SocketA
 }
 
 /// Admits so many visitors, who take the slots in their order.
-fn admit<B: OfHub<H>, H: SessionHash>(
+fn admit<B: OfHub<H>, S: AsyncRead + AsyncWrite, H: SessionHash>(
     alloc: Global,
     host: &mut Host<H>,
     hub: &Hub<H>,
     count: usize,
-) -> Result<Vec<FreeSlot<B, H>>, Ending>
+) -> Result<Vec<FreeSlot<B, S, H>>, Ending>
     requires here { B.home ≡ Some hub.now.home }
     requires host { host.old ≡ record { home = hub.now.home; admitted = 0 } }
     requires few { count ≤ 65_536 }
@@ -458,10 +461,13 @@ fn admit<B: OfHub<H>, H: SessionHash>(
 }
 
 /// Gives the visitors of these slots, as many as there is room for.
-fn leave<B: OfHub<H>, H>(free: Vec<FreeSlot<B, H>>, visitors: Vec<Visitor<H>>) -> Vec<Visitor<H>>
+fn leave<B: OfHub<H>, S: AsyncRead + AsyncWrite, H>(
+    free: Vec<FreeSlot<B, S, H>>,
+    visitors: Vec<Visitor<H>>,
+) -> Vec<Visitor<H>>
     requires none { visitors.items ≡ [] }
     ensures here { (home : Home (About H)) → B.home ≡ Some home → All (λ v. v.home ≡ home) result.items }
-    ensures visits { All (λ v. HasVisited ⟦<TcpStream as Stream>⟧.told v) result.items }
+    ensures visits { All (λ v. HasVisited ⟦<S as Stream>⟧.told v) result.items }
 {
     let mut visitors = visitors;
     for slot in free {

@@ -16,7 +16,7 @@ use std::alloc::AllocGlobal;
 use std::marker::PhantomData;
 use std::sync::Wait;
 use std::time::Clock;
-use tokio::net::TcpStream;
+use tokio::io::{AsyncRead, AsyncWrite};
 
 /// Stands for what the hash of a hub means, where a struct keeps a fact about it. It holds nothing.
 #[derive(Drop)]
@@ -28,17 +28,23 @@ struct Meaning<H: SessionHash> {
 /// The session of a slot, while it serves a connection of the named hub. Whatever it ends with, all calls of the visitor who
 /// is left are visits of that hub.
 #[derive(Drop)]
-pub(crate) struct ServedSlot<'a, B: OfHub<H>, H: SessionHash, R> {
+pub(crate) struct ServedSlot<'a, B: OfHub<H>, S: Stream, H: SessionHash, R> {
     meaning: Meaning<H>,
-    session: Option<HubSession<'a, TcpStream, B, H, R>>,
-    ghost visits: { ForSome session (λ running. EndsVisit running ⟦<TcpStream as Stream>⟧.told B.home
+    session: Option<HubSession<'a, B, S, H, R>>,
+    ghost visits: { ForSome session (λ running. EndsVisit running ⟦<S as Stream>⟧.told B.home
         (λ a call b. (b.server ≡ a.server) × Calls a.server.now.hub.now.setup (H.digest_of a.server.now.hub.now.hash) a.pass call b.pass)
         (λ a visitor. Leaves a.server.now.hub.now.setup (H.digest_of a.server.now.hub.now.hash) a.pass visitor)) },
 }
 
-impl<'a, B: OfHub<H>, H: SessionHash, R: Wait + Clock + AllocGlobal> ServedSlot<'a, B, H, R> {
+impl<
+    'a,
+    B: OfHub<H>,
+    S: AsyncRead + AsyncWrite,
+    H: SessionHash,
+    R: Wait + Clock + AllocGlobal,
+> ServedSlot<'a, B, S, H, R> {
     /// Makes that of a slot which serves nobody.
-    pub(crate) fn new() -> ServedSlot<'a, B, H, R> {
+    pub(crate) fn new() -> ServedSlot<'a, B, S, H, R> {
         ServedSlot {
             meaning: Meaning { of: PhantomData },
             session: None,
@@ -46,8 +52,8 @@ impl<'a, B: OfHub<H>, H: SessionHash, R: Wait + Clock + AllocGlobal> ServedSlot<
     }
 
     /// Serves by this session.
-    pub(crate) fn begin(&mut self, session: HubSession<'a, TcpStream, B, H, R>)
-        requires visits { EndsVisit session ⟦<TcpStream as Stream>⟧.told B.home
+    pub(crate) fn begin(&mut self, session: HubSession<'a, B, S, H, R>)
+        requires visits { EndsVisit session ⟦<S as Stream>⟧.told B.home
             (λ a call b. (b.server ≡ a.server) × Calls a.server.now.hub.now.setup (H.digest_of a.server.now.hub.now.hash) a.pass call b.pass)
             (λ a visitor. Leaves a.server.now.hub.now.setup (H.digest_of a.server.now.hub.now.hash) a.pass visitor) }
     {
@@ -59,7 +65,7 @@ impl<'a, B: OfHub<H>, H: SessionHash, R: Wait + Clock + AllocGlobal> ServedSlot<
     pub(crate) fn poll_over(
         &mut self,
         cx: &mut Context<'_>,
-    ) -> Poll<Option<(End, TcpStream, FreeSlot<B, H>)>>
+    ) -> Poll<Option<(End, S, FreeSlot<B, S, H>)>>
         ensures registered { OnPending result (IsArmed cx.new) }
         ensures kept { Keeps cx.old cx.new }
     {

@@ -2,29 +2,32 @@ ghost use Rattle.std.specs.Prelude.{◌≡◌, Some};
 
 use crate::accepted::Accepted;
 use crate::free_slot::{FreeSlot, OfHub};
+use adc_sessions::Stream;
 use connection_slots::{Fault, Shared};
 use hub_core::Setup;
 use hub_shared::Hub;
 use session_hash::SessionHash;
 use std::alloc::{AllocError, Global};
 use std::sync::{Mutex, Wait};
+use tokio::io::{AsyncRead, AsyncWrite};
 
-/// The part of a server that all its tasks share: its hub, and what they need to find one another.
+/// The part of a server that all its tasks share: its hub, and what they need to find one another. Its connections are streams
+/// `S`.
 #[derive(Drop)]
-pub struct Server<'a, B: OfHub<H>, H: SessionHash, R> {
+pub struct Server<'a, B: OfHub<H>, S: Stream, H: SessionHash, R> {
     pub(crate) rt: &'a R,
     pub(crate) hub: &'a Hub<H>,
     pub(crate) hash: &'a H,
     pub(crate) setup: &'a Setup,
-    pub(crate) shared: Shared<Accepted<B, H>>,
+    pub(crate) shared: Shared<Accepted<B, S, H>, S>,
     // Those without a connection. There is room for all, so that coming back takes no memory.
-    free: Mutex<Vec<FreeSlot<B, H>>>,
+    free: Mutex<Vec<FreeSlot<B, S, H>>>,
     pub(crate) ghost set: { hub.now.setup ≡ setup.now },
     pub(crate) ghost hashed: { hub.now.hash ≡ hash.now },
     pub(crate) ghost here: { B.home ≡ Some hub.now.home },
 }
 
-impl<'a, B: OfHub<H>, H: SessionHash, R: Wait> Server<'a, B, H, R> {
+impl<'a, B: OfHub<H>, S: AsyncRead + AsyncWrite, H: SessionHash, R: Wait> Server<'a, B, S, H, R> {
     /// Makes the server of this hub, with `count` slots, numbered from 0, of which these are free. Refused only where memory
     /// runs out.
     pub fn new(
@@ -34,8 +37,8 @@ impl<'a, B: OfHub<H>, H: SessionHash, R: Wait> Server<'a, B, H, R> {
         hash: &'a H,
         setup: &'a Setup,
         count: usize,
-        free: Vec<FreeSlot<B, H>>,
-    ) -> Result<Server<'a, B, H, R>, AllocError>
+        free: Vec<FreeSlot<B, S, H>>,
+    ) -> Result<Server<'a, B, S, H, R>, AllocError>
         requires set { hub.now.setup ≡ setup.now }
         requires hashed { hub.now.hash ≡ hash.now }
         requires here { B.home ≡ Some hub.now.home }
@@ -52,12 +55,12 @@ impl<'a, B: OfHub<H>, H: SessionHash, R: Wait> Server<'a, B, H, R> {
     }
 
     /// Takes a slot that has no connection.
-    pub(crate) fn take_slot(&self) -> Option<FreeSlot<B, H>> {
+    pub(crate) fn take_slot(&self) -> Option<FreeSlot<B, S, H>> {
         self.free.lock(self.rt).pop()
     }
 
     /// Takes a slot back that has no connection any more.
-    pub(crate) fn free(&self, free: FreeSlot<B, H>) {
+    pub(crate) fn free(&self, free: FreeSlot<B, S, H>) {
         self.shared.wakers.vacate(free.slot);
         // There is room; else the hub could not be closed, which would be seen.
         let _ = self.free.lock(self.rt).push(free);
@@ -69,7 +72,7 @@ impl<'a, B: OfHub<H>, H: SessionHash, R: Wait> Server<'a, B, H, R> {
     }
 
     /// Gives all slots that have no connection, once all tasks are over.
-    pub(crate) fn into_free(self) -> Vec<FreeSlot<B, H>> {
+    pub(crate) fn into_free(self) -> Vec<FreeSlot<B, S, H>> {
         let Server { free, .. } = self;
         free.into_inner()
     }

@@ -9,8 +9,9 @@ use crate::left_slot::LeftSlot;
 use crate::listener::{Listener, Listens};
 use crate::served_slot::ServedSlot;
 use crate::server::Server;
+use crate::socket::Socket;
 use crate::time_task::TimeTask;
-use adc_sessions::{Accept, AcceptEnd, End};
+use adc_sessions::{Accept, AcceptEnd, End, Stream};
 use connection_slots::Fault;
 use futures::Future;
 use futures::task::{Context, Poll};
@@ -21,37 +22,42 @@ use std::alloc::AllocGlobal;
 use std::net::SocketAddrV4;
 use std::sync::Wait;
 use std::time::Clock;
-use tokio::net::TcpStream;
 
 /// The accepting of connections.
-pub(crate) type Accepts<'a, B, H, R, L, I> = Accept<
+pub(crate) type Accepts<'a, B, S, H, R, L, I> = Accept<
     Listener<'a, R, L, I>,
-    Acceptor<'a, B, H, R, L>,
+    Acceptor<'a, B, S, H, R, L>,
 >;
 
 /// One task of the server.
 #[derive(Drop)]
-pub(crate) enum Task<'a, B: OfHub<H>, H: SessionHash, R, L, I> {
+pub(crate) enum Task<'a, B: OfHub<H>, S: Stream, H: SessionHash, R, L, I> {
     /// Keeps time.
-    Ticking(TimeTask<'a, Accepted<B, H>, R, L>),
+    Ticking(TimeTask<'a, Accepted<B, S, H>, S, R, L>),
     /// Serves the connections of one slot.
-    Serving(SlotTask<'a, B, H, R, L>),
+    Serving(SlotTask<'a, B, S, H, R, L>),
     /// Accepts connections.
-    Accepting(AcceptTask<'a, B, H, R, L, I>),
+    Accepting(AcceptTask<'a, B, S, H, R, L, I>),
     /// Nothing: the task is done.
     Done,
 }
 
 /// The task that accepts connections.
 #[derive(Drop)]
-pub(crate) struct AcceptTask<'a, B: OfHub<H>, H: SessionHash, R, L, I> {
-    accept: Accepts<'a, B, H, R, L, I>,
-    server: &'a Server<'a, B, H, R>,
+pub(crate) struct AcceptTask<'a, B: OfHub<H>, S: Stream, H: SessionHash, R, L, I> {
+    accept: Accepts<'a, B, S, H, R, L, I>,
+    server: &'a Server<'a, B, S, H, R>,
     is_open: bool,
 }
 
-impl<B: OfHub<H>, H: SessionHash, R: Wait + Clock + AllocGlobal, L: Log, I: Listens> Future
-    for Task<'_, B, H, R, L, I> {
+impl<
+    B: OfHub<H>,
+    S: Socket,
+    H: SessionHash,
+    R: Wait + Clock + AllocGlobal,
+    L: Log,
+    I: Listens<Socket = S>,
+> Future for Task<'_, B, S, H, R, L, I> {
     type Output = ();
 
     fn poll(&mut self, cx: &mut Context<'_>) -> Poll<()> {
@@ -69,18 +75,19 @@ impl<B: OfHub<H>, H: SessionHash, R: Wait + Clock + AllocGlobal, L: Log, I: List
     }
 }
 
-impl<'a, B: OfHub<H>, H: SessionHash, R: Wait + Clock + AllocGlobal, L: Log, I: Listens> AcceptTask<
+impl<
     'a,
-    B,
-    H,
-    R,
-    L,
-    I,
-> {
+    B: OfHub<H>,
+    S: Socket,
+    H: SessionHash,
+    R: Wait + Clock + AllocGlobal,
+    L: Log,
+    I: Listens<Socket = S>,
+> AcceptTask<'a, B, S, H, R, L, I> {
     pub(crate) fn new(
-        accept: Accepts<'a, B, H, R, L, I>,
-        server: &'a Server<'a, B, H, R>,
-    ) -> AcceptTask<'a, B, H, R, L, I> {
+        accept: Accepts<'a, B, S, H, R, L, I>,
+        server: &'a Server<'a, B, S, H, R>,
+    ) -> AcceptTask<'a, B, S, H, R, L, I> {
         AcceptTask {
             accept,
             server,
@@ -119,27 +126,28 @@ fn fault_of(end: AcceptEnd) -> Option<Fault> {
 
 /// The task that serves the connections of one slot, one after the other.
 #[derive(Drop)]
-pub(crate) struct SlotTask<'a, B: OfHub<H>, H: SessionHash, R, L> {
-    served: ServedSlot<'a, B, H, R>,
-    server: &'a Server<'a, B, H, R>,
+pub(crate) struct SlotTask<'a, B: OfHub<H>, S: Stream, H: SessionHash, R, L> {
+    served: ServedSlot<'a, B, S, H, R>,
+    server: &'a Server<'a, B, S, H, R>,
     slot: usize,
     // The address from which the connection of the session comes.
     peer: Option<SocketAddrV4>,
     warnings: &'a Warnings<L>,
 }
 
-impl<'a, B: OfHub<H>, H: SessionHash, R: Wait + Clock + AllocGlobal, L: Log> SlotTask<
+impl<'a, B: OfHub<H>, S: Socket, H: SessionHash, R: Wait + Clock + AllocGlobal, L: Log> SlotTask<
     'a,
     B,
+    S,
     H,
     R,
     L,
 > {
     pub(crate) fn new(
-        server: &'a Server<'a, B, H, R>,
+        server: &'a Server<'a, B, S, H, R>,
         slot: usize,
         warnings: &'a Warnings<L>,
-    ) -> SlotTask<'a, B, H, R, L> {
+    ) -> SlotTask<'a, B, S, H, R, L> {
         SlotTask {
             served: ServedSlot::new(),
             server,
@@ -184,7 +192,7 @@ impl<'a, B: OfHub<H>, H: SessionHash, R: Wait + Clock + AllocGlobal, L: Log> Slo
     }
 
     /// Serves this connection. For want of memory it is let go.
-    fn begin(&mut self, accepted: Accepted<B, H>) {
+    fn begin(&mut self, accepted: Accepted<B, S, H>) {
         let server = self.server;
         let Accepted {
             stream,
@@ -204,7 +212,7 @@ impl<'a, B: OfHub<H>, H: SessionHash, R: Wait + Clock + AllocGlobal, L: Log> Slo
     }
 
     /// Gives the slot back, and lets the socket go. What the hub said last is to reach its client.
-    fn end(&self, end: End, stream: TcpStream, free: FreeSlot<B, H>) {
+    fn end(&self, end: End, stream: S, free: FreeSlot<B, S, H>) {
         let server = self.server;
         server.free(free);
         if end == End::Ended {

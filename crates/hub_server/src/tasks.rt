@@ -2,6 +2,7 @@ use crate::accepted::Accepted;
 use crate::free_slot::OfHub;
 use crate::listener::Listens;
 use crate::server::Server;
+use crate::socket::Socket;
 use crate::task::{AcceptTask, SlotTask, Task};
 use crate::time_task::TimeTask;
 use connection_slots::Startup;
@@ -18,35 +19,45 @@ use std::time::Clock;
 /// All tasks of the server, which are made before it opens: the one that keeps time, one for each slot, and at last the one
 /// that accepts connections. So what comes later needs no memory for a task.
 #[derive(Drop)]
-pub(crate) struct Tasks<'a, B: OfHub<H>, H: SessionHash, R: Wait, L, I, W> {
-    time: Option<TimeTask<'a, Accepted<B, H>, R, L>>,
+pub(crate) struct Tasks<
+    'a,
+    B: OfHub<H>,
+    S: adc_sessions::Stream,
+    H: SessionHash,
+    R: Wait,
+    L,
+    I,
+    W,
+> {
+    time: Option<TimeTask<'a, Accepted<B, S, H>, S, R, L>>,
     // The slot of the next task, and how many slots there are.
     next: usize,
     count: usize,
-    accept: Option<AcceptTask<'a, B, H, R, L, I>>,
-    startup: Startup<'a, Accepted<B, H>, R, W>,
-    server: &'a Server<'a, B, H, R>,
+    accept: Option<AcceptTask<'a, B, S, H, R, L, I>>,
+    startup: Startup<'a, Accepted<B, S, H>, S, R, W>,
+    server: &'a Server<'a, B, S, H, R>,
     warnings: &'a Warnings<L>,
 }
 
 impl<
     'a,
     B: OfHub<H>,
+    S: Socket,
     H: SessionHash,
     R: Wait + Clock + AllocGlobal,
     L: Log,
-    I: Listens,
+    I: Listens<Socket = S>,
     W: Write,
-> Tasks<'a, B, H, R, L, I, W> {
+> Tasks<'a, B, S, H, R, L, I, W> {
     /// Makes the tasks for so many slots.
     pub(crate) fn new(
-        time: TimeTask<'a, Accepted<B, H>, R, L>,
+        time: TimeTask<'a, Accepted<B, S, H>, S, R, L>,
         count: usize,
-        accept: AcceptTask<'a, B, H, R, L, I>,
-        startup: Startup<'a, Accepted<B, H>, R, W>,
-        server: &'a Server<'a, B, H, R>,
+        accept: AcceptTask<'a, B, S, H, R, L, I>,
+        startup: Startup<'a, Accepted<B, S, H>, S, R, W>,
+        server: &'a Server<'a, B, S, H, R>,
         warnings: &'a Warnings<L>,
-    ) -> Tasks<'a, B, H, R, L, I, W> {
+    ) -> Tasks<'a, B, S, H, R, L, I, W> {
         Tasks {
             time: Some(time),
             next: 0,
@@ -62,13 +73,14 @@ impl<
 impl<
     'a,
     B: OfHub<H>,
+    S: Socket,
     H: SessionHash,
     R: Wait + Clock + AllocGlobal,
     L: Log,
-    I: Listens,
+    I: Listens<Socket = S>,
     W: Write,
-> Stream for Tasks<'a, B, H, R, L, I, W> {
-    type Item = Task<'a, B, H, R, L, I>;
+> Stream for Tasks<'a, B, S, H, R, L, I, W> {
+    type Item = Task<'a, B, S, H, R, L, I>;
 
     /// Gives the next task. It ends once all tasks came to be; then the server opens.
     fn poll_next(&mut self, _cx: &mut Context<'_>) -> Poll<Option<Self::Item>> {

@@ -7,6 +7,7 @@ use hub_warnings::Warnings;
 use log::Log;
 use std::sync::Wait;
 use std::time::{Clock, Duration, Instant};
+use tokio::io::{AsyncRead, AsyncWrite};
 use tokio::time::Sleep;
 
 /// The number of seconds after which it is looked again what was counted.
@@ -14,21 +15,21 @@ const PERIOD: u64 = 1;
 
 /// The task that keeps time: it ticks, and says each second how many equal warnings were counted in minutes that are over.
 #[derive(Drop)]
-pub(crate) struct TimeTask<'a, T, R, L> {
-    ticker: Ticker<'a, T, R>,
+pub(crate) struct TimeTask<'a, T, S, R, L> {
+    ticker: Ticker<'a, T, S, R>,
     timer: Sleep,
     rt: &'a R,
     warnings: &'a Warnings<L>,
 }
 
-impl<'a, T: Drop, R: Wait + Clock, L: Log> TimeTask<'a, T, R, L> {
+impl<'a, T: Drop, S: AsyncRead + AsyncWrite, R: Wait + Clock, L: Log> TimeTask<'a, T, S, R, L> {
     /// Makes the task, which uses this timer, whatever it is set to.
     pub(crate) fn new(
-        ticker: Ticker<'a, T, R>,
+        ticker: Ticker<'a, T, S, R>,
         timer: Sleep,
         rt: &'a R,
         warnings: &'a Warnings<L>,
-    ) -> TimeTask<'a, T, R, L> {
+    ) -> TimeTask<'a, T, S, R, L> {
         TimeTask {
             ticker,
             timer,

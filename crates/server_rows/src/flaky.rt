@@ -22,6 +22,8 @@ pub struct FlakyListener {
 }
 
 impl Bind for Flaky {
+    type Socket = TcpStream;
+
     type Listener = FlakyListener;
 
     fn bind<R: Net>(self, rt: &R, handle: &Handle) -> io::Result<FlakyListener> {
@@ -31,6 +33,8 @@ impl Bind for Flaky {
 }
 
 impl Listens for FlakyListener {
+    type Socket = TcpStream;
+
     fn poll_accept(&mut self, cx: &mut Context<'_>) -> Poll<io::Result<(TcpStream, SocketAddr)>> {
         if self.calls < GONE {
             self.calls += 1;

@@ -12,6 +12,8 @@ mod gate;
 #[cfg(test)]
 mod histories;
 #[cfg(test)]
+mod in_memory;
+#[cfg(test)]
 mod listening;
 #[cfg(test)]
 mod over_memory;

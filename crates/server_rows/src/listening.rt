@@ -19,6 +19,8 @@ use tokio::reactor::Handle;
 struct Connected(TcpListener);
 
 impl Bind for Connected {
+    type Socket = tokio::net::TcpStream;
+
     type Listener = tokio::net::TcpListener;
 
     fn bind<R: Net>(self, _rt: &R, handle: &Handle) -> io::Result<tokio::net::TcpListener> {

@@ -85,7 +85,15 @@ fn session<B: OfHub<First24>, R: Wait + Clock + RandomSource + AllocGlobal>(
         return None;
     };
     let free = Vec::new(rt.alloc());
-    let server = Server::<B, First24, R>::new(rt.alloc(), rt, hub, &First24, setup, 1, free).ok()?;
+    let server = Server::<B, Wire<'_>, First24, R>::new(
+        rt.alloc(),
+        rt,
+        hub,
+        &First24,
+        setup,
+        1,
+        free,
+    ).ok()?;
     let connection = Connection::new(&server, pass, CHALLENGE, 0);
     let bell = connection.bell();
     let written = Vec::with_capacity(rt.alloc(), 1024).ok()?;

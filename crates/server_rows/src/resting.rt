@@ -27,6 +27,8 @@ struct Failing {
 }
 
 impl Listens for Failing {
+    type Socket = TcpStream;
+
     fn poll_accept(&mut self, _cx: &mut Context<'_>) -> Poll<io::Result<(TcpStream, SocketAddr)>> {
         Poll::Ready(Err(io::Error::from_raw_os_error(self.number)))
     }

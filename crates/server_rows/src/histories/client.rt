@@ -18,6 +18,7 @@ use std::marker::PhantomData;
 use std::sync::Wait;
 use std::thread::yield_now;
 use tokio::io::{AsyncRead, AsyncWrite};
+use tokio::net::TcpStream;
 
 const CHALLENGE: [u8; 24] = [0; 24];
 
@@ -155,7 +156,7 @@ impl<P: Port, R: Wait> Port for Recorder<'_, P, R> {
 /// The session of a client.
 pub(crate) type Talk<'a, B, R> = Session<
     Wire<'a, R>,
-    Recorder<'a, Connection<'a, B, First24, StillClock<R>>, R>,
+    Recorder<'a, Connection<'a, B, TcpStream, First24, StillClock<R>>, R>,
     SlotBell<'a>,
 >;
 
@@ -183,7 +184,7 @@ impl<B: OfHub<First24>> Guest<B> {
 pub(crate) fn joins<'a, B: OfHub<First24>, R: Wait>(
     alloc: Global,
     hub: &Hub<First24>,
-    server: &'a Server<'a, B, First24, StillClock<R>>,
+    server: &'a Server<'a, B, TcpStream, First24, StillClock<R>>,
     desk: &'a Desk<R>,
     steps: &'a [Step<'a>],
     step: Step<'a>,
@@ -217,7 +218,7 @@ fn begins<'a, B: OfHub<First24>, R: Wait>(
     alloc: Global,
     desk: &'a Desk<R>,
     steps: &'a [Step<'a>],
-    port: Connection<'a, B, First24, StillClock<R>>,
+    port: Connection<'a, B, TcpStream, First24, StillClock<R>>,
     who: u64,
     number: u64,
 ) -> Option<Talk<'a, B, R>> {

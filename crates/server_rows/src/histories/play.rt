@@ -17,6 +17,7 @@ use std::net::Ipv4Addr;
 use std::random::RandomSource;
 use std::sync::{Arc, Wait};
 use std::thread::{Threads, for_each_mut};
+use tokio::net::TcpStream;
 
 /// The number of clients of a conversation at most.
 const CLIENTS: usize = 4;
@@ -112,7 +113,7 @@ where
 {
     let guests = admits::<B>(rt.alloc(), hub, host)?;
     let free = Vec::new(rt.alloc());
-    let server = Server::<B, First24, StillClock<R>>::new(
+    let server = Server::<B, TcpStream, First24, StillClock<R>>::new(
         rt.alloc(),
         &desk.clock,
         hub,
@@ -146,7 +147,7 @@ fn admits<B: OfHub<First24>>(
 fn make_steps<'a, B: OfHub<First24> + Send + Sync, R>(
     rt: &R,
     hub: &Hub<First24>,
-    server: &'a Server<'a, B, First24, StillClock<R>>,
+    server: &'a Server<'a, B, TcpStream, First24, StillClock<R>>,
     desk: &'a Desk<R>,
     steps: &'a [Step<'a>],
     way: Way,

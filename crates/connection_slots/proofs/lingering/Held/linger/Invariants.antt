@@ -2,4 +2,4 @@ use Rattle.futures.specs.Task.{Keeps}
 use Rattle.connection_slots.proofs.lingering.Held.linger.Given as goal
 
 abbrev pub invariant-loop-place : goal.invariant-loop-place
-invariant-loop-place l = Keeps l.fn.cx l.cx
+invariant-loop-place g l = Keeps l.fn.cx l.cx

@@ -1,0 +1,5 @@
+use Rattle.hub_server.proofs.serve.run.Goals as goal
+
+-- all that came back are of the hub that is named
+pub returns-clause-visitors : goal.returns-clause-visitors
+returns-clause-visitors g c = c.leave.ensures.here c.args.hub.now.home c.requires.here

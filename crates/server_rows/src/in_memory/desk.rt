@@ -1,0 +1,67 @@
+// What the clients over memory know of one another, and what is left of them.
+use futures::spin::lock;
+use std::alloc::{AllocError, Global};
+use std::sync::Mutex;
+
+/// A client that is gone, and what it was sent.
+#[derive(Drop)]
+pub(crate) struct Gone {
+    pub(crate) place: usize,
+    pub(crate) sent: Vec<u8>,
+}
+
+/// The part that all sockets share.
+#[derive(Drop)]
+pub(crate) struct Desk {
+    notes: Mutex<Notes>,
+}
+
+// There is room for all clients in each.
+#[derive(Drop)]
+struct Notes {
+    entered: Vec<usize>,
+    gone: Vec<Gone>,
+}
+
+impl Desk {
+    /// Makes that of so many clients.
+    pub(crate) fn new(alloc: Global, count: usize) -> Result<Desk, AllocError> {
+        Ok(Desk {
+            notes: Mutex::new(Notes {
+                entered: Vec::with_capacity(alloc, count)?,
+                gone: Vec::with_capacity(alloc, count)?,
+            }),
+        })
+    }
+
+    /// Notes that the client at this place has entered.
+    pub(crate) fn enter(&self, place: usize) {
+        if let Some(mut notes) = lock(&self.notes) {
+            let _ = notes.entered.push(place);
+        }
+    }
+
+    /// Answers whether it has.
+    pub(crate) fn has_entered(&self, place: usize) -> bool {
+        lock(&self.notes).is_some_and(|notes| notes.entered.contains(&place))
+    }
+
+    /// Notes that the client at this place is gone, which was sent this.
+    pub(crate) fn leave(&self, place: usize, sent: Vec<u8>) {
+        if let Some(mut notes) = lock(&self.notes) {
+            let _ = notes.gone.push(Gone { place, sent });
+        }
+    }
+
+    /// Answers whether it is.
+    pub(crate) fn is_gone(&self, place: usize) -> bool {
+        lock(&self.notes).is_some_and(|notes| notes.gone.iter().any(|gone| gone.place == place))
+    }
+
+    /// Gives the clients that are gone, in the order in which they went.
+    pub(crate) fn into_gone(self) -> Vec<Gone> {
+        let Desk { notes } = self;
+        let Notes { entered: _, gone } = notes.into_inner();
+        gone
+    }
+}
