@@ -119,8 +119,8 @@ impl<H: SessionHash> Hub<H> {
         let mut core = self.lock.take(rt, &mut pass.seat);
         match core.line(alloc, pass.connection, line, now) {
             Ok(verdict) => {
+                pass.touched = core.touched();
                 let touched = core.touched();
-                pass.touched = touched;
                 let note = (pass.connection, Snapshot::of(line), now, verdict);
                 enter::<Brand, H, _>(&self.lock, &mut pass.seat, core, &note);
                 Ok((verdict, touched))

@@ -78,7 +78,12 @@ impl<H: SessionHash> Hub<H> {
         let mut core = self.lock.take(rt, &mut seat);
         core.quit(connection);
         let touched = core.touched();
+        let kept = core.touched();
         enter::<Brand, H, _>(&self.lock, &mut seat, core, &connection);
-        (Visitor { seat, touched }, touched)
+        let visitor = Visitor {
+            seat,
+            touched: kept,
+        };
+        (visitor, touched)
     }
 }
