@@ -11,6 +11,7 @@ use Rattle.user_table.specs.Listed.{Listed}
 use Rattle.user_table.specs.Tables.{has_sid, user_by_sid}
 use Rattle.hub_core.specs.declared.seat.Phase.TheVariants as phases
 use Rattle.hub_core.specs.declared.seat.Seat.{Seat}
+use Rattle.hub_core.specs.declared.share.Touched.{Touched}
 use Rattle.hub_core.specs.CoreState.{CoreState}
 use Rattle.hub_core.specs.Decided.{Decided, DecidedFor, sight_in, user_at}
 use Rattle.hub_core.specs.Phases.{phase_at}
@@ -38,11 +39,11 @@ use Rattle.hub_core.proofs.Users.{users-carried}
 
 -- ---- one equation for a hub
 
-pub same-core : (setup : Configured) (joins last : ℕ) {s t : List Seat} {us vs : List Listed} {bans : List (List ℕ × Ban)} {topic : List ℕ} → s ≡ t → us ≡ vs
-    → ◌≡◌ {A = CoreState} (record { setup = setup; joins = joins; last = last; seats = s; users = us; bans = bans; topic = topic })
-    (record { setup = setup; joins = joins; last = last; seats = t; users = vs; bans = bans; topic = topic })
-same-core setup joins last {s} {t} {us} {vs} {bans} {topic} seats users =
-    ap₂ (λ (x : List Seat) (y : List Listed). record { setup = setup; joins = joins; last = last; seats = x; users = y; bans = bans; topic = topic }) seats users
+pub same-core : (setup : Configured) (joins last : ℕ) {s t : List Seat} {us vs : List Listed} {bans : List (List ℕ × Ban)} {topic : List ℕ} {touched : Touched} → s ≡ t → us ≡ vs
+    → ◌≡◌ {A = CoreState} (record { setup = setup; joins = joins; last = last; seats = s; users = us; bans = bans; topic = topic; touched = touched })
+    (record { setup = setup; joins = joins; last = last; seats = t; users = vs; bans = bans; topic = topic; touched = touched })
+same-core setup joins last {s} {t} {us} {vs} {bans} {topic} {touched} seats users =
+    ap₂ (λ (x : List Seat) (y : List Listed). record { setup = setup; joins = joins; last = last; seats = x; users = y; bans = bans; topic = topic; touched = touched }) seats users
 
 seats-carried : (setup : Configured) (c : ℕ) (effect : Effect) (f : Facts) → Sound f → ((d : ℕ) → Tidy (f.about d)) → Suits (own_of (f.about c)) effect
     → delivered_all (removed_of effect.change) (at_seat c (changed_seat effect.change) (map (seat_of f.about) f.opened)) (map (seat_share c effect) (map (seat_of f.about) f.opened))

@@ -1,4 +1,5 @@
 pub mod Carried
+pub mod Concerned
 pub mod Delivering
 pub mod Ended
 pub mod Indexed

@@ -83,7 +83,7 @@ fits-nothing a lines bytes =
     ap₂ ◌&&◌ (true-le (length (waiting a) + 0) max_lines (omega (arith, lines))) (true-le (size_of (waiting a) + 0) max_bytes (omega (arith, bytes)))
 
 -- for a connection that is owed nothing waits what waited
-with-nothing : (a : About) → length (waiting a) ≤ max_lines → size_of (waiting a) ≤ max_bytes → backlog_of a ≡ backlog_with a []
+pub with-nothing : (a : About) → length (waiting a) ≤ max_lines → size_of (waiting a) ≤ max_bytes → backlog_of a ≡ backlog_with a []
 unfolding owed_with lags_with
 with-nothing a lines bytes = nothing-more (has_room a []) a (no-room a.lags (fits (backlog_of a) []) (fits-nothing a lines bytes))
 
@@ -142,7 +142,7 @@ stage-of stages.Gone a = refl
 pub stage-kept : (d : ℕ) (a : About) → stage_in (seat_with d a).phase ≡ a.stage
 stage-kept d a = stage-of a.stage a
 
-named : (change : Change) (sid : ℕ) → is_named (removed_of change) sid ≡ is_removed change sid
+pub named : (change : Change) (sid : ℕ) → is_named (removed_of change) sid ≡ is_removed change sid
 named Nothing sid = refl
 named (Sender change) sid = refl
 named (Hub (shared.Kick target)) sid = refl

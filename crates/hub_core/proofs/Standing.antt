@@ -17,7 +17,9 @@ use Rattle.hub_core.specs.declared.look.Look.{Look}
 use Rattle.hub_core.specs.Promises.{CountsJoins, LooksAt, SidOf, SumsUp}
 use Rattle.hub_core.specs.declared.seat.Phase.TheVariants as phases
 use Rattle.hub_core.specs.declared.seat.Seat.{Seat}
-use Rattle.hub_core.specs.CoreState.{CoreState}
+use Rattle.hub_core.specs.declared.share.Touched.{Touched}
+use Rattle.hub_core.specs.declared.share.Touched.TheVariants.{Nobody}
+use Rattle.hub_core.specs.CoreState.{CoreState, noted}
 use Rattle.hub_core.specs.Decided.{Decided, sight_in}
 use Rattle.hub_core.specs.Leaving.{has_ended, left_core, seat_after_take, core_after_take, lines_in, others_of, seat_told, told_all_if, told_if}
 use Rattle.hub_core.specs.Moves.{LineMoves, Moves, StandsAt}
@@ -25,8 +27,10 @@ use Rattle.hub_core.specs.Phases.{phase_at, stage_in}
 use Rattle.hub_core.specs.Seats.{backlog_of, at_seat, given_seat, gone_if, in_seat, new_seat, outbox_in, phase_in, seat_of, seat_with, sid_in}
 use Rattle.hub_core.specs.State.{HasSeat, IsSeated, Stands, carried_out, core_of}
 use Rattle.hub_rules.specs.declared.effect.Effect.{Effect}
+use Rattle.hub_rules.specs.declared.history.Call.{Call}
 use Rattle.hub_rules.specs.declared.history.Call.TheVariants.{Join, Quit, Take}
 use Rattle.hub_rules.specs.declared.history.Entry.{Entry}
+use Rattle.hub_rules.specs.declared.history.Reply.{Reply}
 use Rattle.hub_rules.specs.declared.history.Reply.TheVariants.{Joined, Full, JoinsSpent, Said, Left, Took}
 use Rattle.hub_rules.specs.declared.history.Verdict.{Verdict}
 use Rattle.hub_rules.specs.Configured.{most_users, Configured}
@@ -35,6 +39,7 @@ use Rattle.hub_rules.specs.Facts.{Facts, about_after, after, without_connection,
 use Rattle.hub_rules.specs.Identities.{listed_user}
 use Rattle.hub_rules.specs.Legal.{Legal, is_open, join_reply, reply, take_reply, verdict_of}
 use Rattle.hub_rules.specs.Shares.{About, affected_connection, max_bytes, max_lines, owes, waiting}
+use Rattle.hub_rules.specs.Prepared.{prepared_line}
 use Rattle.hub_rules.specs.Sights.{PreparedLine}
 use Rattle.hub_invariants.proofs.Calls.{not-open, sound_of}
 use Rattle.hub_invariants.proofs.Members.{and-false, has}
@@ -48,6 +53,14 @@ use Rattle.hub_core.proofs.Sharing.{delivers-by, stage-kept}
 use Rattle.hub_core.proofs.Tests.{false-le, true-le}
 use Rattle.hub_core.proofs.Users.{users-carried}
 
+-- ---- hints
+
+-- a hub stands where it stood, whatever its hint
+pub moves-noted : (old new : CoreState) (call : Call) (reply : Reply) (touched : Touched) → Moves old call reply new → Moves old call reply (noted touched new)
+unfolding Stands
+moves-noted old new call reply touched moves setup hash h caller at may =
+    let stood = moves setup hash h caller at may in record { legal = stood.legal; stands = stood.stands }
+
 -- ---- lines
 
 -- the stage of an open connection is read off its seat
@@ -57,27 +70,40 @@ unfolding happens
 phase-open setup c effect f open_c =
     ap stage_in (in-open c (λ seat. seat.phase) phases.Gone (about_after c effect f.about) f.opened open_c) ∙ stage-kept c (about_after c effect f.about c)
 
-pub line-moves : (old new : CoreState) (c : ℕ) (line : PreparedLine) (now : ℕ) (seat : Seat) (effect : Effect) (verdict : Verdict)
+-- what was decided at the seat of an open connection is what the rules say of its line
+pub effect-is : (old : CoreState) (c : ℕ) (line : PreparedLine) (now : ℕ) (seat : Seat) (effect : Effect)
     → old.setup.max_users ≤ most_users
     → seat ≡ in_seat c (λ s. s) seat old.seats
     → Decided (sight_in old) seat line now effect
-    → new ≡ carried_out c effect old
+    → (setup : Configured) (hash : List ℕ → List ℕ) (h : List Entry) → StandsAt setup hash h old → has c (facts setup hash h).opened ≡ true
+    → line ≡ prepared_line setup hash ((facts setup hash h).about c).challenge line.bytes
+    → effect ≡ effect_of_line setup hash (facts setup hash h) c line.bytes now
+unfolding Stands
+effect-is old c line now seat effect small is_seat decided setup hash h at open_c is_line =
+    let f : Facts = facts setup hash h in
+    let few : setup.max_users ≤ most_users = subst (λ (s : CoreState). s.setup.max_users ≤ most_users) at.stands small in
+    let mine : seat ≡ seat_of f.about c =
+    is_seat ∙ ap (λ (s : CoreState). in_seat c (λ x. x) seat s.seats) at.stands ∙ in-open c (λ s. s) seat f.about f.opened open_c in
+    decided-is setup f c line now effect (sound_of setup hash h) (numbered_of setup hash h few) (tidy_of setup hash h c) open_c
+    (subst (λ (s : Seat). Decided (sight_in (core_of setup f)) s line now effect) mine (subst (λ (s : CoreState). Decided (sight_in s) seat line now effect) at.stands decided))
+    ∙ ap (λ l. line_effect (sight_of setup f) (own_of (f.about c)) l now) is_line
+
+pub line-moves : (old new : CoreState) (c : ℕ) (line : PreparedLine) (now : ℕ) (seat : Seat) (effect : Effect) (verdict : Verdict) (touched : Touched)
+    → old.setup.max_users ≤ most_users
+    → seat ≡ in_seat c (λ s. s) seat old.seats
+    → Decided (sight_in old) seat line now effect
+    → new ≡ noted touched (carried_out c effect old)
     → verdict ≡ verdict_of (stage_in (phase_in c new.seats))
     → LineMoves old c line now verdict new
-unfolding Legal Stands facts after reply
-line-moves old new c line now seat effect verdict small is_seat decided is_new is_verdict setup hash h caller at may is_line =
+unfolding Legal Stands facts after reply carried_out
+line-moves old new c line now seat effect verdict touched small is_seat decided is_new is_verdict setup hash h caller at may is_line =
     let f : Facts = facts setup hash h in
     let sound : Sound f = sound_of setup hash h in
     let few : setup.max_users ≤ most_users = subst (λ (s : CoreState). s.setup.max_users ≤ most_users) at.stands small in
     let n : Numbered setup f = numbered_of setup hash h few in
-    let mine : seat ≡ seat_of f.about c =
-    is_seat ∙ ap (λ (s : CoreState). in_seat c (λ x. x) seat s.seats) at.stands ∙ in-open c (λ s. s) seat f.about f.opened may.0 in
-    let is_effect : effect ≡ effect_of_line setup hash f c line.bytes now =
-    decided-is setup f c line now effect sound n (tidy_of setup hash h c) may.0
-    (subst (λ (s : Seat). Decided (sight_in (core_of setup f)) s line now effect) mine (subst (λ (s : CoreState). Decided (sight_in s) seat line now effect) at.stands decided))
-    ∙ ap (λ l. line_effect (sight_of setup f) (own_of (f.about c)) l now) is_line in
-    let stands : new ≡ core_of setup (happens c (effect_of_line setup hash f c line.bytes now) f) =
-    is_new ∙ ap₂ (carried_out c) is_effect at.stands
+    let is_effect = effect-is old c line now seat effect small is_seat decided setup hash h at may.0 is_line in
+    let stands : noted Nobody new ≡ core_of setup (happens c (effect_of_line setup hash f c line.bytes now) f) =
+    ap (noted Nobody) is_new ∙ ap₂ (carried_out c) is_effect at.stands
     ∙ carried-out setup c (effect_of_line setup hash f c line.bytes now) f sound n (tidy_of setup hash h) may.0 (suits_of setup hash h c line.bytes now) in
     let stage : stage_in (phase_in c new.seats) ≡ ((happens c (effect_of_line setup hash f c line.bytes now) f).about c).stage =
     ap (λ (s : CoreState). stage_in (phase_in c s.seats)) stands ∙ phase-open setup c (effect_of_line setup hash f c line.bytes now) f may.0 in
@@ -121,18 +147,18 @@ users-one c turn f sid fields [] = refl
 users-one c turn f sid fields (d ∷ xs) =
     ap₂ (λ (u : Listed) (us : List Listed). u ∷ us) (user-one turn (f.about d) (d == c) (sid (f.about d)) (fields (f.about d))) (users-one c turn f sid fields xs)
 
-pub take-moves : (old new : CoreState) (c count lines : ℕ) (bytes : List ℕ) (over : Bool)
-    → new ≡ core_after_take c count old
+pub take-moves : (old new : CoreState) (c count lines : ℕ) (bytes : List ℕ) (over : Bool) (touched : Touched)
+    → new ≡ noted touched (core_after_take c count old)
     → bytes ≡ concat (take count (lines_in c old.seats))
     → lines ≡ length (take count (lines_in c old.seats))
     → over ≡ has_ended c count old.seats
     → Moves old (Take c count) (Took bytes lines over) new
 unfolding Legal Stands facts after reply
-take-moves old new c count lines bytes over is_new is_bytes is_lines is_ended setup hash h caller at may =
+take-moves old new c count lines bytes over touched is_new is_bytes is_lines is_ended setup hash h caller at may =
     let f : Facts = facts setup hash h in
     let sound : Sound f = sound_of setup hash h in
-    let stands : new ≡ core_of setup (record f { about = with_one c (with_lines_taken count) f.about }) =
-    is_new ∙ ap (core_after_take c count) at.stands
+    let stands : noted Nobody new ≡ core_of setup (record f { about = with_one c (with_lines_taken count) f.about }) =
+    ap (noted Nobody) is_new ∙ ap (core_after_take c count) at.stands
     ∙ same-core setup f.joins f.last (one-changes c (seat_after_take count) (with_lines_taken count) f sound (λ d a. takes count d a))
     (users-one c (with_lines_taken count) f (λ a. refl) (λ a. refl) f.present) in
     let outbox : outbox_in c old.seats ≡ backlog_of (f.about c) =
@@ -200,21 +226,21 @@ left-stands setup c f sound n tidy open_c =
     (ap₂ (λ s i. told_all_if (is_present s) i (others_of c (map (seat_of f.about) f.opened))) stage sid ∙ seats-gone c f sound tidy)
     (ap (λ i. without_sid i (map (user_of f.about) f.present)) sid ∙ users-carried setup f c (leaves (f.about c)) sound n open_c (suits-leaves (f.about c)))
 
-pub quit-moves : (old new : CoreState) (c : ℕ) → old.setup.max_users ≤ most_users → new ≡ left_core c old → Moves old (Quit c) Left new
+pub quit-moves : (old new : CoreState) (c : ℕ) (touched : Touched) → old.setup.max_users ≤ most_users → new ≡ noted touched (left_core c old) → Moves old (Quit c) Left new
 unfolding Legal Stands facts after reply
-quit-moves old new c small is_new setup hash h caller at may =
+quit-moves old new c touched small is_new setup hash h caller at may =
     let f : Facts = facts setup hash h in
     let few : setup.max_users ≤ most_users = subst (λ (s : CoreState). s.setup.max_users ≤ most_users) at.stands small in
     record {
       legal = (at.legal, may, refl);
-      stands = is_new ∙ ap (left_core c) at.stands
+      stands = ap (noted Nobody) is_new ∙ ap (left_core c) at.stands
           ∙ left-stands setup c f (sound_of setup hash h) (numbered_of setup hash h few) (tidy_of setup hash h) may.0;
     }
 
 -- ---- joins
 
 -- whether a join is accepted can be seen at the hub
-places : (setup : Configured) (f : Facts) (old : CoreState) → old ≡ core_of setup f
+places : (setup : Configured) (f : Facts) (old : CoreState) → noted Nobody old ≡ core_of setup f
     → (has_place setup f ≡ not (nat_le old.setup.max_users (length old.seats))) × (has_joins f ≡ not (nat_le max_joins old.joins))
 places setup f old stands =
     let seats : length old.seats ≡ length f.opened = ap (λ (s : CoreState). length s.seats) stands ∙ length-map f.opened (seat_of f.about) in
@@ -295,8 +321,8 @@ join-moves-at old new peer challenge now sid room left is_sid is_new setup hash 
     let joins : old.joins ≡ f.joins = ap (λ (s : CoreState). s.joins) at.stands in
     let next : sid ≡ next_sid f =
     is_sid ∙ ap (λ (s : CoreState). next_free s.last (sids_in s.seats)) at.stands ∙ ap (next_free f.last) (map-sids f.about f.opened) in
-    let stands : new ≡ core_of setup (with_connection f caller peer challenge) =
-    is_new ∙ ap₂ (λ i (s : CoreState). joined_core i peer challenge s) next at.stands ∙ joined-stands setup f caller peer challenge (sound_of setup hash h) in
+    let stands : noted Nobody new ≡ core_of setup (with_connection f caller peer challenge) =
+    ap (noted Nobody) is_new ∙ ap₂ (λ i (s : CoreState). joined_core i peer challenge s) next at.stands ∙ joined-stands setup f caller peer challenge (sound_of setup hash h) in
     record {
       legal = (at.legal, may, ap (λ n. Joined (n + 1)) joins ∙ sym (ap (λ b. join_reply b (has_joins f) f.joins) place ∙ ap (λ b. join_reply true b f.joins) counted));
       stands = stands ∙ ap (core_of setup) (sym (ap (λ b. cond (b && has_joins f) (with_connection f caller peer challenge) f) place ∙ ap (λ b. cond b (with_connection f caller peer challenge) f) counted));
@@ -312,7 +338,7 @@ join-moves old new peer challenge now sid n is_n room left is_sid is_new =
 -- ---- looks
 
 pub open-stands : (setup : Configured) (hash : List ℕ → List ℕ)
-    → StandsAt setup hash [] (record { setup = setup; joins = 0; last = 0; seats = []; users = []; bans = []; topic = setup.topic })
+    → StandsAt setup hash [] (record { setup = setup; joins = 0; last = 0; seats = []; users = []; bans = []; topic = setup.topic; touched = Nobody })
 unfolding Legal Stands facts
 open-stands setup hash = record { legal = tt; stands = refl }
 
@@ -358,9 +384,9 @@ open-has-seat setup hash h core c at opened =
     ap (λ (s : CoreState). list_any (λ (seat : Seat). seat.number == c) s.seats) at.stands ∙ seated-open c (facts setup hash h).about (facts setup hash h).opened ∙ opened
 
 pub open-stands-as : (setup : Configured) (seats : List Seat) (users : List Listed) (bans : List (List ℕ × Ban)) (topic : List ℕ) → seats ≡ [] → users ≡ [] → bans ≡ [] → topic ≡ setup.topic
-    → (hash : List ℕ → List ℕ) → StandsAt setup hash [] (record { setup = setup; joins = 0; last = 0; seats = seats; users = users; bans = bans; topic = topic })
+    → (hash : List ℕ → List ℕ) → StandsAt setup hash [] (record { setup = setup; joins = 0; last = 0; seats = seats; users = users; bans = bans; topic = topic; touched = Nobody })
 open-stands-as setup seats users bans topic s u b t hash =
-    subst (λ (x : List Seat). StandsAt setup hash [] (record { setup = setup; joins = 0; last = 0; seats = x; users = users; bans = bans; topic = topic })) (sym s)
-    (subst (λ (x : List Listed). StandsAt setup hash [] (record { setup = setup; joins = 0; last = 0; seats = []; users = x; bans = bans; topic = topic })) (sym u)
-    (subst (λ (x : List (List ℕ × Ban)). StandsAt setup hash [] (record { setup = setup; joins = 0; last = 0; seats = []; users = []; bans = x; topic = topic })) (sym b)
-    (subst (λ (x : List ℕ). StandsAt setup hash [] (record { setup = setup; joins = 0; last = 0; seats = []; users = []; bans = []; topic = x })) (sym t) (open-stands setup hash))))
+    subst (λ (x : List Seat). StandsAt setup hash [] (record { setup = setup; joins = 0; last = 0; seats = x; users = users; bans = bans; topic = topic; touched = Nobody })) (sym s)
+    (subst (λ (x : List Listed). StandsAt setup hash [] (record { setup = setup; joins = 0; last = 0; seats = []; users = x; bans = bans; topic = topic; touched = Nobody })) (sym u)
+    (subst (λ (x : List (List ℕ × Ban)). StandsAt setup hash [] (record { setup = setup; joins = 0; last = 0; seats = []; users = []; bans = x; topic = topic; touched = Nobody })) (sym b)
+    (subst (λ (x : List ℕ). StandsAt setup hash [] (record { setup = setup; joins = 0; last = 0; seats = []; users = []; bans = []; topic = x; touched = Nobody })) (sym t) (open-stands setup hash))))

@@ -3,6 +3,7 @@ use Rattle.std.specs.Prelude.{ℕ, List}
 use Rattle.operator_acts.specs.declared.ban.Ban.{Ban}
 use Rattle.user_table.specs.Listed.{Listed}
 use Rattle.hub_core.specs.declared.seat.Seat.{Seat}
+use Rattle.hub_core.specs.declared.share.Touched.{Touched}
 use Rattle.hub_rules.specs.Configured.{Configured}
 
 pub record CoreState : Type 0 where
@@ -17,3 +18,9 @@ pub record CoreState : Type 0 where
   pub users : List Listed
   pub bans : List (List ℕ × Ban)
   pub topic : List ℕ
+  -- whom the last call concerned: a hint, which no history determines
+  pub touched : Touched
+
+-- the same hub with this hint
+abbrev pub noted : Touched → CoreState → CoreState
+noted touched core = record core { touched = touched }

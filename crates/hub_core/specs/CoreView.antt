@@ -17,6 +17,7 @@ core_view c = record {
   users = c.commons.present.users;
   bans = c.commons.bans;
   topic = c.commons.topic;
+  touched = c.touched;
 }
 
 -- no more connections are admitted than a hub may have, each identifier is one, and the seats stand in the order of their joins

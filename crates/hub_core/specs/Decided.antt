@@ -6,10 +6,12 @@ use Rattle.user_table.specs.Tables.{user_by_sid}
 use Rattle.hub_core.specs.declared.seat.Phase.{Phase}
 use Rattle.hub_core.specs.declared.seat.Phase.TheVariants as phases
 use Rattle.hub_core.specs.declared.seat.Seat.{Seat}
-use Rattle.hub_core.specs.CoreState.{CoreState}
+use Rattle.hub_core.specs.declared.share.Touched.{Touched}
+use Rattle.hub_core.specs.CoreState.{CoreState, noted}
 use Rattle.hub_core.specs.Phases.{stage_in}
-use Rattle.hub_core.specs.Seats.{in_seat}
+use Rattle.hub_core.specs.Seats.{in_seat, sid_in}
 use Rattle.hub_core.specs.State.{carried_out}
+use Rattle.hub_core.specs.Touching.{NamesEffect}
 use Rattle.hub_decisions.specs.Known.{IsKnown}
 use Rattle.hub_rules.specs.declared.effect.Effect.{Effect}
 use Rattle.hub_rules.specs.Effects.{line_effect}
@@ -57,9 +59,11 @@ pub record IsDecided (c : ℕ) (line : PreparedLine) (now : ℕ) (core : CoreSta
   pub is_seat : seat ≡ in_seat c (λ s. s) seat core.seats
   pub decided : Decided (sight_in core) seat line now effect
 
--- a line was handled: what was decided was carried out
+-- a line was handled: what was decided was carried out, and whom it concerns is named
 pub record IsHandled (c : ℕ) (line : PreparedLine) (now : ℕ) (old new : CoreState) : Type 0 where
   pub effect : Effect
   pub decided : IsDecided c line now old effect
-  pub carried : new ≡ carried_out c effect old
+  pub touched : Touched
+  pub carried : new ≡ noted touched (carried_out c effect old)
+  pub named : NamesEffect touched (sid_in c old.seats) effect
   pub few : old.setup.max_users ≤ most_users

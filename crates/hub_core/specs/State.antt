@@ -6,7 +6,8 @@ use Rattle.user_table.specs.Listed.{Listed}
 use Rattle.user_table.specs.Tables.{with_update, without_sid}
 use Rattle.hub_core.specs.declared.seat.Phase.{Phase}
 use Rattle.hub_core.specs.declared.seat.Seat.{Seat}
-use Rattle.hub_core.specs.CoreState.{CoreState}
+use Rattle.hub_core.specs.declared.share.Touched.TheVariants.{Nobody}
+use Rattle.hub_core.specs.CoreState.{CoreState, noted}
 use Rattle.hub_core.specs.Phases.{users_awaited}
 use Rattle.hub_core.specs.Seats.{at_seat, changed_seat, phase_in, removed_of, seat_of, seat_share, delivered_all, sid_in}
 use Rattle.hub_rules.specs.declared.effect.Change.{Change}
@@ -18,7 +19,7 @@ use Rattle.hub_rules.specs.declared.history.Entry.{Entry}
 use Rattle.hub_rules.specs.Configured.{Configured}
 use Rattle.hub_rules.specs.Facts.{Facts, bans_after, facts, topic_after, user_of}
 
--- what is kept of a hub
+-- what is kept of a hub, with no hint
 abbrev pub core_of : Configured → Facts → CoreState
 core_of setup f = record {
   setup = setup;
@@ -28,11 +29,12 @@ core_of setup f = record {
   users = map (user_of f.about) f.present;
   bans = f.bans;
   topic = f.topic;
+  touched = Nobody;
 }
 
--- the hub is as the history has made it
+-- the hub is as the history has made it, whatever its hint
 unfoldable pub Stands : Configured → (List ℕ → List ℕ) → List Entry → CoreState → Type 0
-Stands setup hash h core = core ≡ core_of setup (facts setup hash h)
+Stands setup hash h core = noted Nobody core ≡ core_of setup (facts setup hash h)
 
 -- a connection has a seat
 abbrev pub has_seat : ℕ → List Seat → Bool

@@ -1,8 +1,10 @@
 ghost use Rattle.std.specs.Prelude.{◌≡◌, ◌≤◌, ◌↔◌, ℕ, List, [], IsTrue, IfOk, OnOk, OnErr};
 ghost use Rattle.std.specs.Arc.{arc_value};
-ghost use Rattle.hub_rules.specs.declared.history.Call.TheVariants.{Join, Quit};
+ghost use Rattle.hub_rules.specs.declared.history.Call.TheVariants.{Join, Quit, Take};
 ghost use Rattle.hub_rules.specs.declared.history.Reply.TheVariants.{Left};
+ghost use Rattle.hub_core.specs.CoreState.{noted};
 ghost use Rattle.hub_core.specs.Moves.{Moves, LineMoves, StandsAt};
+ghost use Rattle.hub_core.specs.Touching.{LineTouches, Touches, TouchesNobody};
 ghost use Rattle.hub_core.specs.Leaving.{left_core};
 ghost use Rattle.hub_core.specs.Decided.{IsDecided, IsHandled};
 ghost use Rattle.hub_core.specs.Phases.{stage_in};
@@ -15,7 +17,7 @@ use crate::connection::Connection;
 use crate::look::Look;
 use crate::present::Present;
 use crate::seat::{Seat, add, decide_at, forget, has_seat, place, sids, take_lines, tell_if};
-use crate::share::{Touched, deliver, removal, shares, touched_by, touched_by_quit};
+use crate::share::{Touched, deliver, removal, shares, touched_by_line, touched_by_quit};
 use crate::sid_index::SidIndex;
 use crate::{JoinRefused, OpenRefused};
 use adc_base32::Sid;
@@ -46,7 +48,7 @@ pub struct Core {
     /// Finds a seat by its session identifier, so that a line for one user is not held against each seat.
     index: SidIndex,
     commons: Commons,
-    /// The users whom the last call concerned: a hint, which is not part of what is kept of the hub.
+    /// The users whom the last call concerned: a hint, which no history determines.
     touched: Touched,
 }
 
@@ -99,11 +101,12 @@ impl Core {
         challenge: [u8; 24],
         now: u64,
     ) -> Result<Connection, JoinRefused>
-        ensures { JoinMoves result self.old (Join peer challenge now) self.new }
+        ensures moves { JoinMoves result self.old (Join peer challenge now) self.new }
+        ensures touched { OnOk result (TouchesNobody self.old (Join peer challenge now) self.new) }
     {
-        let joined = self.admit(alloc, peer, challenge, now);
+        let connection = self.admit(alloc, peer, challenge, now)?;
         self.note(Touched::Nobody);
-        joined
+        Ok(connection)
     }
 
     fn admit(
@@ -160,6 +163,7 @@ impl Core {
     ) -> Result<Verdict, LineRefused>
         requires seated { IsSeated connection self.old }
         ensures moves { IfOk result (λ verdict. LineMoves self.old connection line.now now verdict self.new) }
+        ensures touched { OnOk result (LineTouches self.old connection line.now now self.new) }
         ensures err { OnErr result (self.new ≡ self.old) }
     {
         let verdict = self.handle(alloc, connection.number, line, now)?;
@@ -169,7 +173,8 @@ impl Core {
     /// Lets a connection that is open go. What waited for it is given up. It takes no memory.
     pub fn quit(&mut self, connection: Connection)
         requires seated { IsSeated connection self.old }
-        ensures { Moves self.old (Quit connection) Left self.new }
+        ensures moves { Moves self.old (Quit connection) Left self.new }
+        ensures touched { Touches self.old (Quit connection) self.new }
     {
         let place = place(&self.seats, connection.number);
         let touched = touched_by_quit(&self.seats[place].phase);
@@ -191,6 +196,7 @@ impl Core {
         requires some { 1 ≤ count }
         requires few { count ≤ 256 }
         ensures moves { IfOk result (λ taken. TakeMoves taken connection count out.old.items out.new.items self.old self.new) }
+        ensures touched { OnOk result (TouchesNobody self.old (Take connection count) self.new) }
         ensures err { OnErr result ((self.new ≡ self.old) × (out.new.items ≡ out.old.items)) }
     {
         let taken = take_lines(&mut self.seats, connection.number, count, out)?;
@@ -198,9 +204,11 @@ impl Core {
         Ok(taken)
     }
 
-    /// Names whom the last call that changed something concerned: whose connections it gave lines to, or shut out. A hint
-    /// that takes no memory; after a take or a join it names nobody.
-    pub fn touched(&self) -> Touched {
+    /// Names whom the last call that was not refused concerned: to whose connections it gave lines, and whom it shut out. It
+    /// may name somebody too many; after a take or a join it names nobody. It takes no memory.
+    pub fn touched(&self) -> Touched
+        ensures { result ≡ self.now.touched }
+    {
         self.touched
     }
 
@@ -245,7 +253,7 @@ impl Core {
     {
         let place = place(&self.seats, number);
         let effect = self.decide(alloc, number, place, line, now)?;
-        let touched = touched_by(self.seats[place].sid, &effect);
+        let touched = touched_by_line(self.seats[place].sid, &effect);
         self.carry_out(alloc, number, place, effect)?;
         self.note(touched);
         let verdict = self.verdict(number, place);
@@ -277,7 +285,7 @@ impl Core {
 
     /// Keeps whom a call concerned.
     fn note(&mut self, touched: Touched)
-        ensures { self.new ≡ self.old }
+        ensures { self.new ≡ noted touched self.old }
     {
         self.touched = touched;
     }

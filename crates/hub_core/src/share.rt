@@ -5,9 +5,10 @@ ghost use Rattle.hub_core.specs.Owed.{AreQuietBut, IsMeant, IsOnlyFor, given_all
 ghost use Rattle.hub_core.specs.Phases.{is_among, phase_hears, stage_in};
 ghost use Rattle.hub_core.specs.Seats.{removed_of, removed_seat, seat_share};
 ghost use Rattle.hub_core.specs.State.{IsPlace};
-ghost use Rattle.hub_core.specs.Touching.{NamesHearers, NamesOthers, NamesOwed, names};
+ghost use Rattle.hub_core.specs.Touching.{NamesEffect, NamesHearers, NamesOthers, NamesOwed, falls, names};
 ghost use Rattle.hub_core.specs.declared.seat.Removal.TheVariants.{User};
 ghost use Rattle.hub_core.specs.declared.seat.Seat.{Seat};
+ghost use Rattle.hub_rules.specs.declared.effect.Change.TheVariants.{Sender};
 ghost use Rattle.hub_rules.specs.declared.effect.Hearers.TheVariants.{Those};
 ghost use Rattle.hub_rules.specs.Effects.{is_present};
 
@@ -15,7 +16,7 @@ use crate::seat::{Phase, Removal, Seat, find};
 use crate::sid_index::SidIndex;
 use adc_base32::Sid;
 use feature_route::{Audience, FeatureSet};
-use hub_rules::{Change, Effect, Hearers, HubChange};
+use hub_rules::{Change, Effect, Hearers, HubChange, SenderChange};
 use outboxes::Batch;
 use std::alloc::{AllocError, Global};
 
@@ -169,7 +170,7 @@ fn push_owed(
         }
         return Ok(());
     }
-    let lines = lines_owed(alloc, hears, is_caller, effect)?;
+    let lines = lines_owed(alloc, hears, effect)?;
     push_share(shares, place, lines)
 }
 
@@ -191,20 +192,15 @@ fn push_share(shares: &mut Vec<Share>, place: usize, lines: Batch) -> Result<(),
     Ok(())
 }
 
-/// Makes the share of a connection that hears what others hear, or sent the line.
-fn lines_owed(
-    alloc: Global,
-    hears: bool,
-    is_caller: bool,
-    effect: &Effect<'_>,
-) -> Result<Batch, AllocError>
-    ensures { IfOk result (λ share. share ≡ (if hears then effect.now.others else []) ++ (if is_caller then effect.now.own else [])) }
+/// Makes the share of the connection that sent the line, which may hear what others hear.
+fn lines_owed(alloc: Global, hears: bool, effect: &Effect<'_>) -> Result<Batch, AllocError>
+    ensures { IfOk result (λ share. share ≡ (if hears then effect.now.others else []) ++ effect.now.own) }
 {
     let mut share = Batch::new(alloc);
     if hears && share.push_all(&effect.others).is_err() {
         return Err(AllocError);
     }
-    if is_caller && share.push_all(&effect.own).is_err() {
+    if share.push_all(&effect.own).is_err() {
         return Err(AllocError);
     }
     Ok(share)
@@ -271,7 +267,7 @@ pub(crate) fn removal(change: &Change) -> Removal
 }
 
 /// The users whom a call concerned: to whose connections it gave lines, or whom it shut out. It is a hint for those who
-/// wake what waits for lines. Everybody to whom a line or a quit owes lines is named, and maybe somebody too many.
+/// wake what waits for lines. Everybody whom a line or a quit concerned is named, and maybe somebody too many.
 #[derive(Clone, Copy, Debug, PartialEq, Eq)]
 pub enum Touched {
     /// No user.
@@ -284,15 +280,52 @@ pub enum Touched {
     Everybody,
 }
 
-/// Names whom the effect of a line of the connection with this identifier concerns.
-pub(crate) fn touched_by(sid: Sid, effect: &Effect<'_>) -> Touched
-    ensures { NamesOwed result sid effect.now }
+/// Names whom the effect of a line of the connection with this identifier concerns. Whoever is present is told that an
+/// operator shuts a user out.
+pub(crate) fn touched_by_line(sid: Sid, effect: &Effect<'_>) -> Touched
+    ensures { NamesEffect result sid effect.now }
+{
+    match removal(&effect.change) {
+        Removal::User(_) => Touched::Everybody,
+        Removal::Nobody => touched_by(sid, effect),
+    }
+}
+
+/// Names to whom the effect owes lines, and the connection that sent the line where it is shut out.
+fn touched_by(sid: Sid, effect: &Effect<'_>) -> Touched
+    ensures owed { NamesOwed result sid effect.now }
+    ensures fallen { falls effect.now.change ≡ true → names result sid ≡ true }
 {
     let hearing = touched_others(effect);
-    if effect.own.is_empty() {
+    if effect.own.is_empty() && !falls(&effect.change) {
         return hearing;
     }
     with_sender(hearing, sid)
+}
+
+/// Answers whether a change shuts out the connection that sent the line.
+fn falls(change: &Change) -> bool
+    ensures { result ≡ falls change.now }
+{
+    match change {
+        Change::Sender(change) => is_fall(change),
+        Change::Nothing | Change::Hub(_) => false,
+    }
+}
+
+fn is_fall(change: &SenderChange) -> bool
+    ensures { result ≡ falls (Sender change.now) }
+{
+    match change {
+        SenderChange::Falls => true,
+        SenderChange::Greets(_)
+        | SenderChange::Waits(_, _)
+        | SenderChange::Enters
+        | SenderChange::EntersAs(_)
+        | SenderChange::Learns(_)
+        | SenderChange::Updates(_)
+        | SenderChange::Searches(_) => false,
+    }
 }
 
 /// Names who may hear the lines of an effect that are for others.

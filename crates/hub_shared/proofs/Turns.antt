@@ -4,10 +4,12 @@ use Rattle.std.proofs.Math.Seq.{drop-append_seam}
 use Rattle.outboxes.specs.declared.taken.Taken.{Taken}
 use Rattle.one_history.specs.Histories.{Begins}
 use Rattle.one_history.specs.States.{LockState, SeatState}
+use Rattle.hub_core.specs.declared.share.Touched.{Touched}
 use Rattle.hub_core.specs.CoreState.{CoreState}
 use Rattle.hub_core.specs.Moves.{LineMoves, Moves, StandsAt, entry}
 use Rattle.hub_core.specs.Promises.{TakeMoves}
 use Rattle.hub_core.specs.State.{IsSeated, Stands, has_seat}
+use Rattle.hub_core.specs.Touching.{LineTouches, NamesConcerned, Touches}
 use Rattle.hub_core.proofs.Seating.{seated-open}
 use Rattle.hub_rules.specs.declared.history.Call.{Call}
 use Rattle.hub_rules.specs.declared.history.Call.TheVariants.{Line, Take}
@@ -43,11 +45,25 @@ line-stands setup hash h mine core new p c line now verdict at are stays is_line
     let own = is-mine setup hash h mine p c at.legal are stays in
     moves setup hash h p at own.may (is_line ∙ ap (λ x. prepared_line setup hash x line.bytes) (sym own.challenge))
 
+-- whom it concerned is named
+pub line-names : (setup : Configured) (hash : List ℕ → List ℕ) (h mine : List Entry) (core new : CoreState) (p c : ℕ) (line : PreparedLine) (now : ℕ) (reply : Reply)
+    → StandsAt setup hash h core → entries_of p h ≡ mine → has_stayed c mine ≡ true
+    → line ≡ prepared_line setup hash (challenge_in c mine) line.bytes → LineTouches core c line now new
+    → NamesConcerned new.touched setup hash (entry p (Line c line.bytes now) reply ∷ h)
+line-names setup hash h mine core new p c line now reply at are stays is_line touches =
+    let own = is-mine setup hash h mine p c at.legal are stays in
+    touches setup hash h p reply at own.may (is_line ∙ ap (λ x. prepared_line setup hash x line.bytes) (sym own.challenge))
+
 -- another call of one's own connection
 pub own-call : (setup : Configured) (hash : List ℕ → List ℕ) (h mine : List Entry) (core new : CoreState) (p c : ℕ) (call : Call) (reply : Reply)
     → StandsAt setup hash h core → entries_of p h ≡ mine → has_stayed c mine ≡ true → (IsOpenFor (facts setup hash h) p c → MayCall (facts setup hash h) p call)
     → Moves core call reply new → StandsAt setup hash (entry p call reply ∷ h) new
 own-call setup hash h mine core new p c call reply at are stays named moves = moves setup hash h p at (named (is-mine setup hash h mine p c at.legal are stays).may)
+
+pub own-names : (setup : Configured) (hash : List ℕ → List ℕ) (h mine : List Entry) (core new : CoreState) (p c : ℕ) (call : Call) (reply : Reply)
+    → StandsAt setup hash h core → entries_of p h ≡ mine → has_stayed c mine ≡ true → (IsOpenFor (facts setup hash h) p c → MayCall (facts setup hash h) p call)
+    → Touches core call new → NamesConcerned new.touched setup hash (entry p call reply ∷ h)
+own-names setup hash h mine core new p c call reply at are stays named touches = touches setup hash h p reply at (named (is-mine setup hash h mine p c at.legal are stays).may)
 
 pub take-stands : (setup : Configured) (hash : List ℕ → List ℕ) (h mine : List Entry) (core new : CoreState) (p c count : ℕ) (taken : Taken) (before after was is : List ℕ) → before ≡ was → after ≡ is
     → StandsAt setup hash h core → entries_of p h ≡ mine → has_stayed c mine ≡ true → TakeMoves taken c count was is core new
@@ -79,6 +95,15 @@ module _ {H : Type 0} where
 
   pub given-mine : (e : Entry) (old taken new : SeatState Entry (About H)) → Takes old taken → Gives e taken new → new.mine ≡ e ∷ old.mine
   given-mine e old taken new t g = ap (λ (s : SeatState Entry (About H)). s.mine) g.seat ∙ ap (λ (es : List Entry). e ∷ es) (taken-mine old taken t)
+
+  -- whom the entry concerned is named to whoever gave the hub back with it
+  pub given-names : (digest_of : H → List ℕ → List ℕ) (lock : LockState (About H)) (hub : HubState H) (e : Entry) (taken new : SeatState Entry (About H)) (told touched : Touched)
+      → hub_of lock ≡ hub → new ≡ record taken { seen = e ∷ taken.seen; mine = e ∷ taken.mine; holds = false } → told ≡ touched
+      → NamesConcerned touched lock.about.setup.value (digest_of lock.about.hash.value) (e ∷ taken.seen) → NamesConcerned told hub.setup (digest_of hub.hash) new.seen
+  given-names digest_of lock hub e taken new told touched is_hub is_new is_told named =
+      subst (λ (h : HubState H). NamesConcerned told h.setup (digest_of h.hash) new.seen) is_hub
+      (subst (λ (s : SeatState Entry (About H)). NamesConcerned told lock.about.setup.value (digest_of lock.about.hash.value) s.seen) (sym is_new)
+      (subst (λ t. NamesConcerned t lock.about.setup.value (digest_of lock.about.hash.value) (e ∷ taken.seen)) (sym is_told) named))
 
   -- a line that was made ready as the call asks
   pub ready : (digest_of : H → List ℕ → List ℕ) (lock : LockState (About H)) (hub : HubState H) (seat : SeatState Entry (About H)) (c : ℕ) (pass : PassState H)

@@ -4,6 +4,7 @@ ghost use Rattle.hub_rules.specs.History.{view};
 ghost use Rattle.hub_rules.specs.Prepared.{prepared_line};
 ghost use Rattle.hub_shared.specs.Calls.{SaysLine, Saw, TakesLines, behind};
 ghost use Rattle.hub_core.specs.Moves.{StandsAt};
+ghost use Rattle.hub_core.specs.Touching.{NamesConcerned};
 ghost use Rattle.hub_rules.specs.Legal.{Legal};
 ghost use Rattle.hub_shared.specs.Connections.{entries_of};
 ghost use Rattle.one_history.specs.States.{IsHolderAt};
@@ -40,8 +41,8 @@ impl<H> Model for Pass<H> {
 
 impl<H> Pass<H> {
     /// Names whom the pass's last call concerned: to whose connections it gave lines, or whom it shut out. A hint for those
-    /// who wake what waits for lines: it may name somebody too many, and no promise rests on it. It takes no memory. After
-    /// a join, a take, a look or a refusal it names nobody.
+    /// who wake what waits for lines: what `line_touching` answered, or would have. It takes no memory. After a join, a take,
+    /// a look or a refusal it names nobody.
     pub fn touched(&self) -> Touched {
         self.touched
     }
@@ -90,13 +91,39 @@ impl<H: SessionHash> Hub<H> {
         ensures made { IfOk result (λ verdict. SaysLine self.now.setup (H.digest_of self.now.hash) pass.old line.now.bytes now verdict pass.new.caller) }
         ensures refused { OnErr result (Saw self.now.setup (H.digest_of self.now.hash) pass.old.caller pass.new.caller) }
     {
+        match self.line_touching(rt, alloc, pass, line, now) {
+            Ok((verdict, _)) => Ok(verdict),
+            Err(refused) => Err(refused),
+        }
+    }
+
+    /// Handles a line as `line` does, and names whom it concerned: each connection for which more lines wait than before it,
+    /// which lags since, or which it shut out. It may name somebody too many.
+    ///
+    /// Refused as `line` is.
+    pub fn line_touching<R: Wait>(
+        &self,
+        rt: &R,
+        alloc: Global,
+        pass: &mut Pass<H>,
+        line: &Prepared,
+        now: u64,
+    ) -> Result<(Verdict, Touched), LineRefused>
+        requires here { pass.old.home ≡ self.now.home }
+        requires prepared { line.now ≡ prepared_line self.now.setup (H.digest_of self.now.hash) pass.old.challenge line.now.bytes }
+        ensures same { pass.new ≡ record pass.old { caller = pass.new.caller } }
+        ensures made { IfOk result (λ said. SaysLine self.now.setup (H.digest_of self.now.hash) pass.old line.now.bytes now said.0 pass.new.caller) }
+        ensures touched { IfOk result (λ said. NamesConcerned said.1 self.now.setup (H.digest_of self.now.hash) pass.new.caller.seen) }
+        ensures refused { OnErr result (Saw self.now.setup (H.digest_of self.now.hash) pass.old.caller pass.new.caller) }
+    {
         let mut core = self.lock.take(rt, &mut pass.seat);
         match core.line(alloc, pass.connection, line, now) {
             Ok(verdict) => {
                 pass.touched = core.touched();
+                let touched = core.touched();
                 let note = (pass.connection, Snapshot::of(line), now, verdict);
                 enter::<Brand, H, _>(&self.lock, &mut pass.seat, core, &note);
-                Ok(verdict)
+                Ok((verdict, touched))
             }
             Err(refused) => {
                 pass.touched = Touched::Nobody;
@@ -130,7 +157,7 @@ impl<H: SessionHash> Hub<H> {
         let mut core = self.lock.take(rt, &mut pass.seat);
         match core.take(pass.connection, count, out) {
             Ok(taken) => {
-                pass.touched = core.touched();
+                pass.touched = Touched::Nobody;
                 let note = (pass.connection, count, before, Snapshot::of(&*out), taken);
                 enter::<Brand, H, _>(&self.lock, &mut pass.seat, core, &note);
                 Ok(taken)

@@ -1,12 +1,13 @@
 ghost use Rattle.std.specs.Prelude.{◌≡◌, IfOk, IfErr};
 ghost use Rattle.hub_rules.specs.declared.history.Call.TheVariants.{Join, Quit};
 ghost use Rattle.hub_rules.specs.declared.history.Reply.TheVariants.{Joined, Left};
+ghost use Rattle.hub_core.specs.Touching.{NamesConcerned};
 ghost use Rattle.hub_shared.specs.Calls.{Made, Refused};
 
 use crate::calls::{Pass, enter};
 use crate::hub::Hub;
 use crate::visitor::Visitor;
-use hub_core::JoinRefused;
+use hub_core::{JoinRefused, Touched};
 use session_hash::SessionHash;
 use std::alloc::Global;
 use std::marker::Brand;
@@ -36,7 +37,8 @@ impl<H: SessionHash> Hub<H> {
         let mut seat = visitor.into_idle();
         let mut core = self.lock.take(rt, &mut seat);
         let answer = core.join(alloc, peer, challenge, now);
-        let touched = core.touched();
+        // A join concerns nobody.
+        let touched = Touched::Nobody;
         if let Err(JoinRefused::Memory) = answer {
             self.lock.put_back(&mut seat, core);
             return Err((JoinRefused::Memory, Visitor { seat, touched }));
@@ -60,11 +62,28 @@ impl<H: SessionHash> Hub<H> {
         ensures visitor { result ≡ record { home = pass.home; caller = result.caller } }
         ensures made { Made self.now.setup (H.digest_of self.now.hash) pass.caller (Quit pass.connection) Left result.caller }
     {
+        let (visitor, _) = self.quit_touching(rt, pass);
+        visitor
+    }
+
+    /// Lets the pass's connection go as `quit` does, and names whom that concerned: each connection for which more lines
+    /// wait than before, or which lags since. It may name somebody too many.
+    pub fn quit_touching<R: Wait>(&self, rt: &R, pass: Pass<H>) -> (Visitor<H>, Touched)
+        requires here { pass.home ≡ self.now.home }
+        ensures visitor { result.0 ≡ record { home = pass.home; caller = result.0.caller } }
+        ensures made { Made self.now.setup (H.digest_of self.now.hash) pass.caller (Quit pass.connection) Left result.0.caller }
+        ensures touched { NamesConcerned result.1 self.now.setup (H.digest_of self.now.hash) result.0.caller.seen }
+    {
         let (mut seat, connection) = pass.into_parts();
         let mut core = self.lock.take(rt, &mut seat);
         core.quit(connection);
         let touched = core.touched();
+        let kept = core.touched();
         enter::<Brand, H, _>(&self.lock, &mut seat, core, &connection);
-        Visitor { seat, touched }
+        let visitor = Visitor {
+            seat,
+            touched: kept,
+        };
+        (visitor, touched)
     }
 }

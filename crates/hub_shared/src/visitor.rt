@@ -26,7 +26,7 @@ impl<H> Model for Visitor<H> {
 
 impl<H> Visitor<H> {
     /// Names whom the visitor's last call concerned, which was the quit of its connection or a join that was refused. A
-    /// hint, as that of a pass.
+    /// hint, as that of a pass: what `quit_touching` answered, or would have.
     pub fn touched(&self) -> Touched {
         self.touched
     }

@@ -19,7 +19,7 @@ returns-in-Some-find g c = λ h follows.
     let hash = g.H.SessionHash.digest_of c.args.hash.now in
     subst (λ (call : written_call.Call). MadeAs c.args.setup.now hash h c.args.caller (call_of call) (Some Left) c.quit.new.self c.args.joined.now.items) (sym c.in-Quit.is)
     (made-quit c.args.setup.now hash h c.args.core.now c.quit.new.self c.args.joined.now.items c.args.caller c.in-Quit.connection c.in-Some-find.found Left
-    follows (c.in-Some-find.ensures.finds c.args.setup.now hash h (subst (Follows c.args.setup.now hash h c.args.core.now) (sym c.deref-in-Quit.ensures.value) follows)) refl c.quit.ensures)
+    follows (c.in-Some-find.ensures.finds c.args.setup.now hash h (subst (Follows c.args.setup.now hash h c.args.core.now) (sym c.deref-in-Quit.ensures.value) follows)) refl c.quit.ensures.moves)
 
 pub returns-in_ok-take-in-Some-find-2 : goal.returns-in_ok-take-in-Some-find-2
 returns-in_ok-take-in-Some-find-2 g c = λ h follows.

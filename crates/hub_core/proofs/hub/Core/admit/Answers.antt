@@ -41,10 +41,10 @@ returns c =
     (omega (arith, c.if-self.false, c.self.ranges, joins))
     (c.next_free-sid.ensures.exact
     ∙ ap₂ next_free (ap (λ (s : CoreState). s.last) c.self.view_is) (c.deref-3.ensures.value ∙ c.in_ok-taken.ensures ∙ ap sids_in (c.deref-2.ensures.value ∙ seats)))
-    (ap (λ (ss : List Seat). record { setup = arc_value c.self.inside.setup; joins = c.self.inside.joins + 1; last = c.number-self-inside.result; seats = ss; users = c.self.inside.commons.present.users; bans = c.self.inside.commons.bans; topic = c.self.inside.commons.topic })
+    (ap (λ (ss : List Seat). record { setup = arc_value c.self.inside.setup; joins = c.self.inside.joins + 1; last = c.number-self-inside.result; seats = ss; users = c.self.inside.commons.present.users; bans = c.self.inside.commons.bans; topic = c.self.inside.commons.topic; touched = c.self.inside.touched })
     (c.in_ok-add.ensures.seats
     ∙ ap (λ (seat : Seat). c.self.inside.seats.items ++ seat ∷ []) (c.new-seat.ensures ∙ ap (λ (o : Backlog). record (new_seat (c.self.inside.joins + 1) c.next_free-sid.result c.args.peer c.args.challenge) { outbox = o }) c.in_ok-outbox.ensures))
-    ∙ ap (λ n. record { setup = arc_value c.self.inside.setup; joins = c.self.inside.joins + 1; last = n; seats = c.self.inside.seats.items ++ new_seat (c.self.inside.joins + 1) c.next_free-sid.result c.args.peer c.args.challenge ∷ []; users = c.self.inside.commons.present.users; bans = c.self.inside.commons.bans; topic = c.self.inside.commons.topic })
+    ∙ ap (λ n. record { setup = arc_value c.self.inside.setup; joins = c.self.inside.joins + 1; last = n; seats = c.self.inside.seats.items ++ new_seat (c.self.inside.joins + 1) c.next_free-sid.result c.args.peer c.args.challenge ∷ []; users = c.self.inside.commons.present.users; bans = c.self.inside.commons.bans; topic = c.self.inside.commons.topic; touched = c.self.inside.touched })
     c.number-self-inside.ensures.exact
     ∙ ap (joined_core c.next_free-sid.result c.args.peer c.args.challenge) c.self.view_is)
 

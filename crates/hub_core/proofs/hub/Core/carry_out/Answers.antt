@@ -24,10 +24,10 @@ returns-clause-ok c =
     delivered-owed c.removal-removal.result (seat_share c.args.number c.args.effect) c.self.inside.seats.items c.deref.result.now c.deref_mut.result.now c.deliver.new.seats c.in_ok-shares.shares.items
     c.deliver.ensures c.in_ok-shares.ensures c.deref.ensures.value
     (sym (ap length c.deref_mut.ensures.value ∙ length-set c.self.inside.seats.items c.args.place c.change.new.seat)) in
-    ap (λ seats. record { setup = arc_value c.self.inside.setup; joins = c.self.inside.joins; last = c.self.inside.last; seats = seats; users = c.change.new.self.present.users; bans = c.change.new.self.bans; topic = c.change.new.self.topic })
+    ap (λ seats. record { setup = arc_value c.self.inside.setup; joins = c.self.inside.joins; last = c.self.inside.last; seats = seats; users = c.change.new.self.present.users; bans = c.change.new.self.bans; topic = c.change.new.self.topic; touched = c.self.inside.touched })
     (with_items_is (with_item c.self.inside.seats c.args.place c.change.new.seat) c.deliver.new.seats
     (ap length given ∙ length-delivered c.removal-removal.result c.deref_mut.result.now (map (seat_share c.args.number c.args.effect) c.self.inside.seats.items) ∙ c.deref_mut.ensures.len))
-    ∙ carried-as (record { setup = arc_value c.self.inside.setup; joins = c.self.inside.joins; last = c.self.inside.last; seats = c.self.inside.seats.items; users = c.self.inside.commons.present.users; bans = c.self.inside.commons.bans; topic = c.self.inside.commons.topic })
+    ∙ carried-as (record { setup = arc_value c.self.inside.setup; joins = c.self.inside.joins; last = c.self.inside.last; seats = c.self.inside.seats.items; users = c.self.inside.commons.present.users; bans = c.self.inside.commons.bans; topic = c.self.inside.commons.topic; touched = c.self.inside.touched })
     c.args.number c.args.effect c.args.place c.index_mut-seat.result.now c.change.new.seat c.deliver.new.seats c.change.new.self.present.users c.change.new.self.bans c.change.new.self.topic
     at c.index_mut-seat.ensures.value
     c.in_ok-change.ensures.seat

@@ -1,7 +1,9 @@
 use Rattle.std.proofs.Common.{◌≡◌, ◌∙◌, refl, ap, length, take}
 use Rattle.std.specs.Arc.{arc_value}
 use Rattle.std.specs.List.{concat}
-use Rattle.hub_core.specs.CoreState.{CoreState}
+use Rattle.hub_core.specs.declared.share.Touched.TheVariants.{Nobody}
+use Rattle.hub_core.specs.CoreState.{CoreState, noted}
+use Rattle.hub_core.proofs.Concerned.{take-touches}
 use Rattle.hub_core.specs.Leaving.{has_ended, core_after_take, lines_in}
 use Rattle.hub_core.proofs.Standing.{take-moves}
 use Rattle.hub_core.specs.Index.{keys}
@@ -19,13 +21,18 @@ returns c =
       moves = (
         concat (take c.args.count (lines_in c.connection.inside.number c.self.inside.seats.items)),
         c.in_ok-taken.ensures.bytes,
-        take-moves _ _ _ _ _ _ _
-            (ap (λ s. record { setup = arc_value c.self.inside.setup; joins = c.self.inside.joins; last = c.self.inside.last; seats = s; users = c.self.inside.commons.present.users; bans = c.self.inside.commons.bans; topic = c.self.inside.commons.topic }) c.in_ok-taken.ensures.ok
-            ∙ ap (λ (core : CoreState). core_after_take c.connection.inside.number c.args.count core) c.self.view_is
-            ∙ ap (λ n. core_after_take n c.args.count c.args.self.now) c.connection.view_is)
+        take-moves _ _ _ _ _ _ _ Nobody
+            (ap (λ s. record { setup = arc_value c.self.inside.setup; joins = c.self.inside.joins; last = c.self.inside.last; seats = s; users = c.self.inside.commons.present.users; bans = c.self.inside.commons.bans; topic = c.self.inside.commons.topic; touched = Nobody }) c.in_ok-taken.ensures.ok
+            ∙ ap (λ (core : CoreState). noted Nobody (core_after_take c.connection.inside.number c.args.count core)) c.self.view_is
+            ∙ ap (λ n. noted Nobody (core_after_take n c.args.count c.args.self.now)) c.connection.view_is)
             (ap (λ m. concat (take c.args.count m)) lines)
             (c.in_ok-taken.ensures.lines ∙ ap (λ m. length (take c.args.count m)) lines)
             (c.in_ok-taken.ensures.ended ∙ ap (has_ended c.connection.inside.number c.args.count) seats ∙ ap (λ n. has_ended n c.args.count c.args.self.now.seats) c.connection.view_is),
+      );
+      touched = (
+        refl,
+        take-touches c.args.self.now (record { setup = arc_value c.self.inside.setup; joins = c.self.inside.joins; last = c.self.inside.last; seats = c.take_lines.new.seats.items; users = c.self.inside.commons.present.users; bans = c.self.inside.commons.bans; topic = c.self.inside.commons.topic; touched = Nobody })
+            c.args.connection c.args.count,
       );
       err = tt;
     }
