@@ -24,8 +24,9 @@ const MOST_READS: u32 = 1_048_576;
 /// or once nothing more will come from the hub, as the connection was shut out or was owed more at once than may wait. All
 /// that it is owed is written then, and what the reader has left is not read.
 ///
-/// Refused: `Memory`; `Read` at a read that failed; `Write` at a write or a flush that failed; `TooLong` where a line has over 65,536 bytes, once those before it were answered
-/// (ADC 1.0, "Message syntax"); `Turns` after 1,048,576 reads.
+/// Refused: `Memory`; `Read` where a read failed; `Write` where a write or a flush failed, or a write took no byte of some;
+/// `TooLong` where a line has over 65,536 bytes, once those before it were answered (ADC 1.0, "Message syntax"); `Turns`
+/// after 1,048,576 reads.
 pub fn run_one<H: SessionHash, R: CountedRead, W: CountedWrite>(
     alloc: Global,
     setup: Arc<Setup>,
