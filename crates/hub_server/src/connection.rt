@@ -69,11 +69,10 @@ impl<'a, B: OfHub<H>, S: AsyncRead + AsyncWrite, H: SessionHash, R: Wait + Clock
 
     /// Wakes those whom the last line concerned. A client's lines often come together, so where one is for everybody,
     /// they are woken once for all, by the take that follows.
-    fn wake(&mut self)
+    fn wake(&mut self, touched: Touched)
         ensures server { self.new.server ≡ self.old.server }
         ensures pass { self.new.pass ≡ self.old.pass }
     {
-        let touched = self.pass.touched();
         // Before it has a session identifier, a connection's lines concern nobody but itself.
         if !self.is_named
             && let Touched::One(sid) = touched
@@ -146,10 +145,10 @@ impl<B: OfHub<H>, S: AsyncRead + AsyncWrite, H: SessionHash, R: Wait + Clock> Po
         let server = self.server;
         let prepared = prepare_line(alloc, server.setup, server.hash, self.challenge, line)?;
         let now = moment(server.rt);
-        let verdict = server
+        let (verdict, touched) = server
             .hub
-            .line(server.rt, alloc, &mut self.pass, &prepared, now)?;
-        self.wake();
+            .line_touching(server.rt, alloc, &mut self.pass, &prepared, now)?;
+        self.wake(touched);
         Ok(verdict)
     }
 
@@ -175,8 +174,8 @@ impl<B: OfHub<H>, S: AsyncRead + AsyncWrite, H: SessionHash, R: Wait + Clock> Po
             is_named: _,
             owes_wake: _,
         } = self;
-        let visitor = server.hub.quit(server.rt, pass);
-        wake_touched(&server.shared.wakers, visitor.touched(), slot);
+        let (visitor, touched) = server.hub.quit_touching(server.rt, pass);
+        wake_touched(&server.shared.wakers, touched, slot);
         LeftSlot { visitor, slot }
     }
 }
