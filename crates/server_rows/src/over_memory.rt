@@ -68,7 +68,11 @@ impl AsyncWrite for Wire<'_> {
 }
 
 /// Tells how the session of a hub's only connection ends, and what it writes; nothing where memory was refused.
-fn session<B: OfHub<First24>, R: Wait + Clock + RandomSource + AllocGlobal>(
+fn session<
+    B: OfHub<First24>,
+    S: AsyncRead + AsyncWrite,
+    R: Wait + Clock + RandomSource + AllocGlobal,
+>(
     rt: &R,
     hub: &Hub<First24>,
     host: &mut Host<First24>,
@@ -85,7 +89,7 @@ fn session<B: OfHub<First24>, R: Wait + Clock + RandomSource + AllocGlobal>(
         return None;
     };
     let free = Vec::new(rt.alloc());
-    let server = Server::<B, Wire<'_>, First24, R>::new(
+    let server = Server::<B, S, First24, R>::new(
         rt.alloc(),
         rt,
         hub,
@@ -114,7 +118,7 @@ fn attempt<R: Wait + Clock + RandomSource + AllocGlobal>(
     let setup = Setup::new(rt.alloc(), &options).ok()?;
     let setup = Arc::new(rt.alloc(), setup).ok()?;
     let (hub, mut host) = Hub::open(rt.alloc(), setup.clone().ok()?, &First24).ok()?;
-    match session::<Brand, R>(rt, &hub, &mut host, &setup, input) {
+    match session::<Brand, Wire<'_>, R>(rt, &hub, &mut host, &setup, input) {
         Some((End::Memory, _)) | None => None,
         Some(ended) => Some(ended),
     }

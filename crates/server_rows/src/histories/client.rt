@@ -18,7 +18,6 @@ use std::marker::PhantomData;
 use std::sync::Wait;
 use std::thread::yield_now;
 use tokio::io::{AsyncRead, AsyncWrite};
-use tokio::net::TcpStream;
 
 const CHALLENGE: [u8; 24] = [0; 24];
 
@@ -153,10 +152,10 @@ impl<P: Port, R: Wait> Port for Recorder<'_, P, R> {
     }
 }
 
-/// The session of a client.
-pub(crate) type Talk<'a, B, R> = Session<
+/// The session of a client, of a server whose own sockets are streams `S`.
+pub(crate) type Talk<'a, B, S, R> = Session<
     Wire<'a, R>,
-    Recorder<'a, Connection<'a, B, TcpStream, First24, StillClock<R>>, R>,
+    Recorder<'a, Connection<'a, B, S, First24, StillClock<R>>, R>,
     SlotBell<'a>,
 >;
 
@@ -181,15 +180,15 @@ impl<B: OfHub<First24>> Guest<B> {
 }
 
 /// Makes a step that is a join. The client gets no session where the hub is full; nothing is given where memory was refused.
-pub(crate) fn joins<'a, B: OfHub<First24>, R: Wait>(
+pub(crate) fn joins<'a, B: OfHub<First24>, S: AsyncRead + AsyncWrite, R: Wait>(
     alloc: Global,
     hub: &Hub<First24>,
-    server: &'a Server<'a, B, TcpStream, First24, StillClock<R>>,
+    server: &'a Server<'a, B, S, First24, StillClock<R>>,
     desk: &'a Desk<R>,
     steps: &'a [Step<'a>],
     step: Step<'a>,
     guest: Guest<B>,
-) -> Option<Option<Talk<'a, B, R>>>
+) -> Option<Option<Talk<'a, B, S, R>>>
     requires { B.home ≡ Some hub.now.home }
 {
     let Deed::Joins(address) = step.deed else {
@@ -214,14 +213,14 @@ pub(crate) fn joins<'a, B: OfHub<First24>, R: Wait>(
 }
 
 /// Begins the session of a client that joined.
-fn begins<'a, B: OfHub<First24>, R: Wait>(
+fn begins<'a, B: OfHub<First24>, S: AsyncRead + AsyncWrite, R: Wait>(
     alloc: Global,
     desk: &'a Desk<R>,
     steps: &'a [Step<'a>],
-    port: Connection<'a, B, TcpStream, First24, StillClock<R>>,
+    port: Connection<'a, B, S, First24, StillClock<R>>,
     who: u64,
     number: u64,
-) -> Option<Talk<'a, B, R>> {
+) -> Option<Talk<'a, B, S, R>> {
     let wire = Wire {
         desk,
         steps,

@@ -17,6 +17,7 @@ use std::net::Ipv4Addr;
 use std::random::RandomSource;
 use std::sync::{Arc, Wait};
 use std::thread::{Threads, for_each_mut};
+use tokio::io::{AsyncRead, AsyncWrite};
 use tokio::net::TcpStream;
 
 /// The number of clients of a conversation at most.
@@ -91,12 +92,12 @@ where
     let steps = read_steps(rt.alloc(), text)?;
     let desk = Desk::new(rt.alloc());
     let (hub, mut host) = Hub::open(rt.alloc(), setup.clone().ok()?, &First24).ok()?;
-    converses::<Brand, R>(rt, &hub, &mut host, setup, &desk, &steps, way)?;
+    converses::<Brand, TcpStream, R>(rt, &hub, &mut host, setup, &desk, &steps, way)?;
     desk.into_history()
 }
 
 /// Plays these steps on this hub, whose host has admitted nobody.
-fn converses<'a, B: OfHub<First24> + Send + Sync, R>(
+fn converses<'a, B: OfHub<First24> + Send + Sync, S: AsyncRead + AsyncWrite + Send, R>(
     rt: &R,
     hub: &'a Hub<First24>,
     host: &mut Host<First24>,
@@ -113,7 +114,7 @@ where
 {
     let guests = admits::<B>(rt.alloc(), hub, host)?;
     let free = Vec::new(rt.alloc());
-    let server = Server::<B, TcpStream, First24, StillClock<R>>::new(
+    let server = Server::<B, S, First24, StillClock<R>>::new(
         rt.alloc(),
         &desk.clock,
         hub,
@@ -144,10 +145,10 @@ fn admits<B: OfHub<First24>>(
 
 /// Makes the steps one after the other. On one thread its client goes on as far as it can after each, and then all others;
 /// otherwise each goes on by itself once all have joined, on a thread of its own.
-fn make_steps<'a, B: OfHub<First24> + Send + Sync, R>(
+fn make_steps<'a, B: OfHub<First24> + Send + Sync, S: AsyncRead + AsyncWrite + Send, R>(
     rt: &R,
     hub: &Hub<First24>,
-    server: &'a Server<'a, B, TcpStream, First24, StillClock<R>>,
+    server: &'a Server<'a, B, S, First24, StillClock<R>>,
     desk: &'a Desk<R>,
     steps: &'a [Step<'a>],
     way: Way,
@@ -179,10 +180,10 @@ where
 }
 
 /// Polls all sessions until they are over, each on a thread of its own.
-fn go_apart<B: OfHub<First24> + Send + Sync, R>(
+fn go_apart<B: OfHub<First24> + Send + Sync, S: AsyncRead + AsyncWrite + Send, R>(
     rt: &R,
     desk: &Desk<R>,
-    talks: &mut Vec<Option<Talk<'_, B, R>>>,
+    talks: &mut Vec<Option<Talk<'_, B, S, R>>>,
 )
 where
     R: Wait + Threads + RandomSource + AllocGlobal + Sync,
