@@ -137,7 +137,11 @@ pub(crate) fn asks<
     let left = run(rt, words, broken);
     let asked = Asked { words, broken };
     asked.holds(rt, left.status == status, "status");
-    asked.holds(rt, left.output.get_ref().got.as_slice() == output, "standard output");
+    asked.holds(
+        rt,
+        left.output.get_ref().got.as_slice() == output,
+        "standard output",
+    );
     asked.holds(rt, left.errors.got.as_slice() == errors, "standard error");
     asked.holds(rt, status != 0 || left.errors.calls == 0, "calls");
 }
