@@ -147,8 +147,8 @@ impl Bells {
         wake_those(&mut self.bells, &self.waiting, own);
         self.rings = rings;
         self.waiting.clear();
-        let is_kept = put_among(&mut self.waiting, own, false);
         if let Some(bell) = self.bells.get_mut(own) {
+            let is_kept = put_among(&mut self.waiting, own, false);
             bell.pass_over(rings, is_kept);
         }
     }

@@ -149,6 +149,7 @@ impl Slots {
         ensures rung { IsRung self.new.bells slot }
         ensures woken { IsAwake self.new.bells slot }
         ensures others { OthersStay self.old.bells self.new.bells slot }
+        ensures held { self.new.held ≡ self.old.held }
     {
         self.bells.ring(slot);
     }
@@ -236,7 +237,7 @@ impl Slots {
         ensures others { OthersStay self.old.bells self.new.bells place }
         ensures held { self.new.held ≡ self.old.held }
     {
-        self.bells.ring(place);
+        self.wake_slot(place);
         if let Some(slot) = self.slots.get_mut(place) {
             slot.is_held = false;
         }

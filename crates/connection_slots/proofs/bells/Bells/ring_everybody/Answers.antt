@@ -31,7 +31,7 @@ invariant_of-self-in_default-get_mut c =
     let lt : c.args.self.now.rings < c.in-Some.rings = let next : c.in-Some.rings ≡ c.args.self.now.rings + 1 = c.in-Some.ensures.1 in omega (arith, next) in
     let past : length c.wake_those.new.bells.items ≤ c.args.own = grind (arith, c.in_default-get_mut.ensures.variant) in
     record {
-      are_bells = λ slot bell got. others_are c.args.own c.wake_those.new.bells.items c.put_among-is_kept.new.slots.items c.args.self.now.rings c.in-Some.rings lt c.wake_those.ensures.woken heard slot bell got
+      are_bells = λ slot bell got. others_are c.args.own c.wake_those.new.bells.items c.clear.new.self.items c.args.self.now.rings c.in-Some.rings lt c.wake_those.ensures.woken heard slot bell got
           (not_past c.wake_those.new.bells.items c.args.own past slot bell got);
     }
 
