@@ -5,6 +5,7 @@
 mod accept_error;
 mod accept_waker;
 mod backlog;
+mod bells;
 mod descriptors;
 mod handoff;
 mod lifecycle;

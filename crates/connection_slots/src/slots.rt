@@ -1,25 +1,21 @@
-ghost use Rattle.std.specs.Prelude.{◌≡◌, false};
+ghost use Rattle.std.specs.Prelude.{◌≡◌, ◌≢◌, ℕ, false, IsTrue, slice_get};
 ghost use Rattle.futures.specs.Task.{IsArmed, Keeps};
+ghost use Rattle.connection_slots.specs.Bells.{is_among};
+ghost use Rattle.connection_slots.specs.Rung.{IsRung, HasHeard, IsAwake, Rests, OthersStay, SameSlots, StaysRung};
 
 use crate::accept_waker::AcceptWaker;
 use crate::backlog::{Backlog, Throttle};
+use crate::bells::Bells;
 use adc_base32::Sid;
 use futures::task::{Context, Poll, Source, Waker};
 use std::alloc::{AllocError, Global};
 use std::collections::BTreeMap;
 
-/// The state of the session that has a slot, as far as its waking needs it.
+/// The state of the session that has a slot, beside its bell.
 #[derive(Drop)]
 struct Slot {
     // The identifier by which it is woken alone. Nobody can mean it before it has one that others know.
     sid: Option<Sid>,
-    // The number of wakes of everybody that it has heard.
-    heard: u64,
-    is_called: bool,
-    // Where it is dropped, the task is woken: so it is set to `None` to wake.
-    waker: Option<Waker>,
-    // It is among those that wait.
-    waits: bool,
     // It is among those that give way.
     is_held: bool,
     // That of its client; nobody is waited for where the slot is free.
@@ -29,15 +25,12 @@ struct Slot {
 /// The slots of all sessions, under the lock of `Wakers`.
 #[derive(Drop)]
 pub(crate) struct Slots {
+    bells: Bells,
     slots: Vec<Slot>,
     // The slots by the identifiers of their sessions.
     places: BTreeMap<Sid, usize>,
     // There was no memory to put one there, so all slots are looked at.
     lacks_some: bool,
-    // The number of wakes that were of everybody.
-    wakes: u64,
-    // The slots that have left a waker, and maybe some that were woken since.
-    waiting: Vec<usize>,
     // Those that give way.
     held: Vec<usize>,
     ticks: u64,
@@ -60,20 +53,15 @@ impl Slots {
         for _slot in 0..count {
             slots.push(Slot {
                 sid: None,
-                heard: 0,
-                is_called: false,
-                waker: None,
-                waits: false,
                 is_held: false,
                 backlog: None,
             })?;
         }
         Ok(Slots {
+            bells: Bells::new(alloc, count)?,
             slots,
             places: BTreeMap::new(alloc),
             lacks_some: false,
-            wakes: 0,
-            waiting: Vec::with_capacity(alloc, count)?,
             held: Vec::with_capacity(alloc, count)?,
             ticks: 0,
             ticker: None,
@@ -82,8 +70,13 @@ impl Slots {
     }
 
     /// Gives the slot to another session, of a client with this backlog, or to none.
-    pub(crate) fn clear(&mut self, slot: usize, backlog: Option<Backlog>) {
-        let (place, wakes) = (slot, self.wakes);
+    pub(crate) fn clear(&mut self, slot: usize, backlog: Option<Backlog>)
+        ensures heard { HasHeard self.new.bells slot }
+        ensures woken { IsAwake self.new.bells slot }
+        ensures others { OthersStay self.old.bells self.new.bells slot }
+    {
+        self.bells.reset(slot);
+        let place = slot;
         if let Some(slot) = self.slots.get_mut(place) {
             if let Some(sid) = slot.sid
                 && self.places.get(&sid).copied() == Some(place)
@@ -91,15 +84,14 @@ impl Slots {
                 self.places.remove(&sid);
             }
             slot.sid = None;
-            slot.heard = wakes;
-            slot.is_called = false;
-            slot.waker = None;
             slot.backlog = backlog;
         }
     }
 
     /// Notes the identifier by which the session of this slot is known.
-    pub(crate) fn name(&mut self, slot: usize, sid: Sid) {
+    pub(crate) fn name(&mut self, slot: usize, sid: Sid)
+        ensures { self.new.bells ≡ self.old.bells }
+    {
         let place = slot;
         if let Some(slot) = self.slots.get_mut(place) {
             slot.sid = Some(sid);
@@ -127,12 +119,15 @@ impl Slots {
     }
 
     /// Wakes the session of a slot, which was given a line. Answers whether it is behind.
-    fn wake_for_line(&mut self, place: usize, said: u64) -> bool {
+    fn wake_for_line(&mut self, place: usize, said: u64) -> bool
+        ensures rung { IsRung self.new.bells place }
+        ensures woken { IsAwake self.new.bells place }
+        ensures others { OthersStay self.old.bells self.new.bells place }
+    {
+        self.bells.ring(place);
         let Some(slot) = self.slots.get_mut(place) else {
             return false;
         };
-        slot.is_called = true;
-        slot.waker = None;
         if let Some(backlog) = &mut slot.backlog {
             backlog.give();
         }
@@ -140,67 +135,41 @@ impl Slots {
     }
 
     /// Wakes everybody but the session of this slot.
-    pub(crate) fn wake_everybody(&mut self, own: usize) {
-        let before = self.wakes;
-        self.wakes = before.wrapping_add(1);
-        let mut own_waits = false;
-        while let Some(place) = self.waiting.pop() {
-            if place == own {
-                own_waits = true;
-            } else if let Some(slot) = self.slots.get_mut(place) {
-                slot.waits = false;
-                slot.waker = None;
-            }
-        }
-        let is_kept = own_waits && self.waiting.push(own).is_ok();
-        let wakes = self.wakes;
-        if let Some(slot) = self.slots.get_mut(own) {
-            slot.waits = is_kept;
-            if !is_kept {
-                slot.waker = None;
-            }
-            if slot.heard == before {
-                slot.heard = wakes;
-            }
-        }
+    pub(crate) fn wake_everybody(&mut self, own: usize)
+        ensures rung { (slot : ℕ) → slot ≢ own → IsRung self.new.bells slot }
+        ensures woken { (slot : ℕ) → slot ≢ own → IsAwake self.new.bells slot }
+        ensures own { StaysRung self.old.bells self.new.bells own }
+        ensures slots { SameSlots self.old.bells self.new.bells }
+    {
+        self.bells.ring_everybody(own);
     }
 
     /// Wakes the session of one slot.
-    pub(crate) fn wake_slot(&mut self, slot: usize) {
-        if let Some(slot) = self.slots.get_mut(slot) {
-            slot.is_called = true;
-            slot.waker = None;
-        }
+    pub(crate) fn wake_slot(&mut self, slot: usize)
+        ensures rung { IsRung self.new.bells slot }
+        ensures woken { IsAwake self.new.bells slot }
+        ensures others { OthersStay self.old.bells self.new.bells slot }
+        ensures held { self.new.held ≡ self.old.held }
+    {
+        self.bells.ring(slot);
     }
 
     /// Answers whether this slot was woken since the last `true`. Where it was not, the next wake wakes the task.
     pub(crate) fn was_woken(&mut self, slot: usize, cx: &mut Context<'_>, source: &Source) -> bool
+        ensures seen { result ≡ false → HasHeard self.old.bells slot }
+        ensures heard { HasHeard self.new.bells slot }
+        ensures rests { result ≡ false → Rests self.new.bells slot cx.old cx.new }
+        ensures others { OthersStay self.old.bells self.new.bells slot }
         ensures registered { result ≡ false → IsArmed cx.new }
         ensures kept { Keeps cx.old cx.new }
     {
-        let place = slot;
-        let Some(slot) = self.slots.get_mut(place) else {
-            let _: Poll<()> = cx.yield_now();
-            return false;
-        };
-        if slot.is_called || slot.heard != self.wakes {
-            slot.is_called = false;
-            slot.heard = self.wakes;
-            return true;
-        }
-        if !slot.waits {
-            // With no room to be found again, the session looks for itself.
-            if self.waiting.push(place).is_err() {
-                return true;
-            }
-            slot.waits = true;
-        }
-        let _: Poll<()> = cx.register(source, &mut slot.waker);
-        false
+        self.bells.was_rung(slot, cx, source)
     }
 
     /// Counts `lines` taken for the session of this slot.
-    pub(crate) fn count_taken(&mut self, slot: usize, said: u64, lines: u64, has_more: bool) {
+    pub(crate) fn count_taken(&mut self, slot: usize, said: u64, lines: u64, has_more: bool)
+        ensures { self.new.bells ≡ self.old.bells }
+    {
         if let Some(slot) = self.slots.get_mut(slot)
             && let Some(backlog) = &mut slot.backlog
         {
@@ -228,7 +197,9 @@ impl Slots {
 
     /// Answers whether the session of this slot may hand over a line although somebody is behind. Where it may not, it is
     /// woken once nobody is, and at the next tick.
-    pub(crate) fn may_send(&mut self, slot: usize, throttle: &mut Throttle) -> bool {
+    pub(crate) fn may_send(&mut self, slot: usize, throttle: &mut Throttle) -> bool
+        ensures { self.new.bells ≡ self.old.bells }
+    {
         if throttle.is_over(self.ticks) {
             return true;
         }
@@ -247,18 +218,35 @@ impl Slots {
     }
 
     /// Wakes those who give way.
-    pub(crate) fn let_go(&mut self) {
+    pub(crate) fn let_go(&mut self)
+        ensures rung { (slot : ℕ) → IsTrue (is_among slot self.old.held.items) → IsRung self.new.bells slot }
+        ensures woken { (slot : ℕ) → IsTrue (is_among slot self.old.held.items) → IsAwake self.new.bells slot }
+        ensures others { (slot : ℕ) → is_among slot self.old.held.items ≡ false → slice_get self.new.bells.bells.items slot ≡ slice_get self.old.bells.bells.items slot }
+        ensures rings { self.new.bells.rings ≡ self.old.bells.rings }
+        ensures slots { SameSlots self.old.bells self.new.bells }
+    {
         while let Some(place) = self.held.pop() {
-            if let Some(slot) = self.slots.get_mut(place) {
-                slot.is_held = false;
-                slot.is_called = true;
-                slot.waker = None;
-            }
+            self.release(place);
+        }
+    }
+
+    /// Wakes the session of a slot, which gave way.
+    fn release(&mut self, place: usize)
+        ensures rung { IsRung self.new.bells place }
+        ensures woken { IsAwake self.new.bells place }
+        ensures others { OthersStay self.old.bells self.new.bells place }
+        ensures held { self.new.held ≡ self.old.held }
+    {
+        self.wake_slot(place);
+        if let Some(slot) = self.slots.get_mut(place) {
+            slot.is_held = false;
         }
     }
 
     /// Counts a tick for each client that is far behind.
-    pub(crate) fn tick(&mut self, said: u64) {
+    pub(crate) fn tick(&mut self, said: u64)
+        ensures { self.new.bells ≡ self.old.bells }
+    {
         self.ticks = self.ticks.wrapping_add(1);
         for slot in self.slots.iter_mut() {
             if let Some(backlog) = &mut slot.backlog {
@@ -271,6 +259,7 @@ impl Slots {
     pub(crate) fn has_held(&mut self, cx: &mut Context<'_>, source: &Source) -> bool
         ensures registered { result ≡ false → IsArmed cx.new }
         ensures kept { Keeps cx.old cx.new }
+        ensures bells { self.new.bells ≡ self.old.bells }
     {
         if !self.held.is_empty() {
             return true;

@@ -1,4 +1,9 @@
+use Rattle.std.proofs.Common.{length}
+use Rattle.connection_slots.proofs.LetGo.{Released}
 use Rattle.connection_slots.proofs.slots.Slots.let_go.Given as goal
 
+abbrev pub invariant-loop-place : goal.invariant-loop-place
+invariant-loop-place l = Released l.fn.self.held.items l.fn.self.bells l.self.held.items l.self.bells
+
 abbrev pub decreases-loop-place : goal.decreases-loop-place
-decreases-loop-place l = goal.left-loop-place l
+decreases-loop-place l = length l.self.held.items

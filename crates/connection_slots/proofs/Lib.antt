@@ -1,0 +1,6 @@
+pub mod Places
+pub mod Silent
+pub mod Heard
+pub mod Everybody
+pub mod Each
+pub mod LetGo
