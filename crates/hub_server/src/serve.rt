@@ -314,32 +314,133 @@ where
     ensures visits { IfOk result (λ r. All (λ v. HasVisited ⟦<A::Socket as Stream>⟧.told v) r.1.items) }
 {
     let alloc = rt.alloc();
-    let users = settings.setup().max_users();
-    // One more joins where the hub is full, to be told so.
-    let count = users as usize + 1;
+    let count = slot_count(settings);
+    let visitors = Vec::with_capacity(alloc, count)?;
     let mut host = host;
     let free = admit::<B, A::Socket, H>(alloc, &mut host, hub, count)?;
-    let visitors = Vec::with_capacity(alloc, count)?;
-    let server = Server::new(alloc, rt, hub, hash, settings.setup(), count, free)?;
-    warn_of_descriptors(rt, &warnings.log, users);
-    let listener = match address.bind(rt, runtime.handle().reactor()) {
-        Ok(listener) => listener,
-        Err(error) => return Err(ending_of(&error)),
-    };
-    if let Some(settings_file) = settings_file {
-        let address = listener.address().map_err(|error| ending_of(&error))?;
-        say_start(rt, &warnings.log, settings_file, address, users);
-    }
-    serve_all(
+    let free = run_slots::<B, H, R, A, W, L>(
+        rt,
+        runtime,
+        settings,
+        hash,
+        hub,
+        free,
+        Challenges::from_seed(seed),
+        address,
+        settings_file,
+        output,
+        warnings,
+    )?;
+    Ok((host, leave(free, visitors)))
+}
+
+/// Gives the number of slots: one more joins where the hub is full, to be told so.
+fn slot_count(settings: &Settings) -> usize
+    ensures few { result ≤ 65536 }
+{
+    settings.setup().max_users() as usize + 1
+}
+
+/// Runs the server with these slots, and gives back those that are left.
+fn run_slots<B, H, R, A, W, L>(
+    rt: &R,
+    runtime: &mut Runtime,
+    settings: &Settings,
+    hash: &H,
+    hub: &Hub<H>,
+    free: Vec<FreeSlot<B, A::Socket, H>>,
+    challenges: Challenges,
+    address: A,
+    settings_file: Option<&str>,
+    output: &mut W,
+    warnings: &Warnings<L>,
+) -> Result<Vec<FreeSlot<B, A::Socket, H>>, Ending>
+where
+    B: OfHub<H> + Send + Sync,
+    H: SessionHash + Send + Sync,
+    R: Wait + Threads + Clock + Net + RandomSource + AllocGlobal + Sync,
+    A: Bind,
+    W: Write,
+    L: Log + Sync,
+    requires here { B.home ≡ Some hub.now.home }
+    requires set { hub.now.setup ≡ settings.now.hub }
+    requires hashed { hub.now.hash ≡ hash.now }
+{
+    let count = slot_count(settings);
+    let server = Server::new(rt.alloc(), rt, hub, hash, settings.setup(), count, free)?;
+    let served = listen_and_serve(
         runtime,
         &server,
         warnings,
-        listener,
-        Challenges::from_seed(seed),
+        address,
+        challenges,
         settings,
+        settings_file,
         output,
-    )?;
-    Ok((host, leave(server.into_free(), visitors)))
+    );
+    let free = server.into_free();
+    match served {
+        Ok(()) => Ok(free),
+        Err(ending) => {
+            drop(free);
+            Err(ending)
+        }
+    }
+}
+
+/// Listens at this address, and serves all connections that come.
+fn listen_and_serve<'a, B, H, R, A, W, L>(
+    runtime: &mut Runtime,
+    server: &'a Server<'a, B, A::Socket, H, R>,
+    warnings: &'a Warnings<L>,
+    address: A,
+    challenges: Challenges,
+    settings: &Settings,
+    settings_file: Option<&str>,
+    output: &'a mut W,
+) -> Result<(), Ending>
+where
+    B: OfHub<H> + Send + Sync,
+    H: SessionHash + Send + Sync,
+    R: Wait + Threads + Clock + Net + RandomSource + AllocGlobal + Sync,
+    A: Bind,
+    W: Write,
+    L: Log + Sync,
+{
+    let users = settings.setup().max_users();
+    warn_of_descriptors(server.rt, &warnings.log, users);
+    let listener = match address.bind(server.rt, runtime.handle().reactor()) {
+        Ok(listener) => listener,
+        Err(error) => return Err(ending_of(&error)),
+    };
+    let address = match listener.address() {
+        Ok(address) => address,
+        Err(error) => return Err(ending_of(&error)),
+    };
+    if let Some(settings_file) = settings_file {
+        say_start(server.rt, &warnings.log, settings_file, address, users);
+    }
+    let timers = make_timers(server.rt, runtime.handle().time())?;
+    serve_all(
+        runtime, server, warnings, listener, address, timers, challenges, settings, output,
+    )
+}
+
+/// The timers of the tasks, which are not set yet.
+#[derive(Drop)]
+struct Timers {
+    accepting: Sleep,
+    ticking: Sleep,
+    counting: Sleep,
+}
+
+/// Makes the timers of the tasks.
+fn make_timers<R: Clock>(rt: &R, time: &time::Handle) -> Result<Timers, Ending> {
+    Ok(Timers {
+        accepting: timer(rt, time)?,
+        ticking: timer(rt, time)?,
+        counting: timer(rt, time)?,
+    })
 }
 
 /// Serves all connections that come.
@@ -348,6 +449,8 @@ fn serve_all<'a, B, S, H, R, L, I, W>(
     server: &'a Server<'a, B, S, H, R>,
     warnings: &'a Warnings<L>,
     listener: I,
+    address: SocketAddr,
+    timers: Timers,
     challenges: Challenges,
     settings: &Settings,
     output: &'a mut W,
@@ -361,13 +464,16 @@ where
     I: Listens<Socket = S> + Send,
     W: Write,
 {
-    let time = runtime.handle().time();
-    let address = listener.address().map_err(|error| ending_of(&error))?;
+    let Timers {
+        accepting,
+        ticking,
+        counting,
+    } = timers;
+    let accept = accept_task(server, warnings, listener, challenges, settings, accepting);
     let startup = Startup::new(&server.shared, server.rt, output, address);
-    let ticker = Ticker::new(&server.shared, server.rt, timer(server.rt, time)?);
-    let time_task = TimeTask::new(ticker, timer(server.rt, time)?, server.rt, warnings);
-    let accept = accept_task(server, warnings, listener, challenges, settings, time)?;
-    let count = settings.setup().max_users() as usize + 1;
+    let ticker = Ticker::new(&server.shared, server.rt, ticking);
+    let time_task = TimeTask::new(ticker, counting, server.rt, warnings);
+    let count = slot_count(settings);
     let tasks = Tasks::new(time_task, count, accept, startup, server, warnings);
     match runtime.run_all(server.rt, tasks) {
         Ok(()) => ending_by(server.shared.fault()),
@@ -382,8 +488,8 @@ fn accept_task<'a, B, S, H, R, L, I>(
     listener: I,
     challenges: Challenges,
     settings: &Settings,
-    time: &time::Handle,
-) -> Result<AcceptTask<'a, B, S, H, R, L, I>, Ending>
+    timer: Sleep,
+) -> AcceptTask<'a, B, S, H, R, L, I>
 where
     B: OfHub<H>,
     S: Socket,
@@ -396,11 +502,10 @@ where
         0 => None,
         count => Some(u64::from(count)),
     };
-    let timer = timer(server.rt, time)?;
     let listener = Listener::new(listener, &server.shared.wakers, server.rt, warnings, timer);
     let acceptor = Acceptor::new(server, challenges, warnings);
     let accept = Accept::new(listener, acceptor, stop_after);
-    Ok(AcceptTask::new(accept, server))
+    AcceptTask::new(accept, server)
 }
 
 /// Makes a timer that is not set.
