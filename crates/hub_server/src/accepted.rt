@@ -18,7 +18,7 @@ pub(crate) struct Accepted<B: OfHub<H>, S: Stream, H> {
     of: PhantomData<B>,
     pub(crate) ghost here: { B.home ≡ Some pass.home },
     pub(crate) ghost challenged: { pass.challenge ≡ challenge },
-    pub(crate) ghost entered: { HasEntered ⟦<S as Stream>⟧.told pass },
+    pub(crate) ghost entered: { HasEntered ⟦<S as Stream>⟧.told B.tells pass },
 }
 
 impl<B: OfHub<H>, S: AsyncRead + AsyncWrite, H> Accepted<B, S, H> {
@@ -31,7 +31,7 @@ impl<B: OfHub<H>, S: AsyncRead + AsyncWrite, H> Accepted<B, S, H> {
     ) -> Accepted<B, S, H>
         requires here { B.home ≡ Some pass.home }
         requires challenged { pass.challenge ≡ challenge }
-        requires entered { HasEntered ⟦<S as Stream>⟧.told pass }
+        requires entered { HasEntered ⟦<S as Stream>⟧.told B.tells pass }
     {
         Accepted {
             stream,

@@ -10,7 +10,7 @@ begin-requires g c = record {
       let accepted = c.args.accepted in
       let served = c.in-Ok.ensures.serves end stream' record { visitor = visitor; slot = 0 } gives in (
         accepted.here ∙ ap Some (sym served.home),
-        visited-served _ server.hub.now.setup (g.H.SessionHash.digest_of server.hub.now.hash) accepted.stream accepted.pass end stream' visitor served accepted.entered,
+        visited-served _ _ server.hub.now.setup (g.H.SessionHash.digest_of server.hub.now.hash) accepted.stream accepted.pass end stream' visitor served accepted.entered,
       );
 }
 
@@ -18,4 +18,4 @@ begin-requires g c = record {
 pub new-requires-clause-visits : goal.new-requires-clause-visits
 new-requires-clause-visits g c =
     let server = c.args.self.now.server.now in
-    visited-left _ server.hub.now.setup (g.H.SessionHash.digest_of server.hub.now.hash) c.args.accepted.pass c.in-Err.left.visitor c.in-Err.ensures.left c.args.accepted.entered
+    visited-left _ _ server.hub.now.setup (g.H.SessionHash.digest_of server.hub.now.hash) c.args.accepted.pass c.in-Err.left.visitor c.in-Err.ensures.left c.args.accepted.entered
