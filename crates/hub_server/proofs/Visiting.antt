@@ -1,6 +1,5 @@
 -- What a visitor has called are visits, whatever was made of it.
-use Rattle.std.proofs.Common.{◌≡◌, Option, Some, ◌∙◌, ◌++◌, ℕ, List, [], ◌∷◌, reverse, refl, sym, ap, ap₂, subst, append_assoc}
-use Rattle.std.specs.List.{All, flat_map}
+use Rattle.std.proofs.Common.{◌≡◌, Option, Some, ◌∙◌, ◌++◌, ℕ, List, [], ◌∷◌, reverse, refl, sym, ap, subst, append_assoc}
 use Rattle.std.specs.Option.{ForSome, unwrap_or}
 use Rattle.std.proofs.lemmas.List.Elements.{All-nil, All-cons}
 use Rattle.std.proofs.Math.Logic.{∥∥₁_map}
@@ -16,15 +15,27 @@ use Rattle.hub_rules.specs.declared.history.Reply.{Reply}
 use Rattle.hub_rules.specs.declared.history.Reply.TheVariants.{Joined, Full, JoinsSpent, Left}
 use Rattle.hub_rules.specs.Configured.{Configured}
 use Rattle.hub_shared.specs.Callers.{PassState, VisitorState}
-use Rattle.hub_shared.specs.Calls.{Made, Refused, Saw}
-use Rattle.hub_server.specs.Deeds.{Deed, hub_calls}
+use Rattle.hub_shared.specs.Calls.{Made, Refused}
+use Rattle.hub_server.specs.Deeds.{hub_calls}
+use Rattle.hub_server.specs.Peers.{HasComeFrom}
 use Rattle.hub_server.specs.PortCalls.{Leaves}
-use Rattle.hub_server.specs.ServedByHub.{Conversed, ServedByHub, quit_of}
+use Rattle.hub_server.specs.ServedByHub.{ServedByHub}
 use Rattle.hub_server.specs.Visits.{Visit, turned_away, let_go, served, calls_within, calls_of, moment_of, IsRefusal, IsVisit, AreVisits, HasJoined, HasVisited, HasEntered}
 
 -- what holds of a value holds of whatever value there is
 pub for-some : {X : Type 0} (P : X → Type 0) (a : X) → P a → ForSome (Some a) P
 for-some P a holds b same = subst P (ap (λ (o : Option _). unwrap_or o a) same) holds
+
+-- who was answered that it joined has come by that join
+pub came : {H : Type 0} (setup : Configured) (hash : List ℕ → List ℕ) (visitor : VisitorState H) (pass : PassState H) (peer challenge : List ℕ) (now : ℕ)
+    → Made setup hash visitor.caller (Join peer challenge now) (Joined pass.connection) pass.caller → HasComeFrom pass peer challenge
+came setup hash visitor pass peer challenge now made =
+    let last = made.mine ∙ ap (λ n. entry n (Join peer challenge now) (Joined pass.connection) ∷ visitor.caller.mine) (sym made.number) in
+    ∣ (now, visitor.caller.mine, last) ∣₁
+
+-- from the same octets
+pub came_from : {H : Type 0} (pass : PassState H) (octets peer challenge : List ℕ) → octets ≡ peer → HasComeFrom pass peer challenge → HasComeFrom pass octets challenge
+came_from pass octets peer challenge same is = subst (λ from. HasComeFrom pass from challenge) (sym same) is
 
 -- the calls behind a join, with that join among those of its visit
 within : (p c : ℕ) (peer challenge : List ℕ) (now : ℕ) (between earlier mine new : List Entry) → mine ≡ entry p (Join peer challenge now) (Joined c) ∷ earlier

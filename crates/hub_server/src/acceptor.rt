@@ -1,4 +1,5 @@
 ghost use Rattle.std.specs.Prelude.{◌≡◌, Some, IfOk};
+ghost use Rattle.hub_server.specs.Peers.{HasComeFrom, octets_of};
 ghost use Rattle.hub_server.specs.Visits.{HasEntered};
 
 use crate::accepted::Accepted;
@@ -14,7 +15,7 @@ use hub_warnings::{Cause, Warnings};
 use log::Log;
 use session_hash::SessionHash;
 use std::alloc::AllocGlobal;
-use std::net::{Ipv4Addr, SocketAddr, SocketAddrV4};
+use std::net::{Ipv4Addr, SocketAddrV4};
 use std::sync::Wait;
 use std::time::Clock;
 
@@ -53,6 +54,7 @@ impl<
     fn join(&self, peer: Peer, challenge: [u8; 24]) -> Result<(Pass<H>, usize), JoinRefused>
         ensures here { IfOk result (λ r. B.home ≡ Some r.0.home) }
         ensures challenged { IfOk result (λ r. r.0.challenge ≡ challenge) }
+        ensures came { IfOk result (λ r. HasComeFrom r.0 peer.address challenge) }
         ensures entered { IfOk result (λ r. HasEntered ⟦<S as Stream>⟧.told B.tells r.0) }
     {
         let server = self.server;
@@ -138,12 +140,12 @@ impl<
 
 /// Gives the address and the port from which a connection comes, for who reads warnings. The port is 0 where the connection is
 /// gone already.
-fn address_of<S: Socket>(stream: &S, peer: Peer) -> SocketAddrV4 {
-    match stream.peer_addr() {
-        Ok(SocketAddr::V4(address)) => address,
-        _ => {
-            let [a, b, c, d] = peer.address;
-            SocketAddrV4::new(Ipv4Addr::new(a, b, c, d), 0)
-        }
-    }
+fn address_of<S: Socket>(stream: &S, peer: Peer) -> SocketAddrV4
+    ensures { octets_of result ≡ peer.address }
+{
+    let port = match stream.peer_addr() {
+        Ok(address) => address.port(),
+        Err(_) => 0,
+    };
+    SocketAddrV4::new(Ipv4Addr::from_octets(peer.address), port)
 }

@@ -1,4 +1,4 @@
-use Rattle.hub_server.proofs.Visiting.{entered, visited-refused}
+use Rattle.hub_server.proofs.Visiting.{came, entered, visited-refused}
 use Rattle.hub_server.proofs.acceptor.Acceptor.join.Goals as goal
 
 -- a join that was refused for want of room is one more visit
@@ -13,3 +13,9 @@ returns-in-Ok-clause-entered g c =
     let server = c.args.self.now.server.now in
     entered _ _ server.hub.now.setup (g.H.SessionHash.digest_of server.hub.now.hash) c.in-Some.free.visitor c.in-Ok.pass c.args.peer.address c.args.challenge c.moment_of_call-now.result c.moment_of_call-now.ensures.told
     c.in-Ok.ensures.made c.in-Some.free.visits
+
+-- the join is the last call of its caller
+pub returns-in-Ok-clause-came : goal.returns-in-Ok-clause-came
+returns-in-Ok-clause-came g c =
+    let server = c.args.self.now.server.now in
+    came _ (g.H.SessionHash.digest_of server.hub.now.hash) c.in-Some.free.visitor c.in-Ok.pass c.args.peer.address c.args.challenge c.moment_of_call-now.result c.in-Ok.ensures.made

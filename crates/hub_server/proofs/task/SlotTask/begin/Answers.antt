@@ -1,4 +1,4 @@
-use Rattle.std.proofs.Common.{◌≡◌, ◌∙◌, Some, sym, ap}
+use Rattle.std.proofs.Common.{◌∙◌, Some, sym, ap}
 use Rattle.hub_server.proofs.Visiting.{visited-left, visited-served}
 use Rattle.hub_server.proofs.task.SlotTask.begin.Goals as goal
 
