@@ -1,5 +1,5 @@
 -- Once all visitors are back, the calls of whoever made some are visits.
-use Rattle.std.proofs.Common.{◌≡◌, ◌∙◌, ℕ, ◌==◌, Bool, true, false, cond, List, [], ◌∷◌, map, refl, sym, ap, subst, arith}
+use Rattle.std.proofs.Common.{◌≡◌, ◌∙◌, ℕ, ◌==◌, Bool, true, false, cond, List, [], ◌∷◌, map, refl, sym, subst, arith}
 use Rattle.std.specs.List.{All, Contains}
 use Rattle.std.proofs.lemmas.Bool.{false≢true, eqb-true, eq-eqb}
 use Rattle.std.proofs.lemmas.List.Elements.{All-head, All-tail}
@@ -28,35 +28,35 @@ made-none p ps other [] from = refl
 made-none p ps other (e ∷ h) from =
     made-one p ps other e h (All-head (IsFrom ps) e h from) (made-none p ps other h (All-tail (IsFrom ps) e h from)) (e.caller == p) refl
 
-module _ {S : Type 0} (told : S → StreamCall → S → Type 0) where
+module _ {S : Type 0} (told : S → StreamCall → S → Type 0) (tells : ℕ → Type 0) where
   -- the calls of this caller in the log are visits
   abbrev Visits : List Entry → ℕ → Type 0
-  Visits log p = ∥ AreVisits told p (entries_of p log) ∥₁
+  Visits log p = ∥ AreVisits told tells p (entries_of p log) ∥₁
 
-module _ {H S : Type 0} (told : S → StreamCall → S → Type 0) where
+module _ {H S : Type 0} (told : S → StreamCall → S → Type 0) (tells : ℕ → Type 0) where
   abbrev numbers_of : List (VisitorState H) → List ℕ
   numbers_of visitors = map (λ (v : VisitorState H). v.caller.number) visitors
 
   abbrev IsOwn : List Entry → VisitorState H → Type 0
   IsOwn log v = entries_of v.caller.number log ≡ v.caller.mine
 
-  visits-one : (log : List Entry) (p : ℕ) (v : VisitorState H) → IsOwn log v → HasVisited told v → (is : Bool) → (v.caller.number == p) ≡ is
-      → ((v.caller.number == p) ≡ false → Visits told log p) → Visits told log p
+  visits-one : (log : List Entry) (p : ℕ) (v : VisitorState H) → IsOwn log v → HasVisited told tells v → (is : Bool) → (v.caller.number == p) ≡ is
+      → ((v.caller.number == p) ≡ false → Visits told tells log p) → Visits told tells log p
   visits-one log p v own visited true is rest =
-      subst (Visits told log) (eqb-true v.caller.number p is) (subst (λ es. ∥ AreVisits told v.caller.number es ∥₁) (sym own) visited)
+      subst (Visits told tells log) (eqb-true v.caller.number p is) (subst (λ es. ∥ AreVisits told tells v.caller.number es ∥₁) (sym own) visited)
   visits-one log p v own visited false is rest = rest is
 
   visits-of : (log : List Entry) (p : ℕ) (vs : List (VisitorState H)) → ((Contains (numbers_of vs) p → ⊥) → entries_of p log ≡ []) → All (IsOwn log) vs
-      → All (HasVisited told) vs → Visits told log p
-  visits-of log p [] made own visited = ∣ subst (AreVisits told p) (sym (made (λ there. omega (arith, there.1)))) (none told p) ∣₁
+      → All (HasVisited told tells) vs → Visits told tells log p
+  visits-of log p [] made own visited = ∣ subst (AreVisits told tells p) (sym (made (λ there. omega (arith, there.1)))) (none told tells p) ∣₁
   visits-of log p (v ∷ vs) made own visited =
-      visits-one log p v (All-head (IsOwn log) v vs own) (All-head (HasVisited told) v vs visited) (v.caller.number == p) refl
+      visits-one log p v (All-head (IsOwn log) v vs own) (All-head (HasVisited told tells) v vs visited) (v.caller.number == p) refl
       (λ other. visits-of log p vs
       (λ later. made (λ there. later (Contains-tail v.caller.number (numbers_of vs) p (λ same. false≢true (sym other ∙ eq-eqb v.caller.number p same)) there)))
-      (All-tail (IsOwn log) v vs own) (All-tail (HasVisited told) v vs visited))
+      (All-tail (IsOwn log) v vs own) (All-tail (HasVisited told tells) v vs visited))
 
   pub served-all : (setup : Configured) (hash : List ℕ → List ℕ) (visitors : List (VisitorState H)) (joins : ℕ) → Settled setup hash visitors joins
-      → All (λ (v : VisitorState H). HasVisited told v) visitors → ServedAll told setup hash joins
+      → All (λ (v : VisitorState H). HasVisited told tells v) visitors → ServedAll told tells setup hash joins
   served-all setup hash visitors joins s visited = record {
     log = s.log;
     legal = s.legal;
@@ -67,7 +67,7 @@ module _ {H S : Type 0} (told : S → StreamCall → S → Type 0) where
 
   -- of a hub of this setup and this hash
   pub served-of : {X : Type 0} (digest : X → List ℕ → List ℕ) (setup setup' : Configured) (hash hash' : X) → setup ≡ setup' → hash ≡ hash' → (visitors : List (VisitorState H)) (joins : ℕ)
-      → Settled setup (digest hash) visitors joins → All (λ (v : VisitorState H). HasVisited told v) visitors → ServedAll told setup' (digest hash') joins
+      → Settled setup (digest hash) visitors joins → All (λ (v : VisitorState H). HasVisited told tells v) visitors → ServedAll told tells setup' (digest hash') joins
   served-of digest setup setup' hash hash' same alike visitors joins s visited =
-      subst (λ x. ServedAll told x (digest hash') joins) same
-      (subst (λ h. ServedAll told setup (digest h) joins) alike (served-all setup (digest hash) visitors joins s visited))
+      subst (λ x. ServedAll told tells x (digest hash') joins) same
+      (subst (λ h. ServedAll told tells setup (digest h) joins) alike (served-all setup (digest hash) visitors joins s visited))

@@ -11,14 +11,14 @@ use Rattle.hub_core.specs.Moves.{entry}
 use Rattle.hub_rules.specs.declared.history.Call.TheVariants.{Line, Take}
 use Rattle.hub_rules.specs.declared.history.Reply.TheVariants.{Said, Took}
 use Rattle.hub_rules.specs.declared.history.Verdict.TheVariants.{Kept, Ended}
-use Rattle.hub_server.specs.Deeds.{Deed, streamed, called, read_by, written_by, sent_by, given_by, bytes_from, bytes_to, lines_sent, bytes_given, IsFor, IsOfStream, IsNoTake, EndsWith, IsDrained, IsEnded, CallsWhenWritten, StopsAtFailure, FallsSilent}
+use Rattle.hub_server.specs.Deeds.{Deed, streamed, called, read_by, written_by, sent_by, given_by, bytes_from, bytes_to, lines_sent, bytes_given, IsFor, IsTimed, IsOfStream, IsNoTake, EndsWith, IsDrained, IsEnded, CallsWhenWritten, StopsAtFailure, FallsSilent}
 
--- the caller's number, and its connection
-module _ (p c : ℕ) where
+-- the moments that a clock tells, the caller's number, and its connection
+module _ (tells : ℕ → Type 0) (p c : ℕ) where
   -- what a call of the session comes to: a call of the stream itself, a call of the hub, or nothing where the port refused
   abbrev pub Makes : Event → List Deed → Type 0
   Makes (on_stream call) deeds = deeds ≡ streamed call ∷ []
-  Makes (on_port (handed line verdict)) deeds = (now : ℕ) × (deeds ≡ called (entry p (Line c line now) (Said verdict)) ∷ [])
+  Makes (on_port (handed line verdict)) deeds = (now : ℕ) × (deeds ≡ called (entry p (Line c line now) (Said verdict)) ∷ []) × ∥ tells now ∥₁
   Makes (on_port (took count bytes taken)) deeds = deeds ≡ called (entry p (Take c count) (Took bytes taken.lines taken.ended)) ∷ []
   Makes (on_port refused) deeds = deeds ≡ []
 
@@ -97,6 +97,17 @@ module _ (p c : ℕ) where
   all-own [] deeds m = none (IsFor p c) deeds m
   all-own (event ∷ events) deeds m =
       All-same (IsFor p c) deeds (m.0 ++ m.1) m.3 (All-append (IsFor p c) m.0 m.1 (makes-own event m.0 m.2) (all-own events m.1 m.4))
+
+  makes-timed : (event : Event) (front : List Deed) → Makes event front → All (IsTimed tells) front
+  makes-timed (on_stream call) front m = one (IsTimed tells) (streamed call) front m (tt {0})
+  makes-timed (on_port (handed line verdict)) front m = one (IsTimed tells) (called (entry p (Line c line m.0) (Said verdict))) front m.1 m.2
+  makes-timed (on_port (took count bytes taken)) front m = one (IsTimed tells) (called (entry p (Take c count) (Took bytes taken.lines taken.ended))) front m (tt {0})
+  makes-timed (on_port refused) front m = none (IsTimed tells) front m
+
+  pub all-timed : (events : List Event) (deeds : List Deed) → Matches events deeds → All (IsTimed tells) deeds
+  all-timed [] deeds m = none (IsTimed tells) deeds m
+  all-timed (event ∷ events) deeds m =
+      All-same (IsTimed tells) deeds (m.0 ++ m.1) m.3 (All-append (IsTimed tells) m.0 m.1 (makes-timed event m.0 m.2) (all-timed events m.1 m.4))
 
   of-stream : (event : Event) (front : List Deed) → session.IsOfStream event → Makes event front → All IsOfStream front
   of-stream (on_stream call) front is m = one IsOfStream (streamed call) front m (tt {0})

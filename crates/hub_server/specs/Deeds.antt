@@ -87,6 +87,17 @@ abbrev pub IsFor : ℕ → ℕ → Deed → Type 0
 IsFor caller connection (streamed call) = ⊤
 IsFor caller connection (called e) = (e.caller ≡ caller) × IsServing connection e.call
 
+-- the moment of a line or of a join is one of those that were told
+abbrev pub HasMoment : (ℕ → Type 0) → Call → Type 0
+HasMoment tells (Join peer challenge now) = ∥ tells now ∥₁
+HasMoment tells (Line connection bytes now) = ∥ tells now ∥₁
+HasMoment tells (Quit connection) = ⊤
+HasMoment tells (Take connection count) = ⊤
+
+abbrev pub IsTimed : (ℕ → Type 0) → Deed → Type 0
+IsTimed tells (streamed call) = ⊤
+IsTimed tells (called e) = HasMoment tells e.call
+
 abbrev pub IsOfStream : Deed → Type 0
 IsOfStream (streamed call) = ⊤
 IsOfStream (called e) = ⊥

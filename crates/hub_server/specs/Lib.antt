@@ -4,3 +4,4 @@ pub mod ServedByHub
 pub mod Visits
 pub mod Ending
 pub mod ServedAll
+pub mod Peers

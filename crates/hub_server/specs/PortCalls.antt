@@ -13,12 +13,13 @@ module _ {H : Type 0} (setup : Configured) (hash : List ℕ → List ℕ) where
   abbrev pub IsSamePass : PassState H → PassState H → Type 0
   IsSamePass a b = b ≡ record a { caller = b.caller }
 
-  -- A line that is handed over is one call of the hub with exactly that line, and what is said of it is the hub's answer. A take is one
-  -- take of the hub of as many lines, and gives exactly the bytes that the hub answered. Where a call is refused, the hub has answered no call.
-  abbrev pub Calls : PassState H → PortCall → PassState H → Type 0
-  Calls a (handed line verdict) b = IsSamePass a b × ((now : ℕ) × Made setup hash a.caller (Line a.connection line now) (Said verdict) b.caller)
-  Calls a (took count bytes taken) b = IsSamePass a b × Made setup hash a.caller (Take a.connection count) (Took bytes taken.lines taken.ended) b.caller
-  Calls a refused b = IsSamePass a b × ((b.caller ≡ a.caller) ⊎ Saw setup hash a.caller b.caller)
+  -- A line that is handed over is one call of the hub with exactly that line, at a moment that was told, and what is said of it is the hub's
+  -- answer. A take is one take of the hub of as many lines, and gives exactly the bytes that the hub answered. Where a call is refused, the hub
+  -- has answered no call.
+  abbrev pub Calls : (ℕ → Type 0) → PassState H → PortCall → PassState H → Type 0
+  Calls tells a (handed line verdict) b = IsSamePass a b × ((now : ℕ) × ∥ tells now ∥₁ × Made setup hash a.caller (Line a.connection line now) (Said verdict) b.caller)
+  Calls tells a (took count bytes taken) b = IsSamePass a b × Made setup hash a.caller (Take a.connection count) (Took bytes taken.lines taken.ended) b.caller
+  Calls tells a refused b = IsSamePass a b × ((b.caller ≡ a.caller) ⊎ Saw setup hash a.caller b.caller)
 
   -- to leave is to quit the hub
   abbrev pub Leaves : PassState H → VisitorState H → Type 0

@@ -13,7 +13,7 @@ use Rattle.hub_rules.specs.declared.history.Entry.{Entry}
 use Rattle.hub_rules.specs.declared.history.Reply.TheVariants.{Left}
 use Rattle.hub_rules.specs.Configured.{Configured}
 use Rattle.hub_rules.specs.Legal.{Legal}
-use Rattle.hub_server.specs.Deeds.{Deed, streamed, Streams, IsFor, hub_calls, bytes_from, bytes_to, lines_sent, bytes_given, IsDrained, IsEnded, EndsWith, CallsWhenWritten, StopsAtFailure, FallsSilent}
+use Rattle.hub_server.specs.Deeds.{Deed, streamed, Streams, IsFor, IsTimed, hub_calls, bytes_from, bytes_to, lines_sent, bytes_given, IsDrained, IsEnded, EndsWith, CallsWhenWritten, StopsAtFailure, FallsSilent}
 use Rattle.hub_shared.specs.Callers.{PassState, VisitorState}
 use Rattle.hub_shared.specs.Connections.{entries_of}
 
@@ -34,14 +34,16 @@ Cause ends.Memory caller connection deeds = ⊤
 abbrev pub quit_of : {H : Type 0} → PassState H → Entry
 quit_of pass = entry pass.caller.number (Quit pass.connection) Left
 
--- what a stream tells of its calls
-module _ {S : Type 0} (told : S → StreamCall → S → Type 0) where
+-- what a stream tells of its calls, and the moments that a clock tells
+module _ {S : Type 0} (told : S → StreamCall → S → Type 0) (tells : ℕ → Type 0) where
   -- these deeds served a connection of this caller over the stream, until this end
   pub record Conversed (stream : S) (caller connection : ℕ) (end : End) (stream' : S) (deeds : List Deed) : Type 0 where
     -- all calls of the stream, from its first state to its last
     pub streams : Streams told stream deeds stream'
     -- each call of the hub is the caller's, and sends a line of its connection or takes what waits for it
     pub own_calls : All (IsFor caller connection) deeds
+    -- each line came at a moment that the clock told
+    pub timed : All (IsTimed tells) deeds
     -- the lines that the hub was sent are the first lines of the bytes read
     pub first_lines : (more : List (List ℕ)) × (lines (bytes_from deeds) ≡ lines_sent deeds ++ more)
     pub all_lines : handed_all end ≡ true → lines (bytes_from deeds) ≡ lines_sent deeds
@@ -56,13 +58,13 @@ module _ {S : Type 0} (told : S → StreamCall → S → Type 0) where
     pub silent : FallsSilent false deeds
     pub cause : Cause end caller connection deeds
 
--- the hub: its setup, and what its hash means; and what a stream tells of its calls
-module _ {H S : Type 0} (setup : Configured) (hash : List ℕ → List ℕ) (told : S → StreamCall → S → Type 0) where
+-- the hub: its setup, and what its hash means; what a stream tells of its calls, and the moments that a clock tells
+module _ {H S : Type 0} (setup : Configured) (hash : List ℕ → List ℕ) (told : S → StreamCall → S → Type 0) (tells : ℕ → Type 0) where
   -- what it comes to that this stream was served for this pass: the end, the stream and the visitor
   pub record ServedByHub (stream : S) (pass : PassState H) (end : End) (stream' : S) (visitor : VisitorState H) : Type 0 where
     -- the deeds that served the connection of the pass
     pub deeds : List Deed
-    pub conversed : Conversed told stream pass.caller.number pass.connection end stream' deeds
+    pub conversed : Conversed told tells stream pass.caller.number pass.connection end stream' deeds
     pub home : visitor.home ≡ pass.home
     pub number : visitor.caller.number ≡ pass.caller.number
     -- the caller has made their calls of the hub and then the quit, after those that it had made

@@ -38,26 +38,35 @@ IsRefusal Full = ⊤
 IsRefusal JoinsSpent = ⊤
 IsRefusal reply = ⊥
 
--- what a stream tells of its calls
-module _ {S : Type 0} (told : S → StreamCall → S → Type 0) where
+-- the moment at which a visit began
+abbrev pub moment_of : Visit → ℕ
+moment_of (turned_away peer challenge now reply) = now
+moment_of (let_go peer challenge now connection) = now
+moment_of (served peer challenge now connection end deeds) = now
+
+-- what a stream tells of its calls, and the moments that a clock tells
+module _ {S : Type 0} (told : S → StreamCall → S → Type 0) (tells : ℕ → Type 0) where
   -- A visit ends with a refusal, or with a quit. Where its connection was served, that holds of its deeds which holds of each connection.
   abbrev pub IsVisit : ℕ → Visit → Type 0
   IsVisit caller (turned_away peer challenge now reply) = IsRefusal reply
   IsVisit caller (let_go peer challenge now connection) = ⊤
   IsVisit caller (served peer challenge now connection end deeds) =
-      (stream stream' : S) × Conversed told stream caller connection end stream' deeds
+      (stream stream' : S) × Conversed told tells stream caller connection end stream' deeds
 
   -- these calls of a caller are visits, one after another
   pub record AreVisits (caller : ℕ) (mine : List Entry) : Type 0 where
     pub visits : List Visit
     pub calls : mine ≡ flat_map (calls_of caller) visits
     pub each : All (IsVisit caller) visits
+    -- each began at a moment that the clock told
+    pub timed : All (λ visit. ∥ tells (moment_of visit) ∥₁) visits
 
   -- behind visits, the last of these calls is the join of this connection
   pub record HasJoined (caller connection : ℕ) (mine : List Entry) : Type 0 where
     pub peer : List ℕ
     pub challenge : List ℕ
     pub now : ℕ
+    pub timed : ∥ tells now ∥₁
     pub earlier : List Entry
     pub last : mine ≡ entry caller (Join peer challenge now) (Joined connection) ∷ earlier
     pub visits : AreVisits caller earlier

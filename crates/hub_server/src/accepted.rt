@@ -1,4 +1,5 @@
 ghost use Rattle.std.specs.Prelude.{◌≡◌, Some};
+ghost use Rattle.hub_server.specs.Peers.{HasComeFrom, octets_of};
 ghost use Rattle.hub_server.specs.Visits.{HasEntered};
 
 use crate::free_slot::OfHub;
@@ -8,7 +9,7 @@ use std::marker::PhantomData;
 use std::net::SocketAddrV4;
 use tokio::io::{AsyncRead, AsyncWrite};
 
-/// A connection that was accepted, and has joined the named hub for a visitor whose calls before are visits.
+/// A connection that was accepted, and has joined the named hub from its address, for a visitor whose calls before are visits.
 #[derive(Drop)]
 pub(crate) struct Accepted<B: OfHub<H>, S: Stream, H> {
     pub(crate) stream: S,
@@ -18,7 +19,8 @@ pub(crate) struct Accepted<B: OfHub<H>, S: Stream, H> {
     of: PhantomData<B>,
     pub(crate) ghost here: { B.home ≡ Some pass.home },
     pub(crate) ghost challenged: { pass.challenge ≡ challenge },
-    pub(crate) ghost entered: { HasEntered ⟦<S as Stream>⟧.told pass },
+    pub(crate) ghost came: { HasComeFrom pass (octets_of peer) challenge },
+    pub(crate) ghost entered: { HasEntered ⟦<S as Stream>⟧.told B.tells pass },
 }
 
 impl<B: OfHub<H>, S: AsyncRead + AsyncWrite, H> Accepted<B, S, H> {
@@ -31,7 +33,8 @@ impl<B: OfHub<H>, S: AsyncRead + AsyncWrite, H> Accepted<B, S, H> {
     ) -> Accepted<B, S, H>
         requires here { B.home ≡ Some pass.home }
         requires challenged { pass.challenge ≡ challenge }
-        requires entered { HasEntered ⟦<S as Stream>⟧.told pass }
+        requires came { HasComeFrom pass (octets_of peer) challenge }
+        requires entered { HasEntered ⟦<S as Stream>⟧.told B.tells pass }
     {
         Accepted {
             stream,

@@ -1,9 +1,10 @@
 ghost use Rattle.std.specs.Prelude.{◌≡◌, Some, IfOk};
+ghost use Rattle.hub_server.specs.Peers.{HasComeFrom, octets_of};
 ghost use Rattle.hub_server.specs.Visits.{HasEntered};
 
 use crate::accepted::Accepted;
-use crate::connection::moment;
 use crate::free_slot::{FreeSlot, OfHub};
+use crate::moments::Moments;
 use crate::server::Server;
 use crate::socket::Socket;
 use adc_sessions::{Peer, Starter, Stream};
@@ -14,7 +15,7 @@ use hub_warnings::{Cause, Warnings};
 use log::Log;
 use session_hash::SessionHash;
 use std::alloc::AllocGlobal;
-use std::net::{Ipv4Addr, SocketAddr, SocketAddrV4};
+use std::net::{Ipv4Addr, SocketAddrV4};
 use std::sync::Wait;
 use std::time::Clock;
 
@@ -23,20 +24,20 @@ const HUB_FULL: &[u8] = b"ISTA 211 Hub\\sfull\n";
 
 /// The acceptor, which joins the hub for each connection that is accepted, and hands it to the task of its slot.
 #[derive(Drop)]
-pub(crate) struct Acceptor<'a, B: OfHub<H>, S: Stream, H: SessionHash, R, L> {
+pub(crate) struct Acceptor<'a, B: OfHub<H>, S: Stream, H: SessionHash, R: Moments, L> {
     server: &'a Server<'a, B, S, H, R>,
     challenges: Challenges,
     warnings: &'a Warnings<L>,
 }
 
-impl<'a, B: OfHub<H>, S: Socket, H: SessionHash, R: Wait + Clock + AllocGlobal, L: Log> Acceptor<
+impl<
     'a,
-    B,
-    S,
-    H,
-    R,
-    L,
-> {
+    B: OfHub<H>,
+    S: Socket,
+    H: SessionHash,
+    R: Wait + Clock + Moments + AllocGlobal,
+    L: Log,
+> Acceptor<'a, B, S, H, R, L> {
     pub(crate) fn new(
         server: &'a Server<'a, B, S, H, R>,
         challenges: Challenges,
@@ -53,14 +54,15 @@ impl<'a, B: OfHub<H>, S: Socket, H: SessionHash, R: Wait + Clock + AllocGlobal, 
     fn join(&self, peer: Peer, challenge: [u8; 24]) -> Result<(Pass<H>, usize), JoinRefused>
         ensures here { IfOk result (λ r. B.home ≡ Some r.0.home) }
         ensures challenged { IfOk result (λ r. r.0.challenge ≡ challenge) }
-        ensures entered { IfOk result (λ r. HasEntered ⟦<S as Stream>⟧.told r.0) }
+        ensures came { IfOk result (λ r. HasComeFrom r.0 peer.address challenge) }
+        ensures entered { IfOk result (λ r. HasEntered ⟦<S as Stream>⟧.told B.tells r.0) }
     {
         let server = self.server;
         let Some(free) = server.take_slot() else {
             return Err(JoinRefused::Full);
         };
         let FreeSlot { visitor, slot, .. } = free;
-        let now = moment(server.rt);
+        let now = server.moment_of_call();
         match server.hub.join(
             server.rt,
             server.rt.alloc(),
@@ -97,8 +99,13 @@ impl<'a, B: OfHub<H>, S: Socket, H: SessionHash, R: Wait + Clock + AllocGlobal, 
     }
 }
 
-impl<B: OfHub<H>, S: Socket, H: SessionHash, R: Wait + Clock + AllocGlobal, L: Log> Starter<S>
-    for Acceptor<'_, B, S, H, R, L> {
+impl<
+    B: OfHub<H>,
+    S: Socket,
+    H: SessionHash,
+    R: Wait + Clock + Moments + AllocGlobal,
+    L: Log,
+> Starter<S> for Acceptor<'_, B, S, H, R, L> {
     ghost use Rattle.std.specs.Prelude.{◌≡◌};
     ghost use Rattle.hub_challenges.specs.Dealing.{after_dealt};
     ghost use Rattle.hub_challenges.proofs.Dealing.{after-more, after-none};
@@ -133,12 +140,12 @@ impl<B: OfHub<H>, S: Socket, H: SessionHash, R: Wait + Clock + AllocGlobal, L: L
 
 /// Gives the address and the port from which a connection comes, for who reads warnings. The port is 0 where the connection is
 /// gone already.
-fn address_of<S: Socket>(stream: &S, peer: Peer) -> SocketAddrV4 {
-    match stream.peer_addr() {
-        Ok(SocketAddr::V4(address)) => address,
-        _ => {
-            let [a, b, c, d] = peer.address;
-            SocketAddrV4::new(Ipv4Addr::new(a, b, c, d), 0)
-        }
-    }
+fn address_of<S: Socket>(stream: &S, peer: Peer) -> SocketAddrV4
+    ensures { octets_of result ≡ peer.address }
+{
+    let port = match stream.peer_addr() {
+        Ok(address) => address.port(),
+        Err(_) => 0,
+    };
+    SocketAddrV4::new(Ipv4Addr::from_octets(peer.address), port)
 }

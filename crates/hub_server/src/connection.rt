@@ -5,6 +5,7 @@ ghost use Rattle.hub_server.specs.ServedByHub.{ServesByHub};
 
 use crate::free_slot::OfHub;
 use crate::left_slot::LeftSlot;
+use crate::moments::Moments;
 use crate::server::Server;
 use adc_sessions::{Bell, Port, Session, Stream};
 use connection_slots::{Throttle, Wakers};
@@ -20,7 +21,7 @@ use tokio::io::{AsyncRead, AsyncWrite};
 
 /// One connection of the hub, for its session.
 #[derive(Drop)]
-pub struct Connection<'a, B: OfHub<H>, S: Stream, H: SessionHash, R> {
+pub struct Connection<'a, B: OfHub<H>, S: Stream, H: SessionHash, R: Moments> {
     server: &'a Server<'a, B, S, H, R>,
     pass: Pass<H>,
     challenge: [u8; 24],
@@ -32,13 +33,13 @@ pub struct Connection<'a, B: OfHub<H>, S: Stream, H: SessionHash, R> {
     ghost challenged: { pass.challenge ≡ challenge },
 }
 
-impl<'a, B: OfHub<H>, S: AsyncRead + AsyncWrite, H: SessionHash, R: Wait + Clock> Connection<
+impl<
     'a,
-    B,
-    S,
-    H,
-    R,
-> {
+    B: OfHub<H>,
+    S: AsyncRead + AsyncWrite,
+    H: SessionHash,
+    R: Wait + Clock + Moments,
+> Connection<'a, B, S, H, R> {
     /// Makes the connection of a pass that joined with this challenge, and gives it the slot.
     pub fn new(
         server: &'a Server<'a, B, S, H, R>,
@@ -125,14 +126,14 @@ fn prepare_line<H: SessionHash>(
     prepare(alloc, setup, hash, challenge, line)
 }
 
-impl<B: OfHub<H>, S: AsyncRead + AsyncWrite, H: SessionHash, R: Wait + Clock> Port
+impl<B: OfHub<H>, S: AsyncRead + AsyncWrite, H: SessionHash, R: Wait + Clock + Moments> Port
     for Connection<'_, B, S, H, R> {
     ghost use Rattle.std.specs.Prelude.{◌≡◌};
     ghost use Rattle.hub_server.specs.PortCalls.{Calls, Leaves};
 
     type Left = LeftSlot<H>;
 
-    ghost step = { λ a call b. (b.server ≡ a.server) × Calls a.server.now.hub.now.setup (H.digest_of a.server.now.hub.now.hash) a.pass call b.pass };
+    ghost step = { λ a call b. (b.server ≡ a.server) × Calls a.server.now.hub.now.setup (H.digest_of a.server.now.hub.now.hash) B.tells a.pass call b.pass };
 
     ghost leaves = { λ a left. Leaves a.server.now.hub.now.setup (H.digest_of a.server.now.hub.now.hash) a.pass left.visitor };
 
@@ -144,7 +145,7 @@ impl<B: OfHub<H>, S: AsyncRead + AsyncWrite, H: SessionHash, R: Wait + Clock> Po
         }
         let server = self.server;
         let prepared = prepare_line(alloc, server.setup, server.hash, self.challenge, line)?;
-        let now = moment(server.rt);
+        let now = server.moment_of_call();
         let (verdict, touched) = server
             .hub
             .line_touching(server.rt, alloc, &mut self.pass, &prepared, now)?;
@@ -195,7 +196,7 @@ pub fn serve_connection<
     B: OfHub<H>,
     S: AsyncRead + AsyncWrite,
     H: SessionHash,
-    R: Wait + Clock + AllocGlobal,
+    R: Wait + Clock + Moments + AllocGlobal,
 >(
     server: &'a Server<'a, B, S, H, R>,
     stream: S,
@@ -205,7 +206,7 @@ pub fn serve_connection<
 ) -> Result<HubSession<'a, B, S, H, R>, (S, LeftSlot<H>)>
     requires here { pass.home ≡ server.now.hub.now.home }
     requires challenged { pass.challenge ≡ challenge }
-    ensures serves { IfOk result (λ session. ServesByHub server.now.hub.now.setup (H.digest_of server.now.hub.now.hash) ⟦<S as Stream>⟧.told stream pass (⟦<Session<S, Connection<'a, B, S, H, R>, SlotBell<'a>> as Future>⟧.gives session) (λ left. left.visitor)) }
+    ensures serves { IfOk result (λ session. ServesByHub server.now.hub.now.setup (H.digest_of server.now.hub.now.hash) ⟦<S as Stream>⟧.told B.tells stream pass (⟦<Session<S, Connection<'a, B, S, H, R>, SlotBell<'a>> as Future>⟧.gives session) (λ left. left.visitor)) }
     ensures stream { IfErr result (λ back. back.0 ≡ stream) }
     ensures left { IfErr result (λ back. Leaves server.now.hub.now.setup (H.digest_of server.now.hub.now.hash) pass back.1.visitor) }
 {

@@ -8,6 +8,7 @@ mod connection;
 mod free_slot;
 mod left_slot;
 mod listener;
+mod moments;
 mod serve;
 mod served_slot;
 mod server;
@@ -21,6 +22,7 @@ pub use connection::{Connection, HubSession, SlotBell, moment, serve_connection}
 pub use free_slot::{FreeSlot, OfHub};
 pub use left_slot::LeftSlot;
 pub use listener::{Listener, Listens};
+pub use moments::Moments;
 pub use serve::{serve_at, serve_for_journal, serve_hub, serve_on};
 pub use server::Server;
 pub use socket::Socket;

@@ -1,6 +1,7 @@
-ghost use Rattle.std.specs.Prelude.{◌≡◌, false};
+ghost use Rattle.std.specs.Prelude.{◌≡◌, false, IfOk};
 ghost use Rattle.futures.specs.Task.{IsArmed, Keeps};
 ghost use Rattle.futures.specs.Poll.{OnPending};
+ghost use Rattle.hub_server.specs.Peers.{IsAt};
 
 use crate::socket::Socket;
 use adc_sessions::{Incoming, Peer};
@@ -157,7 +158,10 @@ impl<R: Wait + Clock, L: Log, I: Listens> Incoming for Listener<'_, R, L, I> {
 }
 
 /// Gives a stream and its peer, which has an IPv4 address, as what is listened at has.
-fn accept_ipv4<S: Drop>(stream: S, address: &SocketAddr) -> io::Result<(S, Peer)> {
+fn accept_ipv4<S: Drop>(stream: S, address: &SocketAddr) -> io::Result<(S, Peer)>
+    ensures stream { IfOk result (λ r. r.0 ≡ stream) }
+    ensures peer { IfOk result (λ r. IsAt r.1.address address.now) }
+{
     match address {
         SocketAddr::V4(address) => {
             let peer = Peer {

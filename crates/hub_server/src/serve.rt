@@ -1,4 +1,4 @@
-ghost use Rattle.std.specs.Prelude.{◌≡◌, ◌≤◌, [], Some, IfOk};
+ghost use Rattle.std.specs.Prelude.{◌≡◌, ◌≤◌, [], Some, ℕ, IfOk};
 ghost use Rattle.std.specs.List.{All};
 ghost use Rattle.one_history.specs.States.{Home};
 ghost use Rattle.hub_shared.specs.declared.about.About.{About};
@@ -10,6 +10,7 @@ use crate::bind::Bind;
 use crate::connection::moment;
 use crate::free_slot::{FreeSlot, OfHub};
 use crate::listener::{Listener, Listens};
+use crate::moments::Moments;
 use crate::server::Server;
 use crate::socket::Socket;
 use crate::task::AcceptTask;
@@ -218,11 +219,11 @@ pub fn serve_hub<H, R, A, W, L>(
 ) -> Result<Report, Ending>
 where
     H: SessionHash + Send + Sync,
-    R: Wait + Threads + Clock + Net + RandomSource + AllocGlobal + Sync,
+    R: Wait + Threads + Clock + Moments + Net + RandomSource + AllocGlobal + Sync,
     A: Bind,
     W: Write,
     L: Log + Sync,
-    ensures all { IfOk result (λ report. ServedAll ⟦<A::Socket as Stream>⟧.told settings.now.hub (H.digest_of hash.now) report.joins) }
+    ensures all { IfOk result (λ report. ServedAll ⟦<A::Socket as Stream>⟧.told (R.tells rt.now) settings.now.hub (H.digest_of hash.now) report.joins) }
     ensures nobody { IfOk result (λ report. report.present ≡ 0) }
 {
     let (hub, host) = open(rt.alloc(), settings, hash)?;
@@ -242,11 +243,12 @@ where
         output,
         warnings,
     )?;
-    close::<A::Socket, H>(settings, hash, hub, host, visitors)
+    close::<A::Socket, H, R>(rt, settings, hash, hub, host, visitors)
 }
 
 /// Closes the hub of these settings and this hash for which the visitors are back, and gives its report.
-fn close<S: AsyncRead + AsyncWrite, H: SessionHash>(
+fn close<S: AsyncRead + AsyncWrite, H: SessionHash, R: Moments>(
+    rt: &R,
     settings: &Settings,
     hash: &H,
     hub: Hub<H>,
@@ -257,11 +259,12 @@ fn close<S: AsyncRead + AsyncWrite, H: SessionHash>(
     requires hashed { hub.hash ≡ hash.now }
     requires here { host.home ≡ hub.home }
     requires visitors { All (λ v. v.home ≡ hub.home) visitors.items }
-    requires visits { All (λ v. HasVisited ⟦<S as Stream>⟧.told v) visitors.items }
-    ensures all { IfOk result (λ report. ServedAll ⟦<S as Stream>⟧.told settings.now.hub (H.digest_of hash.now) report.joins) }
+    requires visits { All (λ v. HasVisited ⟦<S as Stream>⟧.told (R.tells rt.now) v) visitors.items }
+    ensures all { IfOk result (λ report. ServedAll ⟦<S as Stream>⟧.told (R.tells rt.now) settings.now.hub (H.digest_of hash.now) report.joins) }
     ensures nobody { IfOk result (λ report. report.present ≡ 0) }
 {
     // They only say which hub it is.
+    let _ = rt;
     let _ = settings;
     let _ = hash;
     let Ok(report) = hub.close(host, visitors) else {
@@ -301,17 +304,18 @@ fn run<B, H, R, A, W, L>(
 where
     B: OfHub<H> + Send + Sync,
     H: SessionHash + Send + Sync,
-    R: Wait + Threads + Clock + Net + RandomSource + AllocGlobal + Sync,
+    R: Wait + Threads + Clock + Moments + Net + RandomSource + AllocGlobal + Sync,
     A: Bind,
     W: Write,
     L: Log + Sync,
     requires here { B.home ≡ Some hub.now.home }
+    requires timed { (moment : ℕ) → R.tells rt.now moment → ∥ B.tells moment ∥₁ }
     requires host { host ≡ record { home = hub.now.home; admitted = 0 } }
     requires set { hub.now.setup ≡ settings.now.hub }
     requires hashed { hub.now.hash ≡ hash.now }
     ensures host { IfOk result (λ r. r.0.home ≡ hub.now.home) }
     ensures visitors { IfOk result (λ r. All (λ v. v.home ≡ hub.now.home) r.1.items) }
-    ensures visits { IfOk result (λ r. All (λ v. HasVisited ⟦<A::Socket as Stream>⟧.told v) r.1.items) }
+    ensures visits { IfOk result (λ r. All (λ v. HasVisited ⟦<A::Socket as Stream>⟧.told B.tells v) r.1.items) }
 {
     let alloc = rt.alloc();
     let count = slot_count(settings);
@@ -358,11 +362,12 @@ fn run_slots<B, H, R, A, W, L>(
 where
     B: OfHub<H> + Send + Sync,
     H: SessionHash + Send + Sync,
-    R: Wait + Threads + Clock + Net + RandomSource + AllocGlobal + Sync,
+    R: Wait + Threads + Clock + Moments + Net + RandomSource + AllocGlobal + Sync,
     A: Bind,
     W: Write,
     L: Log + Sync,
     requires here { B.home ≡ Some hub.now.home }
+    requires timed { (moment : ℕ) → R.tells rt.now moment → ∥ B.tells moment ∥₁ }
     requires set { hub.now.setup ≡ settings.now.hub }
     requires hashed { hub.now.hash ≡ hash.now }
 {
@@ -402,7 +407,7 @@ fn listen_and_serve<'a, B, H, R, A, W, L>(
 where
     B: OfHub<H> + Send + Sync,
     H: SessionHash + Send + Sync,
-    R: Wait + Threads + Clock + Net + RandomSource + AllocGlobal + Sync,
+    R: Wait + Threads + Clock + Moments + Net + RandomSource + AllocGlobal + Sync,
     A: Bind,
     W: Write,
     L: Log + Sync,
@@ -459,7 +464,7 @@ where
     B: OfHub<H> + Send + Sync,
     S: Socket + Send,
     H: SessionHash + Send + Sync,
-    R: Wait + Threads + Clock + Net + RandomSource + AllocGlobal + Sync,
+    R: Wait + Threads + Clock + Moments + Net + RandomSource + AllocGlobal + Sync,
     L: Log + Sync,
     I: Listens<Socket = S> + Send,
     W: Write,
@@ -494,7 +499,7 @@ where
     B: OfHub<H>,
     S: Socket,
     H: SessionHash,
-    R: Wait + Clock + AllocGlobal,
+    R: Wait + Clock + Moments + AllocGlobal,
     L: Log,
     I: Listens<Socket = S>,
 {
@@ -572,7 +577,7 @@ fn leave<B: OfHub<H>, S: AsyncRead + AsyncWrite, H>(
 ) -> Vec<Visitor<H>>
     requires none { visitors.items ≡ [] }
     ensures here { (home : Home (About H)) → B.home ≡ Some home → All (λ v. v.home ≡ home) result.items }
-    ensures visits { All (λ v. HasVisited ⟦<S as Stream>⟧.told v) result.items }
+    ensures visits { All (λ v. HasVisited ⟦<S as Stream>⟧.told B.tells v) result.items }
 {
     let mut visitors = visitors;
     for slot in free {

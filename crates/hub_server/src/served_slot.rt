@@ -8,6 +8,7 @@ ghost use Rattle.hub_server.specs.PortCalls.{Calls, Leaves};
 use crate::connection::HubSession;
 use crate::free_slot::{FreeSlot, OfHub};
 use crate::left_slot::LeftSlot;
+use crate::moments::Moments;
 use adc_sessions::{End, Stream};
 use futures::Future;
 use futures::task::{Context, Poll};
@@ -28,11 +29,11 @@ struct Meaning<H: SessionHash> {
 /// The session of a slot, while it serves a connection of the named hub. Whatever it ends with, all calls of the visitor who
 /// is left are visits of that hub.
 #[derive(Drop)]
-pub(crate) struct ServedSlot<'a, B: OfHub<H>, S: Stream, H: SessionHash, R> {
+pub(crate) struct ServedSlot<'a, B: OfHub<H>, S: Stream, H: SessionHash, R: Moments> {
     meaning: Meaning<H>,
     session: Option<HubSession<'a, B, S, H, R>>,
-    ghost visits: { ForSome session (λ running. EndsVisit running ⟦<S as Stream>⟧.told B.home
-        (λ a call b. (b.server ≡ a.server) × Calls a.server.now.hub.now.setup (H.digest_of a.server.now.hub.now.hash) a.pass call b.pass)
+    ghost visits: { ForSome session (λ running. EndsVisit running ⟦<S as Stream>⟧.told B.tells B.home
+        (λ a call b. (b.server ≡ a.server) × Calls a.server.now.hub.now.setup (H.digest_of a.server.now.hub.now.hash) B.tells a.pass call b.pass)
         (λ a visitor. Leaves a.server.now.hub.now.setup (H.digest_of a.server.now.hub.now.hash) a.pass visitor)) },
 }
 
@@ -41,7 +42,7 @@ impl<
     B: OfHub<H>,
     S: AsyncRead + AsyncWrite,
     H: SessionHash,
-    R: Wait + Clock + AllocGlobal,
+    R: Wait + Clock + Moments + AllocGlobal,
 > ServedSlot<'a, B, S, H, R> {
     /// Makes that of a slot which serves nobody.
     pub(crate) fn new() -> ServedSlot<'a, B, S, H, R> {
@@ -53,8 +54,8 @@ impl<
 
     /// Serves by this session.
     pub(crate) fn begin(&mut self, session: HubSession<'a, B, S, H, R>)
-        requires visits { EndsVisit session ⟦<S as Stream>⟧.told B.home
-            (λ a call b. (b.server ≡ a.server) × Calls a.server.now.hub.now.setup (H.digest_of a.server.now.hub.now.hash) a.pass call b.pass)
+        requires visits { EndsVisit session ⟦<S as Stream>⟧.told B.tells B.home
+            (λ a call b. (b.server ≡ a.server) × Calls a.server.now.hub.now.setup (H.digest_of a.server.now.hub.now.hash) B.tells a.pass call b.pass)
             (λ a visitor. Leaves a.server.now.hub.now.setup (H.digest_of a.server.now.hub.now.hash) a.pass visitor) }
     {
         self.session = Some(session);

@@ -1,7 +1,8 @@
-ghost use Rattle.std.specs.Prelude.{◌≡◌, Some};
+ghost use Rattle.std.specs.Prelude.{◌≡◌, Some, ℕ};
 
 use crate::accepted::Accepted;
 use crate::free_slot::{FreeSlot, OfHub};
+use crate::moments::Moments;
 use adc_sessions::Stream;
 use connection_slots::{Fault, Shared};
 use hub_core::Setup;
@@ -14,7 +15,7 @@ use tokio::io::{AsyncRead, AsyncWrite};
 /// The part of a server that all its tasks share: its hub, and what they need to find one another. Its connections are streams
 /// `S`.
 #[derive(Drop)]
-pub struct Server<'a, B: OfHub<H>, S: Stream, H: SessionHash, R> {
+pub struct Server<'a, B: OfHub<H>, S: Stream, H: SessionHash, R: Moments> {
     pub(crate) rt: &'a R,
     pub(crate) hub: &'a Hub<H>,
     pub(crate) hash: &'a H,
@@ -25,9 +26,16 @@ pub struct Server<'a, B: OfHub<H>, S: Stream, H: SessionHash, R> {
     pub(crate) ghost set: { hub.now.setup ≡ setup.now },
     pub(crate) ghost hashed: { hub.now.hash ≡ hash.now },
     pub(crate) ghost here: { B.home ≡ Some hub.now.home },
+    pub(crate) ghost timed: { (moment : ℕ) → R.tells rt.now moment → ∥ B.tells moment ∥₁ },
 }
 
-impl<'a, B: OfHub<H>, S: AsyncRead + AsyncWrite, H: SessionHash, R: Wait> Server<'a, B, S, H, R> {
+impl<'a, B: OfHub<H>, S: AsyncRead + AsyncWrite, H: SessionHash, R: Wait + Moments> Server<
+    'a,
+    B,
+    S,
+    H,
+    R,
+> {
     /// Makes the server of this hub, with `count` slots, numbered from 0, of which these are free. Refused only where memory
     /// runs out.
     pub fn new(
@@ -42,6 +50,7 @@ impl<'a, B: OfHub<H>, S: AsyncRead + AsyncWrite, H: SessionHash, R: Wait> Server
         requires set { hub.now.setup ≡ setup.now }
         requires hashed { hub.now.hash ≡ hash.now }
         requires here { B.home ≡ Some hub.now.home }
+        requires timed { (moment : ℕ) → R.tells rt.now moment → ∥ B.tells moment ∥₁ }
     {
         let shared = Shared::new(alloc, count)?;
         Ok(Server {
@@ -52,6 +61,13 @@ impl<'a, B: OfHub<H>, S: AsyncRead + AsyncWrite, H: SessionHash, R: Wait> Server
             shared,
             free: Mutex::new(free),
         })
+    }
+
+    /// Tells the moment of a call of the hub.
+    pub(crate) fn moment_of_call(&self) -> u64
+        ensures told { ∥ B.tells result ∥₁ }
+    {
+        self.rt.moment_of_call()
     }
 
     /// Takes a slot that has no connection.

@@ -7,6 +7,7 @@ use crate::connection::serve_connection;
 use crate::free_slot::{FreeSlot, OfHub};
 use crate::left_slot::LeftSlot;
 use crate::listener::{Listener, Listens};
+use crate::moments::Moments;
 use crate::served_slot::ServedSlot;
 use crate::server::Server;
 use crate::socket::Socket;
@@ -31,7 +32,7 @@ pub(crate) type Accepts<'a, B, S, H, R, L, I> = Accept<
 
 /// One task of the server.
 #[derive(Drop)]
-pub(crate) enum Task<'a, B: OfHub<H>, S: Stream, H: SessionHash, R, L, I> {
+pub(crate) enum Task<'a, B: OfHub<H>, S: Stream, H: SessionHash, R: Moments, L, I> {
     /// Keeps time.
     Ticking(TimeTask<'a, Accepted<B, S, H>, S, R, L>),
     /// Serves the connections of one slot.
@@ -44,7 +45,7 @@ pub(crate) enum Task<'a, B: OfHub<H>, S: Stream, H: SessionHash, R, L, I> {
 
 /// The task that accepts connections.
 #[derive(Drop)]
-pub(crate) struct AcceptTask<'a, B: OfHub<H>, S: Stream, H: SessionHash, R, L, I> {
+pub(crate) struct AcceptTask<'a, B: OfHub<H>, S: Stream, H: SessionHash, R: Moments, L, I> {
     accept: Accepts<'a, B, S, H, R, L, I>,
     server: &'a Server<'a, B, S, H, R>,
     is_open: bool,
@@ -54,7 +55,7 @@ impl<
     B: OfHub<H>,
     S: Socket,
     H: SessionHash,
-    R: Wait + Clock + AllocGlobal,
+    R: Wait + Clock + Moments + AllocGlobal,
     L: Log,
     I: Listens<Socket = S>,
 > Future for Task<'_, B, S, H, R, L, I> {
@@ -80,7 +81,7 @@ impl<
     B: OfHub<H>,
     S: Socket,
     H: SessionHash,
-    R: Wait + Clock + AllocGlobal,
+    R: Wait + Clock + Moments + AllocGlobal,
     L: Log,
     I: Listens<Socket = S>,
 > AcceptTask<'a, B, S, H, R, L, I> {
@@ -126,7 +127,7 @@ fn fault_of(end: AcceptEnd) -> Option<Fault> {
 
 /// The task that serves the connections of one slot, one after the other.
 #[derive(Drop)]
-pub(crate) struct SlotTask<'a, B: OfHub<H>, S: Stream, H: SessionHash, R, L> {
+pub(crate) struct SlotTask<'a, B: OfHub<H>, S: Stream, H: SessionHash, R: Moments, L> {
     served: ServedSlot<'a, B, S, H, R>,
     server: &'a Server<'a, B, S, H, R>,
     slot: usize,
@@ -135,14 +136,14 @@ pub(crate) struct SlotTask<'a, B: OfHub<H>, S: Stream, H: SessionHash, R, L> {
     warnings: &'a Warnings<L>,
 }
 
-impl<'a, B: OfHub<H>, S: Socket, H: SessionHash, R: Wait + Clock + AllocGlobal, L: Log> SlotTask<
+impl<
     'a,
-    B,
-    S,
-    H,
-    R,
-    L,
-> {
+    B: OfHub<H>,
+    S: Socket,
+    H: SessionHash,
+    R: Wait + Clock + Moments + AllocGlobal,
+    L: Log,
+> SlotTask<'a, B, S, H, R, L> {
     pub(crate) fn new(
         server: &'a Server<'a, B, S, H, R>,
         slot: usize,

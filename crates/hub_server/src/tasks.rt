@@ -1,6 +1,7 @@
 use crate::accepted::Accepted;
 use crate::free_slot::OfHub;
 use crate::listener::Listens;
+use crate::moments::Moments;
 use crate::server::Server;
 use crate::socket::Socket;
 use crate::task::{AcceptTask, SlotTask, Task};
@@ -24,7 +25,7 @@ pub(crate) struct Tasks<
     B: OfHub<H>,
     S: adc_sessions::Stream,
     H: SessionHash,
-    R: Wait,
+    R: Wait + Moments,
     L,
     I,
     W,
@@ -44,7 +45,7 @@ impl<
     B: OfHub<H>,
     S: Socket,
     H: SessionHash,
-    R: Wait + Clock + AllocGlobal,
+    R: Wait + Clock + Moments + AllocGlobal,
     L: Log,
     I: Listens<Socket = S>,
     W: Write,
@@ -75,7 +76,7 @@ impl<
     B: OfHub<H>,
     S: Socket,
     H: SessionHash,
-    R: Wait + Clock + AllocGlobal,
+    R: Wait + Clock + Moments + AllocGlobal,
     L: Log,
     I: Listens<Socket = S>,
     W: Write,

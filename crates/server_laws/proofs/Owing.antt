@@ -193,12 +193,12 @@ once-before : (c : ℕ) (xs ys : List Entry) → JoinsOnce c (xs ++ ys) → has_
 once-before c [] ys once there = absurd (false≢true there)
 once-before c (x ∷ xs) ys once there = once-head c x xs ys once (once-before c xs ys once.1) (joins_as c x.reply) refl there
 
-module _ {S : Type 0} (told : S → StreamCall → S → Type 0) (p : ℕ) where
+module _ {S : Type 0} (told : S → StreamCall → S → Type 0) (tells : ℕ → Type 0) (p : ℕ) where
   abbrev calls : List Visit → List Entry
   calls = flat_map (calls_of p)
 
   -- nothing is delivered to a connection in a visit that did not join as it
-  silent : (c : ℕ) (v : Visit) → IsVisit told p v → has_joined c (calls_of p v) ≡ false → bytes_delivered c (calls_of p v) ≡ []
+  silent : (c : ℕ) (v : Visit) → IsVisit told tells p v → has_joined c (calls_of p v) ≡ false → bytes_delivered c (calls_of p v) ≡ []
   silent c (turned_away peer challenge now r) is none =
       delivered-more c (entry p (Join peer challenge now) r) [] ∙ append-nil (bytes_delivered c []) ∙ delivered-none c
   silent c (let_go peer challenge now d) is none = within-delivered p c d peer challenge now [] ∙ delivered-none c
@@ -212,7 +212,7 @@ module _ {S : Type 0} (told : S → StreamCall → S → Type 0) (p : ℕ) where
   Delivers mine (let_go peer challenge now c) = Unit {0}
   Delivers mine (served peer challenge now c end deeds) = (has_joined c mine ≡ true) × (bytes_delivered c mine ≡ bytes_given deeds) × (end ≡ ends.Ended → has_ended_in c mine ≡ true)
 
-  first-delivers : (v : Visit) (mine : List Entry) → IsVisit told p v → All IsFit (calls_of p v) → ((c : ℕ) → has_joined c (calls_of p v) ≡ true → bytes_delivered c mine ≡ [])
+  first-delivers : (v : Visit) (mine : List Entry) → IsVisit told tells p v → All IsFit (calls_of p v) → ((c : ℕ) → has_joined c (calls_of p v) ≡ true → bytes_delivered c mine ≡ [])
       → Delivers (calls_of p v ++ mine) v
   first-delivers (turned_away peer challenge now r) mine is fits before = tt
   first-delivers (let_go peer challenge now c) mine is fits before = tt
@@ -228,7 +228,7 @@ module _ {S : Type 0} (told : S → StreamCall → S → Type 0) (p : ℕ) where
             ∙ ap (λ b. b || has_ended_in c mine) (within-ended p c peer challenge now between (told-ended p c deeds (subst (λ x. Cause x p c deeds) e is.2.cause))),
       )
 
-  later-delivers : (v w : Visit) (mine : List Entry) → IsVisit told p v → ((c : ℕ) → has_joined c mine ≡ true → has_joined c (calls_of p v) ≡ false) → Delivers mine w
+  later-delivers : (v w : Visit) (mine : List Entry) → IsVisit told tells p v → ((c : ℕ) → has_joined c mine ≡ true → has_joined c (calls_of p v) ≡ false) → Delivers mine w
       → Delivers (calls_of p v ++ mine) w
   later-delivers v (turned_away peer challenge now r) mine is before d = tt
   later-delivers v (let_go peer challenge now c) mine is before d = tt
@@ -239,28 +239,28 @@ module _ {S : Type 0} (told : S → StreamCall → S → Type 0) (p : ℕ) where
   )
 
   -- nothing is delivered to who has not joined
-  all-silent : (c : ℕ) (vs : List Visit) → All (IsVisit told p) vs → has_joined c (calls vs) ≡ false → bytes_delivered c (calls vs) ≡ []
+  all-silent : (c : ℕ) (vs : List Visit) → All (IsVisit told tells p) vs → has_joined c (calls vs) ≡ false → bytes_delivered c (calls vs) ≡ []
   all-silent c [] each none = delivered-none c
   all-silent c (v ∷ vs) each none =
       let parts = or-parts (has_joined c (calls_of p v)) (has_joined c (calls vs)) (sym (joined-append c (calls_of p v) (calls vs)) ∙ none) in
       delivered-append c (calls_of p v) (calls vs)
-      ∙ ap₂ ◌++◌ (all-silent c vs (All-tail (IsVisit told p) v vs each) parts.1) (silent c v (All-head (IsVisit told p) v vs each) parts.0)
+      ∙ ap₂ ◌++◌ (all-silent c vs (All-tail (IsVisit told tells p) v vs each) parts.1) (silent c v (All-head (IsVisit told tells p) v vs each) parts.0)
 
   only-later : (c : ℕ) (xs ys : List Entry) → JoinsOnce c (xs ++ ys) → has_joined c ys ≡ true → (is : Bool) → has_joined c xs ≡ is → is ≡ false
   only-later c xs ys once there true is = absurd (false≢true (sym (once-before c xs ys once is) ∙ there))
   only-later c xs ys once there false is = refl
 
-  all-deliver : (vs : List Visit) → All (IsVisit told p) vs → All IsFit (calls vs) → ((c : ℕ) → JoinsOnce c (calls vs)) → All (Delivers (calls vs)) vs
+  all-deliver : (vs : List Visit) → All (IsVisit told tells p) vs → All IsFit (calls vs) → ((c : ℕ) → JoinsOnce c (calls vs)) → All (Delivers (calls vs)) vs
   all-deliver [] each fits once = All-nil (Delivers (calls []))
   all-deliver (v ∷ vs) each fits once =
-      let rest = all-deliver vs (All-tail (IsVisit told p) v vs each) (all-rest IsFit (calls_of p v) (calls vs) fits) (λ c. once-rest c (calls_of p v) (calls vs) (once c)) in
-      let is = All-head (IsVisit told p) v vs each in
+      let rest = all-deliver vs (All-tail (IsVisit told tells p) v vs each) (all-rest IsFit (calls_of p v) (calls vs) fits) (λ c. once-rest c (calls_of p v) (calls vs) (once c)) in
+      let is = All-head (IsVisit told tells p) v vs each in
       All-cons (Delivers (calls (v ∷ vs))) v vs
       (first-delivers v (calls vs) is (all-first IsFit (calls_of p v) (calls vs) fits)
-      (λ c there. all-silent c vs (All-tail (IsVisit told p) v vs each) (once-before c (calls_of p v) (calls vs) (once c) there)))
+      (λ c there. all-silent c vs (All-tail (IsVisit told tells p) v vs each) (once-before c (calls_of p v) (calls vs) (once c) there)))
       (λ k d l. later-delivers v _ (calls vs) is (λ c there. only-later c (calls_of p v) (calls vs) (once c) there (has_joined c (calls_of p v)) refl) (rest k d l))
 
-module _ {S : Type 0} (told : S → StreamCall → S → Type 0) (setup : Configured) (hash : List ℕ → List ℕ) (log : List Entry) (legal : Legal setup hash log) (p : ℕ) where
+module _ {S : Type 0} (told : S → StreamCall → S → Type 0) (tells : ℕ → Type 0) (setup : Configured) (hash : List ℕ → List ℕ) (log : List Entry) (legal : Legal setup hash log) (p : ℕ) where
   first-of : (c : ℕ) (deeds : List Deed) (more : List ℕ) → bytes_delivered c log ≡ bytes_given deeds → bytes_given deeds ≡ bytes_to deeds ++ more
       → concat (lines_owed setup hash log c) ≡ bytes_to deeds ++ (more ++ concat (drop (count_taken setup hash log c) (lines_owed setup hash log c)))
   first-of c deeds more given written =
@@ -270,7 +270,7 @@ module _ {S : Type 0} (told : S → StreamCall → S → Type 0) (setup : Config
       ∙ ap (λ bs. bs ++ concat (drop n owed)) (sym (delivered_are_the_first setup hash log legal c) ∙ given ∙ written)
       ∙ append_assoc (bytes_to deeds) more (concat (drop n owed))
 
-  paid-one : (mine : List Entry) → entries_of p log ≡ mine → (v : Visit) → IsVisit told p v → Delivers told p mine v → IsPaid setup hash log v
+  paid-one : (mine : List Entry) → entries_of p log ≡ mine → (v : Visit) → IsVisit told tells p v → Delivers told tells p mine v → IsPaid setup hash log v
   paid-one mine are (turned_away peer challenge now r) is d = tt
   paid-one mine are (let_go peer challenge now c) is d = tt
   paid-one mine are (served peer challenge now c end deeds) is d =
@@ -285,20 +285,20 @@ module _ {S : Type 0} (told : S → StreamCall → S → Type 0) (setup : Config
         all = λ e. whole (ap wrote_all e) ∙ ap concat (all-taken setup hash log c legal (told e));
       }
 
-  pub all-paid : (v : AreVisits told p (entries_of p log)) → All (IsPaid setup hash log) v.visits
+  pub all-paid : (v : AreVisits told tells p (entries_of p log)) → All (IsPaid setup hash log) v.visits
   all-paid v =
       let fits = subst (All IsFit) v.calls (all-own-fit p log (all-fit setup hash log legal)) in
       let once = λ (c : ℕ). subst (JoinsOnce c) v.calls (joins-once setup hash log legal p c) in
-      let deliver = all-deliver told p v.visits v.each fits once in
-      λ k d l. paid-one (calls told p v.visits) v.calls _ (v.each k d l) (deliver k d l)
+      let deliver = all-deliver told tells p v.visits v.each fits once in
+      λ k d l. paid-one (calls told tells p v.visits) v.calls _ (v.each k d l) (deliver k d l)
 
-module _ {S : Type 0} (told : S → StreamCall → S → Type 0) where
-  pub visits_are_paid : VisitsArePaid told
-  visits_are_paid setup hash log legal caller its = all-paid told setup hash log legal caller its
+module _ {S : Type 0} (told : S → StreamCall → S → Type 0) (tells : ℕ → Type 0) where
+  pub visits_are_paid : VisitsArePaid told tells
+  visits_are_paid setup hash log legal caller its = all-paid told tells setup hash log legal caller its
 
-  paid-visits : (setup : Configured) (hash : List ℕ → List ℕ) (joins : ℕ) (all : ServedAll told setup hash joins) (caller : ℕ)
-      → AreVisits told caller (entries_of caller all.log) → (its : AreVisits told caller (entries_of caller all.log)) × All (IsPaid setup hash all.log) its.visits
-  paid-visits setup hash joins all caller its = (its, all-paid told setup hash all.log all.legal caller its)
+  paid-visits : (setup : Configured) (hash : List ℕ → List ℕ) (joins : ℕ) (all : ServedAll told tells setup hash joins) (caller : ℕ)
+      → AreVisits told tells caller (entries_of caller all.log) → (its : AreVisits told tells caller (entries_of caller all.log)) × All (IsPaid setup hash all.log) its.visits
+  paid-visits setup hash joins all caller its = (its, all-paid told tells setup hash all.log all.legal caller its)
 
-  pub written_is_owed : WrittenIsOwed told
+  pub written_is_owed : WrittenIsOwed told tells
   written_is_owed setup hash joins all caller = ∥∥₁_map (all.visits caller) (paid-visits setup hash joins all caller)

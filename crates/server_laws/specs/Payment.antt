@@ -31,16 +31,16 @@ module _ (setup : Configured) (hash : List ℕ → List ℕ) (log : List Entry) 
   IsPaid (let_go peer challenge now connection) = ⊤
   IsPaid (served peer challenge now connection end deeds) = IsOwed connection end deeds
 
--- what a stream tells of its calls
-module _ {S : Type 0} (told : S → StreamCall → S → Type 0) where
+-- what a stream tells of its calls, and the moments that a clock tells
+module _ {S : Type 0} (told : S → StreamCall → S → Type 0) (tells : ℕ → Type 0) where
   -- in a legal history each visit is paid, however the calls of a caller are read as visits
   abbrev pub VisitsArePaid : Type 0
   VisitsArePaid =
       (setup : Configured) (hash : List ℕ → List ℕ) (log : List Entry) → Legal setup hash log
-      → (caller : ℕ) (its : AreVisits told caller (entries_of caller log)) → All (IsPaid setup hash log) its.visits
+      → (caller : ℕ) (its : AreVisits told tells caller (entries_of caller log)) → All (IsPaid setup hash log) its.visits
 
   -- in the history of a server that has closed its hub the calls of each caller are visits, and each of these is paid
   abbrev pub WrittenIsOwed : Type 0
   WrittenIsOwed =
-      (setup : Configured) (hash : List ℕ → List ℕ) (joins : ℕ) (all : ServedAll told setup hash joins) (caller : ℕ)
-      → ∥ ((its : AreVisits told caller (entries_of caller all.log)) × All (IsPaid setup hash all.log) its.visits) ∥₁
+      (setup : Configured) (hash : List ℕ → List ℕ) (joins : ℕ) (all : ServedAll told tells setup hash joins) (caller : ℕ)
+      → ∥ ((its : AreVisits told tells caller (entries_of caller all.log)) × All (IsPaid setup hash all.log) its.visits) ∥₁

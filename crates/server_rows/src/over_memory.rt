@@ -1,5 +1,5 @@
 // A session over memory, with a connection of the server.
-ghost use Rattle.std.specs.Prelude.{◌≡◌, Some, ⊤};
+ghost use Rattle.std.specs.Prelude.{◌≡◌, Some, ℕ, ⊤};
 
 use crate::sessions::hold;
 use adc_sessions::End;
@@ -80,6 +80,7 @@ fn session<
     input: &[u8],
 ) -> Option<(End, Vec<u8>)>
     requires here { B.home ≡ Some hub.now.home }
+    requires timed { (moment : ℕ) → ∥ B.tells moment ∥₁ }
     requires host { host.old ≡ record { home = hub.now.home; admitted = 0 } }
     requires set { hub.now.setup ≡ setup.now }
 {

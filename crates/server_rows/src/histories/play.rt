@@ -1,5 +1,5 @@
 // Conversations as text, and how they are played.
-ghost use Rattle.std.specs.Prelude.{◌≡◌, Some};
+ghost use Rattle.std.specs.Prelude.{◌≡◌, Some, ℕ};
 
 use crate::histories::client::{Guest, Talk, joins};
 use crate::histories::clock::StillClock;
@@ -109,6 +109,7 @@ fn converses<'a, B: OfHub<First24> + Send + Sync, S: AsyncRead + AsyncWrite + Se
 where
     R: Wait + Threads + RandomSource + AllocGlobal + Sync,
     requires here { B.home ≡ Some hub.now.home }
+    requires timed { (moment : ℕ) → ∥ B.tells moment ∥₁ }
     requires host { host.old ≡ record { home = hub.now.home; admitted = 0 } }
     requires set { hub.now.setup ≡ setup.now }
 {

@@ -5,4 +5,4 @@ use Rattle.adc_sessions.specs.Events.{StreamStep}
 use Rattle.hub_server.proofs.serve.leave.Given as goal
 
 abbrev pub invariant-loop-slot : goal.invariant-loop-slot
-invariant-loop-slot g l = ((home : _) → g.B.OfHub.home ≡ Some home → All (λ v. v.home ≡ home) l.visitors.items) × All (λ v. HasVisited (StreamStep g.S.AsyncRead.reads g.S.AsyncRead.is_at_end g.S.AsyncRead.fails g.S.AsyncWrite.writes g.S.AsyncWrite.is_full g.S.AsyncWrite.fails) v) l.visitors.items
+invariant-loop-slot g l = ((home : _) → g.B.OfHub.home ≡ Some home → All (λ v. v.home ≡ home) l.visitors.items) × All (λ v. HasVisited (StreamStep g.S.AsyncRead.reads g.S.AsyncRead.is_at_end g.S.AsyncRead.fails g.S.AsyncWrite.writes g.S.AsyncWrite.is_full g.S.AsyncWrite.fails) g.B.OfHub.tells v) l.visitors.items
