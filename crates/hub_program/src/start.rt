@@ -73,15 +73,33 @@ where
     E: Write + Send,
 {
     let settings = settings_in(rt, path)?;
+    let served = serve_hashing(rt, &settings, path, output, errors);
+    drop(settings);
+    served
+}
+
+/// Serves the hub of these settings, which stand in this file, with their seed and their hash.
+fn serve_hashing<R, W, E>(
+    rt: &R,
+    settings: &Settings,
+    path: &str,
+    output: &mut W,
+    errors: &mut E,
+) -> Result<u8, StartFault>
+where
+    R: Wait + Threads + Clock + Net + RandomSource + AllocGlobal + Files + Env + Sync,
+    W: Write,
+    E: Write + Send,
+{
     let seed = seed_in(rt, settings.seed_file())?;
     match settings.hash() {
         HashName::First24 => {
             let hash = Arc::new(rt.alloc(), First24)?;
-            Ok(serve(rt, &settings, path, hash, seed, output, errors))
+            Ok(serve(rt, settings, path, hash, seed, output, errors))
         }
         HashName::Tiger => {
             let hash = Arc::new(rt.alloc(), tables_in(rt, settings.tables())?)?;
-            Ok(serve(rt, &settings, path, hash, seed, output, errors))
+            Ok(serve(rt, settings, path, hash, seed, output, errors))
         }
     }
 }
