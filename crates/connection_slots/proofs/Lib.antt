@@ -4,3 +4,4 @@ pub mod Heard
 pub mod Everybody
 pub mod Each
 pub mod LetGo
+pub mod Forgotten

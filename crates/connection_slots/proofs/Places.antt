@@ -1,5 +1,5 @@
 -- What a write to one place of a list leaves at each place.
-use Rattle.std.proofs.Common.{◌≡◌, ◌≢◌, ◌≤◌, ◌⊎◌, ℕ, zero, suc, List, [], ◌∷◌, ◌++◌, length, set, Some, slice_get, refl, sym, ◌∙◌, ap, subst, inl, inr, arith}
+use Rattle.std.proofs.Common.{◌≡◌, ◌<◌, ◌≢◌, ◌≤◌, ◌⊎◌, ℕ, zero, suc, List, [], ◌∷◌, ◌++◌, length, set, Some, slice_get, refl, sym, ◌∙◌, ap, subst, inl, inr, arith}
 use Rattle.std.proofs.lemmas.Option.{slice_get_past, same_Some, none-some}
 
 pub get_set_other : {A : Type 0} (xs : List A) (i : ℕ) (y : A) (j : ℕ) → j ≢ i → slice_get (set xs i y) j ≡ slice_get xs j
@@ -56,3 +56,8 @@ each_more P (z ∷ xs) y each holds (suc j) x got = each_more P xs y (λ i. each
 -- what holds of the value of a place holds of each value that it is seen to have
 pub only_there : {A : Type 0} (P : A → Type 0) (xs : List A) (i : ℕ) (x : A) → slice_get xs i ≡ Some x → P x → (y : A) → slice_get xs i ≡ Some y → P y
 only_there P xs i x there holds y got = subst P (same_Some x y (sym there ∙ got)) holds
+
+pub get_set_here : {A : Type 0} (xs : List A) (i : ℕ) (y : A) → i < length xs → slice_get (set xs i y) i ≡ Some y
+get_set_here [] i y lt = absurd (omega (arith, lt))
+get_set_here (x ∷ xs) zero y lt = refl
+get_set_here (x ∷ xs) (suc i) y lt = get_set_here xs i y (omega (arith, lt))

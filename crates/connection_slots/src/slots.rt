@@ -1,6 +1,7 @@
-ghost use Rattle.std.specs.Prelude.{◌≡◌, ◌≢◌, ℕ, false, IsTrue, slice_get};
+ghost use Rattle.std.specs.Prelude.{◌≡◌, ◌≢◌, ◌<◌, ◌⊎◌, ℕ, true, false, None, Some, IsSomeAnd, length, IsTrue, slice_get};
 ghost use Rattle.futures.specs.Task.{IsArmed, Keeps};
 ghost use Rattle.connection_slots.specs.Bells.{is_among};
+ghost use Rattle.connection_slots.specs.Named.{IsSetAt, IsNamed, OthersStayNamed, SameIndex, slot_at};
 ghost use Rattle.connection_slots.specs.Rung.{IsRung, HasHeard, IsAwake, Rests, OthersStay, SameSlots, StaysRung};
 
 use crate::accept_waker::AcceptWaker;
@@ -46,6 +47,20 @@ fn is_far_behind(slot: &Slot, said: u64) -> bool {
     }
 }
 
+/// Takes the identifier from the index, if this slot stands under it.
+fn forget(places: &mut BTreeMap<Sid, usize>, sid: Option<Sid>, place: usize)
+    ensures { (other : ℕ) (slot : ℕ) → slot ≢ place → slot_at places.old.entries other ≡ Some slot → slot_at places.new.entries other ≡ Some slot }
+{
+    let Some(sid) = sid else {
+        return;
+    };
+    if let Some(found) = places.get(&sid).copied()
+        && found == place
+    {
+        places.remove(&sid);
+    }
+}
+
 impl Slots {
     /// Makes so many slots, with room for all that is ever kept of them.
     pub(crate) fn new(alloc: Global, count: usize) -> Result<Slots, AllocError> {
@@ -74,15 +89,12 @@ impl Slots {
         ensures heard { HasHeard self.new.bells slot }
         ensures woken { IsAwake self.new.bells slot }
         ensures others { OthersStay self.old.bells self.new.bells slot }
+        ensures named { OthersStayNamed self.old self.new slot }
     {
         self.bells.reset(slot);
         let place = slot;
         if let Some(slot) = self.slots.get_mut(place) {
-            if let Some(sid) = slot.sid
-                && self.places.get(&sid).copied() == Some(place)
-            {
-                self.places.remove(&sid);
-            }
+            forget(&mut self.places, slot.sid, place);
             slot.sid = None;
             slot.backlog = backlog;
         }
@@ -90,7 +102,10 @@ impl Slots {
 
     /// Notes the identifier by which the session of this slot is known.
     pub(crate) fn name(&mut self, slot: usize, sid: Sid)
-        ensures { self.new.bells ≡ self.old.bells }
+        ensures bells { self.new.bells ≡ self.old.bells }
+        ensures named { slot < length self.old.slots.items
+            → IsSetAt sid (Some slot) self.old.places.entries self.new.places.entries ⊎ ((self.new.lacks_some ≡ true) × (self.new.places.entries ≡ self.old.places.entries)) }
+        ensures known { slot < length self.old.slots.items → IsNamed self.new slot sid }
     {
         let place = slot;
         if let Some(slot) = self.slots.get_mut(place) {
@@ -102,7 +117,18 @@ impl Slots {
     }
 
     /// Wakes the session with this identifier, which was given a line. Answers whether it is behind.
-    pub(crate) fn wake_one(&mut self, sid: Sid, own: usize, said: u64) -> bool {
+    pub(crate) fn wake_one(&mut self, sid: Sid, own: usize, said: u64) -> bool
+        ensures rung { (place : ℕ) → slot_at self.old.places.entries sid ≡ Some place → place ≢ own → IsRung self.new.bells place }
+        ensures woken { (place : ℕ) → slot_at self.old.places.entries sid ≡ Some place → place ≢ own → IsAwake self.new.bells place }
+        ensures walked { slot_at self.old.places.entries sid ≡ None → self.old.lacks_some ≡ true → (place : ℕ) → IsNamed self.old place sid
+            → (found : ℕ) × IsNamed self.old found sid × (found ≢ own → IsRung self.new.bells found) }
+        ensures others { self.old.lacks_some ≡ false → (slot : ℕ) → slot_at self.old.places.entries sid ≢ Some slot
+            → slice_get self.new.bells.bells.items slot ≡ slice_get self.old.bells.bells.items slot }
+        ensures own { slice_get self.new.bells.bells.items own ≡ slice_get self.old.bells.bells.items own }
+        ensures kept { (slot : ℕ) → IsRung self.old.bells slot → IsRung self.new.bells slot }
+        ensures slots { SameSlots self.old.bells self.new.bells }
+        ensures index { SameIndex self.old self.new }
+    {
         match self.place(sid) {
             Some(place) if place != own => self.wake_for_line(place, said),
             _ => false,
@@ -110,7 +136,12 @@ impl Slots {
     }
 
     /// Finds the slot of the session with this identifier.
-    fn place(&self, sid: Sid) -> Option<usize> {
+    fn place(&self, sid: Sid) -> Option<usize>
+        ensures found { (place : ℕ) → slot_at self.now.places.entries sid ≡ Some place → result ≡ Some place }
+        ensures walked { slot_at self.now.places.entries sid ≡ None → self.now.lacks_some ≡ true
+            → (place : ℕ) → IsNamed self.now place sid → IsSomeAnd result (λ found. IsNamed self.now found sid) }
+        ensures complete { self.now.lacks_some ≡ false → result ≡ slot_at self.now.places.entries sid }
+    {
         match self.places.get(&sid) {
             Some(place) => Some(*place),
             None if self.lacks_some => self.slots.iter().position(|slot| slot.sid == Some(sid)),
@@ -123,6 +154,7 @@ impl Slots {
         ensures rung { IsRung self.new.bells place }
         ensures woken { IsAwake self.new.bells place }
         ensures others { OthersStay self.old.bells self.new.bells place }
+        ensures index { SameIndex self.old self.new }
     {
         self.bells.ring(place);
         let Some(slot) = self.slots.get_mut(place) else {
@@ -140,6 +172,7 @@ impl Slots {
         ensures woken { (slot : ℕ) → slot ≢ own → IsAwake self.new.bells slot }
         ensures own { StaysRung self.old.bells self.new.bells own }
         ensures slots { SameSlots self.old.bells self.new.bells }
+        ensures index { SameIndex self.old self.new }
     {
         self.bells.ring_everybody(own);
     }
@@ -150,6 +183,7 @@ impl Slots {
         ensures woken { IsAwake self.new.bells slot }
         ensures others { OthersStay self.old.bells self.new.bells slot }
         ensures held { self.new.held ≡ self.old.held }
+        ensures index { SameIndex self.old self.new }
     {
         self.bells.ring(slot);
     }
@@ -162,13 +196,15 @@ impl Slots {
         ensures others { OthersStay self.old.bells self.new.bells slot }
         ensures registered { result ≡ false → IsArmed cx.new }
         ensures kept { Keeps cx.old cx.new }
+        ensures index { SameIndex self.old self.new }
     {
         self.bells.was_rung(slot, cx, source)
     }
 
     /// Counts `lines` taken for the session of this slot.
     pub(crate) fn count_taken(&mut self, slot: usize, said: u64, lines: u64, has_more: bool)
-        ensures { self.new.bells ≡ self.old.bells }
+        ensures bells { self.new.bells ≡ self.old.bells }
+        ensures index { SameIndex self.old self.new }
     {
         if let Some(slot) = self.slots.get_mut(slot)
             && let Some(backlog) = &mut slot.backlog
@@ -198,7 +234,8 @@ impl Slots {
     /// Answers whether the session of this slot may hand over a line although somebody is behind. Where it may not, it is
     /// woken once nobody is, and at the next tick.
     pub(crate) fn may_send(&mut self, slot: usize, throttle: &mut Throttle) -> bool
-        ensures { self.new.bells ≡ self.old.bells }
+        ensures bells { self.new.bells ≡ self.old.bells }
+        ensures index { SameIndex self.old self.new }
     {
         if throttle.is_over(self.ticks) {
             return true;
@@ -221,9 +258,11 @@ impl Slots {
     pub(crate) fn let_go(&mut self)
         ensures rung { (slot : ℕ) → IsTrue (is_among slot self.old.held.items) → IsRung self.new.bells slot }
         ensures woken { (slot : ℕ) → IsTrue (is_among slot self.old.held.items) → IsAwake self.new.bells slot }
-        ensures others { (slot : ℕ) → is_among slot self.old.held.items ≡ false → slice_get self.new.bells.bells.items slot ≡ slice_get self.old.bells.bells.items slot }
+        ensures others { (slot : ℕ) → is_among slot self.old.held.items ≡ false
+            → slice_get self.new.bells.bells.items slot ≡ slice_get self.old.bells.bells.items slot }
         ensures rings { self.new.bells.rings ≡ self.old.bells.rings }
         ensures slots { SameSlots self.old.bells self.new.bells }
+        ensures index { SameIndex self.old self.new }
     {
         while let Some(place) = self.held.pop() {
             self.release(place);
@@ -236,6 +275,7 @@ impl Slots {
         ensures woken { IsAwake self.new.bells place }
         ensures others { OthersStay self.old.bells self.new.bells place }
         ensures held { self.new.held ≡ self.old.held }
+        ensures index { SameIndex self.old self.new }
     {
         self.wake_slot(place);
         if let Some(slot) = self.slots.get_mut(place) {
@@ -245,7 +285,8 @@ impl Slots {
 
     /// Counts a tick for each client that is far behind.
     pub(crate) fn tick(&mut self, said: u64)
-        ensures { self.new.bells ≡ self.old.bells }
+        ensures bells { self.new.bells ≡ self.old.bells }
+        ensures index { SameIndex self.old self.new }
     {
         self.ticks = self.ticks.wrapping_add(1);
         for slot in self.slots.iter_mut() {
@@ -260,6 +301,7 @@ impl Slots {
         ensures registered { result ≡ false → IsArmed cx.new }
         ensures kept { Keeps cx.old cx.new }
         ensures bells { self.new.bells ≡ self.old.bells }
+        ensures index { SameIndex self.old self.new }
     {
         if !self.held.is_empty() {
             return true;
