@@ -1,4 +1,5 @@
-use Rattle.std.proofs.Common.{Some, ⊤}
+use Rattle.std.specs.Prelude.{⊤}
+use Rattle.std.proofs.Common.{Some}
 use Rattle.server_rows.proofs.histories.play.plays.Given as goal
 
 abbrev pub ghosts-converses : goal.ghosts-converses
