@@ -9,9 +9,9 @@ use Rattle.hub_shared.specs.Calls.{Made, Saw}
 
 -- the hub: its setup, and what its hash means
 module _ {H : Type 0} (setup : Configured) (hash : List ℕ → List ℕ) where
-  -- the pass of the same connection, whose caller may have made and seen more
+  -- the pass of the same connection, whose caller may have made and seen more, and may have concerned others
   abbrev pub IsSamePass : PassState H → PassState H → Type 0
-  IsSamePass a b = b ≡ record a { caller = b.caller }
+  IsSamePass a b = b ≡ record a { caller = b.caller; touched = b.touched }
 
   -- A line that is handed over is one call of the hub with exactly that line, at a moment that was told, and what is said of it is the hub's
   -- answer. A take is one take of the hub of as many lines, and gives exactly the bytes that the hub answered. Where a call is refused, the hub

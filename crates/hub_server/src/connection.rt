@@ -146,10 +146,8 @@ impl<B: OfHub<H>, S: AsyncRead + AsyncWrite, H: SessionHash, R: Wait + Clock + M
         let server = self.server;
         let prepared = prepare_line(alloc, server.setup, server.hash, self.challenge, line)?;
         let now = server.moment_of_call();
-        let (verdict, touched) = server
-            .hub
-            .line_touching(server.rt, alloc, &mut self.pass, &prepared, now)?;
-        self.wake(touched);
+        let verdict = server.hub.line(server.rt, alloc, &mut self.pass, &prepared, now)?;
+        self.wake(self.pass.touched());
         Ok(verdict)
     }
 
@@ -175,8 +173,8 @@ impl<B: OfHub<H>, S: AsyncRead + AsyncWrite, H: SessionHash, R: Wait + Clock + M
             is_named: _,
             owes_wake: _,
         } = self;
-        let (visitor, touched) = server.hub.quit_touching(server.rt, pass);
-        wake_touched(&server.shared.wakers, touched, slot);
+        let visitor = server.hub.quit(server.rt, pass);
+        wake_touched(&server.shared.wakers, visitor.touched(), slot);
         LeftSlot { visitor, slot }
     }
 }

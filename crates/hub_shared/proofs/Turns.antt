@@ -106,8 +106,8 @@ module _ {H : Type 0} where
       (subst (λ t. NamesConcerned t lock.about.setup.value (digest_of lock.about.hash.value) (e ∷ taken.seen)) (sym is_told) named))
 
   -- a line that was made ready as the call asks
-  pub ready : (digest_of : H → List ℕ → List ℕ) (lock : LockState (About H)) (hub : HubState H) (seat : SeatState Entry (About H)) (c : ℕ) (pass : PassState H)
-      → hub_of lock ≡ hub → pass_of seat c ≡ pass → (line : PreparedLine) → line ≡ prepared_line hub.setup (digest_of hub.hash) pass.challenge line.bytes
+  pub ready : (digest_of : H → List ℕ → List ℕ) (lock : LockState (About H)) (hub : HubState H) (seat : SeatState Entry (About H)) (c : ℕ) (touched : Touched) (pass : PassState H)
+      → hub_of lock ≡ hub → pass_of seat c touched ≡ pass → (line : PreparedLine) → line ≡ prepared_line hub.setup (digest_of hub.hash) pass.challenge line.bytes
       → line ≡ prepared_line lock.about.setup.value (digest_of lock.about.hash.value) (challenge_in c seat.mine) line.bytes
-  ready digest_of lock hub seat c pass is_hub is_pass line is =
+  ready digest_of lock hub seat c touched pass is_hub is_pass line is =
       is ∙ ap₂ (λ (h : HubState H) (p : PassState H). prepared_line h.setup (digest_of h.hash) p.challenge line.bytes) (sym is_hub) (sym is_pass)

@@ -1,6 +1,7 @@
 -- A hub, its host and its callers, as contracts see them.
 use Rattle.std.specs.Prelude.{◌≡◌, ℕ, ◌==◌, true, false, List, []}
 use Rattle.one_history.specs.States.{Caller, Home, HostState as HostSeat, LockState, SeatState, caller_of, home_of}
+use Rattle.hub_core.specs.declared.share.Touched.{Touched}
 use Rattle.hub_rules.specs.declared.history.Entry.{Entry}
 use Rattle.hub_rules.specs.Configured.{Configured}
 use Rattle.hub_shared.specs.declared.about.About.{About}
@@ -17,17 +18,19 @@ pub record HostState (H : Type 0) : Type 0 where
   pub home : Home (About H)
   pub admitted : ℕ
 
--- a caller without a connection
+-- a caller without a connection, and whom its last call concerned
 pub record VisitorState (H : Type 0) : Type 0 where
   pub home : Home (About H)
   pub caller : Caller Entry
+  pub touched : Touched
 
--- a caller with its connection, and the challenge that came with the join
+-- a caller with its connection, the challenge that came with the join, and whom the caller's last call concerned
 pub record PassState (H : Type 0) : Type 0 where
   pub home : Home (About H)
   pub caller : Caller Entry
   pub connection : ℕ
   pub challenge : List ℕ
+  pub touched : Touched
 
 -- a caller that has seen nothing and made nothing
 abbrev pub new_caller : ℕ → Caller Entry
@@ -39,11 +42,12 @@ module _ {H : Type 0} where
   abbrev pub hub_of : LockState (About H) → HubState H
   hub_of lock = record { home = home_of lock; setup = lock.about.setup.value; hash = lock.about.hash.value }
 
-  abbrev pub visitor_of : SeatState Entry (About H) → VisitorState H
-  visitor_of seat = record { home = seat.home; caller = caller_of seat }
+  abbrev pub visitor_of : SeatState Entry (About H) → Touched → VisitorState H
+  visitor_of seat touched = record { home = seat.home; caller = caller_of seat; touched = touched }
 
-  abbrev pub pass_of : SeatState Entry (About H) → ℕ → PassState H
-  pass_of seat connection = record { home = seat.home; caller = caller_of seat; connection = connection; challenge = challenge_in connection seat.mine }
+  abbrev pub pass_of : SeatState Entry (About H) → ℕ → Touched → PassState H
+  pass_of seat connection touched =
+      record { home = seat.home; caller = caller_of seat; connection = connection; challenge = challenge_in connection seat.mine; touched = touched }
 
   abbrev pub host_of : HostSeat Entry (About H) → HostState H
   host_of seat = record { home = seat.home; admitted = seat.admitted }

@@ -1,4 +1,5 @@
 ghost use Rattle.std.specs.Prelude.{◌≡◌, ◌≤◌, ◌++◌, IfOk, OnOk, OnErr, ◌∷◌, false};
+ghost use Rattle.hub_core.specs.declared.share.Touched.TheVariants.{Nobody};
 ghost use Rattle.hub_core.specs.Promises.{seen_of};
 ghost use Rattle.hub_rules.specs.History.{view};
 ghost use Rattle.hub_rules.specs.Prepared.{prepared_line};
@@ -22,7 +23,7 @@ use std::snapshot::Snapshot;
 use std::sync::Wait;
 
 /// A caller of a hub with its connection. Contracts see the caller's number, the beginning of the history that it has
-/// seen, its own entries in it, the connection, and the challenge that came with its join.
+/// seen, its own entries in it, the connection, the challenge that came with its join, and whom the last call concerned.
 pub struct Pass<H> {
     pub(crate) seat: HubSeat<H>,
     pub(crate) connection: Conn,
@@ -34,21 +35,22 @@ impl<H> Model for Pass<H> {
 
     ghost Value = { PassState H };
 
-    ghost view = { λ p. pass_of p.seat p.connection };
+    ghost view = { λ p. pass_of p.seat p.connection p.touched };
 
     ghost invariant = { λ p. IsPass p.seat p.connection };
 }
 
 impl<H> Pass<H> {
-    /// Names whom the pass's last call concerned: to whose connections it gave lines, or whom it shut out. A hint for those
-    /// who wake what waits for lines: what `line_touching` answered, or would have. It takes no memory. After a join, a take,
-    /// a look or a refusal it names nobody.
-    pub fn touched(&self) -> Touched {
+    /// Names whom the pass's last call concerned: each connection for which more lines wait than before it, which lags since,
+    /// or which it shut out. It may name somebody too many. After a join, a take, a look or a refusal it names nobody.
+    pub fn touched(&self) -> Touched
+        ensures { result ≡ self.now.touched }
+    {
         self.touched
     }
 
     pub(crate) fn into_parts(self) -> (HubSeat<H>, Conn)
-        ensures shown { pass_of result.0 result.1 ≡ self }
+        ensures shown { pass_of result.0 result.1 self.touched ≡ self }
         ensures pass { IsPass result.0 result.1 }
     {
         let Pass {
@@ -72,9 +74,9 @@ impl<H> Drop for Pass<H> {
 }
 
 impl<H: SessionHash> Hub<H> {
-    /// Handles a line of the pass's connection, at a moment in seconds. It may wait for the lock.
-    /// Conditions: the pass is of this hub; the line was made ready with the hub's setup and hash, and with the challenge
-    /// of the pass's join.
+    /// Handles a line of the pass's connection, at a moment in seconds. It may wait for the lock. Whom it concerned the pass
+    /// names afterwards. Conditions: the pass is of this hub; the line was made ready with the hub's setup and hash, and with
+    /// the challenge of the pass's join.
     ///
     /// Refused: `Memory`; then hub and pass are unchanged, and the line may be sent again.
     pub fn line<R: Wait>(
@@ -87,43 +89,19 @@ impl<H: SessionHash> Hub<H> {
     ) -> Result<Verdict, LineRefused>
         requires here { pass.old.home ≡ self.now.home }
         requires prepared { line.now ≡ prepared_line self.now.setup (H.digest_of self.now.hash) pass.old.challenge line.now.bytes }
-        ensures same { pass.new ≡ record pass.old { caller = pass.new.caller } }
+        ensures same { pass.new ≡ record pass.old { caller = pass.new.caller; touched = pass.new.touched } }
         ensures made { IfOk result (λ verdict. SaysLine self.now.setup (H.digest_of self.now.hash) pass.old line.now.bytes now verdict pass.new.caller) }
         ensures refused { OnErr result (Saw self.now.setup (H.digest_of self.now.hash) pass.old.caller pass.new.caller) }
-    {
-        match self.line_touching(rt, alloc, pass, line, now) {
-            Ok((verdict, _)) => Ok(verdict),
-            Err(refused) => Err(refused),
-        }
-    }
-
-    /// Handles a line as `line` does, and names whom it concerned: each connection for which more lines wait than before it,
-    /// which lags since, or which it shut out. It may name somebody too many.
-    ///
-    /// Refused as `line` is.
-    pub fn line_touching<R: Wait>(
-        &self,
-        rt: &R,
-        alloc: Global,
-        pass: &mut Pass<H>,
-        line: &Prepared,
-        now: u64,
-    ) -> Result<(Verdict, Touched), LineRefused>
-        requires here { pass.old.home ≡ self.now.home }
-        requires prepared { line.now ≡ prepared_line self.now.setup (H.digest_of self.now.hash) pass.old.challenge line.now.bytes }
-        ensures same { pass.new ≡ record pass.old { caller = pass.new.caller } }
-        ensures made { IfOk result (λ said. SaysLine self.now.setup (H.digest_of self.now.hash) pass.old line.now.bytes now said.0 pass.new.caller) }
-        ensures touched { IfOk result (λ said. NamesConcerned said.1 self.now.setup (H.digest_of self.now.hash) pass.new.caller.seen) }
-        ensures refused { OnErr result (Saw self.now.setup (H.digest_of self.now.hash) pass.old.caller pass.new.caller) }
+        ensures touched { OnOk result (NamesConcerned pass.new.touched self.now.setup (H.digest_of self.now.hash) pass.new.caller.seen) }
+        ensures nobody { OnErr result (pass.new.touched ≡ Nobody) }
     {
         let mut core = self.lock.take(rt, &mut pass.seat);
         match core.line(alloc, pass.connection, line, now) {
             Ok(verdict) => {
                 pass.touched = core.touched();
-                let touched = core.touched();
                 let note = (pass.connection, Snapshot::of(line), now, verdict);
                 enter::<Brand, H, _>(&self.lock, &mut pass.seat, core, &note);
-                Ok((verdict, touched))
+                Ok(verdict)
             }
             Err(refused) => {
                 pass.touched = Touched::Nobody;
@@ -147,11 +125,12 @@ impl<H: SessionHash> Hub<H> {
         requires here { pass.old.home ≡ self.now.home }
         requires some { 1 ≤ count }
         requires few { count ≤ 256 }
-        ensures same { pass.new ≡ record pass.old { caller = pass.new.caller } }
+        ensures same { pass.new ≡ record pass.old { caller = pass.new.caller; touched = pass.new.touched } }
         ensures made { IfOk result (λ taken. TakesLines self.now.setup (H.digest_of self.now.hash) pass.old count out.old.items out.new.items taken pass.new.caller) }
         ensures appended { OnOk result (out.new.items ≡ out.old.items ++ behind out.old.items out.new.items) }
         ensures refused { OnErr result (Saw self.now.setup (H.digest_of self.now.hash) pass.old.caller pass.new.caller) }
         ensures unchanged { OnErr result (out.new.items ≡ out.old.items) }
+        ensures nobody { pass.new.touched ≡ Nobody }
     {
         let before = Snapshot::of(&*out);
         let mut core = self.lock.take(rt, &mut pass.seat);
@@ -173,9 +152,10 @@ impl<H: SessionHash> Hub<H> {
     /// Looks at the pass's connection. It may wait for the lock, and takes no memory. Condition: the pass is of this hub.
     pub fn look<R: Wait>(&self, rt: &R, pass: &mut Pass<H>) -> Look
         requires here { pass.old.home ≡ self.now.home }
-        ensures same { pass.new ≡ record pass.old { caller = pass.new.caller } }
+        ensures same { pass.new ≡ record pass.old { caller = pass.new.caller; touched = pass.new.touched } }
         ensures saw { Saw self.now.setup (H.digest_of self.now.hash) pass.old.caller pass.new.caller }
         ensures look { seen_of result ≡ view self.now.setup (H.digest_of self.now.hash) pass.new.caller.seen pass.new.connection }
+        ensures nobody { pass.new.touched ≡ Nobody }
     {
         let core = self.lock.take(rt, &mut pass.seat);
         let look = core.look(pass.connection);

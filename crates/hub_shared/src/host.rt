@@ -1,4 +1,5 @@
 ghost use Rattle.std.specs.Prelude.{◌≡◌, ◌+◌, ◌<◌};
+ghost use Rattle.hub_core.specs.declared.share.Touched.TheVariants.{Nobody};
 ghost use Rattle.hub_shared.specs.Callers.{new_caller, host_of, IsAlone};
 
 use crate::about::HostSeat;
@@ -47,7 +48,7 @@ impl<H: SessionHash> Host<H> {
         requires here { self.old.home ≡ hub.now.home }
         requires room { self.old.admitted < 65_536 }
         ensures host { self.new ≡ record self.old { admitted = self.old.admitted + 1 } }
-        ensures visitor { result ≡ record { home = hub.now.home; caller = new_caller (self.old.admitted + 1) } }
+        ensures visitor { result ≡ record { home = hub.now.home; caller = new_caller (self.old.admitted + 1); touched = Nobody } }
     {
         Visitor {
             seat: self.seat.admit(&hub.lock),

@@ -1,6 +1,7 @@
 ghost use Rattle.std.specs.Prelude.{◌≡◌, IfOk, IfErr};
 ghost use Rattle.hub_rules.specs.declared.history.Call.TheVariants.{Join, Quit};
 ghost use Rattle.hub_rules.specs.declared.history.Reply.TheVariants.{Joined, Left};
+ghost use Rattle.hub_core.specs.declared.share.Touched.TheVariants.{Nobody};
 ghost use Rattle.hub_core.specs.Touching.{NamesConcerned};
 ghost use Rattle.hub_shared.specs.Calls.{Made, Refused};
 
@@ -29,9 +30,9 @@ impl<H: SessionHash> Hub<H> {
         now: u64,
     ) -> Result<Pass<H>, (JoinRefused, Visitor<H>)>
         requires here { visitor.home ≡ self.now.home }
-        ensures pass { IfOk result (λ pass. pass ≡ record { home = visitor.home; caller = pass.caller; connection = pass.connection; challenge = challenge }) }
+        ensures pass { IfOk result (λ pass. pass ≡ record { home = visitor.home; caller = pass.caller; connection = pass.connection; challenge = challenge; touched = Nobody }) }
         ensures made { IfOk result (λ pass. Made self.now.setup (H.digest_of self.now.hash) visitor.caller (Join peer challenge now) (Joined pass.connection) pass.caller) }
-        ensures back { IfErr result (λ r. r.1 ≡ record visitor { caller = r.1.caller }) }
+        ensures back { IfErr result (λ r. r.1 ≡ record visitor { caller = r.1.caller; touched = Nobody }) }
         ensures refused { IfErr result (λ r. Refused self.now.setup (H.digest_of self.now.hash) visitor.caller (Join peer challenge now) r.0 r.1.caller) }
     {
         let mut seat = visitor.into_idle();
@@ -55,35 +56,20 @@ impl<H: SessionHash> Hub<H> {
         }
     }
 
-    /// Lets the pass's connection go, and gives the visitor back, who may join again. What waited for the connection is
-    /// given up. It may wait for the lock, and takes no memory. Condition: the pass is of this hub.
+    /// Lets the pass's connection go, and gives the visitor back, who may join again, and names whom that concerned. What
+    /// waited for the connection is given up. It may wait for the lock, and takes no memory. Condition: the pass is of this
+    /// hub.
     pub fn quit<R: Wait>(&self, rt: &R, pass: Pass<H>) -> Visitor<H>
         requires here { pass.home ≡ self.now.home }
-        ensures visitor { result ≡ record { home = pass.home; caller = result.caller } }
+        ensures visitor { result ≡ record { home = pass.home; caller = result.caller; touched = result.touched } }
         ensures made { Made self.now.setup (H.digest_of self.now.hash) pass.caller (Quit pass.connection) Left result.caller }
-    {
-        let (visitor, _) = self.quit_touching(rt, pass);
-        visitor
-    }
-
-    /// Lets the pass's connection go as `quit` does, and names whom that concerned: each connection for which more lines
-    /// wait than before, or which lags since. It may name somebody too many.
-    pub fn quit_touching<R: Wait>(&self, rt: &R, pass: Pass<H>) -> (Visitor<H>, Touched)
-        requires here { pass.home ≡ self.now.home }
-        ensures visitor { result.0 ≡ record { home = pass.home; caller = result.0.caller } }
-        ensures made { Made self.now.setup (H.digest_of self.now.hash) pass.caller (Quit pass.connection) Left result.0.caller }
-        ensures touched { NamesConcerned result.1 self.now.setup (H.digest_of self.now.hash) result.0.caller.seen }
+        ensures touched { NamesConcerned result.touched self.now.setup (H.digest_of self.now.hash) result.caller.seen }
     {
         let (mut seat, connection) = pass.into_parts();
         let mut core = self.lock.take(rt, &mut seat);
         core.quit(connection);
         let touched = core.touched();
-        let kept = core.touched();
         enter::<Brand, H, _>(&self.lock, &mut seat, core, &connection);
-        let visitor = Visitor {
-            seat,
-            touched: kept,
-        };
-        (visitor, touched)
+        Visitor { seat, touched }
     }
 }

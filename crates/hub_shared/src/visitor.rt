@@ -8,7 +8,7 @@ use one_history::{Seat, Seated};
 use std::marker::Model;
 
 /// A caller of a hub without a connection. Contracts see the caller's number, the beginning of the history that it has
-/// seen, and its own entries in it.
+/// seen, its own entries in it, and whom its last call concerned.
 pub struct Visitor<H> {
     pub(crate) seat: HubSeat<H>,
     pub(crate) touched: Touched,
@@ -19,20 +19,22 @@ impl<H> Model for Visitor<H> {
 
     ghost Value = { VisitorState H };
 
-    ghost view = { λ v. visitor_of v.seat };
+    ghost view = { λ v. visitor_of v.seat v.touched };
 
     ghost invariant = { λ v. IsVisitor v.seat };
 }
 
 impl<H> Visitor<H> {
-    /// Names whom the visitor's last call concerned, which was the quit of its connection or a join that was refused. A
-    /// hint, as that of a pass: what `quit_touching` answered, or would have.
-    pub fn touched(&self) -> Touched {
+    /// Names whom the visitor's last call concerned, which was the quit of its connection or a join that was refused. It may
+    /// name somebody too many. Before its first call it names nobody.
+    pub fn touched(&self) -> Touched
+        ensures { result ≡ self.now.touched }
+    {
         self.touched
     }
 
     pub(crate) fn into_idle(self) -> HubSeat<H>
-        ensures shown { visitor_of result ≡ self }
+        ensures shown { visitor_of result self.touched ≡ self }
         ensures visitor { IsVisitor result }
     {
         let Visitor { seat, touched: _ } = self;

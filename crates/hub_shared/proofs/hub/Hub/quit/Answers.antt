@@ -2,7 +2,7 @@ use Rattle.hub_core.specs.Moves.{entry}
 use Rattle.hub_rules.specs.declared.history.Call.TheVariants.{Quit}
 use Rattle.hub_rules.specs.declared.history.Reply.TheVariants.{Left}
 use Rattle.hub_shared.proofs.Turns.{given-names, has-seat, own-call, own-names, takes}
-use Rattle.hub_shared.proofs.hub.Hub.quit_touching.Goals as goal
+use Rattle.hub_shared.proofs.hub.Hub.quit.Goals as goal
 
 pub quit-requires : goal.quit-requires
 quit-requires g c =

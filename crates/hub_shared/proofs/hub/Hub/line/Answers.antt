@@ -5,7 +5,7 @@ use Rattle.hub_rules.specs.declared.history.Call.TheVariants.{Line}
 use Rattle.hub_rules.specs.declared.history.Reply.TheVariants.{Said}
 use Rattle.hub_rules.specs.Sights.{PreparedLine}
 use Rattle.hub_shared.proofs.Turns.{given-names, has-seat, line-names, line-stands, ready, takes}
-use Rattle.hub_shared.proofs.hub.Hub.line_touching.Goals as goal
+use Rattle.hub_shared.proofs.hub.Hub.line.Goals as goal
 
 pub line-requires : goal.line-requires
 line-requires g c =
@@ -23,7 +23,7 @@ enter-requires-clause-stands g c =
     let taken = c.take-core.new.seat in
     let hash = g.H.SessionHash.digest_of lock.about.hash.value in
     let t = takes seat taken c.take-core.ensures.seat c.take-core.ensures.begins c.take-core.ensures.entries in
-    let line = ready g.H.SessionHash.digest_of lock c.args.self.now seat c.pass.inside.connection c.args.pass.now c.self.view_is c.pass.view_is c.args.line.now c.requires.prepared in
+    let line = ready g.H.SessionHash.digest_of lock c.args.self.now seat c.pass.inside.connection c.pass.inside.touched c.args.pass.now c.self.view_is c.pass.view_is c.args.line.now c.requires.prepared in
     subst (λ (l : PreparedLine). StandsAt lock.about.setup.value hash (entry taken.number (Line c.pass.inside.connection l.bytes c.args.now) (Said c.in-Ok.verdict) ∷ taken.seen) c.line.new.self)
     (sym c.of.ensures)
     (line-stands lock.about.setup.value hash taken.seen seat.mine c.take-core.result c.line.new.self taken.number c.pass.inside.connection c.args.line.now c.args.now
@@ -36,9 +36,9 @@ returns-in-Ok-clause-touched g c =
     let taken = c.take-core.new.seat in
     let hash = g.H.SessionHash.digest_of lock.about.hash.value in
     let t = takes seat taken c.take-core.ensures.seat c.take-core.ensures.begins c.take-core.ensures.entries in
-    let line = ready g.H.SessionHash.digest_of lock c.args.self.now seat c.pass.inside.connection c.args.pass.now c.self.view_is c.pass.view_is c.args.line.now c.requires.prepared in
+    let line = ready g.H.SessionHash.digest_of lock c.args.self.now seat c.pass.inside.connection c.pass.inside.touched c.args.pass.now c.self.view_is c.pass.view_is c.args.line.now c.requires.prepared in
     given-names g.H.SessionHash.digest_of lock c.args.self.now (entry taken.number (Line c.pass.inside.connection c.of.result.value.bytes c.args.now) (Said c.in-Ok.verdict)) taken c.enter.new.seat
-    c.touched-touched.result c.line.new.self.touched c.self.view_is c.enter.ensures.seat c.touched-touched.ensures
+    c.touched-pass-inside.result c.line.new.self.touched c.self.view_is c.enter.ensures.seat c.touched-pass-inside.ensures
     (subst (λ (l : PreparedLine). NamesConcerned c.line.new.self.touched lock.about.setup.value hash (entry taken.number (Line c.pass.inside.connection l.bytes c.args.now) (Said c.in-Ok.verdict) ∷ taken.seen))
     (sym c.of.ensures)
     (line-names lock.about.setup.value hash taken.seen seat.mine c.take-core.result c.line.new.self taken.number c.pass.inside.connection c.args.line.now c.args.now
