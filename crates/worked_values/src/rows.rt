@@ -56,7 +56,7 @@ fn answer_to<R: Abort + AllocGlobal + Print, P: Part>(rt: &R, part: &mut P, call
     said
 }
 
-fn text_of(bytes: &[u8]) -> &str {
+pub(crate) fn text_of(bytes: &[u8]) -> &str {
     std::str::from_utf8(bytes).unwrap_or("")
 }
 

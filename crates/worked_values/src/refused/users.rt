@@ -1,4 +1,4 @@
-use crate::rows::{say, say_refused_memory, unknown};
+use crate::rows::{say, say_refused_memory, text_of, unknown};
 use crate::users::alike::{keep, say_run};
 use crate::users::play_table;
 use crate::users::samples::{say_totals, user};
@@ -57,12 +57,13 @@ fn runs<U: Users>(rt: &(impl Abort + AllocGlobal + Print)) {
         say_run(rt, &mut said, *answer);
         say(rt, &mut said, ";");
     }
-    match said.as_slice() {
-        b"done;done; 2 10 0;" => assert!(rt; has_totals(rt, &users, "2 10 0")),
-        b"Memory;done; 1 5 0;" | b"done;Memory; 1 5 0;" => {
-            say_refused_memory(rt, "user_table::run_users", has_totals(rt, &users, "1 5 0"));
-        }
-        _ => unknown(rt, "other answers"),
+    let said = text_of(&said);
+    if said == "done;done; 2 10 0;" {
+        assert!(rt; has_totals(rt, &users, "2 10 0"));
+    } else if said == "Memory;done; 1 5 0;" || said == "done;Memory; 1 5 0;" {
+        say_refused_memory(rt, "user_table::run_users", has_totals(rt, &users, "1 5 0"));
+    } else {
+        unknown(rt, "other answers");
     }
     drop(users);
 }
