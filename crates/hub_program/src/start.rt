@@ -1,7 +1,8 @@
 ghost use Rattle.std.specs.Prelude.{◌≡◌};
 
 use hub_endings::Ending;
-use hub_server::{moment, serve_for_journal, serve_on};
+use hub_listener::moment;
+use hub_server::{serve_for_journal, serve_on};
 use hub_settings::{HashName, KeyName, Settings, SettingsFault, read_settings};
 use session_hash::{First24, SessionHash, TableTiger, TablesFault};
 use std::alloc::{AllocError, AllocFailed, AllocGlobal};

@@ -1,5 +1,6 @@
 ghost use Rattle.std.specs.Prelude.{◌≡◌, Some};
-ghost use Rattle.hub_server.specs.Peers.{HasComeFrom, octets_of};
+ghost use Rattle.hub_listener.specs.Peers.{octets_of};
+ghost use Rattle.hub_server.specs.Peers.{HasComeFrom};
 ghost use Rattle.hub_server.specs.Visits.{HasEntered};
 
 use crate::free_slot::OfHub;

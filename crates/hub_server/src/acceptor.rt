@@ -1,15 +1,15 @@
 ghost use Rattle.std.specs.Prelude.{◌≡◌, Some, IfOk};
-ghost use Rattle.hub_server.specs.Peers.{HasComeFrom, octets_of};
+ghost use Rattle.hub_listener.specs.Peers.{octets_of};
+ghost use Rattle.hub_server.specs.Peers.{HasComeFrom};
 ghost use Rattle.hub_server.specs.Visits.{HasEntered};
 
 use crate::accepted::Accepted;
 use crate::free_slot::{FreeSlot, OfHub};
-use crate::moments::Moments;
 use crate::server::Server;
-use crate::socket::Socket;
 use adc_sessions::{Peer, Starter, Stream};
 use hub_challenges::Challenges;
 use hub_core::JoinRefused;
+use hub_listener::{Moments, Socket};
 use hub_shared::Pass;
 use hub_warnings::{Cause, Warnings};
 use log::Log;

@@ -5,13 +5,13 @@ ghost use Rattle.hub_server.specs.ServedByHub.{ServesByHub};
 
 use crate::free_slot::OfHub;
 use crate::left_slot::LeftSlot;
-use crate::moments::Moments;
 use crate::server::Server;
 use adc_sessions::{Bell, Port, Session, Stream};
 use connection_slots::{Throttle, Wakers};
 use futures::Future;
 use futures::task::Context;
 use hub_core::{LineRefused, Prepared, Setup, TakeRefused, Taken, Touched, Verdict, prepare};
+use hub_listener::Moments;
 use hub_shared::Pass;
 use session_hash::SessionHash;
 use std::alloc::{AllocGlobal, Global};
@@ -146,7 +146,9 @@ impl<B: OfHub<H>, S: AsyncRead + AsyncWrite, H: SessionHash, R: Wait + Clock + M
         let server = self.server;
         let prepared = prepare_line(alloc, server.setup, server.hash, self.challenge, line)?;
         let now = server.moment_of_call();
-        let verdict = server.hub.line(server.rt, alloc, &mut self.pass, &prepared, now)?;
+        let verdict = server
+            .hub
+            .line(server.rt, alloc, &mut self.pass, &prepared, now)?;
         self.wake(self.pass.touched());
         Ok(verdict)
     }
@@ -246,14 +248,5 @@ impl Bell for SlotBell<'_> {
 
     fn may_hand(&mut self) -> bool {
         self.wakers.may_send(self.slot, &mut self.throttle)
-    }
-}
-
-/// Gives the moment of a call, in seconds since 1970; 0 where the clock cannot be read. Settings are read with an opening
-/// on the same clock.
-pub fn moment<R: Clock>(rt: &R) -> u64 {
-    match rt.since_1970() {
-        Ok(time) => time.as_secs(),
-        Err(_) => 0,
     }
 }

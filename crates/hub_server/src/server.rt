@@ -2,10 +2,10 @@ ghost use Rattle.std.specs.Prelude.{◌≡◌, Some, ℕ};
 
 use crate::accepted::Accepted;
 use crate::free_slot::{FreeSlot, OfHub};
-use crate::moments::Moments;
 use adc_sessions::Stream;
 use connection_slots::{Fault, Shared};
 use hub_core::Setup;
+use hub_listener::Moments;
 use hub_shared::Hub;
 use session_hash::SessionHash;
 use std::alloc::{AllocError, Global};

@@ -1,14 +1,11 @@
 use crate::accepted::Accepted;
 use crate::free_slot::OfHub;
-use crate::listener::Listens;
-use crate::moments::Moments;
 use crate::server::Server;
-use crate::socket::Socket;
 use crate::task::{AcceptTask, SlotTask, Task};
-use crate::time_task::TimeTask;
 use connection_slots::Startup;
 use futures::Stream;
 use futures::task::{Context, Poll};
+use hub_listener::{Listens, Moments, Socket, TimeTask};
 use hub_warnings::Warnings;
 use log::Log;
 use session_hash::SessionHash;

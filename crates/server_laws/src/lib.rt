@@ -4,7 +4,7 @@
 ghost use Rattle.server_laws.specs.Payment.{VisitsArePaid, WrittenIsOwed};
 
 use adc_sessions::Stream;
-use hub_server::Moments;
+use hub_listener::Moments;
 
 /// Says what was written to the connections of a server that has closed its hub: to each that was served, the first of what the rules
 /// owe it in the one history of that hub, byte for byte. Where the session wrote all that it took these are whole lines, and all that

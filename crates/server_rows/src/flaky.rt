@@ -1,6 +1,6 @@
 // A listener that accepts nobody at first, as where connections are gone and descriptors are wanting.
 use futures::task::{Context, Poll};
-use hub_server::{Bind, Listens};
+use hub_listener::{Bind, Listens};
 use std::io;
 use std::net::{Net, SocketAddr, SocketAddrV4};
 use tokio::net::{TcpListener, TcpStream};

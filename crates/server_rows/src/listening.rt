@@ -1,7 +1,8 @@
 // Servers that cannot be had, or not for long.
 
 use crate::run::settings;
-use hub_server::{Bind, serve_at};
+use hub_listener::Bind;
+use hub_server::serve_at;
 use session_hash::First24;
 use std::alloc::AllocGlobal;
 use std::io::{self, Write};

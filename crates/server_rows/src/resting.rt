@@ -3,7 +3,7 @@ use adc_sessions::Incoming;
 use connection_slots::Wakers;
 use futures::task::{Context, Poll};
 use futures::test::MockTask;
-use hub_server::{Listener, Listens};
+use hub_listener::{Listener, Listens};
 use hub_warnings::Warnings;
 use log::sink::Discard;
 use log::{Level, Logged};

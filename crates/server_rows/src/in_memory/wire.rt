@@ -3,7 +3,7 @@ ghost use Rattle.std.specs.Prelude.{◌≡◌, ◌<◌, ◌≤◌, ◌++◌, len
 
 use crate::in_memory::desk::Desk;
 use futures::task::{Context, Poll};
-use hub_server::{Bind, Listens, Socket};
+use hub_listener::{Bind, Listens, Socket};
 use std::alloc::Global;
 use std::io;
 use std::net::{Ipv4Addr, Net, SocketAddr, SocketAddrV4};

@@ -1,7 +1,7 @@
 ghost use Rattle.std.specs.Prelude.{◌≡◌, false, IfOk};
 ghost use Rattle.futures.specs.Task.{IsArmed, Keeps};
 ghost use Rattle.futures.specs.Poll.{OnPending};
-ghost use Rattle.hub_server.specs.Peers.{IsAt};
+ghost use Rattle.hub_listener.specs.Peers.{IsAt};
 
 use crate::socket::Socket;
 use adc_sessions::{Incoming, Peer};

@@ -15,7 +15,7 @@ const PERIOD: u64 = 1;
 
 /// The task that keeps time: it ticks, and says each second how many equal warnings were counted in minutes that are over.
 #[derive(Drop)]
-pub(crate) struct TimeTask<'a, T, S, R, L> {
+pub struct TimeTask<'a, T, S, R, L> {
     ticker: Ticker<'a, T, S, R>,
     timer: Sleep,
     rt: &'a R,
@@ -24,7 +24,7 @@ pub(crate) struct TimeTask<'a, T, S, R, L> {
 
 impl<'a, T: Drop, S: AsyncRead + AsyncWrite, R: Wait + Clock, L: Log> TimeTask<'a, T, S, R, L> {
     /// Makes the task, which uses this timer, whatever it is set to.
-    pub(crate) fn new(
+    pub fn new(
         ticker: Ticker<'a, T, S, R>,
         timer: Sleep,
         rt: &'a R,
@@ -39,7 +39,7 @@ impl<'a, T: Drop, S: AsyncRead + AsyncWrite, R: Wait + Clock, L: Log> TimeTask<'
     }
 
     /// Works as a task does. It is over once the ticker is.
-    pub(crate) fn poll_over(&mut self, cx: &mut Context<'_>) -> Poll<()>
+    pub fn poll_over(&mut self, cx: &mut Context<'_>) -> Poll<()>
         ensures registered { OnPending result (IsArmed cx.new) }
         ensures kept { Keeps cx.old cx.new }
     {

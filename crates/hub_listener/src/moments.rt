@@ -1,4 +1,3 @@
-use crate::connection::moment;
 use std::time::Clock;
 
 /// What tells the moments of calls, in seconds since 1970.
@@ -21,5 +20,14 @@ impl<R: Clock> Moments for R {
 
     fn moment_of_call(&self) -> u64 {
         moment(self)
+    }
+}
+
+/// Gives the moment of a call, in seconds since 1970; 0 where the clock cannot be read. Settings are read with an opening
+/// on the same clock.
+pub fn moment<R: Clock>(rt: &R) -> u64 {
+    match rt.since_1970() {
+        Ok(time) => time.as_secs(),
+        Err(_) => 0,
     }
 }

@@ -1,0 +1,16 @@
+-- The octets of an IPv4 address, and whether a socket's address is one with these.
+use Rattle.std.specs.Prelude.{◌≡◌, ℕ, List}
+use Rattle.std.specs.Net.Addr.{ipv4_octets}
+use Rattle.std.specs.Net.Socket.{v4_ip}
+use Rattle.std.specs.declared.net.socket_addr.SocketAddr.{SocketAddr}
+use Rattle.std.specs.declared.net.socket_addr.SocketAddr.TheVariants.{V4, V6}
+use Rattle.std.specs.declared.net.socket_addr.SocketAddrV4.{SocketAddrV4}
+
+-- the octets of an IPv4 address, most significant first
+abbrev pub octets_of : SocketAddrV4 → List ℕ
+octets_of address = ipv4_octets (v4_ip address)
+
+-- a socket's address is an IPv4 address with these octets
+abbrev pub IsAt : List ℕ → SocketAddr → Type 0
+IsAt octets (V4 address) = octets ≡ octets_of address
+IsAt octets (V6 address) = ⊥

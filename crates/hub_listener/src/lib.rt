@@ -1,0 +1,14 @@
+//! Where a server listens, and the sockets of those who come. No part knows a hub.
+#![tactic(auto)]
+
+mod bind;
+mod listener;
+mod moments;
+mod socket;
+mod time_task;
+
+pub use bind::Bind;
+pub use listener::{Listener, Listens};
+pub use moments::{Moments, moment};
+pub use socket::Socket;
+pub use time_task::TimeTask;
