@@ -4,11 +4,13 @@
 mod bind;
 mod listener;
 mod moments;
+mod opening;
 mod socket;
 mod time_task;
 
 pub use bind::Bind;
 pub use listener::{Listener, Listens};
 pub use moments::{Moments, moment};
+pub use opening::{say_start, warn_of_descriptors};
 pub use socket::Socket;
 pub use time_task::TimeTask;

@@ -11,14 +11,16 @@ use crate::server::Server;
 use crate::task::AcceptTask;
 use crate::tasks::Tasks;
 use adc_sessions::{Accept, Stream};
-use connection_slots::{Fault, Startup, Ticker, descriptor_limit, descriptors_needed};
+use connection_slots::{Fault, Startup, Ticker};
 use hub_challenges::Challenges;
 use hub_endings::Ending;
-use hub_listener::{Bind, Listener, Listens, Moments, Socket, TimeTask, moment};
+use hub_listener::{
+    Bind, Listener, Listens, Moments, Socket, TimeTask, moment, say_start, warn_of_descriptors,
+};
 use hub_settings::Settings;
 use hub_shared::{Host, Hub, Report, Visitor};
-use hub_warnings::{End, Journal, Moment, Start, Warnings};
-use log::{Level, Log, Logged, info, warn};
+use hub_warnings::{End, Journal, Moment, Warnings};
+use log::{Level, Log, Logged, info};
 use session_hash::SessionHash;
 use std::alloc::{AllocGlobal, Global};
 use std::io;
@@ -123,9 +125,12 @@ where
     W: Write,
     E: Write + Send,
 {
-    let journal = Journal::new(rt, settings_file.is_some(), &mut *errors);
-    let warnings = Warnings::new(Logged::new((), Level::Info, journal));
-    let served = serve(
+    let log = Logged::new(
+        (),
+        Level::Info,
+        Journal::new(rt, settings_file.is_some(), &mut *errors),
+    );
+    let ending = serve_and_warn(
         rt,
         settings,
         &*hash,
@@ -133,23 +138,63 @@ where
         address,
         settings_file,
         output,
+        log,
+    );
+    ending.tell(errors)
+}
+
+/// Serves with this log, and says there what was counted, and at the end, for the journal, why it ended.
+fn serve_and_warn<H, R, A, W, L>(
+    rt: &R,
+    settings: &Settings,
+    hash: &H,
+    seed: [u8; 32],
+    address: A,
+    settings_file: Option<&str>,
+    output: &mut W,
+    log: L,
+) -> Ending
+where
+    H: SessionHash + Send + Sync,
+    R: Wait + Threads + Clock + Net + RandomSource + AllocGlobal + Sync,
+    A: Bind,
+    W: Write,
+    L: Log + Sync + Drop,
+{
+    let warnings = Warnings::new(log);
+    let served = serve(
+        rt,
+        settings,
+        hash,
+        seed,
+        address,
+        settings_file,
+        output,
         &warnings,
     );
     warnings.tell_all(rt);
-    let (ending, joins) = match served {
-        Ok(joins) => (Ending::Served, Some(joins)),
-        Err(ending) => (ending, None),
-    };
     if settings_file.is_some() {
-        let end = End {
-            moment: Moment::from_seconds(moment(rt)),
-            why: reason_of(ending),
-            joins,
-        };
-        info!(warnings.log; "{}", end);
+        say_end(rt, &warnings.log, &served);
     }
     drop(warnings);
-    ending.tell(errors)
+    match served {
+        Ok(_) => Ending::Served,
+        Err(ending) => ending,
+    }
+}
+
+/// Says why a server ended, and how many joins were accepted, for who reads the journal.
+fn say_end<R: Clock, L: Log>(rt: &R, log: &L, served: &Result<u64, Ending>) {
+    let (ending, joins) = match served {
+        Ok(joins) => (Ending::Served, Some(*joins)),
+        Err(ending) => (*ending, None),
+    };
+    let end = End {
+        moment: Moment::from_seconds(moment(rt)),
+        why: reason_of(ending),
+        joins,
+    };
+    info!(log; "{}", end);
 }
 
 /// Says why a server ended, for who reads the journal.
@@ -221,47 +266,46 @@ where
     ensures all { IfOk result (λ report. ServedAll ⟦<A::Socket as Stream>⟧.told (R.tells rt.now) settings.now.hub (H.digest_of hash.now) report.joins) }
     ensures nobody { IfOk result (λ report. report.present ≡ 0) }
 {
-    let (hub, host) = open(rt.alloc(), settings, hash)?;
-    // Settings ask for one at least.
-    let threads = settings.threads().max(1) as usize;
-    let mut runtime = Runtime::with_worker_threads(rt, threads).map_err(|_| Ending::Memory)?;
-    let (host, visitors) = run::<Brand, H, R, A, W, L>(
+    let plan = Plan {
         rt,
-        &mut runtime,
         settings,
         hash,
-        &hub,
-        host,
-        seed,
-        address,
         settings_file,
-        output,
         warnings,
-    )?;
-    close::<A::Socket, H, R>(rt, settings, hash, hub, host, visitors)
+    };
+    let (hub, host) = open(&plan)?;
+    let (host, visitors) = run::<Brand, H, R, A, W, L>(&plan, &hub, host, seed, address, output)?;
+    close::<A::Socket, H, R, L>(&plan, hub, host, visitors)
+}
+
+/// What a server has from its start to its end.
+#[derive(Drop)]
+struct Plan<'a, H, R, L> {
+    rt: &'a R,
+    settings: &'a Settings,
+    hash: &'a H,
+    // The path of the settings' file, where the journal is to have it.
+    settings_file: Option<&'a str>,
+    warnings: &'a Warnings<L>,
 }
 
 /// Closes the hub of these settings and this hash for which the visitors are back, and gives its report.
-fn close<S: AsyncRead + AsyncWrite, H: SessionHash, R: Moments>(
-    rt: &R,
-    settings: &Settings,
-    hash: &H,
+fn close<S: AsyncRead + AsyncWrite, H: SessionHash, R: Moments, L>(
+    plan: &Plan<'_, H, R, L>,
     hub: Hub<H>,
     host: Host<H>,
     visitors: Vec<Visitor<H>>,
 ) -> Result<Report, Ending>
-    requires set { hub.setup ≡ settings.now.hub }
-    requires hashed { hub.hash ≡ hash.now }
+    requires set { hub.setup ≡ plan.now.settings.now.hub }
+    requires hashed { hub.hash ≡ plan.now.hash.now }
     requires here { host.home ≡ hub.home }
     requires visitors { All (λ v. v.home ≡ hub.home) visitors.items }
-    requires visits { All (λ v. HasVisited ⟦<S as Stream>⟧.told (R.tells rt.now) v) visitors.items }
-    ensures all { IfOk result (λ report. ServedAll ⟦<S as Stream>⟧.told (R.tells rt.now) settings.now.hub (H.digest_of hash.now) report.joins) }
+    requires visits { All (λ v. HasVisited ⟦<S as Stream>⟧.told (R.tells plan.now.rt.now) v) visitors.items }
+    ensures all { IfOk result (λ report. ServedAll ⟦<S as Stream>⟧.told (R.tells plan.now.rt.now) plan.now.settings.now.hub (H.digest_of plan.now.hash.now) report.joins) }
     ensures nobody { IfOk result (λ report. report.present ≡ 0) }
 {
-    // They only say which hub it is.
-    let _ = rt;
-    let _ = settings;
-    let _ = hash;
+    // It only says which hub it is.
+    let _ = plan;
     let Ok(report) = hub.close(host, visitors) else {
         return Err(Ending::Memory);
     };
@@ -269,32 +313,25 @@ fn close<S: AsyncRead + AsyncWrite, H: SessionHash, R: Moments>(
 }
 
 /// Opens the hub of these settings, and gives who admits visitors to it.
-fn open<H: SessionHash>(
-    alloc: Global,
-    settings: &Settings,
-    hash: &H,
+fn open<H: SessionHash, R: AllocGlobal, L>(
+    plan: &Plan<'_, H, R, L>,
 ) -> Result<(Hub<H>, Host<H>), Ending>
-    ensures set { IfOk result (λ r. r.0.setup ≡ settings.now.hub) }
-    ensures hashed { IfOk result (λ r. r.0.hash ≡ hash.now) }
+    ensures set { IfOk result (λ r. r.0.setup ≡ plan.now.settings.now.hub) }
+    ensures hashed { IfOk result (λ r. r.0.hash ≡ plan.now.hash.now) }
     ensures host { IfOk result (λ r. r.1 ≡ record { home = r.0.home; admitted = 0 }) }
 {
-    let setup = settings.setup().clone().map_err(|_| Ending::Memory)?;
-    Hub::open(alloc, setup, hash).map_err(|_| Ending::Memory)
+    let setup = plan.settings.setup().clone().map_err(|_| Ending::Memory)?;
+    Hub::open(plan.rt.alloc(), setup, plan.hash).map_err(|_| Ending::Memory)
 }
 
 /// Runs the server, and gives the host back with all visitors of the hub, or those that are left where memory ran out.
 fn run<B, H, R, A, W, L>(
-    rt: &R,
-    runtime: &mut Runtime,
-    settings: &Settings,
-    hash: &H,
+    plan: &Plan<'_, H, R, L>,
     hub: &Hub<H>,
     host: Host<H>,
     seed: [u8; 32],
     address: A,
-    settings_file: Option<&str>,
     output: &mut W,
-    warnings: &Warnings<L>,
 ) -> Result<(Host<H>, Vec<Visitor<H>>), Ending>
 where
     B: OfHub<H> + Send + Sync,
@@ -304,32 +341,21 @@ where
     W: Write,
     L: Log + Sync,
     requires here { B.home ≡ Some hub.now.home }
-    requires timed { (moment : ℕ) → R.tells rt.now moment → ∥ B.tells moment ∥₁ }
+    requires timed { (moment : ℕ) → R.tells plan.now.rt.now moment → ∥ B.tells moment ∥₁ }
     requires host { host ≡ record { home = hub.now.home; admitted = 0 } }
-    requires set { hub.now.setup ≡ settings.now.hub }
-    requires hashed { hub.now.hash ≡ hash.now }
+    requires set { hub.now.setup ≡ plan.now.settings.now.hub }
+    requires hashed { hub.now.hash ≡ plan.now.hash.now }
     ensures host { IfOk result (λ r. r.0.home ≡ hub.now.home) }
     ensures visitors { IfOk result (λ r. All (λ v. v.home ≡ hub.now.home) r.1.items) }
     ensures visits { IfOk result (λ r. All (λ v. HasVisited ⟦<A::Socket as Stream>⟧.told B.tells v) r.1.items) }
 {
-    let alloc = rt.alloc();
-    let count = slot_count(settings);
+    let alloc = plan.rt.alloc();
+    let count = slot_count(plan.settings);
     let visitors = Vec::with_capacity(alloc, count)?;
     let mut host = host;
     let free = admit::<B, A::Socket, H>(alloc, &mut host, hub, count)?;
-    let free = run_slots::<B, H, R, A, W, L>(
-        rt,
-        runtime,
-        settings,
-        hash,
-        hub,
-        free,
-        Challenges::from_seed(seed),
-        address,
-        settings_file,
-        output,
-        warnings,
-    )?;
+    let challenges = Challenges::from_seed(seed);
+    let free = run_slots::<B, H, R, A, W, L>(plan, hub, free, challenges, address, output)?;
     Ok((host, leave(free, visitors)))
 }
 
@@ -342,17 +368,12 @@ fn slot_count(settings: &Settings) -> usize
 
 /// Runs the server with these slots, and gives back those that are left.
 fn run_slots<B, H, R, A, W, L>(
-    rt: &R,
-    runtime: &mut Runtime,
-    settings: &Settings,
-    hash: &H,
+    plan: &Plan<'_, H, R, L>,
     hub: &Hub<H>,
     free: Vec<FreeSlot<B, A::Socket, H>>,
     challenges: Challenges,
     address: A,
-    settings_file: Option<&str>,
     output: &mut W,
-    warnings: &Warnings<L>,
 ) -> Result<Vec<FreeSlot<B, A::Socket, H>>, Ending>
 where
     B: OfHub<H> + Send + Sync,
@@ -362,22 +383,14 @@ where
     W: Write,
     L: Log + Sync,
     requires here { B.home ≡ Some hub.now.home }
-    requires timed { (moment : ℕ) → R.tells rt.now moment → ∥ B.tells moment ∥₁ }
-    requires set { hub.now.setup ≡ settings.now.hub }
-    requires hashed { hub.now.hash ≡ hash.now }
+    requires timed { (moment : ℕ) → R.tells plan.now.rt.now moment → ∥ B.tells moment ∥₁ }
+    requires set { hub.now.setup ≡ plan.now.settings.now.hub }
+    requires hashed { hub.now.hash ≡ plan.now.hash.now }
 {
-    let count = slot_count(settings);
-    let server = Server::new(rt.alloc(), rt, hub, hash, settings.setup(), count, free)?;
-    let served = listen_and_serve(
-        runtime,
-        &server,
-        warnings,
-        address,
-        challenges,
-        settings,
-        settings_file,
-        output,
-    );
+    let (rt, setup) = (plan.rt, plan.settings.setup());
+    let count = slot_count(plan.settings);
+    let server = Server::new(rt.alloc(), rt, hub, plan.hash, setup, count, free)?;
+    let served = listen_and_serve(plan, &server, address, challenges, output);
     let free = server.into_free();
     match served {
         Ok(()) => Ok(free),
@@ -390,13 +403,10 @@ where
 
 /// Listens at this address, and serves all connections that come.
 fn listen_and_serve<'a, B, H, R, A, W, L>(
-    runtime: &mut Runtime,
+    plan: &Plan<'a, H, R, L>,
     server: &'a Server<'a, B, A::Socket, H, R>,
-    warnings: &'a Warnings<L>,
     address: A,
     challenges: Challenges,
-    settings: &Settings,
-    settings_file: Option<&str>,
     output: &'a mut W,
 ) -> Result<(), Ending>
 where
@@ -407,9 +417,29 @@ where
     W: Write,
     L: Log + Sync,
 {
-    let users = settings.setup().max_users();
-    warn_of_descriptors(server.rt, &warnings.log, users);
-    let listener = match address.bind(server.rt, runtime.handle().reactor()) {
+    // Settings ask for one at least.
+    let threads = plan.settings.threads().max(1) as usize;
+    let mut runtime =
+        Runtime::with_worker_threads(plan.rt, threads).map_err(|_| Ending::Memory)?;
+    let listener = listen(plan, &runtime, address)?;
+    let timers = make_timers(plan.rt, runtime.handle().time())?;
+    serve_all(plan, &mut runtime, server, listener, timers, challenges, output)
+}
+
+/// Listens at this address, and says so to the journal, where it is to have it.
+fn listen<H, R, A, L>(
+    plan: &Plan<'_, H, R, L>,
+    runtime: &Runtime,
+    address: A,
+) -> Result<Listening<A::Listener>, Ending>
+where
+    R: Clock + Net,
+    A: Bind,
+    L: Log,
+{
+    let users = plan.settings.setup().max_users();
+    warn_of_descriptors(plan.rt, &plan.warnings.log, users);
+    let listener = match address.bind(plan.rt, runtime.handle().reactor()) {
         Ok(listener) => listener,
         Err(error) => return Err(ending_of(&error)),
     };
@@ -417,13 +447,17 @@ where
         Ok(address) => address,
         Err(error) => return Err(ending_of(&error)),
     };
-    if let Some(settings_file) = settings_file {
-        say_start(server.rt, &warnings.log, settings_file, address, users);
+    if let Some(settings_file) = plan.settings_file {
+        say_start(plan.rt, &plan.warnings.log, settings_file, address, users);
     }
-    let timers = make_timers(server.rt, runtime.handle().time())?;
-    serve_all(
-        runtime, server, warnings, listener, address, timers, challenges, settings, output,
-    )
+    Ok(Listening { listener, address })
+}
+
+/// A listener, and the address at which it listens.
+#[derive(Drop)]
+struct Listening<I> {
+    listener: I,
+    address: SocketAddr,
 }
 
 /// The timers of the tasks, which are not set yet.
@@ -445,14 +479,12 @@ fn make_timers<R: Clock>(rt: &R, time: &time::Handle) -> Result<Timers, Ending> 
 
 /// Serves all connections that come.
 fn serve_all<'a, B, S, H, R, L, I, W>(
+    plan: &Plan<'a, H, R, L>,
     runtime: &mut Runtime,
     server: &'a Server<'a, B, S, H, R>,
-    warnings: &'a Warnings<L>,
-    listener: I,
-    address: SocketAddr,
+    listening: Listening<I>,
     timers: Timers,
     challenges: Challenges,
-    settings: &Settings,
     output: &'a mut W,
 ) -> Result<(), Ending>
 where
@@ -469,12 +501,13 @@ where
         ticking,
         counting,
     } = timers;
-    let accept = accept_task(server, warnings, listener, challenges, settings, accepting);
+    let Listening { listener, address } = listening;
+    let accept = accept_task(plan, server, listener, challenges, accepting);
     let startup = Startup::new(&server.shared, server.rt, output, address);
     let ticker = Ticker::new(&server.shared, server.rt, ticking);
-    let time_task = TimeTask::new(ticker, counting, server.rt, warnings);
-    let count = slot_count(settings);
-    let tasks = Tasks::new(time_task, count, accept, startup, server, warnings);
+    let time_task = TimeTask::new(ticker, counting, server.rt, plan.warnings);
+    let count = slot_count(plan.settings);
+    let tasks = Tasks::new(time_task, count, accept, startup, server, plan.warnings);
     match runtime.run_all(server.rt, tasks) {
         Ok(()) => ending_by(server.shared.fault()),
         Err(_) => Err(Ending::Memory),
@@ -483,11 +516,10 @@ where
 
 /// Makes the task that accepts connections.
 fn accept_task<'a, B, S, H, R, L, I>(
+    plan: &Plan<'a, H, R, L>,
     server: &'a Server<'a, B, S, H, R>,
-    warnings: &'a Warnings<L>,
     listener: I,
     challenges: Challenges,
-    settings: &Settings,
     timer: Sleep,
 ) -> AcceptTask<'a, B, S, H, R, L, I>
 where
@@ -498,7 +530,8 @@ where
     L: Log,
     I: Listens<Socket = S>,
 {
-    let stop_after = match settings.stop_after() {
+    let warnings = plan.warnings;
+    let stop_after = match plan.settings.stop_after() {
         0 => None,
         count => Some(u64::from(count)),
     };
@@ -521,29 +554,6 @@ fn ending_by(fault: Option<Fault>) -> Result<(), Ending> {
         Some(Fault::Output) => Err(Ending::Transfer),
         Some(Fault::Start) => Err(Ending::Memory),
     }
-}
-
-/// Says where the system allows fewer descriptors than so many users need.
-fn warn_of_descriptors<R: Clock, L: Log>(rt: &R, log: &L, users: u32) {
-    let needed = descriptors_needed(users);
-    if let Some(allowed) = descriptor_limit()
-        && allowed < needed
-    {
-        let now = Moment::from_seconds(moment(rt));
-        warn!(log; "{} {} users need {} descriptors, and the system allows {}", now, users, needed, allowed);
-    }
-}
-
-/// Says that a server of these settings, for so many users, begins to listen there.
-fn say_start<R: Clock, L: Log>(rt: &R, log: &L, settings: &str, address: SocketAddr, users: u32) {
-    let start = Start {
-        moment: Moment::from_seconds(moment(rt)),
-        settings,
-        address,
-        needed: descriptors_needed(users),
-        allowed: descriptor_limit(),
-    };
-    info!(log; "{}", start);
 }
 
 /// Admits so many visitors, who take the slots in their order.

@@ -3,5 +3,5 @@ use Rattle.hub_server.proofs.serve.close.Goals as goal
 
 pub returns-clause-all : goal.returns-clause-all
 returns-clause-all g c =
-    served-of _ _ g.H.SessionHash.digest_of c.args.hub.setup c.args.settings.now.hub c.args.hub.hash c.args.hash.now c.requires.set c.requires.hashed c.args.visitors.items
+    served-of _ _ g.H.SessionHash.digest_of c.args.hub.setup c.args.plan.now.settings.now.hub c.args.hub.hash c.args.plan.now.hash.now c.requires.set c.requires.hashed c.args.visitors.items
     c.in-Ok.report.joins c.in-Ok.ensures.settled c.requires.visits
