@@ -149,7 +149,9 @@ impl<B: OfHub<H>, S: AsyncRead + AsyncWrite, H: SessionHash, R: Wait + Clock + M
         let verdict = server
             .hub
             .line(server.rt, alloc, &mut self.pass, &prepared, now)?;
-        self.wake(self.pass.touched());
+        let connection = &*self;
+        let touched = connection.pass.touched();
+        self.wake(touched);
         Ok(verdict)
     }
 
