@@ -325,9 +325,9 @@ fn open<H: SessionHash, R: AllocGlobal, L>(
 }
 
 /// Runs the server, and gives the host back with all visitors of the hub, or those that are left where memory ran out.
-fn run<B, H, R, A, W, L>(
-    plan: &Plan<'_, H, R, L>,
-    hub: &Hub<H>,
+fn run<'a, B, H, R, A, W, L>(
+    plan: &Plan<'a, H, R, L>,
+    hub: &'a Hub<H>,
     host: Host<H>,
     seed: [u8; 32],
     address: A,
@@ -367,9 +367,9 @@ fn slot_count(settings: &Settings) -> usize
 }
 
 /// Runs the server with these slots, and gives back those that are left.
-fn run_slots<B, H, R, A, W, L>(
-    plan: &Plan<'_, H, R, L>,
-    hub: &Hub<H>,
+fn run_slots<'a, B, H, R, A, W, L>(
+    plan: &Plan<'a, H, R, L>,
+    hub: &'a Hub<H>,
     free: Vec<FreeSlot<B, A::Socket, H>>,
     challenges: Challenges,
     address: A,
@@ -390,7 +390,7 @@ where
     let (rt, setup) = (plan.rt, plan.settings.setup());
     let count = slot_count(plan.settings);
     let server = Server::new(rt.alloc(), rt, hub, plan.hash, setup, count, free)?;
-    let served = listen_and_serve(plan, &server, address, challenges, output);
+    let served = run_tasks(plan, &server, plan.warnings, address, challenges, output);
     let free = server.into_free();
     match served {
         Ok(()) => Ok(free),
@@ -401,10 +401,11 @@ where
     }
 }
 
-/// Listens at this address, and serves all connections that come.
-fn listen_and_serve<'a, B, H, R, A, W, L>(
-    plan: &Plan<'a, H, R, L>,
+/// Runs the tasks of a server that listens at this address, with as many threads as its settings say.
+fn run_tasks<'a, B, H, R, A, W, L>(
+    plan: &Plan<'_, H, R, L>,
     server: &'a Server<'a, B, A::Socket, H, R>,
+    warnings: &'a Warnings<L>,
     address: A,
     challenges: Challenges,
     output: &'a mut W,
@@ -419,11 +420,46 @@ where
 {
     // Settings ask for one at least.
     let threads = plan.settings.threads().max(1) as usize;
-    let mut runtime =
-        Runtime::with_worker_threads(plan.rt, threads).map_err(|_| Ending::Memory)?;
-    let listener = listen(plan, &runtime, address)?;
+    let Ok(mut runtime) = Runtime::with_worker_threads(plan.rt, threads) else {
+        return Err(Ending::Memory);
+    };
+    let served = listen_and_serve(
+        plan,
+        &mut runtime,
+        server,
+        warnings,
+        address,
+        challenges,
+        output,
+    );
+    drop(runtime);
+    served
+}
+
+/// Listens at this address, and serves all connections that come.
+fn listen_and_serve<'a, B, H, R, A, W, L>(
+    plan: &Plan<'_, H, R, L>,
+    runtime: &mut Runtime,
+    server: &'a Server<'a, B, A::Socket, H, R>,
+    warnings: &'a Warnings<L>,
+    address: A,
+    challenges: Challenges,
+    output: &'a mut W,
+) -> Result<(), Ending>
+where
+    B: OfHub<H> + Send + Sync,
+    H: SessionHash + Send + Sync,
+    R: Wait + Threads + Clock + Moments + Net + RandomSource + AllocGlobal + Sync,
+    A: Bind,
+    W: Write,
+    L: Log + Sync,
+{
     let timers = make_timers(plan.rt, runtime.handle().time())?;
-    serve_all(plan, &mut runtime, server, listener, timers, challenges, output)
+    let listener = listen(plan, runtime, address)?;
+    let settings = plan.settings;
+    serve_all(
+        settings, runtime, server, warnings, listener, timers, challenges, output,
+    )
 }
 
 /// Listens at this address, and says so to the journal, where it is to have it.
@@ -479,9 +515,10 @@ fn make_timers<R: Clock>(rt: &R, time: &time::Handle) -> Result<Timers, Ending> 
 
 /// Serves all connections that come.
 fn serve_all<'a, B, S, H, R, L, I, W>(
-    plan: &Plan<'a, H, R, L>,
+    settings: &Settings,
     runtime: &mut Runtime,
     server: &'a Server<'a, B, S, H, R>,
+    warnings: &'a Warnings<L>,
     listening: Listening<I>,
     timers: Timers,
     challenges: Challenges,
@@ -502,12 +539,12 @@ where
         counting,
     } = timers;
     let Listening { listener, address } = listening;
-    let accept = accept_task(plan, server, listener, challenges, accepting);
+    let accept = accept_task(settings, server, warnings, listener, challenges, accepting);
     let startup = Startup::new(&server.shared, server.rt, output, address);
     let ticker = Ticker::new(&server.shared, server.rt, ticking);
-    let time_task = TimeTask::new(ticker, counting, server.rt, plan.warnings);
-    let count = slot_count(plan.settings);
-    let tasks = Tasks::new(time_task, count, accept, startup, server, plan.warnings);
+    let time_task = TimeTask::new(ticker, counting, server.rt, warnings);
+    let count = slot_count(settings);
+    let tasks = Tasks::new(time_task, count, accept, startup, server, warnings);
     match runtime.run_all(server.rt, tasks) {
         Ok(()) => ending_by(server.shared.fault()),
         Err(_) => Err(Ending::Memory),
@@ -516,8 +553,9 @@ where
 
 /// Makes the task that accepts connections.
 fn accept_task<'a, B, S, H, R, L, I>(
-    plan: &Plan<'a, H, R, L>,
+    settings: &Settings,
     server: &'a Server<'a, B, S, H, R>,
+    warnings: &'a Warnings<L>,
     listener: I,
     challenges: Challenges,
     timer: Sleep,
@@ -530,8 +568,7 @@ where
     L: Log,
     I: Listens<Socket = S>,
 {
-    let warnings = plan.warnings;
-    let stop_after = match plan.settings.stop_after() {
+    let stop_after = match settings.stop_after() {
         0 => None,
         count => Some(u64::from(count)),
     };
