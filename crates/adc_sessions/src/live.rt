@@ -304,7 +304,7 @@ impl<S: AsyncRead + AsyncWrite, P: Port, B: Bell> Live<S, P, B> {
         self.take()
     }
 
-    /// Reads at most 4,096 bytes, once.
+    /// Reads at most 2,048 bytes, once.
     fn read(&mut self, cx: &mut Context<'_>) -> Turn
         requires no_line { HasNoLf self.old.framer }
         requires heard { self.old.is_over ≡ false }

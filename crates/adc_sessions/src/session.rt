@@ -14,7 +14,7 @@ use std::alloc::{AllocError, Global};
 use tokio::io::{AsyncRead, AsyncWrite};
 
 /// The number of bytes that one read may give.
-const ROOM: usize = 4_096;
+const ROOM: usize = 2_048;
 
 /// A session of one connection: a future that hands the lines of a stream to a port, and writes what the port gives.
 ///
@@ -30,7 +30,7 @@ const ROOM: usize = 4_096;
 /// that sends without pause, and reads, gets what is meant for it. A take is made only once all that was taken before is
 /// written, and one write is offered everything a take gave: so a client that does not read lags at the hub. A session
 /// holds what one take of at most 256 lines gave, and of its input at most 65,536 bytes without a line feed and one read of
-/// 4,096 bytes.
+/// 2,048 bytes.
 #[derive(Drop)]
 pub struct Session<S, P, B> {
     live: Option<Live<S, P, B>>,
@@ -59,7 +59,7 @@ impl<S: AsyncRead + AsyncWrite, P: Port, B: Bell> Session<S, P, B> {
 
 /// Makes room for one read.
 fn input(alloc: Global) -> Result<Vec<u8>, AllocError>
-    ensures { IfOk result (λ input. length input.items ≡ 4_096) }
+    ensures { IfOk result (λ input. length input.items ≡ 2_048) }
 {
     vec![in alloc; 0; ROOM]
 }
