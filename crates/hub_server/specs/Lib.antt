@@ -5,3 +5,4 @@ pub mod Visits
 pub mod Ending
 pub mod ServedAll
 pub mod Peers
+pub mod Refusing

@@ -1,6 +1,7 @@
-ghost use Rattle.std.specs.Prelude.{◌≡◌, Some, IfOk};
+ghost use Rattle.std.specs.Prelude.{◌≡◌, Some, IfOk, ℕ, take};
 ghost use Rattle.hub_listener.specs.Peers.{octets_of};
 ghost use Rattle.hub_server.specs.Peers.{HasComeFrom};
+ghost use Rattle.hub_server.specs.Refusing.{hub_full};
 ghost use Rattle.hub_server.specs.Visits.{HasEntered};
 
 use crate::accepted::Accepted;
@@ -18,9 +19,6 @@ use std::alloc::AllocGlobal;
 use std::net::{Ipv4Addr, SocketAddrV4};
 use std::sync::Wait;
 use std::time::Clock;
-
-/// The line for a connection for which the hub has no room.
-const HUB_FULL: &[u8] = b"ISTA 211 Hub\\sfull\n";
 
 /// The acceptor, which joins the hub for each connection that is accepted, and hands it to the task of its slot.
 #[derive(Drop)]
@@ -91,9 +89,9 @@ impl<
         }
     }
 
-    /// Says that the hub is full. It is one line on a fresh socket, which takes all of it or is not worth more.
+    /// Says that the hub is full.
     fn refuse(&self, mut stream: S) {
-        let _ = stream.try_write(HUB_FULL);
+        say_full(&mut stream);
         self.server.shared.lingering.let_out(self.server.rt, stream);
         self.server.shared.wakers.make_room();
     }
@@ -136,6 +134,14 @@ impl<
             Err(JoinRefused::Full | JoinRefused::JoinsSpent) => self.refuse(stream),
         }
     }
+}
+
+/// Says on a socket that the hub is full, and nothing else. It is one line on a fresh socket, which takes all of it or is not
+/// worth more.
+fn say_full<S: Socket>(stream: &mut S)
+    ensures said { ∥ ((count : ℕ) × S.writes stream.old (take count hub_full) stream.new) ∥₁ }
+{
+    let _ = stream.try_write(b"ISTA 211 Hub\\sfull\n");
 }
 
 /// Gives the address and the port from which a connection comes, for who reads warnings. The port is 0 where the connection is
