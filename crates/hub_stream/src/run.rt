@@ -1,6 +1,7 @@
-ghost use Rattle.std.specs.Prelude.{IfErr, OnOk};
+ghost use Rattle.std.specs.Prelude.{◌≡◌, [], IfErr, OnOk};
 ghost use Rattle.std.specs.Arc.{arc_value};
 ghost use Rattle.flushed_writes.specs.Calls.{NoneFailed};
+ghost use Rattle.hub_stream.specs.Serving.{Starts};
 ghost use Rattle.hub_stream.specs.Streams.{RunServes, RunStops};
 
 use crate::fault::RunFault;
@@ -41,12 +42,34 @@ pub fn run_one<H: SessionHash, R: CountedRead, W: CountedWrite>(
         RunStops fault (arc_value setup) (H.digest_of hash.now) R.remaining R.failures reader.old reader.new W.contents W.failures writer.old writer.new) }
 {
     let mut session = StreamSession::open(alloc, &setup)?;
+    let ended = run_session(alloc, &mut session, &setup, hash, reader, writer);
+    drop(session);
+    ended
+}
+
+/// Runs a session that has just begun, which is owned elsewhere: it is dear to prove that it is let go at each end.
+fn run_session<H: SessionHash, R: CountedRead, W: CountedWrite>(
+    alloc: Global,
+    session: &mut StreamSession,
+    setup: &Arc<Setup>,
+    hash: &H,
+    reader: &mut R,
+    writer: &mut W,
+) -> Result<(), RunFault>
+    requires starts { Starts (arc_value setup.now) (H.digest_of hash.now) session.old.core }
+    requires unread { session.old.framer ≡ [] }
+    ensures ok { OnOk result (RunServes (arc_value setup.now) (H.digest_of hash.now) R.remaining reader.old reader.new W.contents writer.old writer.new) }
+    ensures reads { OnOk result (NoneFailed (R.failures reader.old) (R.failures reader.new)) }
+    ensures writes { OnOk result (NoneFailed (W.failures writer.old) (W.failures writer.new)) }
+    ensures fault { IfErr result (λ fault.
+        RunStops fault (arc_value setup.now) (H.digest_of hash.now) R.remaining R.failures reader.old reader.new W.contents W.failures writer.old writer.new) }
+{
     let mut buffer = [0; READ_LENGTH];
     for _turn in 0..MOST_READS {
         match reader.read_counted(&mut buffer) {
             Ok(0) => return Ok(()),
             Ok(count) => {
-                if session.hear(alloc, &setup, hash, &buffer[..count], writer)? {
+                if session.hear(alloc, setup, hash, &buffer[..count], writer)? {
                     return Ok(());
                 }
             }

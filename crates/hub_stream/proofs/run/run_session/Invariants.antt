@@ -3,7 +3,7 @@ use Rattle.std.specs.Arc.{arc_value}
 use Rattle.adc_line.specs.Stream.{IsLine}
 use Rattle.flushed_writes.specs.Calls.{NoneFailed}
 use Rattle.hub_stream.proofs.Heard.{IsHeard}
-use Rattle.hub_stream.proofs.run.run_one.Given as goal
+use Rattle.hub_stream.proofs.run.run_session.Given as goal
 
 abbrev pub invariant-loop-turn : goal.invariant-loop-turn
 invariant-loop-turn g l = record {
