@@ -6,7 +6,7 @@ use adc_base32::{decode24, encode24};
 use std::marker::Model;
 
 /// A client identifier: the 24 bytes by which users know one another (ADC 1.0, "Client identification").
-#[derive(Clone, Copy, Debug, PartialEq, Eq, PartialOrd, Ord, Hash)]
+#[derive(Clone, Copy, Debug, PartialEq, Eq, PartialOrd, Ord)]
 pub struct Cid {
     bytes: [u8; 24],
 }

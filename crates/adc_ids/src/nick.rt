@@ -27,7 +27,7 @@ impl From<AllocError> for NickFault {
 }
 
 /// A user's name: 1 to 64 code points, each above 32 (ADC 1.0, the field NI of "INF").
-#[derive(Debug, Drop)]
+#[derive(Drop)]
 pub struct Nick {
     text: String,
 }

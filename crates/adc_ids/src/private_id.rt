@@ -6,7 +6,7 @@ use adc_base32::decode24;
 use std::marker::Model;
 
 /// A private identifier: the 24 bytes whose hash is the client identifier (ADC 1.0, "Client identification").
-#[derive(Clone, Copy, Debug, PartialEq, Eq, PartialOrd, Ord, Hash)]
+#[derive(Clone, Copy, Debug, PartialEq, Eq)]
 pub struct Pid {
     bytes: [u8; 24],
 }

@@ -22,7 +22,7 @@ pub enum Next {
 ///
 /// Contracts see it as the bytes that were fed and did not come out, without the line feeds behind
 /// the lines that did.
-#[derive(Debug, Drop)]
+#[derive(Drop)]
 pub struct Framer {
     buffer: Vec<u8>,
     start: usize,

@@ -68,7 +68,7 @@ impl Kind {
 }
 
 /// The first word of a line, read.
-#[derive(Clone, Copy, Debug)]
+#[derive(Clone, Copy)]
 pub(crate) struct Head {
     pub(crate) kind: Kind,
     pub(crate) command: [u8; 3],
@@ -89,7 +89,7 @@ impl Head {
 }
 
 /// The words before the parameters, read.
-#[derive(Clone, Copy, Debug)]
+#[derive(Clone, Copy)]
 pub(crate) struct Header {
     pub(crate) head: Head,
     pub(crate) from: Option<Sid>,

@@ -19,7 +19,7 @@ use std::marker::Model;
 pub(crate) const MAX_LINE: usize = 65_536;
 
 /// A line of ADC: a header and parameters, without the line feed (ADC 1.0, "Message syntax").
-#[derive(Debug, Drop)]
+#[derive(Drop)]
 pub struct Line {
     text: String,
     header: Header,

@@ -5,7 +5,7 @@ ghost use Rattle.adc_line.specs.Words.{words, word_at};
 
 /// The words of a line that are left, in order: what stands between its blanks, escaped as it came
 /// (ADC 1.0, "Message syntax").
-#[derive(Clone, Copy, Debug)]
+#[derive(Clone, Copy)]
 pub struct Words<'a> {
     rest: Option<&'a str>,
 }

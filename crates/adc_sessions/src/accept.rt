@@ -22,7 +22,7 @@ pub enum AcceptEnd {
 }
 
 /// The outcome of a turn.
-#[derive(Clone, Copy, Debug, PartialEq, Eq)]
+#[derive(Clone, Copy, PartialEq, Eq)]
 pub(crate) enum Attempt {
     /// A turn after which another may follow at once.
     Again,

@@ -25,7 +25,7 @@ const KEPT: usize = 512;
 const TURNS: u8 = 64;
 
 /// The outcome of a turn.
-#[derive(Clone, Copy, Debug, PartialEq, Eq)]
+#[derive(Clone, Copy, PartialEq, Eq)]
 pub(crate) enum Turn {
     /// A turn after which another may follow at once.
     Again,

@@ -8,7 +8,7 @@ use std::marker::Model;
 
 /// The features of a user, for messages to be matched without a walk over the text of the field SU
 /// (ADC 1.0, "INF").
-#[derive(Debug, Drop)]
+#[derive(Drop)]
 pub struct FeatureSet {
     names: BTreeSet<[u8; 4]>,
 }

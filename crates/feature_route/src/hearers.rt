@@ -7,7 +7,7 @@ use crate::want::Want;
 use adc_base32::Sid;
 
 /// The audience of a message: those for whom it is, among the users who are present. It borrows the message's feature word.
-#[derive(Debug, Drop)]
+#[derive(Drop)]
 pub enum Audience<'a> {
     /// All of them.
     All,

@@ -11,7 +11,7 @@ use std::marker::Model;
 
 /// The wish of a message of type F about those who hear it: features that they have, and features that they
 /// have not (ADC 1.0, "Message types"). It borrows the feature word.
-#[derive(Debug, Drop)]
+#[derive(Drop)]
 pub struct Want<'a> {
     text: &'a str,
 }

@@ -8,7 +8,7 @@ use rand_core::utils::fill_bytes_via_u32;
 use std::marker::Model;
 
 /// The challenges of connections, one after the other (ADC 1.0, "GPA"): the ChaCha20 stream of a seed.
-#[derive(Debug, Drop)]
+#[derive(Drop)]
 pub struct Challenges {
     words: ChaCha20Rng,
 }

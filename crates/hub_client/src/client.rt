@@ -20,7 +20,7 @@ pub struct Client<S> {
 }
 
 /// The first words of a hub.
-#[derive(Debug, Drop)]
+#[derive(Drop)]
 pub struct Welcome {
     /// The session identifier that it gave the client.
     pub sid: Sid,
@@ -29,7 +29,7 @@ pub struct Welcome {
 }
 
 /// The outcome of a login.
-#[derive(Debug, Drop)]
+#[derive(Drop)]
 pub enum Entry {
     /// The client is present.
     Inside,

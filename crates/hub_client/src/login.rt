@@ -7,7 +7,7 @@ use session_hash::SessionHash;
 use std::alloc::Global;
 
 /// The identity of a client: a private identifier and the client identifier that is its hash.
-#[derive(Clone, Copy, Debug)]
+#[derive(Clone, Copy)]
 pub struct Identity {
     private: [u8; 24],
     cid: Cid,

@@ -4,7 +4,7 @@ use adc_line::Line;
 use std::alloc::Global;
 
 /// A user as others see it.
-#[derive(Debug, Drop)]
+#[derive(Drop)]
 pub struct User {
     /// The nick.
     pub nick: String,

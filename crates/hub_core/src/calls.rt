@@ -13,7 +13,7 @@ use std::alloc::Global;
 use std::sync::Arc;
 
 /// A call that is asked of a hub. A connection is named by the number of its join, from 1 on; moments are seconds.
-#[derive(Debug, Drop)]
+#[derive(Drop)]
 pub enum Ask<'a> {
     /// A request to be admitted: the peer's address, the challenge, the moment.
     Join([u8; 4], [u8; 24], u64),
@@ -26,7 +26,7 @@ pub enum Ask<'a> {
 }
 
 /// A call of a hub, with who makes it.
-#[derive(Debug, Drop)]
+#[derive(Drop)]
 pub struct Asked<'a> {
     /// The number of the caller.
     pub caller: u64,
@@ -35,7 +35,7 @@ pub struct Asked<'a> {
 }
 
 /// The answer to a call.
-#[derive(Debug, Drop)]
+#[derive(Drop)]
 pub enum Answer {
     /// The join was accepted, as this connection.
     Joined(Connection),

@@ -20,7 +20,7 @@ use std::alloc::{AllocError, Global};
 use std::mem;
 
 /// The state that all connections share: the users who are present, the bans, the topic.
-#[derive(Debug, Drop)]
+#[derive(Drop)]
 pub struct Commons {
     pub(crate) present: Present,
     pub(crate) bans: Bans,

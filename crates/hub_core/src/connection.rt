@@ -1,7 +1,7 @@
 use std::marker::Model;
 
 /// A connection of a hub: the number of its join, from 1 on.
-#[derive(Clone, Copy, Debug, PartialEq, Eq, PartialOrd, Ord, Hash)]
+#[derive(Clone, Copy, Debug, PartialEq, Eq)]
 pub struct Connection {
     pub(crate) number: u64,
 }

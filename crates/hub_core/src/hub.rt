@@ -39,7 +39,7 @@ const MAX_BYTES: usize = 1_048_576;
 
 /// A hub for one thread. Its promises are about histories: after any list of calls, each answer and
 /// what it keeps are what the calls before demand. A call refused for want of memory changes nothing.
-#[derive(Debug, Drop)]
+#[derive(Drop)]
 pub struct Core {
     setup: Arc<Setup>,
     joins: u64,

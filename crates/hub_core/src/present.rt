@@ -13,7 +13,7 @@ use std::alloc::{AllocError, Global};
 use user_table::{IndexedUsers, User, Users, takes_update};
 
 /// The users who are present, and their lines, by which newcomers are told of them.
-#[derive(Debug, Drop)]
+#[derive(Drop)]
 pub struct Present {
     pub(crate) users: IndexedUsers,
     pub(crate) lines: PresentLines,

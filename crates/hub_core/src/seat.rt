@@ -25,7 +25,7 @@ use std::alloc::{AllocError, Global};
 use user_table::{IndexedUsers, User, Users};
 
 /// The phase of a connection: how far it has come, with what is kept of its user (ADC 1.0, "States").
-#[derive(Debug, Drop)]
+#[derive(Drop)]
 pub enum Phase {
     /// The connection has yet to say what it supports.
     Protocol,
@@ -40,7 +40,7 @@ pub enum Phase {
 }
 
 /// The user whom an operator shuts out.
-#[derive(Debug, Drop)]
+#[derive(Drop)]
 pub enum Removal {
     /// No user.
     Nobody,
@@ -49,7 +49,7 @@ pub enum Removal {
 }
 
 /// The seat of a connection: what is kept of it.
-#[derive(Debug, Drop)]
+#[derive(Drop)]
 pub struct Seat {
     /// The number of its join.
     pub(crate) number: u64,

@@ -21,7 +21,7 @@ use outboxes::Batch;
 use std::alloc::{AllocError, Global};
 
 /// The lines that one call owes to one connection.
-#[derive(Debug, Drop)]
+#[derive(Drop)]
 pub struct Share {
     /// The place of its seat.
     pub(crate) place: usize,

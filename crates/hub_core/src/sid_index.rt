@@ -7,7 +7,7 @@ use std::collections::BTreeMap;
 use std::marker::Model;
 
 /// The connections by session identifier: the number of its join by each.
-#[derive(Debug, Drop)]
+#[derive(Drop)]
 pub(crate) struct SidIndex {
     numbers: BTreeMap<Sid, u64>,
 }

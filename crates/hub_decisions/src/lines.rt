@@ -18,7 +18,7 @@ use std::marker::Model;
 use user_table::{IndexedUsers, User, Users};
 
 /// The line of a user who is present.
-#[derive(Debug, Drop)]
+#[derive(Drop)]
 pub struct PresentLine {
     pub(crate) sid: Sid,
     /// The line, of which others get handles.
@@ -27,7 +27,7 @@ pub struct PresentLine {
 
 /// The lines of the users who are present, in order of entry, so that a newcomer is told of them by handles, and no line is
 /// written anew. Where memory was wanting for one, it and those behind it are left out until somebody enters again.
-#[derive(Debug, Drop)]
+#[derive(Drop)]
 pub struct PresentLines {
     lines: Vec<PresentLine>,
 }

@@ -12,7 +12,7 @@ use std::marker::Model;
 use user_table::User;
 
 /// A user who is about to enter.
-#[derive(Debug, Drop)]
+#[derive(Drop)]
 pub struct Entrant {
     /// The part of it that the other users will know.
     pub user: User,
@@ -21,7 +21,7 @@ pub struct Entrant {
 }
 
 /// The new fields of a user who is present.
-#[derive(Debug, Drop)]
+#[derive(Drop)]
 pub struct Revision {
     /// The fields that change.
     pub update: Update,
@@ -32,7 +32,7 @@ pub struct Revision {
 }
 
 /// A change of the connection that sent a line.
-#[derive(Debug, Drop)]
+#[derive(Drop)]
 pub enum SenderChange {
     /// The first SUP: the client said what it supports, and may log in.
     Greets(Features),
@@ -53,7 +53,7 @@ pub enum SenderChange {
 }
 
 /// A user whom an operator shuts out for a time.
-#[derive(Debug, Drop)]
+#[derive(Drop)]
 pub struct Banned {
     /// The session identifier.
     pub sid: Sid,
@@ -64,7 +64,7 @@ pub struct Banned {
 }
 
 /// The hub's topic.
-#[derive(Debug, Drop)]
+#[derive(Drop)]
 pub struct Topic {
     text: String,
 }
@@ -97,7 +97,7 @@ impl Topic {
 }
 
 /// A change of what all connections share, by an operator.
-#[derive(Debug, Drop)]
+#[derive(Drop)]
 pub enum HubChange {
     /// The removal of this user, who is shut out.
     Kick(Sid),
@@ -110,7 +110,7 @@ pub enum HubChange {
 }
 
 /// The one thing that a line changes.
-#[derive(Debug, Drop)]
+#[derive(Drop)]
 pub enum Change {
     /// No change.
     Nothing,
@@ -121,7 +121,7 @@ pub enum Change {
 }
 
 /// The users, of those who are present, who hear what is said to them all.
-#[derive(Debug, Drop)]
+#[derive(Drop)]
 pub enum Hearers<'a> {
     /// All but the connection that sent the line.
     Others,
@@ -130,7 +130,7 @@ pub enum Hearers<'a> {
 }
 
 /// The effect of a line: what it leads to, before anything is changed.
-#[derive(Debug, Drop)]
+#[derive(Drop)]
 pub struct Effect<'a> {
     /// The messages for the connection that sent the line, after those that it hears with others.
     pub own: Batch,

@@ -11,7 +11,7 @@ use std::net::SocketAddrV4;
 use std::sync::Arc;
 
 /// The settings that a file says.
-#[derive(Debug, Drop)]
+#[derive(Drop)]
 pub struct Settings {
     setup: Arc<Setup>,
     listen: SocketAddrV4,

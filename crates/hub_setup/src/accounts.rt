@@ -12,7 +12,7 @@ use std::alloc::Global;
 use std::marker::Model;
 
 /// A registered user of a hub.
-#[derive(Debug, Drop)]
+#[derive(Drop)]
 pub struct Registered {
     key: String,
     password: String,
@@ -53,7 +53,7 @@ impl Registered {
 }
 
 /// The registered users of a hub: at most 32, no two of them with nicks of one normal form C.
-#[derive(Debug, Drop)]
+#[derive(Drop)]
 pub struct Accounts {
     users: Vec<Registered>,
 }

@@ -15,7 +15,7 @@ use std::alloc::{AllocError, Global};
 use std::marker::Model;
 
 /// An entry of the clients' menus, with the message that tells a client of it.
-#[derive(Debug, Drop)]
+#[derive(Drop)]
 pub struct MenuLine {
     name: String,
     context: u8,
@@ -57,7 +57,7 @@ impl MenuLine {
 }
 
 /// The entries for the clients' menus: at most 64.
-#[derive(Debug, Drop)]
+#[derive(Drop)]
 pub struct Menu {
     lines: Vec<MenuLine>,
 }

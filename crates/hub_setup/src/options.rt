@@ -15,7 +15,7 @@ pub const MOST_USERS: u32 = 900;
 pub const DEFAULT_USERS: u32 = 512;
 
 /// A registered user.
-#[derive(Clone, Copy, Debug)]
+#[derive(Clone, Copy)]
 pub struct Account<'a> {
     /// The nick: 1 to 64 code points, each above 32 (ADC 1.0, the field NI of "INF").
     pub nick: &'a str,
@@ -26,7 +26,7 @@ pub struct Account<'a> {
 }
 
 /// The item for which a menu entry of a client stands (ADC-EXT, "UCMD").
-#[derive(Clone, Copy, Debug)]
+#[derive(Clone, Copy)]
 pub enum MenuItem<'a> {
     /// The text that the client sends.
     Text(&'a str),
@@ -35,7 +35,7 @@ pub enum MenuItem<'a> {
 }
 
 /// An entry for the clients' menus (ADC-EXT, "UCMD").
-#[derive(Clone, Copy, Debug)]
+#[derive(Clone, Copy)]
 pub struct MenuEntry<'a> {
     /// The name of the entry, which is not empty.
     pub name: &'a str,
@@ -46,7 +46,7 @@ pub struct MenuEntry<'a> {
 }
 
 /// The options with which a hub is to be set up.
-#[derive(Clone, Copy, Debug)]
+#[derive(Clone, Copy)]
 pub struct Options<'a> {
     /// The hub's name, not empty.
     pub name: &'a str,

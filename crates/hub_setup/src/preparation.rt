@@ -21,7 +21,7 @@ use std::marker::Model;
 use unicode_normalization::to_nfc;
 
 /// A line that was read and is ready for the hub: all that can be done before the hub's turn.
-#[derive(Debug, Drop)]
+#[derive(Drop)]
 pub struct Prepared {
     content: Content,
     update: Option<Update>,
@@ -30,7 +30,7 @@ pub struct Prepared {
 }
 
 /// The content of a line, as its bytes were found to be.
-#[derive(Debug, Drop)]
+#[derive(Drop)]
 enum Content {
     /// A message.
     Message(Line),
@@ -39,7 +39,7 @@ enum Content {
 }
 
 /// The things that a prepared line may say.
-#[derive(Debug, Drop)]
+#[derive(Drop)]
 pub enum Says<'a> {
     /// Nothing: the line is empty.
     Nothing,

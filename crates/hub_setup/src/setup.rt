@@ -14,7 +14,7 @@ use std::alloc::{AllocError, Global};
 use std::marker::Model;
 
 /// The setup of a hub.
-#[derive(Debug, Drop)]
+#[derive(Drop)]
 pub struct Setup {
     name: String,
     topic: String,

@@ -15,7 +15,7 @@ use std::marker::Model;
 
 /// The fields that are known of a user: the merge of all updates (ADC 1.0, "INF"). No value is empty, and there
 /// are at most 40 fields.
-#[derive(Debug, Drop)]
+#[derive(Drop)]
 pub struct Fields {
     entries: Entries,
 }

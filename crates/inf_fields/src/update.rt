@@ -20,7 +20,7 @@ use std::alloc::Global;
 use std::marker::Model;
 
 /// The fields that an INF message names, in order, each name once. A value may be empty (ADC 1.0, "INF").
-#[derive(Debug, Drop)]
+#[derive(Drop)]
 pub struct Update {
     pub(crate) entries: Entries,
 }

@@ -4,7 +4,7 @@ use crate::findings::{
 use inf_fields::FieldName;
 
 /// The findings of a login, one finding for each check (ADC 1.0, "INF").
-#[derive(Clone, Copy, Debug)]
+#[derive(Clone, Copy)]
 pub struct InfAsk {
     /// The words: good where each begins with a field's name and they name at most 40 fields.
     pub words: Validity,
@@ -28,7 +28,7 @@ pub struct InfAsk {
 }
 
 /// The findings of an update by a user who is present, one finding for each check (ADC 1.0, "INF").
-#[derive(Clone, Copy, Debug)]
+#[derive(Clone, Copy)]
 pub struct UpdateAsk {
     /// The words: good where each begins with a field's name and they name at most 40 fields.
     pub words: Validity,
@@ -50,7 +50,7 @@ pub struct UpdateAsk {
 
 /// The findings of a client that wants to enter, one finding for each check: at its login and, since it may have
 /// changed by then, again once its password was right.
-#[derive(Clone, Copy, Debug)]
+#[derive(Clone, Copy)]
 pub struct EntryAsk {
     /// The identifier is shut out, or not.
     pub ban: Ban,

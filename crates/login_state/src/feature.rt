@@ -6,7 +6,7 @@ use adc_line::is_feature_name;
 use std::marker::Model;
 
 /// A feature, by the four characters of its name (ADC 1.0, "SUP").
-#[derive(Clone, Copy, Debug, PartialEq, Eq, PartialOrd, Ord)]
+#[derive(Clone, Copy, Debug, PartialEq, Eq)]
 pub struct Feature {
     name: [u8; 4],
 }
@@ -77,7 +77,7 @@ impl Feature {
 }
 
 /// A word of a SUP, read.
-#[derive(Clone, Copy, Debug)]
+#[derive(Clone, Copy)]
 pub enum Mention {
     /// `AD`: the client supports it.
     Adds(Feature),

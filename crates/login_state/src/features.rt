@@ -18,7 +18,7 @@ const MOST: usize = 64;
 
 /// The features that a client supports (ADC 1.0, "SUP"): those whose last mention adds them, each once, the latest of
 /// these mentions first.
-#[derive(Debug, Drop)]
+#[derive(Drop)]
 pub struct Features {
     names: Vec<Feature>,
 }

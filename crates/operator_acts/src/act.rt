@@ -10,7 +10,7 @@ use adc_ids::{Cid, Nick};
 use std::alloc::Global;
 
 /// An act that an operator asks of the hub, by a text that begins with `!`.
-#[derive(Debug, Drop)]
+#[derive(Drop)]
 pub enum Act<'a> {
     /// An order to send a user away, for a reason that may be empty.
     Kick {

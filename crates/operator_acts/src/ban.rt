@@ -4,7 +4,7 @@ ghost use Rattle.operator_acts.specs.Bans.{left_of};
 use crate::left::Left;
 
 /// A ban: from which moment on, and for how many seconds, or for good where there are 0.
-#[derive(Clone, Copy, Debug, PartialEq, Eq)]
+#[derive(Clone, Copy, PartialEq, Eq)]
 pub struct Ban {
     /// The number of seconds for which it holds.
     pub seconds: u32,

@@ -15,7 +15,7 @@ const MAX_BANS: usize = 1_024;
 /// The bans that are held, at most one on each client identifier and on at most 1,024 of them. A ban
 /// whose time has run out is held and counts until it is removed. A look-up takes no walk over all of
 /// them, whatever the identifiers are.
-#[derive(Debug, Drop)]
+#[derive(Drop)]
 pub struct Bans {
     held: BTreeMap<Cid, Ban>,
 }

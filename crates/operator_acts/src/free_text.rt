@@ -6,7 +6,7 @@ use std::marker::Model;
 
 /// The text that follows the words of an act, as it was written: a reason, or a topic. It is empty where
 /// nothing follows, and also where a blank follows with nothing behind it.
-#[derive(Debug, Drop)]
+#[derive(Drop)]
 pub struct FreeText<'a> {
     text: &'a str,
 }

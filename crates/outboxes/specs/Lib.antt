@@ -1,3 +1,4 @@
 pub mod Backlogs
+pub mod Handles
 pub mod Places
 pub mod Quits

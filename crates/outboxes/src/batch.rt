@@ -1,32 +1,61 @@
-ghost use Rattle.std.specs.Prelude.{◌≡◌, ◌↔◌, ◌≤◌, ◌<◌, [], ◌∷◌, ◌++◌, length, map, take, IsTrue, IfOk, IfSome, IfNone, OnOk, OnErr};
-ghost use Rattle.std.specs.Option.{option_to_list};
-ghost use Rattle.outboxes.specs.Backlogs.{size_of};
+ghost use Rattle.std.specs.Prelude.{◌≡◌, ◌↔◌, [], ◌∷◌, ◌++◌, length, map, take, IsTrue, IfErr, IfOk, OnOk, OnErr};
+ghost use Rattle.outboxes.specs.Handles.{handles};
 
-use crate::outbox::size_within;
 use crate::refused::PushRefused;
 use bytes::Bytes;
 use std::alloc::{AllocError, Global};
 use std::marker::Model;
+use std::slice::from_ref;
 use std::sync::Arc;
 
+/// Handles of lines. Most batches are one line, and another handle of it takes no memory.
+#[derive(Drop)]
+enum Lines {
+    /// No line.
+    Nothing,
+    /// One line.
+    One(Arc<Bytes>),
+    /// A list of lines, which lies elsewhere, so that a batch of one line is small.
+    Many(Box<Vec<Arc<Bytes>>>),
+}
+
 /// Lines that one call owes to one connection: an outbox is given all of them or none.
-///
-/// Most shares are one line, which is kept beside the others, so that another handle of it takes no memory.
-#[derive(Debug, Drop)]
+#[derive(Drop)]
 pub struct Batch {
-    first: Option<Arc<Bytes>>,
-    rest: Vec<Arc<Bytes>>,
+    alloc: Global,
+    lines: Lines,
 }
 
 impl Model for Batch {
-    ghost use Rattle.std.specs.Prelude.{◌≡◌, [], None, ℕ, List, map, ◌++◌};
-    ghost use Rattle.std.specs.Option.{option_to_list};
+    ghost use Rattle.std.specs.Prelude.{ℕ, List, map};
+    ghost use Rattle.outboxes.specs.Handles.{handles};
 
     ghost Value = { List (List ℕ) };
 
-    ghost view = { λ b. map (λ line. line.value) (option_to_list b.first ++ b.rest.items) };
+    ghost view = { λ b. map (λ line. line.value) (handles b.lines) };
+}
 
-    ghost invariant = { λ b. b.first ≡ None → b.rest.items ≡ [] };
+impl Lines {
+    fn as_slice(&self) -> &[Arc<Bytes>]
+        ensures { result.now ≡ handles self.now }
+    {
+        match self {
+            Lines::Nothing => &[],
+            Lines::One(line) => from_ref(line),
+            Lines::Many(lines) => lines,
+        }
+    }
+
+    /// Makes other handles of the same lines. Of one line that takes no memory.
+    fn share(&self, alloc: Global) -> Result<Lines, AllocError>
+        ensures { IfOk result (λ lines. map (λ line. line.value) (handles lines) ≡ map (λ line. line.value) (handles self.now)) }
+    {
+        Ok(match self {
+            Lines::Nothing => Lines::Nothing,
+            Lines::One(line) => Lines::One(line.clone()?),
+            Lines::Many(lines) => Lines::Many(joined(alloc, lines, &[])?),
+        })
+    }
 }
 
 impl Batch {
@@ -35,8 +64,8 @@ impl Batch {
         ensures { result ≡ [] }
     {
         Batch {
-            first: None,
-            rest: Vec::new(alloc),
+            alloc,
+            lines: Lines::Nothing,
         }
     }
 
@@ -47,11 +76,14 @@ impl Batch {
         ensures ok { OnOk result (self.new ≡ self.old ++ line ∷ []) }
         ensures err { OnErr result (self.new ≡ self.old) }
     {
-        let line = Arc::new(*self.rest.allocator(), line)?;
-        if self.first.is_none() {
-            self.first = Some(line);
-        } else {
-            self.rest.push(line)?;
+        let line = Arc::new(self.alloc, line)?;
+        match &mut self.lines {
+            Lines::Nothing => self.lines = Lines::One(line),
+            Lines::One(first) => {
+                let lines = joined(self.alloc, from_ref(first), from_ref(&line))?;
+                self.lines = Lines::Many(lines);
+            }
+            Lines::Many(lines) => lines.push(line)?,
         }
         Ok(())
     }
@@ -63,15 +95,16 @@ impl Batch {
         ensures ok { OnOk result (self.new ≡ self.old ++ other.now) }
         ensures err { OnErr result (self.new ≡ self.old) }
     {
-        if self.first.is_none() {
-            *self = other.share()?;
+        if other.is_empty() {
             return Ok(());
         }
-        let start = self.rest.len();
-        push_copies(&mut self.rest, other.first.as_slice())?;
-        if push_copies(&mut self.rest, &other.rest).is_err() {
-            self.rest.truncate(start);
-            return Err(PushRefused::Memory);
+        match &mut self.lines {
+            Lines::Nothing => self.lines = other.lines.share(self.alloc)?,
+            Lines::One(first) => {
+                let lines = joined(self.alloc, from_ref(first), other.lines.as_slice())?;
+                self.lines = Lines::Many(lines);
+            }
+            Lines::Many(lines) => push_copies(lines, other.lines.as_slice())?,
         }
         Ok(())
     }
@@ -80,13 +113,9 @@ impl Batch {
     pub fn share(&self) -> Result<Batch, AllocError>
         ensures { IfOk result (λ batch. batch ≡ self.now) }
     {
-        let mut rest = Vec::new(*self.rest.allocator());
-        if !self.rest.is_empty() {
-            push_copies(&mut rest, &self.rest)?;
-        }
         Ok(Batch {
-            first: self.first.clone()?,
-            rest,
+            alloc: self.alloc,
+            lines: self.lines.share(self.alloc)?,
         })
     }
 
@@ -94,39 +123,39 @@ impl Batch {
     pub fn is_empty(&self) -> bool
         ensures { IsTrue result ↔ self.now ≡ [] }
     {
-        self.first.is_none()
+        self.lines.as_slice().is_empty()
     }
 
-    /// Counts the lines.
-    pub(crate) fn len(&self) -> usize
-        ensures { result ≡ length self.now }
+    /// Gives its only line, or a list of its lines, where they are none or many.
+    pub(crate) fn into_only_line(self) -> Result<Arc<Bytes>, Vec<Arc<Bytes>>>
+        ensures one { IfOk result (λ line. self ≡ line.value ∷ []) }
+        ensures list { IfErr result (λ lines. self ≡ map (λ line. line.value) lines.items) }
     {
-        let first = self.first.as_slice().len();
-        first + self.rest.len()
+        match self.lines {
+            Lines::Nothing => Err(Vec::new(self.alloc)),
+            Lines::One(line) => Ok(line),
+            Lines::Many(lines) => Err(Box::into_inner(lines)),
+        }
     }
+}
 
-    /// Counts the bytes that the lines have together, where these are no more than there is room for.
-    pub(crate) fn size_within(&self, room: usize) -> Option<usize>
-        ensures some { IfSome result (λ size. (size ≡ size_of self.now) × (size ≤ room)) }
-        ensures none { IfNone result (room < size_of self.now) }
-    {
-        let first = size_within(self.first.as_slice(), room)?;
-        let rest = size_within(&self.rest, room - first)?;
-        Some(first + rest)
-    }
-
-    /// Gives the first line and the others, in order.
-    pub(crate) fn into_lines(self) -> (Option<Arc<Bytes>>, Vec<Arc<Bytes>>)
-        ensures { map (λ line. line.value) (option_to_list result.0 ++ result.1.items) ≡ self }
-    {
-        (self.first, self.rest)
-    }
+/// Makes a list of a handle of each of these lines, and then of each of those.
+fn joined(
+    alloc: Global,
+    these: &[Arc<Bytes>],
+    those: &[Arc<Bytes>],
+) -> Result<Box<Vec<Arc<Bytes>>>, AllocError>
+    ensures { IfOk result (λ lines. map (λ line. line.value) lines.value.items ≡ map (λ line. line.value) these.now ++ map (λ line. line.value) those.now) }
+{
+    let mut lines = Vec::new(alloc);
+    push_copies(&mut lines, these)?;
+    push_copies(&mut lines, those)?;
+    Ok(Box::new(alloc, lines)?)
 }
 
 /// Adds a handle of each line.
 fn push_copies(lines: &mut Vec<Arc<Bytes>>, more: &[Arc<Bytes>]) -> Result<(), AllocError>
     ensures ok { OnOk result (map (λ line. line.value) lines.new.items ≡ map (λ line. line.value) lines.old.items ++ map (λ line. line.value) more.now) }
-    ensures prefix { OnOk result (take (length lines.old.items) lines.new.items ≡ lines.old.items) }
     ensures err { OnErr result (lines.new.items ≡ lines.old.items) }
 {
     let start = lines.len();

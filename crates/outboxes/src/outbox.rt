@@ -2,7 +2,6 @@ ghost use Rattle.std.specs.Prelude.{◌≡◌, ◌≤◌, ◌==◌, ◌&&◌, �
 ghost use Rattle.std.specs.List.{concat};
 ghost use Rattle.outboxes.specs.Backlogs.{empty_backlog, with_lines, backlog_after, size_of};
 ghost use Rattle.outboxes.specs.Quits.{quit_line};
-ghost use Rattle.std.specs.Option.{option_to_list};
 ghost use Rattle.circular_buffer.specs.Buffer.{buffer};
 ghost use Rattle.outboxes.specs.Places.{line_of};
 ghost use Rattle.outboxes.specs.declared.outbox.Place.TheVariants.{Line};
@@ -18,7 +17,7 @@ use std::marker::Model;
 use std::sync::Arc;
 
 /// One line that waits. A line's handle lies elsewhere, so that an empty place is small.
-#[derive(Debug, Drop)]
+#[derive(Drop)]
 pub enum Place {
     /// A line of a batch.
     Line(Arc<Bytes>),
@@ -38,7 +37,7 @@ pub fn quit_line(sid: Sid) -> [u8; 10]
 }
 
 /// Counts the bytes that the lines have together, where these are no more than there is room for.
-pub(crate) fn size_within(lines: &[Arc<Bytes>], room: usize) -> Option<usize>
+fn size_within(lines: &[Arc<Bytes>], room: usize) -> Option<usize>
     ensures some { IfSome result (λ size. (size ≡ size_of (map (λ line. line.value) lines.now)) × (size ≤ room)) }
     ensures none { IfNone result (room < size_of (map (λ line. line.value) lines.now)) }
 {
@@ -50,18 +49,11 @@ pub(crate) fn size_within(lines: &[Arc<Bytes>], room: usize) -> Option<usize>
 }
 
 /// Adds lines that there are places for.
-pub(crate) fn add_lines(
-    places: &mut HeapCircularBuffer<Place>,
-    first: Option<Arc<Bytes>>,
-    rest: Vec<Arc<Bytes>>,
-)
-    requires { length places.old.items + length (option_to_list first ++ rest.items) ≤ places.old.capacity }
-    ensures { places.new ≡ buffer (places.old.items ++ map Line (option_to_list first ++ rest.items)) places.old.capacity }
+fn add_lines(places: &mut HeapCircularBuffer<Place>, lines: Vec<Arc<Bytes>>)
+    requires { length places.old.items + length lines.items ≤ places.old.capacity }
+    ensures { places.new ≡ buffer (places.old.items ++ map Line lines.items) places.old.capacity }
 {
-    if let Some(line) = first {
-        add_line(places, line);
-    }
-    for line in rest {
+    for line in lines {
         add_line(places, line);
     }
 }
@@ -124,7 +116,7 @@ const QUIT_BYTES: usize = 10;
 ///
 /// The lines that one call owes the connection go in whole or not at all. From the first time on that they do not fit, the
 /// connection lags: nothing goes in any more, and what waits can still be taken.
-#[derive(Debug, Drop)]
+#[derive(Drop)]
 pub struct Outbox {
     places: HeapCircularBuffer<Place>,
     bytes: usize,
@@ -165,18 +157,41 @@ impl Outbox {
     /// Adds a batch's lines at the end if the lines that then wait are at most as many, and have at most
     /// as many bytes, as may wait. Otherwise it adds none, and the connection lags from then on; where
     /// it lagged before, nothing happens. It takes no memory.
-    #[tactic(auto, unfolding(crate::specs::Backlogs::backlog_after))]
     pub fn give(&mut self, batch: Batch)
         ensures { self.new ≡ backlog_after self.old batch }
+    {
+        match batch.into_only_line() {
+            Ok(line) => self.give_line(line),
+            Err(lines) => self.give_lines(lines),
+        }
+    }
+
+    #[tactic(auto, unfolding(crate::specs::Backlogs::backlog_after))]
+    fn give_line(&mut self, line: Arc<Bytes>)
+        ensures { self.new ≡ backlog_after self.old (line.value ∷ []) }
+    {
+        let size = line.len();
+        if !self.lags
+            && self.limit - self.bytes >= size
+            && self.places.try_push_back(Place::Line(line)).is_ok()
+        {
+            self.bytes += size;
+        } else {
+            self.lags = true;
+        }
+    }
+
+    #[tactic(auto, unfolding(crate::specs::Backlogs::backlog_after))]
+    fn give_lines(&mut self, lines: Vec<Arc<Bytes>>)
+        ensures { self.new ≡ backlog_after self.old (map (λ line. line.value) lines.items) }
     {
         if self.lags {
             return;
         }
-        match batch.size_within(self.limit - self.bytes) {
-            Some(size) if batch.len() <= self.places.capacity() - self.places.len() => {
+        match size_within(&lines, self.limit - self.bytes) {
+            Some(size) if lines.len() <= self.places.capacity() - self.places.len() => {
                 self.bytes += size;
-                let (first, rest) = batch.into_lines();
-                add_lines(&mut self.places, first, rest);
+                add_lines(&mut self.places, lines);
             }
             _ => self.lags = true,
         }

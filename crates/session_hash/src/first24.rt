@@ -5,7 +5,7 @@ use crate::SessionHash;
 
 /// A stand-in for a hash, which is none: the first 24 bytes, filled up with zeros. For tests and
 /// worked examples; it keeps no secret, so no hub that strangers reach may use it.
-#[derive(Clone, Copy, Debug, Default, PartialEq, Eq)]
+#[derive(Clone, Copy, Default, PartialEq, Eq)]
 pub struct First24;
 
 impl SessionHash for First24 {

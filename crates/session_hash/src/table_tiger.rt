@@ -42,7 +42,7 @@ impl<T: Drop> From<AllocFailed<T>> for TablesFault {
 
 /// Tiger over four tables that were read from a file (ADC-EXT, "TIGR"): plain Tiger of the bytes,
 /// 24 bytes of output. Contracts see it as the 1,024 words of the tables.
-#[derive(Debug, Drop)]
+#[derive(Drop)]
 pub struct TableTiger {
     words: Vec<u64>,
 }

@@ -7,7 +7,7 @@ ghost use Rattle.session_hash.specs.Words.{add64, sub64, mul64, not_up, not_down
 pub const TABLE_WORDS: usize = 1024;
 
 /// The three registers of Tiger.
-#[derive(Clone, Copy, Debug, PartialEq, Eq)]
+#[derive(Clone, Copy, PartialEq, Eq)]
 pub struct Registers {
     pub a: u64,
     pub b: u64,

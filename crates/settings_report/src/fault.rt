@@ -7,7 +7,7 @@ use std::alloc::{AllocError, Global};
 use std::fmt;
 
 /// The fault of a settings file.
-#[derive(Debug, Drop)]
+#[derive(Drop)]
 pub struct Fault {
     /// The key of the settings at which it is; `None` where the text is no TOML.
     pub key: Option<KeyName>,

@@ -11,7 +11,7 @@ use std::str;
 use toml::Value;
 
 /// A report on a settings file.
-#[derive(Debug, Drop)]
+#[derive(Drop)]
 pub enum Report {
     /// All is well.
     Well(Summary),

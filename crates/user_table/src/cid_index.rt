@@ -9,7 +9,7 @@ use std::marker::Model;
 
 /// The users by client identifier: session identifiers by client identifiers. Strangers choose the
 /// latter, so they are held in order, where no choice of them makes look-ups slow.
-#[derive(Debug, Drop)]
+#[derive(Drop)]
 pub(crate) struct CidIndex {
     sids: BTreeMap<Cid, Sid>,
 }

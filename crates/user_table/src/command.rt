@@ -6,7 +6,7 @@ use adc_ids::{Cid, Nick};
 use inf_fields::Update;
 
 /// A call on the users who are present, with what it is given: see [`Users`](crate::Users).
-#[derive(Debug, Drop)]
+#[derive(Drop)]
 pub enum Command {
     /// Puts a user behind the others.
     Insert(User),
@@ -28,7 +28,7 @@ pub enum Command {
 }
 
 /// The answer to a [`Command`].
-#[derive(Clone, Copy, Debug, PartialEq, Eq)]
+#[derive(Clone, Copy, PartialEq, Eq)]
 pub enum Answer {
     /// The command was not made, since its condition did not hold.
     Skipped,

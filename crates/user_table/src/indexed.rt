@@ -18,7 +18,7 @@ use std::marker::Model;
 
 /// The users who are present, found without a walk: a look-up takes a time that grows at most with
 /// the logarithm of their number, whatever nicks and client identifiers strangers choose.
-#[derive(Debug, Drop)]
+#[derive(Drop)]
 pub struct IndexedUsers {
     roster: Roster,
     nicks: NickIndex,

@@ -8,7 +8,7 @@ use std::marker::Model;
 
 /// The users by nick: session identifiers by the nicks' keys. Strangers choose the nicks, so the keys are
 /// held in order, where no choice of them makes look-ups slow.
-#[derive(Debug, Drop)]
+#[derive(Drop)]
 pub(crate) struct NickIndex {
     sids: BTreeMap<String, Sid>,
 }

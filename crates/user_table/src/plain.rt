@@ -16,7 +16,7 @@ use std::alloc::{AllocError, Global};
 use std::marker::Model;
 
 /// The users who are present, in a vector. It shows what a table does; its look-ups walk the list.
-#[derive(Debug, Drop)]
+#[derive(Drop)]
 pub struct PlainUsers {
     users: Vec<User>,
 }

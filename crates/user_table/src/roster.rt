@@ -16,7 +16,7 @@ use std::marker::Model;
 
 /// The users in order of entry, found by session identifier, with what they share together. The hub
 /// gives the identifiers, so a hasher with a fixed seed serves.
-#[derive(Debug, Drop)]
+#[derive(Drop)]
 pub(crate) struct Roster {
     users: IndexMap<Sid, User>,
     totals: Totals,

@@ -2,7 +2,7 @@ ghost use Rattle.std.specs.Prelude.{◌≡◌, ◌+◌, ◌<◌, ◌≤◌, ◌^
 ghost use Rattle.user_table.specs.Shares.{totals_without, totals_with};
 
 /// The count of users who are present, and what they share together.
-#[derive(Clone, Copy, Debug, PartialEq, Eq)]
+#[derive(Clone, Copy, PartialEq, Eq)]
 pub struct Totals {
     /// The count of users.
     pub users: u64,
@@ -13,7 +13,7 @@ pub struct Totals {
 }
 
 /// The share of one user: bytes by the field SS, files by the field SF.
-#[derive(Clone, Copy, Debug, PartialEq, Eq)]
+#[derive(Clone, Copy, PartialEq, Eq)]
 pub(crate) struct Shared {
     pub(crate) ss: u64,
     pub(crate) sf: u64,

@@ -17,7 +17,7 @@ use std::marker::Model;
 use std::mem::replace;
 
 /// A user who is present.
-#[derive(Debug, Drop)]
+#[derive(Drop)]
 pub struct User {
     sid: Sid,
     cid: Cid,
