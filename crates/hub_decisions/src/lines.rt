@@ -15,6 +15,7 @@ use hub_setup::{Setup, user_line};
 use outboxes::Batch;
 use std::alloc::{AllocError, Global};
 use std::marker::Model;
+use std::mem::replace;
 use user_table::{IndexedUsers, User, Users};
 
 /// The line of a user who is present.
@@ -134,7 +135,8 @@ fn renew_at(
                 lines.truncate(place);
                 return;
             };
-            lines[place] = kept;
+            // By a call: what is let go of is then one case here, and not one for each form of a batch.
+            drop(replace(&mut lines[place], kept));
         }
     }
 }

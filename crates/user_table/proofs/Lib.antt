@@ -4,7 +4,6 @@ pub mod IndexedLemmas
 pub mod NickLemmas
 pub mod PlaceLemmas
 pub mod RenewalLemmas
-pub mod RunLemmas
 pub mod SeatLemmas
 pub mod ShareLemmas
 pub mod SidLemmas

@@ -1,12 +1,10 @@
 pub mod Changes
 pub mod CidView
-pub mod Commands
 pub mod IndexedView
 pub mod Indexes
 pub mod Listed
 pub mod NickView
 pub mod Places
-pub mod PlainView
 pub mod Renaming
 pub mod RosterView
 pub mod Shares

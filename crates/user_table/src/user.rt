@@ -81,14 +81,14 @@ impl User {
     }
 
     /// Gives how many bytes the user shares, by the field SS; 0 where there is none or it is no number.
-    pub(crate) fn share_size(&self) -> u64
+    pub fn share_size(&self) -> u64
         ensures { result ≡ amount share_size_name self.now.fields }
     {
         amount(&self.fields, FieldName::share_size())
     }
 
     /// Gives how many files the user shares, by the field SF; 0 where there is none or it is no number.
-    pub(crate) fn shared_files(&self) -> u64
+    pub fn shared_files(&self) -> u64
         ensures { result ≡ amount shared_files_name self.now.fields }
     {
         amount(&self.fields, FieldName::shared_files())
@@ -106,7 +106,7 @@ impl User {
 
     /// Merges an update for which there is room, and takes the key that is given. Refused only where
     /// memory runs out; then the user is as before.
-    pub(crate) fn change(&mut self, update: &Update, key: Option<String>) -> Result<(), AllocError>
+    pub fn change(&mut self, update: &Update, key: Option<String>) -> Result<(), AllocError>
         requires room { IsTrue (fits self.old.fields update.now) }
         ensures changed { OnOk result (self.new ≡ updated_user update.now (option_map string_bytes key) self.old) }
         ensures unchanged { OnErr result (self.new ≡ self.old) }

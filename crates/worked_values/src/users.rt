@@ -11,10 +11,11 @@ use crate::rows::{
     small, unknown,
 };
 use adc_ids::{Cid, Nick};
+use plain_users::PlainUsers;
 use std::alloc::AllocGlobal;
 use std::io::Print;
 use std::process::Abort;
-use user_table::{IndexedUsers, PlainUsers, TableRefused, User, Users, takes_update};
+use user_table::{IndexedUsers, TableRefused, User, Users, takes_update};
 
 /// The users who are present.
 #[derive(Drop)]

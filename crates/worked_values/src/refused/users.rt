@@ -2,11 +2,12 @@ use crate::rows::{say, say_refused_memory, text_of, unknown};
 use crate::users::alike::{keep, say_run};
 use crate::users::play_table;
 use crate::users::samples::{say_totals, user};
+use plain_users::{Answer, Command, PlainUsers, RunRefused, run_users};
 use second_try::again;
 use std::alloc::AllocGlobal;
 use std::io::Print;
 use std::process::Abort;
-use user_table::{Answer, Command, IndexedUsers, PlainUsers, RunRefused, Users, run_users};
+use user_table::{IndexedUsers, Users};
 
 const ENTER_AND_CHANGE: &str = "
     enters 1 1 ana NIana SS5 -> ok
@@ -61,7 +62,7 @@ fn runs<U: Users>(rt: &(impl Abort + AllocGlobal + Print)) {
     if said == "done;done; 2 10 0;" {
         assert!(rt; has_totals(rt, &users, "2 10 0"));
     } else if said == "Memory;done; 1 5 0;" || said == "done;Memory; 1 5 0;" {
-        say_refused_memory(rt, "user_table::run_users", has_totals(rt, &users, "1 5 0"));
+        say_refused_memory(rt, "plain_users::run_users", has_totals(rt, &users, "1 5 0"));
     } else {
         unknown(rt, "other answers");
     }
@@ -73,7 +74,7 @@ fn run_twice<U: Users>(rt: &(impl Abort + AllocGlobal + Print), users: &mut U) -
     match run_users(rt.alloc(), users, commands(rt)) {
         Ok(answers) => answers,
         Err(RunRefused::Memory) => {
-            say_refused_memory(rt, "user_table::run_users", has_totals(rt, users, "0 0 0"));
+            say_refused_memory(rt, "plain_users::run_users", has_totals(rt, users, "0 0 0"));
             again!(rt; run_users(rt.alloc(), users, commands(rt)))
         }
     }

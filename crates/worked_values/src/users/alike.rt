@@ -4,13 +4,12 @@ use super::samples::{say_users, sid};
 use super::{entering, say_answer};
 use crate::rows::{Part, number, pair, play, say, say_number, say_refused_memory, small, unknown};
 use adc_ids::Cid;
+use plain_users::{Answer, Command, PlainUsers, RunRefused, run_users};
 use second_try::again;
 use std::alloc::AllocGlobal;
 use std::io::Print;
 use std::process::Abort;
-use user_table::{
-    Answer, Command, IndexedUsers, PlainUsers, RunRefused, TableRefused, Totals, Users, run_users,
-};
+use user_table::{IndexedUsers, TableRefused, Totals, Users};
 
 const COUNT: usize = 2_000;
 
@@ -28,7 +27,7 @@ fn run_once<U: Users>(rt: &(impl Abort + AllocGlobal + Print)) -> Option<(U, Vec
     let mut users = U::new(rt.alloc());
     match run_users(rt.alloc(), &mut users, draw_commands(rt)) {
         Err(RunRefused::Memory) => {
-            say_refused_memory(rt, "user_table::run_users", users.totals().users == 0);
+            say_refused_memory(rt, "plain_users::run_users", users.totals().users == 0);
             None
         }
         Ok(answers) if answers.contains(&Answer::Refused(TableRefused::Memory)) => None,
@@ -139,7 +138,7 @@ impl<U: Users> Part for CommandRun<U> {
 impl<U: Users> CommandRun<U> {
     fn is_unchanged(&self, rt: &(impl Abort + AllocGlobal + Print), before: &[u8]) {
         let same = say_users(rt, &self.users).as_slice() == before;
-        say_refused_memory(rt, "user_table::run_users", same);
+        say_refused_memory(rt, "plain_users::run_users", same);
     }
 
     /// Gives the answer to a command, or nothing where memory is refused.

@@ -3,11 +3,11 @@ use super::nick_unless_empty;
 use super::samples::{sid, user};
 use crate::fields::update;
 use adc_ids::Cid;
+use plain_users::Command;
 use second_try::again;
 use std::alloc::{AllocError, AllocGlobal, Global};
 use std::io::Print;
 use std::process::Abort;
-use user_table::Command;
 
 /// A linear congruential generator with Knuth's constants; the high bits are used.
 #[derive(Drop)]

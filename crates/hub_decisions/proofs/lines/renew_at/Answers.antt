@@ -8,7 +8,7 @@ loop-place-preserved c =
     let within : c.loop-place.place < length c.loop-place.lines.items =
     omega (arith, c.loop-place-test.true, c.len-place-end.ensures, c.loop-place.invariant.long, c.args.lines.now.ok.0) in
     elim c.if-eq.branch [
-      | then-eq+in-Some w ↦ rw w.lines-is (record {
+      | then-eq+in-Some w ↦ rw (w.lines-is, w.replace.ensures.after) (record {
         renewed = λ update key before changed were.
             line-renewed c.args.setup.now c.args.sid update key before c.args.users.now c.args.lines.now.items c.loop-place.lines.items c.loop-place.place changed were
             (c.loop-place.invariant.renewed update key before changed were) within w.in-Some.kept w.in-Some.ensures;

@@ -1,6 +1,0 @@
-use Rattle.std.proofs.Common.{◌≡◌, drop}
-use Rattle.user_table.specs.Tables.{user_by_key}
-use Rattle.user_table.proofs.finding.by_key.Given as goal
-
-abbrev pub invariant-users : goal.invariant-users
-invariant-users l = user_by_key l.key l.users ≡ user_by_key l.key (drop l.user-index l.users)
