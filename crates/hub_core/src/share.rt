@@ -242,6 +242,8 @@ fn give(seats: &mut [Seat], shares: Vec<Share>)
     for share in shares {
         if share.place < seats.len() {
             seats[share.place].give(share.lines);
+        } else {
+            drop(share);
         }
     }
 }
