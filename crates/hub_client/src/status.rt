@@ -5,7 +5,7 @@ use std::alloc::Global;
 use std::fmt;
 
 /// A status message of a hub.
-#[derive(Drop)]
+#[derive(Debug, Drop)]
 pub struct Status {
     // The severity and the two digits of the code.
     number: [u8; 3],

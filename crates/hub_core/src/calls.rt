@@ -35,7 +35,7 @@ pub struct Asked<'a> {
 }
 
 /// The answer to a call.
-#[derive(Drop)]
+#[derive(Debug, Drop)]
 pub enum Answer {
     /// The join was accepted, as this connection.
     Joined(Connection),

@@ -1,7 +1,7 @@
 use login_state::Stage;
 
 /// The things that one look at a connection shows.
-#[derive(Clone, Copy)]
+#[derive(Clone, Copy, Debug)]
 pub struct Look {
     /// The stage to which it has come.
     pub stage: Stage,
