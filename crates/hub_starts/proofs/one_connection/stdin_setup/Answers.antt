@@ -1,5 +1,5 @@
 use Rattle.std.proofs.Common.{◌∙◌, sym}
-use Rattle.hub_program.proofs.command_line.stdin_setup.Goals as goal
+use Rattle.hub_starts.proofs.one_connection.stdin_setup.Goals as goal
 
 pub unreachable-requires : goal.unreachable-requires
 unreachable-requires c = let h = sym c.stdin_options-options.ensures ∙ (rw c.in-Err-Limit.field-0-is at c.in-Err-Limit.ensures.exact) in cc h

@@ -3,7 +3,7 @@ use Rattle.hub_rules.specs.Configured.{Configured}
 use Rattle.session_hash.specs.First24.{first_24}
 use Rattle.hub_stream.specs.Runs.{IsServed}
 use Rattle.hub_stream.proofs.Heard.{never_began}
-use Rattle.hub_program.proofs.command_line.serve_stdin.Goals as goal
+use Rattle.hub_starts.proofs.one_connection.serve_stdin.Goals as goal
 
 pub returns-in_default : goal.returns-in_default
 returns-in_default g c words asks = (asks, never_began _ _ _ _ (g.I.CountedRead.failures c.args.input.now) (g.O.CountedWrite.failures c.args.output.now))

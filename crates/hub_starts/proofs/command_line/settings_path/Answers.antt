@@ -1,6 +1,6 @@
 use Rattle.std.specs.String.{string_bytes}
-use Rattle.hub_program.proofs.Words.{only_two, first_is}
-use Rattle.hub_program.proofs.command_line.settings_path.Goals as goal
+use Rattle.hub_starts.proofs.Words.{only_two, first_is}
+use Rattle.hub_starts.proofs.command_line.settings_path.Goals as goal
 
 pub returns-in-len2 : goal.returns-in-len2
 returns-in-len2 c =

@@ -1,6 +1,6 @@
 use Rattle.std.specs.String.{string_bytes}
-use Rattle.hub_program.proofs.Words.{only_one, one_is}
-use Rattle.hub_program.proofs.command_line.asks_for_stdin.Goals as goal
+use Rattle.hub_starts.proofs.Words.{only_one, one_is}
+use Rattle.hub_starts.proofs.command_line.asks_for_stdin.Goals as goal
 
 pub returns-in-len1 : goal.returns-in-len1
 returns-in-len1 c =

@@ -1,0 +1,23 @@
+ghost use Rattle.std.specs.Prelude.{◌↔◌, IsTrue, IfSome, map};
+ghost use Rattle.std.specs.String.{string_bytes};
+ghost use Rattle.hub_starts.specs.Endings.{AsksForStdin, AsksToServe};
+
+/// Tells whether a hub for one connection is asked for.
+pub(crate) fn asks_for_stdin(words: &[String]) -> bool
+    ensures { IsTrue result ↔ AsksForStdin (map string_bytes words.now) }
+{
+    match words {
+        [word] => word.as_str() == "stdin",
+        _ => false,
+    }
+}
+
+/// Gives the settings file of a server that is asked for.
+pub fn settings_path(words: &[String]) -> Option<&str>
+    ensures { IfSome result (λ _. AsksToServe (map string_bytes words.now)) }
+{
+    match words {
+        [word, path] if word.as_str() == "serve" => Some(path.as_str()),
+        _ => None,
+    }
+}
