@@ -61,46 +61,73 @@ fn read_entry(alloc: Global, line: &[u8]) -> Result<Option<Entry>, AllocError> {
     let Some(caller) = number(word(&mut rest)) else {
         return Ok(None);
     };
-    let read = match word(&mut rest) {
-        b"join" => read_join(rest),
-        b"line" => read_line(alloc, rest)?,
-        b"quit" => read_quit(rest),
-        b"take" => read_take(alloc, rest)?,
-        _ => None,
-    };
-    Ok(read.map(|(call, reply)| Entry {
+    let kind = word(&mut rest);
+    Ok(read_call(alloc, kind, rest)?.map(|(call, reply)| Entry {
         caller,
         call,
         reply,
     }))
 }
 
+// Words are compared: a body that matches on them is dear to prove.
+
+fn read_call(alloc: Global, kind: &[u8], rest: &[u8]) -> Result<Option<(Call, Reply)>, AllocError> {
+    if kind == b"join".as_slice() {
+        Ok(read_join(rest))
+    } else if kind == b"line".as_slice() {
+        read_line(alloc, rest)
+    } else if kind == b"quit".as_slice() {
+        Ok(read_quit(rest))
+    } else if kind == b"take".as_slice() {
+        read_take(alloc, rest)
+    } else {
+        Ok(None)
+    }
+}
+
 fn read_join(mut rest: &[u8]) -> Option<(Call, Reply)> {
     let peer = Ipv4Addr::parse_ascii(word(&mut rest)).ok()?.octets();
     let challenge = decode24(word(&mut rest)).ok()?;
     let now = number(word(&mut rest))?;
-    let reply = match word(&mut rest) {
-        b"joined" => Reply::Joined(number(word(&mut rest))?),
-        b"full" => Reply::Full,
-        b"joins-spent" => Reply::JoinsSpent,
-        _ => return None,
+    let reply = read_joined(rest)?;
+    Some((Call::Join(peer, challenge, now), reply))
+}
+
+/// Reads the reply to a join, up to the end of the line.
+fn read_joined(mut rest: &[u8]) -> Option<Reply> {
+    let told = word(&mut rest);
+    let reply = if told == b"joined".as_slice() {
+        Reply::Joined(number(word(&mut rest))?)
+    } else if told == b"full".as_slice() {
+        Reply::Full
+    } else if told == b"joins-spent".as_slice() {
+        Reply::JoinsSpent
+    } else {
+        return None;
     };
-    rest.is_empty()
-        .then_some((Call::Join(peer, challenge, now), reply))
+    rest.is_empty().then_some(reply)
 }
 
 fn read_line(alloc: Global, mut rest: &[u8]) -> Result<Option<(Call, Reply)>, AllocError> {
     let (connection, now) = (number(word(&mut rest)), number(word(&mut rest)));
-    let verdict = match word(&mut rest) {
-        b"kept" => Verdict::Kept,
-        b"ended" => Verdict::Ended,
-        _ => return Ok(None),
-    };
-    let (Some(connection), Some(now), Some(bytes)) = (connection, now, read_bytes(alloc, rest)?)
-    else {
+    let verdict = verdict_of(word(&mut rest));
+    let (Some(connection), Some(now), Some(verdict)) = (connection, now, verdict) else {
         return Ok(None);
     };
-    Ok(Some((Call::Line(connection, bytes, now), Reply::Said(verdict))))
+    Ok(read_bytes(alloc, rest)?.map(|bytes| (
+        Call::Line(connection, bytes, now),
+        Reply::Said(verdict),
+    )))
+}
+
+fn verdict_of(told: &[u8]) -> Option<Verdict> {
+    if told == b"kept".as_slice() {
+        Some(Verdict::Kept)
+    } else if told == b"ended".as_slice() {
+        Some(Verdict::Ended)
+    } else {
+        None
+    }
 }
 
 fn read_quit(mut rest: &[u8]) -> Option<(Call, Reply)> {
@@ -111,13 +138,11 @@ fn read_quit(mut rest: &[u8]) -> Option<(Call, Reply)> {
 fn read_take(alloc: Global, mut rest: &[u8]) -> Result<Option<(Call, Reply)>, AllocError> {
     let (connection, count) = (number(word(&mut rest)), number(word(&mut rest)));
     let lines = number(word(&mut rest));
-    let ended = match word(&mut rest) {
-        b"more" => false,
-        b"over" => true,
-        _ => return Ok(None),
-    };
+    let ended = end_of(word(&mut rest));
     let count = count.and_then(|count| LineCount::new(count as usize));
-    let (Some(connection), Some(count), Some(lines)) = (connection, count, lines) else {
+    let (Some(connection), Some(count), Some(lines), Some(ended)) = (
+        connection, count, lines, ended,
+    ) else {
         return Ok(None);
     };
     Ok(read_bytes(alloc, rest)?.map(|bytes| {
@@ -126,6 +151,17 @@ fn read_take(alloc: Global, mut rest: &[u8]) -> Result<Option<(Call, Reply)>, Al
             Reply::Took(bytes, lines, ended),
         )
     }))
+}
+
+/// Gives whether nothing will follow.
+fn end_of(told: &[u8]) -> Option<bool> {
+    if told == b"more".as_slice() {
+        Some(false)
+    } else if told == b"over".as_slice() {
+        Some(true)
+    } else {
+        None
+    }
 }
 
 /// Reads bytes, of which `%` and two hexadecimal digits stand for one; nothing where they do not follow.
