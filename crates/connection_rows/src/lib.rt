@@ -4,6 +4,8 @@
 #[cfg(test)]
 mod challenges;
 #[cfg(test)]
+mod checks;
+#[cfg(test)]
 mod sessions;
 #[cfg(test)]
 mod streams;

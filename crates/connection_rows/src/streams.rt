@@ -1,5 +1,6 @@
 mod fakes;
 
+use crate::checks::{are_same, are_so_many, begins, refused_twice};
 use crate::streams::fakes::{Input, Output};
 use crate::texts::{ENTERED, GREETING, LOGIN};
 use hub_core::{MenuEntry, MenuItem, Options, Setup};
@@ -53,15 +54,36 @@ fn attempt<'a>(
     most: usize,
     bad: usize,
 ) -> Option<Ran<'a>> {
-    let mut input = Counting::new(input);
-    let mut output = Counting::new(Output::new(alloc, most, bad).ok()?);
     let setup = hub_with(alloc, menu)?;
-    let answer = run_one(alloc, setup, &First24, &mut input, &mut output);
+    let mut output = Counting::new(Output::new(alloc, most, bad).ok()?);
+    let mut input = Counting::new(input);
+    let answer = answer_of(alloc, setup, &mut input, &mut output);
     Some(Ran {
         answer,
         input,
         output,
     })
+}
+
+// A run promises much, so that its call stands in a function of its own, which promises nothing.
+fn answer_of(
+    alloc: Global,
+    setup: Arc<Setup>,
+    input: &mut Counting<Input<'_>>,
+    output: &mut Counting<Output>,
+) -> Result<(), RunFault> {
+    run_one(alloc, setup, &First24, input, output)
+}
+
+/// Gives what was run, unless memory was refused: it wrote the front of `whole` then.
+fn unless_refused<'a>(rt: &impl Abort, ran: Option<Ran<'a>>, whole: &[u8]) -> Option<Ran<'a>> {
+    let ran = ran?;
+    if ran.answer != Err(RunFault::Memory) {
+        return Some(ran);
+    }
+    begins(rt, &ran.output.get_ref().got, whole);
+    drop(ran);
+    None
 }
 
 /// Runs it as [`attempt`] does, where memory is refused once at most: a run that met that wrote the front of `whole`, and
@@ -74,15 +96,12 @@ fn run_with<'a, R: AllocGlobal + Abort>(
     bad: usize,
     whole: &[u8],
 ) -> Ran<'a> {
-    if let Some(ran) = attempt(rt.alloc(), menu, input, most, bad) {
-        if ran.answer != Err(RunFault::Memory) {
-            return ran;
-        }
-        assert!(rt; whole.starts_with(&ran.output.get_ref().got));
-    }
-    match attempt(rt.alloc(), menu, input, most, bad) {
+    match unless_refused(rt, attempt(rt.alloc(), menu, input, most, bad), whole) {
         Some(ran) => ran,
-        None => panic!(rt; "refused twice"),
+        None => match attempt(rt.alloc(), menu, input, most, bad) {
+            Some(ran) => ran,
+            None => refused_twice(rt),
+        },
     }
 }
 
@@ -103,6 +122,16 @@ fn ends<'a, R: AllocGlobal + Abort>(
         ran.output.get_ref().got
     );
     ran
+}
+
+/// Stops the test unless a run answered as it should in this case.
+fn answers(rt: &impl Abort, case: usize, ran: &Ran<'_>, answer: Result<(), RunFault>) {
+    assert!(rt; ran.answer == answer, "case {case}: {:?}", ran.answer);
+}
+
+/// Stops the test unless these calls failed in this case.
+fn failed(rt: &impl Abort, case: usize, failures: Failures, wanted: Failures) {
+    assert!(rt; failures == wanted, "case {case}: {failures:?}");
 }
 
 /// Makes so many bytes, which begin like this; the others are letters.
@@ -127,7 +156,7 @@ fn answers_the_lines_that_it_reads(rt: HostRuntime) {
     ];
     for (input, wanted) in rows {
         for most in [1, 2, 7, 4096] {
-            ends(&rt, Input::of(input, most), Ok(()), wanted);
+            drop(ends(&rt, Input::of(input, most), Ok(()), wanted));
         }
     }
 }
@@ -139,15 +168,13 @@ fn ends_once_the_connection_is_shut_out(rt: HostRuntime) {
     // The line that shuts it out has 12 bytes, so twelve reads of one byte, or one of twelve, get it.
     for (most, reads) in [(1, 12), (12, 1), (4096, 1)] {
         let ran = ends(&rt, Input::of(input, most), Ok(()), wanted);
-        assert!(rt;
-            ran.input.get_ref().reads == reads,
-            "by {most}: {} reads",
-            ran.input.get_ref().reads
-        );
+        are_so_many(&rt, most, ran.input.get_ref().reads, reads);
+        drop(ran);
     }
     // A line that is too long behind that line is not looked at.
     let long = padded(&rt, rt.alloc(), b"HSUP ADBASE\n", 80_000);
-    ends(&rt, Input::of(&long, 4096), Ok(()), wanted);
+    drop(ends(&rt, Input::of(&long, 4096), Ok(()), wanted));
+    drop(long);
 }
 
 #[test]
@@ -167,19 +194,22 @@ fn ends_once_the_connection_is_owed_too_much(rt: HostRuntime) {
 PDAAAAAAAAAAAAAAAAAAAAAAAAAAAAAAAAAAAAAAA NIana\nBMSG AAAB hi\n";
     // All that comes behind the line that is owed too much is not read.
     let ran = run_with(&rt, &menu, Input::of(first, 1), 4096, 0, GREETING);
-    assert!(rt; ran.answer == Ok(()), "{:?}", ran.answer);
-    assert!(rt; ran.output.get_ref().got.as_slice() == GREETING);
-    assert!(rt; ran.input.get_ref().rest == b"BMSG AAAB hi\n".as_slice());
+    answers(&rt, 0, &ran, Ok(()));
+    are_same(&rt, &ran.output.get_ref().got, GREETING);
+    are_same(&rt, ran.input.get_ref().rest, b"BMSG AAAB hi\n");
+    drop(ran);
 }
 
 #[test]
 fn stops_at_a_line_that_is_too_long(rt: HostRuntime) {
     // A line of 65,536 bytes may come to an end yet, and one of 65,537 is too long.
     let bytes = padded(&rt, rt.alloc(), GREET, 65_555);
-    ends(&rt, Input::of(&bytes, 4096), Ok(()), GREETING);
+    drop(ends(&rt, Input::of(&bytes, 4096), Ok(()), GREETING));
+    drop(bytes);
     let bytes = padded(&rt, rt.alloc(), GREET, 65_556);
     let answer = Err(RunFault::TooLong);
-    ends(&rt, Input::of(&bytes, 4096), answer, GREETING);
+    drop(ends(&rt, Input::of(&bytes, 4096), answer, GREETING));
+    drop(bytes);
 }
 
 #[test]
@@ -187,15 +217,15 @@ fn writes_on_as_the_writer_takes(rt: HostRuntime) {
     let input = Input::of(GREET, 4096);
     for most in [1, 2, 73] {
         let ran = run_with(&rt, &[], input, most, 0, GREETING);
-        assert!(rt; ran.answer == Ok(()), "by {most}: {:?}", ran.answer);
-        assert!(rt;
-            ran.output.get_ref().got.as_slice() == GREETING,
-            "by {most}"
-        );
+        answers(&rt, most, &ran, Ok(()));
+        are_same(&rt, &ran.output.get_ref().got, GREETING);
+        drop(ran);
     }
     let ran = run_with(&rt, &[], input, 0, 0, GREETING);
-    assert!(rt; ran.answer == Err(RunFault::Write) && ran.output.get_ref().got.is_empty());
-    assert!(rt; ran.output.failures() == ONE);
+    answers(&rt, 0, &ran, Err(RunFault::Write));
+    are_same(&rt, &ran.output.get_ref().got, b"");
+    failed(&rt, 0, ran.output.failures(), ONE);
+    drop(ran);
 }
 
 #[test]
@@ -203,24 +233,19 @@ fn stops_at_a_write_that_fails(rt: HostRuntime) {
     let input = Input::of(b"HSUP ADBASE ADTIGR\nx\n", 4096);
     let whole = GREETING_AND_DENIAL;
     let good = run_with(&rt, &[], input, 10, 0, whole);
-    assert!(rt; good.answer == Ok(()) && good.output.get_ref().got.as_slice() == whole);
-    assert!(rt; good.output.failures() == NONE);
+    answers(&rt, 0, &good, Ok(()));
+    are_same(&rt, &good.output.get_ref().got, whole);
+    failed(&rt, 0, good.output.failures(), NONE);
     for bad in 1..=good.output.get_ref().calls {
         let ran = run_with(&rt, &[], input, 10, bad, whole);
-        assert!(rt;
-            ran.answer == Err(RunFault::Write),
-            "call {bad}: {:?}",
-            ran.answer
-        );
-        assert!(rt; whole.starts_with(&ran.output.get_ref().got), "call {bad}");
-        assert!(rt; ran.output.failures() == ONE, "call {bad}");
-        assert!(rt; ran.input.failures() == NONE, "call {bad}");
-        assert!(rt;
-            ran.output.get_ref().calls == bad,
-            "call {bad}: {} calls",
-            ran.output.get_ref().calls
-        );
+        answers(&rt, bad, &ran, Err(RunFault::Write));
+        begins(&rt, &ran.output.get_ref().got, whole);
+        failed(&rt, bad, ran.output.failures(), ONE);
+        failed(&rt, bad, ran.input.failures(), NONE);
+        are_so_many(&rt, bad, ran.output.get_ref().calls, bad);
+        drop(ran);
     }
+    drop(good);
 }
 
 #[test]
@@ -230,8 +255,9 @@ fn stops_at_a_read_that_fails(rt: HostRuntime) {
         let mut input = Input::of(GREET, 7);
         input.bad = bad;
         let ran = ends(&rt, input, Err(RunFault::Read), wanted);
-        assert!(rt; ran.input.failures() == ONE, "read {bad}");
-        assert!(rt; ran.output.failures() == NONE, "read {bad}");
+        failed(&rt, bad, ran.input.failures(), ONE);
+        failed(&rt, bad, ran.output.failures(), NONE);
+        drop(ran);
     }
 }
 
@@ -244,5 +270,7 @@ fn reads_so_often_and_no_more(rt: HostRuntime) {
     input.again = &line;
     let ran = ends(&rt, input, Err(RunFault::Turns), b"");
     let reads = ran.input.get_ref().reads;
-    assert!(rt; reads == 1_048_576, "{reads} reads");
+    are_so_many(&rt, 0, reads, 1_048_576);
+    drop(ran);
+    drop(line);
 }

@@ -46,6 +46,14 @@ impl Write for Taker {
     }
 }
 
+/// Gives what a write answered, of an error its kind.
+fn kinds(answer: io::Result<()>) -> Result<(), io::ErrorKind> {
+    match answer {
+        Ok(()) => Ok(()),
+        Err(error) => Err(error.kind()),
+    }
+}
+
 /// Stops the test unless these bytes are written like this, and so many calls are made.
 fn writes<R: AllocGlobal + Abort>(
     rt: &R,
@@ -57,7 +65,7 @@ fn writes<R: AllocGlobal + Abort>(
     calls: usize,
 ) {
     let mut taker = again!(rt; Taker::new(rt.alloc(), most, bad));
-    let answer = write_and_flush(&mut taker, bytes).map_err(|error| error.kind());
+    let answer = kinds(write_and_flush(&mut taker, bytes));
     assert!(rt; answer == wanted, "by {most}, bad {bad}: {answer:?}");
     assert!(rt; taker.got.as_slice() == got, "by {most}, bad {bad}");
     assert!(rt;
@@ -65,6 +73,7 @@ fn writes<R: AllocGlobal + Abort>(
         "by {most}, bad {bad}: {} calls",
         taker.calls
     );
+    drop(taker);
 }
 
 #[test]
@@ -91,7 +100,7 @@ fn counts<R: AllocGlobal + Abort>(
     failed: u64,
 ) {
     let mut taker = Counting::new(again!(rt; Taker::new(rt.alloc(), most, bad)));
-    let answer = write_and_flush_counted(&mut taker, bytes).map_err(|error| error.kind());
+    let answer = kinds(write_and_flush_counted(&mut taker, bytes));
     assert!(rt; answer == wanted, "by {most}, bad {bad}: {answer:?}");
     assert!(rt;
         taker.get_ref().got.as_slice() == got,
@@ -102,6 +111,7 @@ fn counts<R: AllocGlobal + Abort>(
         failures.count == failed && failures.is_last == (failed > 0),
         "by {most}, bad {bad}: {failures:?}"
     );
+    drop(taker);
 }
 
 #[test]

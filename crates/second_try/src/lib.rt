@@ -15,7 +15,7 @@ macro_rules! again {
             Ok(value) => value,
             Err(_) => match $call {
                 Ok(value) => value,
-                Err(_) => panic!($rt; "refused twice"),
+                Err(_) => std::process::Abort::panic(&$rt, "refused twice"),
             },
         }
     };
@@ -33,7 +33,7 @@ macro_rules! once {
                 assert!($rt; matches!(refused, $memory), "{}: not for memory", $name);
                 match $call {
                     Ok(value) => value,
-                    Err(_) => panic!($rt; "refused twice"),
+                    Err(_) => std::process::Abort::panic(&$rt, "refused twice"),
                 }
             }
         }
@@ -48,7 +48,7 @@ macro_rules! once {
                 assert!($rt; $seen == before, "{}: a refusal changed something", $name);
                 match $call {
                     Ok(value) => value,
-                    Err(_) => panic!($rt; "refused twice"),
+                    Err(_) => std::process::Abort::panic(&$rt, "refused twice"),
                 }
             }
         }

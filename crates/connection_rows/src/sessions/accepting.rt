@@ -1,9 +1,9 @@
 ghost use Rattle.std.specs.Prelude.{⊤};
 
+use super::running::new_task;
 use adc_sessions::{Accept, AcceptEnd, Incoming, Peer, Starter};
 use futures::task::{Context, Poll};
 use futures::test::MockTask;
-use second_try::again;
 use std::alloc::AllocGlobal;
 use std::io;
 use std::process::Abort;
@@ -68,9 +68,8 @@ impl Starter<()> for Count<'_> {
     }
 }
 
-/// Polls until it is over, at most so often, and tells how it ended and how many streams were started; at most 16 streams come
-/// of one poll.
-fn polls(
+/// Tells how it ends, and how many streams are started.
+fn starts(
     rt: &impl Abort,
     task: &MockTask,
     script: Script,
@@ -78,19 +77,36 @@ fn polls(
 ) -> (Option<AcceptEnd>, u32) {
     let count = AtomicU32::new(0);
     let mut accept = Accept::new(script, Count { started: &count }, stop_after);
+    let told = polls(rt, task, &mut accept, &count);
+    drop(accept);
+    told
+}
+
+/// Polls until it is over, at most so often, and tells how it ended and how many streams were started; at most 16 streams come
+/// of one poll.
+fn polls<I: Incoming, T: Starter<I::Stream>>(
+    rt: &impl Abort,
+    task: &MockTask,
+    accept: &mut Accept<I, T>,
+    count: &AtomicU32,
+) -> (Option<AcceptEnd>, u32) {
     for _ in 0..1_000 {
         let before = count.load(Ordering::Relaxed);
-        let polled = task.poll(&mut accept);
+        let polled = task.poll(accept);
         let started = count.load(Ordering::Relaxed);
-        assert!(rt;
-            started <= before.saturating_add(16),
-            "{before} and then {started}"
-        );
+        are_few(rt, before, started);
         if let Poll::Ready(end) = polled {
             return (Some(end), started);
         }
     }
     (None, count.load(Ordering::Relaxed))
+}
+
+fn are_few(rt: &impl Abort, before: u32, started: u32) {
+    assert!(rt;
+        started <= before.saturating_add(16),
+        "{before} and then {started}"
+    );
 }
 
 /// Stops the test unless it ends like this, or not within a thousand polls, once so many streams were started.
@@ -101,9 +117,10 @@ fn accepts<R: Abort + RandomSource + AllocGlobal>(
     end: Option<AcceptEnd>,
     count: u32,
 ) {
-    let task = again!(rt; MockTask::new(rt));
-    let (ended, started) = polls(rt, &task, script, stop_after);
+    let task = new_task(rt);
+    let (ended, started) = starts(rt, &task, script, stop_after);
     assert!(rt; ended == end && started == count, "{ended:?}, {started}");
+    drop(task);
 }
 
 #[test]

@@ -1,7 +1,8 @@
 use super::bells::Rung;
 use super::hub_port::meet;
-use super::running::begins;
+use super::running::new_task;
 use super::wire::Wire;
+use crate::checks::{are_same, are_so_many, begins, is_end, refused_twice};
 use crate::texts::{ENTERED, GREETING, LOGIN};
 use adc_sessions::End;
 use futures::test::MockTask;
@@ -24,8 +25,9 @@ struct Talk<'a> {
 fn holds(rt: &impl Abort, alloc: Global, task: &MockTask, talk: Talk<'_>) {
     for bell in [Rung::Never, Rung::Always] {
         if !is_held(rt, alloc, task, talk, bell) {
-            let is_held = is_held(rt, alloc, task, talk, bell);
-            assert!(rt; is_held, "refused twice");
+            if !is_held(rt, alloc, task, talk, bell) {
+                refused_twice(rt);
+            }
         }
     }
 }
@@ -34,18 +36,26 @@ fn holds(rt: &impl Abort, alloc: Global, task: &MockTask, talk: Talk<'_>) {
 fn is_held(rt: &impl Abort, alloc: Global, task: &MockTask, talk: Talk<'_>, bell: Rung) -> bool {
     let wire = Wire::new(rt, alloc, talk.input, talk.room).slow();
     let (end, wire) = talks(rt, alloc, task, wire, bell);
+    let is_held = is_as_told(rt, end, wire.sent_bytes(), talk);
+    drop(wire);
+    is_held
+}
+
+/// Compares how a conversation ended, and what the client got; not where memory was refused.
+fn is_as_told(rt: &impl Abort, end: End, sent: &[u8], talk: Talk<'_>) -> bool {
     if end == End::Memory {
-        begins(rt, wire.sent_bytes(), talk.output);
+        begins(rt, sent, talk.output);
         return false;
     }
-    assert!(rt; end == talk.end, "{end:?}");
-    assert!(rt; wire.sent_bytes() == talk.output, "{:?}", wire.sent_bytes());
+    is_end(rt, end, talk.end);
+    are_same(rt, sent, talk.output);
     true
 }
 
 /// Lets a client talk with a new hub.
 fn talks(rt: &impl Abort, alloc: Global, task: &MockTask, wire: Wire, bell: Rung) -> (End, Wire) {
-    let (end, wire, _) = meet(rt, alloc, task, None, wire, bell);
+    let (end, wire, left) = meet(rt, alloc, task, None, wire, bell);
+    drop(left);
     (end, wire)
 }
 
@@ -57,13 +67,14 @@ fn says(rt: &impl Abort, alloc: Global, task: &MockTask, input: &[u8], room: usi
         if end != End::Memory {
             return (end, wire);
         }
+        drop(wire);
     }
-    panic!(rt; "refused twice")
+    refused_twice(rt)
 }
 
 #[test]
 fn a_client_is_greeted(rt: HostRuntime) {
-    let task = again!(&rt; MockTask::new(&rt));
+    let task = new_task(&rt);
     for room in [1, 7, 4_096] {
         let talk = Talk {
             input: b"HSUP ADBASE ADTIGR\n",
@@ -73,11 +84,12 @@ fn a_client_is_greeted(rt: HostRuntime) {
         };
         holds(&rt, rt.alloc(), &task, talk);
     }
+    drop(task);
 }
 
 #[test]
 fn single_bytes_give_the_same_lines(rt: HostRuntime) {
-    let task = again!(&rt; MockTask::new(&rt));
+    let task = new_task(&rt);
     for room in [1, 4_096] {
         let talk = Talk {
             input: LOGIN,
@@ -87,11 +99,12 @@ fn single_bytes_give_the_same_lines(rt: HostRuntime) {
         };
         holds(&rt, rt.alloc(), &task, talk);
     }
+    drop(task);
 }
 
 #[test]
 fn a_client_without_the_hash_is_shut_out(rt: HostRuntime) {
-    let task = again!(&rt; MockTask::new(&rt));
+    let task = new_task(&rt);
     for input in [
         b"HSUP ADBASE\n".as_slice(),
         b"HSUP ADBASE\nHSUP ADBASE ADTIGR\n",
@@ -104,15 +117,18 @@ fn a_client_without_the_hash_is_shut_out(rt: HostRuntime) {
         };
         holds(&rt, rt.alloc(), &task, talk);
     }
+    drop(task);
 }
 
 #[test]
 fn nothing_is_read_from_a_client_that_is_shut_out(rt: HostRuntime) {
-    let task = again!(&rt; MockTask::new(&rt));
+    let task = new_task(&rt);
     let input = b"HSUP ADBASE\nHSUP ADBASE ADTIGR\n";
     let (end, wire) = says(&rt, rt.alloc(), &task, input, 12);
-    assert!(&rt; end == End::Ended, "{end:?}");
-    assert!(&rt; wire.unread() == 19, "{}", wire.unread());
+    is_end(&rt, end, End::Ended);
+    are_so_many(&rt, 0, wire.unread(), 19);
+    drop(wire);
+    drop(task);
 }
 
 /// A line that everybody gets.
@@ -129,7 +145,7 @@ fn chatter(rt: &impl Abort, alloc: Global, front: &[u8], lines: u32) -> Vec<u8> 
 
 #[test]
 fn five_thousand_lines_without_pause_come_back(rt: HostRuntime) {
-    let task = again!(&rt; MockTask::new(&rt));
+    let task = new_task(&rt);
     let input = chatter(&rt, rt.alloc(), LOGIN, 5_000);
     let output = chatter(&rt, rt.alloc(), ENTERED, 5_000);
     let talk = Talk {
@@ -139,12 +155,17 @@ fn five_thousand_lines_without_pause_come_back(rt: HostRuntime) {
         output: &output,
     };
     holds(&rt, rt.alloc(), &task, talk);
+    drop(output);
+    drop(input);
+    drop(task);
 }
 
 #[test]
 fn one_write_carries_what_one_take_gave(rt: HostRuntime) {
-    let task = again!(&rt; MockTask::new(&rt));
-    let (_, wire) = says(&rt, rt.alloc(), &task, b"HSUP ADBASE ADTIGR\n", 4_096);
-    assert!(&rt; wire.sent_bytes() == GREETING, "{:?}", wire.sent_bytes());
-    assert!(&rt; wire.writes() == 1, "{}", wire.writes());
+    let task = new_task(&rt);
+    let (_end, wire) = says(&rt, rt.alloc(), &task, b"HSUP ADBASE ADTIGR\n", 4_096);
+    are_same(&rt, wire.sent_bytes(), GREETING);
+    are_so_many(&rt, 0, wire.writes() as usize, 1);
+    drop(wire);
+    drop(task);
 }

@@ -1,10 +1,10 @@
 use super::bells::Rung;
 use super::hub_port::meet;
-use super::running::begins;
+use super::running::new_task;
 use super::wire::{Trouble, Wire};
+use crate::checks::{are_same, are_so_many, begins, refused_twice};
 use adc_sessions::End;
 use futures::test::MockTask;
-use second_try::again;
 use std::alloc::Global;
 use std::process::Abort;
 
@@ -54,23 +54,34 @@ fn play(rt: &impl Abort, alloc: Global, task: &MockTask, trouble: Trouble) -> He
     let wire = Wire::new(rt, alloc, ANA, 1).with_trouble(trouble);
     let (end, ana, mut left) = meet(rt, alloc, task, Some(BOB), wire, Rung::Never);
     let bob = left.heard(rt, alloc);
+    drop(left);
     Heard { end, ana, bob }
+}
+
+/// Compares what ana and bob got of a visit.
+fn is_heard(rt: &impl Abort, heard: &Heard) {
+    let sent = heard.ana.sent_bytes();
+    let bob = &heard.bob;
+    begins(rt, sent, ANA_GETS);
+    assert!(rt; is_told(bob), "{bob:?}");
+    if heard.end == End::Closed {
+        are_same(rt, sent, ANA_GETS);
+        are_same(rt, bob, WHOLE);
+    }
 }
 
 /// Plays a visit, once more where memory was refused, and tells how it ended.
 fn visit(rt: &impl Abort, alloc: Global, task: &MockTask, trouble: Trouble) -> End {
     for _ in 0..2 {
-        let Heard { end, ana, bob } = play(rt, alloc, task, trouble);
-        begins(rt, ana.sent_bytes(), ANA_GETS);
-        assert!(rt; is_told(&bob), "{bob:?}");
-        if end == End::Closed {
-            assert!(rt; ana.sent_bytes() == ANA_GETS && bob.as_slice() == WHOLE);
-        }
+        let heard = play(rt, alloc, task, trouble);
+        is_heard(rt, &heard);
+        let end = heard.end;
+        drop(heard);
         if end != End::Memory {
             return end;
         }
     }
-    panic!(rt; "refused twice")
+    refused_twice(rt)
 }
 
 /// Makes the first call go wrong, then the second, and so on, up to a visit in which nothing does.
@@ -85,28 +96,35 @@ fn visits(rt: &impl Abort, alloc: Global, task: &MockTask, kind: Kind, end: End)
         if ended == End::Closed {
             return call;
         }
-        assert!(rt; ended == end, "call {call}: {ended:?}");
+        is_end_of(rt, call, ended, end);
     }
     panic!(rt; "no visit went well")
 }
 
+fn is_end_of(rt: &impl Abort, call: u32, end: End, wanted: End) {
+    assert!(rt; end == wanted, "call {call}: {end:?}");
+}
+
 #[test]
 fn any_read_may_fail(rt: HostRuntime) {
-    let task = again!(&rt; MockTask::new(&rt));
+    let task = new_task(&rt);
     let calls = visits(&rt, rt.alloc(), &task, Kind::Read, End::ReadFailed);
-    assert!(&rt; calls as usize == ANA.len() + 2, "{calls}");
+    are_so_many(&rt, 0, calls as usize, ANA.len() + 2);
+    drop(task);
 }
 
 #[test]
 fn any_write_may_fail(rt: HostRuntime) {
-    let task = again!(&rt; MockTask::new(&rt));
+    let task = new_task(&rt);
     let calls = visits(&rt, rt.alloc(), &task, Kind::Write, End::WriteFailed);
-    assert!(&rt; calls as usize == ANA_GETS.len() + 1, "{calls}");
+    are_so_many(&rt, 0, calls as usize, ANA_GETS.len() + 1);
+    drop(task);
 }
 
 #[test]
 fn any_write_may_take_nothing(rt: HostRuntime) {
-    let task = again!(&rt; MockTask::new(&rt));
+    let task = new_task(&rt);
     let calls = visits(&rt, rt.alloc(), &task, Kind::Full, End::WriteFailed);
-    assert!(&rt; calls as usize == ANA_GETS.len() + 1, "{calls}");
+    are_so_many(&rt, 0, calls as usize, ANA_GETS.len() + 1);
+    drop(task);
 }

@@ -5,7 +5,9 @@ use super::running::hold;
 use super::wire::Wire;
 use adc_sessions::{End, Port};
 use futures::test::MockTask;
-use hub_core::{Conn, Core, LineRefused, Options, Setup, TakeRefused, Taken, Verdict, prepare};
+use hub_core::{
+    Conn, Core, LineRefused, Options, Prepared, Setup, TakeRefused, Taken, Verdict, prepare,
+};
 use second_try::again;
 use session_hash::First24;
 use std::alloc::{AllocError, Global};
@@ -13,10 +15,18 @@ use std::process::Abort;
 use std::sync::Arc;
 
 /// A hub for one thread, and how it was set up.
-#[derive(Drop)]
 struct OneHub {
     setup: Arc<Setup>,
     core: Core,
+}
+
+// Written out, so that to let a hub go is one call wherever it is done.
+impl Drop for OneHub {
+    fn drop(self) {
+        let OneHub { setup, core } = self;
+        drop(core);
+        drop(setup);
+    }
 }
 
 /// A connection of a hub for one thread.
@@ -32,6 +42,10 @@ struct HubPort {
 pub(crate) struct HubLeft {
     hub: OneHub,
     first: Conn,
+}
+
+fn prepared(alloc: Global, setup: &Setup, line: &[u8]) -> Result<Prepared, LineRefused> {
+    prepare(alloc, setup, &First24, [0; 24], line)
 }
 
 // Each call of the core stands in a function of its own, which promises nothing.
@@ -58,11 +72,17 @@ impl OneHub {
     }
 
     fn line(&mut self, alloc: Global, who: Conn, line: &[u8]) -> Result<Verdict, LineRefused> {
-        let line = prepare(alloc, &self.setup, &First24, [0; 24], line)?;
+        let line = prepared(alloc, &self.setup, line)?;
+        let answer = self.hand(alloc, who, &line);
+        drop(line);
+        answer
+    }
+
+    fn hand(&mut self, alloc: Global, who: Conn, line: &Prepared) -> Result<Verdict, LineRefused> {
         if !self.core.is_open(who) {
             return Err(LineRefused::Memory);
         }
-        self.core.line(alloc, who, &line, 0)
+        self.core.line(alloc, who, line, 0)
     }
 
     /// Takes up to 256 lines of a connection that is open.
@@ -84,10 +104,14 @@ impl OneHub {
     /// Has one come by greeting and this login line, and take what is for it.
     fn admit(&mut self, rt: &impl Abort, alloc: Global, login: &[u8]) -> Conn {
         let who = again!(rt; self.join(alloc));
-        again!(rt; self.line(alloc, who, b"HSUP ADBASE ADTIGR"));
-        again!(rt; self.line(alloc, who, login));
-        again!(rt; self.take(alloc, who));
+        self.say(rt, alloc, who, b"HSUP ADBASE ADTIGR");
+        self.say(rt, alloc, who, login);
+        drop(again!(rt; self.take(alloc, who)));
         who
+    }
+
+    fn say(&mut self, rt: &impl Abort, alloc: Global, who: Conn, line: &[u8]) {
+        again!(rt; self.line(alloc, who, line));
     }
 }
 

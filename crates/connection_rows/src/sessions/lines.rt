@@ -1,8 +1,9 @@
 ghost use Rattle.std.specs.Prelude.{⊤};
 
 use super::bells::Rung;
-use super::running::hold;
+use super::running::{hold, new_task};
 use super::wire::Wire;
+use crate::checks::refused_twice;
 use adc_sessions::{End, Port};
 use futures::test::MockTask;
 use hub_core::{LineRefused, TakeRefused, Taken, Verdict};
@@ -54,12 +55,13 @@ fn hands(rt: &impl Abort, alloc: Global, task: &MockTask, input: &[u8]) -> (End,
     };
     for _ in 0..2 {
         let wire = Wire::new(rt, alloc, input, 4_096);
-        let (end, _, noted, polls) = hold(rt, alloc, task, wire, port, Rung::Never);
+        let (end, wire, noted, polls) = hold(rt, alloc, task, wire, port, Rung::Never);
+        drop(wire);
         if end != End::Memory {
             return (end, noted, polls);
         }
     }
-    panic!(rt; "refused twice")
+    refused_twice(rt)
 }
 
 /// Reads so many letters, with a line feed behind them or without.
@@ -75,37 +77,41 @@ fn reads(
     if is_ended {
         again!(rt; input.push(b'\n'));
     }
-    let (end, noted, _) = hands(rt, alloc, task, &input);
+    let (end, noted, _polls) = hands(rt, alloc, task, &input);
+    drop(input);
     (end, noted.lines, noted.longest)
 }
 
 #[test]
 fn the_longest_line_is_handed_over(rt: HostRuntime) {
-    let task = again!(&rt; MockTask::new(&rt));
+    let task = new_task(&rt);
     let read = reads(&rt, rt.alloc(), &task, 65_536, true);
     assert!(&rt; read == (End::Closed, 1, 65_536), "{read:?}");
+    drop(task);
 }
 
 #[test]
 fn a_longer_line_ends_the_session(rt: HostRuntime) {
-    let task = again!(&rt; MockTask::new(&rt));
+    let task = new_task(&rt);
     for is_ended in [false, true] {
         let read = reads(&rt, rt.alloc(), &task, 65_537, is_ended);
         assert!(&rt; read == (End::TooLong, 0, 0), "{read:?}");
     }
+    drop(task);
 }
 
 #[test]
 fn a_rest_without_line_feed_is_no_line(rt: HostRuntime) {
-    let task = again!(&rt; MockTask::new(&rt));
+    let task = new_task(&rt);
     let read = reads(&rt, rt.alloc(), &task, 65_536, false);
     assert!(&rt; read == (End::Closed, 0, 0), "{read:?}");
+    drop(task);
 }
 
 /// Tests that each poll takes: it hands over at most 64 lines, so 1,000 lines take 16 polls or more.
 #[test]
 fn each_poll_takes(rt: HostRuntime) {
-    let task = again!(&rt; MockTask::new(&rt));
+    let task = new_task(&rt);
     let mut input = Vec::new(rt.alloc());
     for _ in 0..1_000 {
         again!(&rt; input.extend_from_slice(b"hi\n"));
@@ -113,4 +119,6 @@ fn each_poll_takes(rt: HostRuntime) {
     let (end, Ledger { lines, takes, .. }, polls) = hands(&rt, rt.alloc(), &task, &input);
     assert!(&rt; end == End::Closed && lines == 1_000, "{end:?} {lines}");
     assert!(&rt; 15 <= polls && polls < takes, "{polls} {takes}");
+    drop(input);
+    drop(task);
 }

@@ -1,7 +1,8 @@
 ghost use Rattle.std.specs.Prelude.{⊤};
 
 use super::bells::Silent;
-use super::running::make_session;
+use super::running::{make_session, new_task};
+use crate::checks::are_same;
 use adc_sessions::{Bell, End, Port, Session};
 use futures::task::Poll;
 use futures::test::MockTask;
@@ -92,22 +93,32 @@ fn hears<S: AsyncRead>(rt: &impl Abort, alloc: Global, client: &MockTask, far: S
 fn hears_all(rt: &impl Abort, alloc: Global, task: &MockTask, client: &MockTask) -> bool {
     let (near, far) = again!(rt; duplex(alloc, 4_096));
     let mut session = make_session(rt, alloc, near, Store::new(rt, alloc), Silent::new());
-    if !rests(rt, task, &mut session) {
-        return false;
+    let has_rested = rests(rt, task, &mut session);
+    if has_rested {
+        hears_lines(rt, alloc, client, far);
+    } else {
+        drop(far);
     }
+    drop(session);
+    has_rested
+}
+
+/// Compares what a client gets with the lines that waited.
+fn hears_lines<S: AsyncRead>(rt: &impl Abort, alloc: Global, client: &MockTask, far: S) {
     let heard = hears(rt, alloc, client, far);
-    assert!(rt; heard == Store::new(rt, alloc).bytes);
-    true
+    let store = Store::new(rt, alloc);
+    are_same(rt, &heard, &store.bytes);
+    drop(store);
+    drop(heard);
 }
 
 #[test]
 fn a_session_rests_only_once_no_line_waits(rt: HostRuntime) {
-    let task = again!(&rt; MockTask::new(&rt));
-    let client = again!(&rt; MockTask::new(&rt));
-    for _ in 0..2 {
-        if hears_all(&rt, rt.alloc(), &task, &client) {
-            return;
-        }
-    }
-    panic!(&rt; "refused twice")
+    let task = new_task(&rt);
+    let client = new_task(&rt);
+    let has_heard = hears_all(&rt, rt.alloc(), &task, &client)
+        || hears_all(&rt, rt.alloc(), &task, &client);
+    assert!(&rt; has_heard, "refused twice");
+    drop(client);
+    drop(task);
 }

@@ -1,13 +1,21 @@
 // Sessions of any kind. They are begun and polled here alone, so that no test has a session of its own kind to let go of.
+use crate::checks::refused_twice;
 use adc_sessions::{Bell, End, Port, Session, SessionRefused};
 use futures::task::Poll;
 use futures::test::MockTask;
-use std::alloc::Global;
+use second_try::again;
+use std::alloc::{AllocGlobal, Global};
 use std::process::Abort;
+use std::random::RandomSource;
 use tokio::io::{AsyncRead, AsyncWrite};
 
 /// The number of times that a session is polled at most.
 const POLLS: u32 = 1_000_000;
+
+/// Makes a task of a test.
+pub(crate) fn new_task<R: Abort + RandomSource + AllocGlobal>(rt: &R) -> MockTask {
+    again!(rt; MockTask::new(rt))
+}
 
 /// Makes a session, a second time of what was given back where memory was refused.
 pub(crate) fn make_session<S: AsyncRead + AsyncWrite, P: Port, B: Bell>(
@@ -22,7 +30,7 @@ pub(crate) fn make_session<S: AsyncRead + AsyncWrite, P: Port, B: Bell>(
         Err((SessionRefused::Memory, stream, port, bell)) => {
             match Session::new(alloc, stream, port, bell) {
                 Ok(session) => session,
-                Err(_) => panic!(rt; "refused twice"),
+                Err(_) => refused_twice(rt),
             }
         }
     }
@@ -52,10 +60,7 @@ pub(crate) fn hold<S: AsyncRead + AsyncWrite, P: Port, B: Bell>(
     bell: B,
 ) -> (End, S, P::Left, u32) {
     let mut session = make_session(rt, alloc, stream, port, bell);
-    run(rt, task, &mut session)
-}
-
-/// Stops the test unless the second begins with the first.
-pub(crate) fn begins(rt: &impl Abort, front: &[u8], whole: &[u8]) {
-    assert!(rt; whole.starts_with(front), "{front:?} and not {whole:?}");
+    let ended = run(rt, task, &mut session);
+    drop(session);
+    ended
 }

@@ -1,5 +1,6 @@
 ghost use Rattle.std.specs.Prelude.{⊤};
 
+use crate::checks::refused_twice;
 use futures::task::{Context, Poll};
 use std::alloc::Global;
 use std::io;
@@ -133,6 +134,6 @@ impl AsyncWrite for Wire {
 fn copied(rt: &impl Abort, alloc: Global, bytes: &[u8]) -> Vec<u8> {
     match second_try::copy(alloc, bytes) {
         Ok(copy) => copy,
-        Err(_) => panic!(rt; "refused twice"),
+        Err(_) => refused_twice(rt),
     }
 }
