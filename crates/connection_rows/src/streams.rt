@@ -129,6 +129,18 @@ fn answers(rt: &impl Abort, case: usize, ran: &Ran<'_>, answer: Result<(), RunFa
     assert!(rt; ran.answer == answer, "case {case}: {:?}", ran.answer);
 }
 
+/// Stops the test unless a run wrote this in this case.
+fn wrote(rt: &impl Abort, case: usize, ran: &Ran<'_>, wanted: &[u8]) {
+    let got = &ran.output.get_ref().got;
+    assert!(rt; got.as_slice() == wanted, "case {case}: {got:?}");
+}
+
+/// Stops the test unless a run wrote the front of this in this case.
+fn wrote_front(rt: &impl Abort, case: usize, ran: &Ran<'_>, whole: &[u8]) {
+    let got = &ran.output.get_ref().got;
+    assert!(rt; whole.starts_with(got), "case {case}: {got:?}");
+}
+
 /// Stops the test unless these calls failed in this case.
 fn failed(rt: &impl Abort, case: usize, failures: Failures, wanted: Failures) {
     assert!(rt; failures == wanted, "case {case}: {failures:?}");
@@ -218,7 +230,7 @@ fn writes_on_as_the_writer_takes(rt: HostRuntime) {
     for most in [1, 2, 73] {
         let ran = run_with(&rt, &[], input, most, 0, GREETING);
         answers(&rt, most, &ran, Ok(()));
-        are_same(&rt, &ran.output.get_ref().got, GREETING);
+        wrote(&rt, most, &ran, GREETING);
         drop(ran);
     }
     let ran = run_with(&rt, &[], input, 0, 0, GREETING);
@@ -239,7 +251,7 @@ fn stops_at_a_write_that_fails(rt: HostRuntime) {
     for bad in 1..=good.output.get_ref().calls {
         let ran = run_with(&rt, &[], input, 10, bad, whole);
         answers(&rt, bad, &ran, Err(RunFault::Write));
-        begins(&rt, &ran.output.get_ref().got, whole);
+        wrote_front(&rt, bad, &ran, whole);
         failed(&rt, bad, ran.output.failures(), ONE);
         failed(&rt, bad, ran.input.failures(), NONE);
         are_so_many(&rt, bad, ran.output.get_ref().calls, bad);
