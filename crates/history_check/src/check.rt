@@ -1,6 +1,6 @@
-ghost use Rattle.std.specs.Prelude.{IfOk, IfSome};
+ghost use Rattle.std.specs.Prelude.{[], IfOk, IfSome};
 ghost use Rattle.std.specs.Arc.{arc_value};
-ghost use Rattle.hub_core.specs.Moves.{Moves};
+ghost use Rattle.hub_core.specs.Moves.{Moves, StandsAt};
 ghost use Rattle.hub_core.specs.State.{IsSeated};
 ghost use Rattle.hub_rules.specs.declared.history.Call.TheVariants.{Take};
 ghost use Rattle.history_check.specs.Following.{Finds, IsJoin, IsMade, IsSaid, Looks};
@@ -51,12 +51,30 @@ pub fn check_history<H: SessionHash>(
 ) -> Result<Judgement, AllocError>
     ensures { IfOk result (λ judgement. IsJudged (arc_value setup) (H.digest_of hash.now) entries.now judgement) }
 {
-    let Ok(mut core) = Core::open(alloc, setup.clone()?) else {
+    let Ok(core) = Core::open(alloc, setup.clone()?) else {
         return Err(AllocError);
     };
+    let mut core = core;
+    let judgement = play(alloc, &setup, hash, &mut core, entries);
+    // By a call, once: a hub that is let go of at each end is dear to prove.
+    drop(core);
+    judgement
+}
+
+/// Plays the calls of these entries on a hub to which nobody has connected, and compares each reply.
+fn play<H: SessionHash>(
+    alloc: Global,
+    setup: &Setup,
+    hash: &H,
+    core: &mut Core,
+    entries: &[Entry],
+) -> Result<Judgement, AllocError>
+    requires new { StandsAt setup.now (H.digest_of hash.now) [] core.old }
+    ensures { IfOk result (λ judgement. IsJudged setup.now (H.digest_of hash.now) entries.now judgement) }
+{
     let mut joined = Vec::new(alloc);
     for (place, entry) in entries.iter().enumerate() {
-        if let Some(demand) = look(alloc, &setup, hash, &mut core, &mut joined, entry)? {
+        if let Some(demand) = look(alloc, setup, hash, core, &mut joined, entry)? {
             return Ok(Judgement::Fault(place, demand));
         }
     }

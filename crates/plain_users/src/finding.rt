@@ -41,7 +41,7 @@ pub(crate) fn by_key<'a>(users: &'a [User], key: &str) -> Option<&'a User>
 }
 
 /// Finds the place of the user with a session identifier.
-#[tactic(auto, unfolding(crate::specs::Places::place_from))]
+#[tactic(auto, unfolding(user_table::specs::Places::place_from))]
 pub(crate) fn place_of(users: &[User], sid: Sid) -> Option<usize>
     ensures { result ≡ place_from (has_sid sid) 0 users.now }
 {

@@ -1,9 +1,0 @@
-use Rattle.std.specs.Prelude.{[]}
-use Rattle.std.proofs.Common.{take}
-use Rattle.std.specs.Arc.{arc_value}
-use Rattle.history_check.specs.Following.{Follows}
-use Rattle.history_check.specs.Written.{history_of}
-use Rattle.history_check.proofs.check.check_history.Given as goal
-
-abbrev pub invariant-loop-place : goal.invariant-loop-place
-invariant-loop-place g l = Follows (arc_value l.fn.setup) (g.H.SessionHash.digest_of l.hash) (history_of (take l.place l.entries) []) l.core l.joined.items
