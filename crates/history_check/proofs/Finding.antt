@@ -6,7 +6,7 @@ use Rattle.history_check.specs.declared.check.Joined.{Joined}
 use Rattle.history_check.specs.Following.{Follows, FoundAs, IsJoined}
 use Rattle.hub_core.specs.CoreState.{CoreState}
 use Rattle.hub_core.specs.Moves.{StandsAt}
-use Rattle.hub_core.specs.State.{IsSeated, Stands, core_of, has_seat}
+use Rattle.hub_core.specs.State.{IsSeated, Stands, has_seat}
 use Rattle.hub_core.proofs.Seating.{seated-open}
 use Rattle.hub_core.proofs.Standing.{open-has-seat}
 use Rattle.hub_rules.specs.declared.effect.Effect.{Effect}

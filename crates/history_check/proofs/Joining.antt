@@ -1,5 +1,5 @@
 -- A join is kept: its caller and its challenge stand behind those of the joins before it.
-use Rattle.std.proofs.Common.{◌≡◌, ◌∙◌, refl, ap, ap₂, sym, subst, ℕ, ◌+◌, ◌-◌, ◌<◌, ◌≤◌, Bool, true, false, not, ◌&&◌, ◌||◌, ◌==◌, List, [], ◌∷◌, ◌++◌, get_or, length, arith, cond}
+use Rattle.std.proofs.Common.{◌≡◌, ◌∙◌, refl, ap, ap₂, sym, subst, ℕ, ◌+◌, ◌<◌, Bool, true, false, ◌&&◌, ◌==◌, List, [], ◌∷◌, ◌++◌, get_or, length, arith, cond}
 use Rattle.std.proofs.lemmas.Bool.{eqb-true, eq-eqb, false≢true}
 use Rattle.std.proofs.lemmas.List.{get_or_append_left, length-append}
 use Rattle.std.proofs.Math.Seq.{get_or-append_seam}
@@ -8,13 +8,12 @@ use Rattle.history_check.specs.Following.{Follows, IsJoined}
 use Rattle.history_check.proofs.Keeping.{facts-after}
 use Rattle.hub_core.specs.CoreState.{CoreState}
 use Rattle.hub_core.specs.Moves.{StandsAt, entry}
-use Rattle.hub_rules.specs.declared.history.Call.{Call}
 use Rattle.hub_rules.specs.declared.history.Call.TheVariants.{Join}
 use Rattle.hub_rules.specs.declared.history.Entry.{Entry}
 use Rattle.hub_rules.specs.declared.history.Reply.{Reply}
 use Rattle.hub_rules.specs.declared.history.Reply.TheVariants as replies
 use Rattle.hub_rules.specs.Configured.{Configured}
-use Rattle.hub_rules.specs.Facts.{Facts, after, facts, has_joins, has_place, with_connection, newcomer, next_sid, with_one}
+use Rattle.hub_rules.specs.Facts.{Facts, after, facts, has_joins, has_place, with_connection, newcomer, next_sid}
 use Rattle.hub_rules.specs.Legal.{Legal, join_reply, reply}
 use Rattle.hub_rules.specs.Shares.{About}
 

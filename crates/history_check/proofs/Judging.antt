@@ -4,7 +4,7 @@ use Rattle.std.proofs.Math.Seq.{take-suc}
 use Rattle.history_check.specs.declared.check.Demand.{Demand}
 use Rattle.history_check.specs.declared.check.Joined.{Joined}
 use Rattle.history_check.specs.declared.written.Entry as written
-use Rattle.history_check.specs.Following.{Follows, IsJoined}
+use Rattle.history_check.specs.Following.{Follows}
 use Rattle.history_check.specs.Judged.{Demands, IsFault}
 use Rattle.history_check.specs.Written.{entry_of, history_of}
 use Rattle.hub_core.specs.CoreState.{CoreState}

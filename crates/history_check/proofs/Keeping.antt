@@ -1,15 +1,15 @@
 -- No call but the join of a connection changes who joined it, or its challenge.
-use Rattle.std.proofs.Common.{◌≡◌, ◌∙◌, refl, ap, sym, subst, ℕ, ◌+◌, ◌<◌, Bool, true, false, ◌&&◌, ◌==◌, List, [], ◌∷◌, get_or, length, cond}
+use Rattle.std.proofs.Common.{◌≡◌, ◌∙◌, refl, ap, sym, subst, ℕ, ◌+◌, Bool, true, false, ◌==◌, List, ◌∷◌, cond}
 use Rattle.history_check.specs.declared.check.Joined.{Joined}
 use Rattle.history_check.specs.Following.{Follows, IsJoined}
 use Rattle.hub_core.specs.CoreState.{CoreState}
 use Rattle.hub_core.specs.Moves.{StandsAt, entry}
 use Rattle.hub_rules.specs.declared.history.Call.{Call}
-use Rattle.hub_rules.specs.declared.history.Call.TheVariants.{Join, Line, Quit, Take}
+use Rattle.hub_rules.specs.declared.history.Call.TheVariants.{Line, Quit, Take}
 use Rattle.hub_rules.specs.declared.history.Entry.{Entry}
 use Rattle.hub_rules.specs.declared.history.Reply.{Reply}
 use Rattle.hub_rules.specs.Configured.{Configured}
-use Rattle.hub_rules.specs.Facts.{Facts, after, without_connection, facts, with_lines_taken, happens, with_one}
+use Rattle.hub_rules.specs.Facts.{Facts, after, without_connection, facts, with_lines_taken, happens}
 use Rattle.hub_rules.specs.Shares.{About}
 
 -- who joined a connection, and with which challenge

@@ -1,11 +1,11 @@
 -- When a written history is legal, and what is said of one that is not.
-use Rattle.std.specs.Prelude.{◌≡◌, ◌<◌, ℕ, ◌+◌, List, [], ◌∷◌, Option, Some, None, get_or, length, take}
+use Rattle.std.specs.Prelude.{◌≡◌, ◌<◌, ℕ, List, [], get_or, length, take}
 use Rattle.history_check.specs.declared.check.Demand.{Demand}
 use Rattle.history_check.specs.declared.check.Demand.TheVariants.{NoCall, Gives}
 use Rattle.history_check.specs.declared.check.Judgement.{Judgement}
 use Rattle.history_check.specs.declared.check.Judgement.TheVariants.{Legal, Fault}
 use Rattle.history_check.specs.declared.written.Entry as written
-use Rattle.history_check.specs.Written.{call_of, entry_of, history_of, reply_of}
+use Rattle.history_check.specs.Written.{call_of, history_of, reply_of}
 use Rattle.hub_rules.specs.declared.history.Entry.{Entry}
 use Rattle.hub_rules.specs.Configured.{Configured}
 use Rattle.hub_rules.specs.Facts.{facts}

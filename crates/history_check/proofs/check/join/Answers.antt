@@ -1,4 +1,4 @@
-use Rattle.std.proofs.Common.{◌∙◌, refl, subst, ◌∷◌, Ok, Err}
+use Rattle.std.proofs.Common.{refl, subst, ◌∷◌, Err}
 use Rattle.hub_core.specs.Promises.{JoinMoves}
 use Rattle.hub_core.specs.declared.refused.JoinRefused.{JoinRefused}
 use Rattle.hub_rules.specs.declared.history.Call.TheVariants.{Join}
