@@ -39,7 +39,6 @@ const MAX_BYTES: usize = 1_048_576;
 
 /// A hub for one thread. Its promises are about histories: after any list of calls, each answer and
 /// what it keeps are what the calls before demand. A call refused for want of memory changes nothing.
-#[derive(Drop)]
 pub struct Core {
     setup: Arc<Setup>,
     joins: u64,
@@ -50,6 +49,25 @@ pub struct Core {
     commons: Commons,
     /// The users whom the last call concerned: a hint, which no history determines.
     touched: Touched,
+}
+
+impl Drop for Core {
+    // By hand, so that who lets go of a hub has one call to prove, and not the drop of all that is in it.
+    fn drop(self) {
+        let Core {
+            setup,
+            joins: _,
+            last: _,
+            seats,
+            index,
+            commons,
+            touched: _,
+        } = self;
+        drop(commons);
+        drop(index);
+        drop(seats);
+        drop(setup);
+    }
 }
 
 impl Model for Core {
