@@ -62,7 +62,11 @@ fn runs<U: Users>(rt: &(impl Abort + AllocGlobal + Print)) {
     if said == "done;done; 2 10 0;" {
         assert!(rt; has_totals(rt, &users, "2 10 0"));
     } else if said == "Memory;done; 1 5 0;" || said == "done;Memory; 1 5 0;" {
-        say_refused_memory(rt, "plain_users::run_users", has_totals(rt, &users, "1 5 0"));
+        say_refused_memory(
+            rt,
+            "plain_users::run_users",
+            has_totals(rt, &users, "1 5 0"),
+        );
     } else {
         unknown(rt, "other answers");
     }
