@@ -33,13 +33,26 @@ pub(crate) enum Attempt {
 }
 
 /// A future that accepts streams, and has each of them started.
-#[derive(Drop)]
 pub struct Accept<I, T> {
     incoming: I,
     pub(crate) starter: T,
     left: Option<u64>,
     faults: u8,
     ghost few: { faults ≤ 64 },
+}
+
+impl<I: Drop, T: Drop> Drop for Accept<I, T> {
+    // By hand, so that who lets go of one has one call to prove, and not the drop of all that is in it.
+    fn drop(self) {
+        let Accept {
+            incoming,
+            starter,
+            left: _,
+            faults: _,
+        } = self;
+        drop(incoming);
+        drop(starter);
+    }
 }
 
 impl<I: Incoming, T: Starter<I::Stream>> Accept<I, T> {

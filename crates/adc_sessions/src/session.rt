@@ -31,9 +31,16 @@ const ROOM: usize = 2_048;
 /// written, and one write is offered everything a take gave: so a client that does not read lags at the hub. A session
 /// holds what one take of at most 256 lines gave, and of its input at most 65,536 bytes without a line feed and one read of
 /// 2,048 bytes.
-#[derive(Drop)]
 pub struct Session<S, P, B> {
     live: Option<Live<S, P, B>>,
+}
+
+impl<S: Drop, P: Drop, B: Drop> Drop for Session<S, P, B> {
+    // By hand, so that who lets go of one has one call to prove, and not the drop of all that is in it.
+    fn drop(self) {
+        let Session { live } = self;
+        drop(live);
+    }
 }
 
 impl<S: AsyncRead + AsyncWrite, P: Port, B: Bell> Session<S, P, B> {

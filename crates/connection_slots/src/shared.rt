@@ -12,7 +12,6 @@ use tokio::io::{AsyncRead, AsyncWrite};
 
 /// All that the tasks of a server share beside its hub: whatever they need of memory to find one another. `T` is what is handed
 /// from task to task for a connection that was accepted, and `S` its stream.
-#[derive(Drop)]
 pub struct Shared<T, S> {
     /// The wakers of the slots.
     pub wakers: Wakers,
@@ -21,6 +20,22 @@ pub struct Shared<T, S> {
     /// The sockets whose last lines are on the way.
     pub lingering: Lingering<S>,
     lifecycle: Lifecycle,
+}
+
+impl<T: Drop, S: Drop> Drop for Shared<T, S> {
+    // By hand, so that who lets go of one has one call to prove, and not the drop of all that is in it.
+    fn drop(self) {
+        let Shared {
+            wakers,
+            handoff,
+            lingering,
+            lifecycle,
+        } = self;
+        drop(wakers);
+        drop(handoff);
+        drop(lingering);
+        drop(lifecycle);
+    }
 }
 
 impl<T: Drop, S: AsyncRead + AsyncWrite> Shared<T, S> {

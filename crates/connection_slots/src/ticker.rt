@@ -13,11 +13,22 @@ const TICK: u64 = 5;
 
 /// The task that keeps time while somebody gives way or lingers: every 5 ms it wakes those who give way, and closes the
 /// sockets that have lingered for long. Otherwise it rests.
-#[derive(Drop)]
 pub struct Ticker<'a, T, S, R> {
     shared: &'a Shared<T, S>,
     rt: &'a R,
     timer: Sleep,
+}
+
+impl<'a, T, S, R> Drop for Ticker<'a, T, S, R> {
+    // By hand, so that who lets go of one has one call to prove, and not the drop of all that is in it.
+    fn drop(self) {
+        let Ticker {
+            shared: _,
+            rt: _,
+            timer,
+        } = self;
+        drop(timer);
+    }
 }
 
 impl<'a, T, S: AsyncRead + AsyncWrite, R: Wait + Clock> Ticker<'a, T, S, R> {

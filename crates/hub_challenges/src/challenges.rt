@@ -8,9 +8,16 @@ use rand_core::utils::fill_bytes_via_u32;
 use std::marker::Model;
 
 /// The challenges of connections, one after the other (ADC 1.0, "GPA"): the ChaCha20 stream of a seed.
-#[derive(Drop)]
 pub struct Challenges {
     words: ChaCha20Rng,
+}
+
+impl Drop for Challenges {
+    // By hand, so that who lets go of one has one call to prove, and not the drop of all that is in it.
+    fn drop(self) {
+        let Challenges { words } = self;
+        drop(words);
+    }
 }
 
 impl Model for Challenges {

@@ -7,6 +7,7 @@ mod moments;
 mod opening;
 mod socket;
 mod time_task;
+mod workers;
 
 pub use bind::Bind;
 pub use listener::{Listener, Listens};
@@ -14,3 +15,4 @@ pub use moments::{Moments, moment};
 pub use opening::{say_start, warn_of_descriptors};
 pub use socket::Socket;
 pub use time_task::TimeTask;
+pub use workers::Workers;

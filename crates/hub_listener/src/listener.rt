@@ -50,7 +50,6 @@ impl Listens for TcpListener {
 
 /// A listener that rests where the system has no room for another connection, until a socket is closed or 100 ms have
 /// passed: that is no fault of its own.
-#[derive(Drop)]
 pub struct Listener<'a, R, L, I> {
     socket: I,
     wakers: &'a Wakers,
@@ -58,6 +57,22 @@ pub struct Listener<'a, R, L, I> {
     warnings: &'a Warnings<L>,
     timer: Sleep,
     is_resting: bool,
+}
+
+impl<'a, R, L, I: Drop> Drop for Listener<'a, R, L, I> {
+    // By hand, so that who lets go of one has one call to prove, and not the drop of all that is in it.
+    fn drop(self) {
+        let Listener {
+            socket,
+            wakers: _,
+            rt: _,
+            warnings: _,
+            timer,
+            is_resting: _,
+        } = self;
+        drop(socket);
+        drop(timer);
+    }
 }
 
 impl<'a, R: Wait + Clock, L: Log, I: Listens> Listener<'a, R, L, I> {

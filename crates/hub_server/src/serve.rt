@@ -15,7 +15,8 @@ use connection_slots::{Fault, Startup, Ticker};
 use hub_challenges::Challenges;
 use hub_endings::Ending;
 use hub_listener::{
-    Bind, Listener, Listens, Moments, Socket, TimeTask, moment, say_start, warn_of_descriptors,
+    Bind, Listener, Listens, Moments, Socket, TimeTask, Workers, moment, say_start,
+    warn_of_descriptors,
 };
 use hub_settings::Settings;
 use hub_shared::{Host, Hub, Report, Visitor};
@@ -32,7 +33,6 @@ use std::sync::{Arc, Wait};
 use std::thread::Threads;
 use std::time::{Clock, Duration};
 use tokio::io::{AsyncRead, AsyncWrite};
-use tokio::runtime::Runtime;
 use tokio::time::{self, Sleep};
 
 /// Serves a hub with these settings, this hash, and challenges of this seed, and gives the exit status.
@@ -420,26 +420,26 @@ where
 {
     // Settings ask for one at least.
     let threads = plan.settings.threads().max(1) as usize;
-    let Ok(mut runtime) = Runtime::with_worker_threads(plan.rt, threads) else {
+    let Ok(mut workers) = Workers::new(plan.rt, threads) else {
         return Err(Ending::Memory);
     };
     let served = listen_and_serve(
         plan,
-        &mut runtime,
+        &mut workers,
         server,
         warnings,
         address,
         challenges,
         output,
     );
-    drop(runtime);
+    drop(workers);
     served
 }
 
 /// Listens at this address, and serves all connections that come.
 fn listen_and_serve<'a, B, H, R, A, W, L>(
     plan: &Plan<'_, H, R, L>,
-    runtime: &mut Runtime,
+    workers: &mut Workers,
     server: &'a Server<'a, B, A::Socket, H, R>,
     warnings: &'a Warnings<L>,
     address: A,
@@ -454,18 +454,18 @@ where
     W: Write,
     L: Log + Sync,
 {
-    let timers = make_timers(plan.rt, runtime.handle().time())?;
-    let listener = listen(plan, runtime, address)?;
+    let timers = make_timers(plan.rt, workers.time())?;
+    let listener = listen(plan, workers, address)?;
     let settings = plan.settings;
     serve_all(
-        settings, runtime, server, warnings, listener, timers, challenges, output,
+        settings, workers, server, warnings, listener, timers, challenges, output,
     )
 }
 
 /// Listens at this address, and says so to the journal, where it is to have it.
 fn listen<H, R, A, L>(
     plan: &Plan<'_, H, R, L>,
-    runtime: &Runtime,
+    workers: &Workers,
     address: A,
 ) -> Result<Listening<A::Listener>, Ending>
 where
@@ -475,7 +475,7 @@ where
 {
     let users = plan.settings.setup().max_users();
     warn_of_descriptors(plan.rt, &plan.warnings.log, users);
-    let listener = match address.bind(plan.rt, runtime.handle().reactor()) {
+    let listener = match address.bind(plan.rt, workers.reactor()) {
         Ok(listener) => listener,
         Err(error) => return Err(ending_of(&error)),
     };
@@ -516,7 +516,7 @@ fn make_timers<R: Clock>(rt: &R, time: &time::Handle) -> Result<Timers, Ending> 
 /// Serves all connections that come.
 fn serve_all<'a, B, S, H, R, L, I, W>(
     settings: &Settings,
-    runtime: &mut Runtime,
+    workers: &mut Workers,
     server: &'a Server<'a, B, S, H, R>,
     warnings: &'a Warnings<L>,
     listening: Listening<I>,
@@ -545,7 +545,7 @@ where
     let time_task = TimeTask::new(ticker, counting, server.rt, warnings);
     let count = slot_count(settings);
     let tasks = Tasks::new(time_task, count, accept, startup, server, warnings);
-    match runtime.run_all(server.rt, tasks) {
+    match workers.run_all(server.rt, tasks) {
         Ok(()) => ending_by(server.shared.fault()),
         Err(_) => Err(Ending::Memory),
     }

@@ -11,7 +11,6 @@ use std::net::SocketAddrV4;
 use std::sync::Arc;
 
 /// The settings that a file says.
-#[derive(Drop)]
 pub struct Settings {
     setup: Arc<Setup>,
     listen: SocketAddrV4,
@@ -20,6 +19,24 @@ pub struct Settings {
     threads: u32,
     stop_after: u32,
     seed_file: String,
+}
+
+impl Drop for Settings {
+    // By hand, so that who lets go of one has one call to prove, and not the drop of all that is in it.
+    fn drop(self) {
+        let Settings {
+            setup,
+            listen: _,
+            hash: _,
+            tables,
+            threads: _,
+            stop_after: _,
+            seed_file,
+        } = self;
+        drop(setup);
+        drop(tables);
+        drop(seed_file);
+    }
 }
 
 impl Model for Settings {

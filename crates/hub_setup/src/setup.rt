@@ -14,7 +14,6 @@ use std::alloc::{AllocError, Global};
 use std::marker::Model;
 
 /// The setup of a hub.
-#[derive(Drop)]
 pub struct Setup {
     name: String,
     topic: String,
@@ -24,6 +23,26 @@ pub struct Setup {
     search_interval: u32,
     max_users: u32,
     opening: u64,
+}
+
+impl Drop for Setup {
+    // By hand, so that who lets go of one has one call to prove, and not the drop of all that is in it.
+    fn drop(self) {
+        let Setup {
+            name,
+            topic,
+            accounts,
+            menu,
+            registered_only: _,
+            search_interval: _,
+            max_users: _,
+            opening: _,
+        } = self;
+        drop(name);
+        drop(topic);
+        drop(accounts);
+        drop(menu);
+    }
 }
 
 impl Model for Setup {

@@ -13,6 +13,8 @@ use Rattle.hub_stream.specs.declared.fault.RunFault.TheVariants as faults
 use Rattle.hub_stream.specs.Faults.{StopsBy, NothingFailed, Told, told}
 use Rattle.flushed_writes.specs.Parts.{AppendsFront}
 use Rattle.hub_stream.specs.Runs.{IsServed}
+use Rattle.hub_starts.specs.declared.fault.StartFault.{StartFault}
+use Rattle.hub_starts.specs.declared.fault.StartFault.TheVariants as starts
 
 abbrev pub ending_of : RunFault → Ending
 ending_of faults.Memory = endings.Memory
@@ -25,9 +27,13 @@ ending_of faults.Turns = endings.Transfer
 abbrev pub AsksForStdin : List (List ℕ) → Type 0
 AsksForStdin words = words ≡ codes "stdin" ∷ []
 
--- the word serve, and the path of a settings file
+-- the word serve, and the path of this settings file
+abbrev pub AsksToServeFile : List (List ℕ) → List ℕ → Type 0
+AsksToServeFile words path = words ≡ codes "serve" ∷ path ∷ []
+
+-- the same of any file
 abbrev pub AsksToServe : List (List ℕ) → Type 0
-AsksToServe words = (path : List ℕ) × (words ≡ codes "serve" ∷ path ∷ [])
+AsksToServe words = (path : List ℕ) × AsksToServeFile words path
 
 -- the hub of a connection on standard input: named Hub, with nothing that settings may add, for 512 users, opened at moment 0
 abbrev pub stdin_setup : Configured
@@ -44,6 +50,12 @@ EndsBy endings.Address words before after = ⊥
 EndsBy endings.Memory words before after = AsksForStdin words × StopsBy faults.Memory stdin_setup first_24 before after
 EndsBy endings.Transfer words before after =
     AsksForStdin words × ((fault : RunFault) × (ending_of fault ≡ endings.Transfer) × StopsBy fault stdin_setup first_24 before after)
+
+-- the status of a program that started no server
+abbrev pub status_by : StartFault → ℕ
+status_by (starts.Settings word) = 1
+status_by (starts.Key key) = 1
+status_by (starts.Ended ending) = status_of ending
 
 -- the status is that of an ending that the words, the input and the output bear out
 abbrev pub Ends : ℕ → List (List ℕ) → Told → Told → Type 0

@@ -1,6 +1,6 @@
-ghost use Rattle.std.specs.Prelude.{◌↔◌, IsTrue, IfSome, map};
+ghost use Rattle.std.specs.Prelude.{◌↔◌, IsTrue, IfNone, IfSome, map};
 ghost use Rattle.std.specs.String.{string_bytes};
-ghost use Rattle.hub_starts.specs.Endings.{AsksForStdin, AsksToServe};
+ghost use Rattle.hub_starts.specs.Endings.{AsksForStdin, AsksToServe, AsksToServeFile};
 
 /// Tells whether a hub for one connection is asked for.
 pub(crate) fn asks_for_stdin(words: &[String]) -> bool
@@ -12,9 +12,10 @@ pub(crate) fn asks_for_stdin(words: &[String]) -> bool
     }
 }
 
-/// Gives the settings file of a server that is asked for.
+/// Gives the path of the settings file of a server that is asked for. Nothing where none is.
 pub fn settings_path(words: &[String]) -> Option<&str>
-    ensures { IfSome result (λ _. AsksToServe (map string_bytes words.now)) }
+    ensures path { IfSome result (λ path. AsksToServeFile (map string_bytes words.now) path.now) }
+    ensures nothing { IfNone result (AsksToServe (map string_bytes words.now) → ⊥) }
 {
     match words {
         [word, path] if word.as_str() == "serve" => Some(path.as_str()),

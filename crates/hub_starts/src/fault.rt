@@ -1,4 +1,5 @@
 ghost use Rattle.std.specs.Prelude.{◌≡◌};
+ghost use Rattle.hub_starts.specs.Endings.{status_by};
 
 use hub_endings::Ending;
 use hub_settings::KeyName;
@@ -17,8 +18,11 @@ pub enum StartFault {
 }
 
 impl StartFault {
-    /// Says in one line on `errors` what is at fault, and gives the exit status. That it cannot be written changes nothing.
-    pub fn tell<E: Write>(self, errors: &mut E) -> u8 {
+    /// Says in one line on `errors` what is at fault, and gives the exit status: 1 for the settings, and else that of the ending. That
+    /// it cannot be written changes nothing.
+    pub fn tell<E: Write>(self, errors: &mut E) -> u8
+        ensures status { result ≡ status_by self }
+    {
         match self {
             StartFault::Settings(word) => say_key(word, errors),
             StartFault::Key(key) => say_key(key.as_str(), errors),

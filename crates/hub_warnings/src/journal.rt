@@ -11,11 +11,23 @@ use std::sync::{Mutex, Wait};
 /// Writes the message of each record as a line to `W`, under a lock, so that lines of threads do not mix. For the journal of
 /// systemd a line begins with its priority, as `<4>`. A write that fails is dropped, and a line that stopped part way is
 /// ended before the next.
-#[derive(Drop)]
 pub struct Journal<R: Wait, W> {
     rt: R,
     has_priorities: bool,
     out: Mutex<Out<W>>,
+}
+
+impl<R: Wait + Drop, W: Drop> Drop for Journal<R, W> {
+    // By hand, so that who lets go of one has one call to prove, and not the drop of all that is in it.
+    fn drop(self) {
+        let Journal {
+            rt,
+            has_priorities: _,
+            out,
+        } = self;
+        drop(rt);
+        drop(out);
+    }
 }
 
 // A writer, and that its last line stopped part way.

@@ -20,10 +20,17 @@ enum Lines {
 }
 
 /// Lines that one call owes to one connection: an outbox is given all of them or none.
-#[derive(Drop)]
 pub struct Batch {
     alloc: Global,
     lines: Lines,
+}
+
+impl Drop for Batch {
+    // By hand, so that who lets go of one has one call to prove, and not the drop of all that is in it.
+    fn drop(self) {
+        let Batch { alloc: _, lines } = self;
+        drop(lines);
+    }
 }
 
 impl Model for Batch {
@@ -131,8 +138,9 @@ impl Batch {
         ensures one { IfOk result (λ line. self ≡ line.value ∷ []) }
         ensures list { IfErr result (λ lines. self ≡ map (λ line. line.value) lines.items) }
     {
-        match self.lines {
-            Lines::Nothing => Err(Vec::new(self.alloc)),
+        let Batch { alloc, lines } = self;
+        match lines {
+            Lines::Nothing => Err(Vec::new(alloc)),
             Lines::One(line) => Ok(line),
             Lines::Many(lines) => Err(Box::into_inner(lines)),
         }

@@ -17,12 +17,25 @@ use std::marker::Model;
 use std::mem::replace;
 
 /// A user who is present.
-#[derive(Drop)]
 pub struct User {
     sid: Sid,
     cid: Cid,
     key: String,
     fields: Fields,
+}
+
+impl Drop for User {
+    // By hand, so that who lets go of one has one call to prove, and not the drop of all that is in it.
+    fn drop(self) {
+        let User {
+            sid: _,
+            cid: _,
+            key,
+            fields,
+        } = self;
+        drop(key);
+        drop(fields);
+    }
 }
 
 impl Model for User {
