@@ -20,7 +20,6 @@ use std::time::Clock;
 use tokio::io::{AsyncRead, AsyncWrite};
 
 /// One connection of the hub, for its session.
-#[derive(Drop)]
 pub struct Connection<'a, B: OfHub<H>, S: Stream, H: SessionHash, R: Moments> {
     server: &'a Server<'a, B, S, H, R>,
     pass: Pass<H>,
@@ -31,6 +30,21 @@ pub struct Connection<'a, B: OfHub<H>, S: Stream, H: SessionHash, R: Moments> {
     owes_wake: bool,
     ghost here: { pass.home ≡ server.now.hub.now.home },
     ghost challenged: { pass.challenge ≡ challenge },
+}
+
+impl<'a, B: OfHub<H>, S: Stream, H: SessionHash, R: Moments> Drop for Connection<'a, B, S, H, R> {
+    // By hand, so that who lets go of one has one call to prove, and not the drop of all that is in it.
+    fn drop(self) {
+        let Connection {
+            server: _,
+            pass,
+            challenge: _,
+            slot: _,
+            is_named: _,
+            owes_wake: _,
+        } = self;
+        drop(pass);
+    }
 }
 
 impl<

@@ -28,13 +28,21 @@ struct Meaning<H: SessionHash> {
 
 /// The session of a slot, while it serves a connection of the named hub. Whatever it ends with, all calls of the visitor who
 /// is left are visits of that hub.
-#[derive(Drop)]
 pub(crate) struct ServedSlot<'a, B: OfHub<H>, S: Stream, H: SessionHash, R: Moments> {
     meaning: Meaning<H>,
     session: Option<HubSession<'a, B, S, H, R>>,
     ghost visits: { ForSome session (λ running. EndsVisit running ⟦<S as Stream>⟧.told B.tells B.home
         (λ a call b. (b.server ≡ a.server) × Calls a.server.now.hub.now.setup (H.digest_of a.server.now.hub.now.hash) B.tells a.pass call b.pass)
         (λ a visitor. Leaves a.server.now.hub.now.setup (H.digest_of a.server.now.hub.now.hash) a.pass visitor)) },
+}
+
+impl<'a, B: OfHub<H>, S: Stream, H: SessionHash, R: Moments> Drop for ServedSlot<'a, B, S, H, R> {
+    // By hand, so that who lets go of one has one call to prove, and not the drop of all that is in it.
+    fn drop(self) {
+        let ServedSlot { meaning, session } = self;
+        drop(meaning);
+        drop(session);
+    }
 }
 
 impl<

@@ -14,7 +14,6 @@ use tokio::io::{AsyncRead, AsyncWrite};
 
 /// The part of a server that all its tasks share: its hub, and what they need to find one another. Its connections are streams
 /// `S`.
-#[derive(Drop)]
 pub struct Server<'a, B: OfHub<H>, S: Stream, H: SessionHash, R: Moments> {
     pub(crate) rt: &'a R,
     pub(crate) hub: &'a Hub<H>,
@@ -27,6 +26,22 @@ pub struct Server<'a, B: OfHub<H>, S: Stream, H: SessionHash, R: Moments> {
     pub(crate) ghost hashed: { hub.now.hash ≡ hash.now },
     pub(crate) ghost here: { B.home ≡ Some hub.now.home },
     pub(crate) ghost timed: { (moment : ℕ) → R.tells rt.now moment → ∥ B.tells moment ∥₁ },
+}
+
+impl<'a, B: OfHub<H>, S: Stream, H: SessionHash, R: Moments> Drop for Server<'a, B, S, H, R> {
+    // By hand, so that who lets go of one has one call to prove, and not the drop of all that is in it.
+    fn drop(self) {
+        let Server {
+            rt: _,
+            hub: _,
+            hash: _,
+            setup: _,
+            shared,
+            free,
+        } = self;
+        drop(shared);
+        drop(free);
+    }
 }
 
 impl<'a, B: OfHub<H>, S: AsyncRead + AsyncWrite, H: SessionHash, R: Wait + Moments> Server<
@@ -89,7 +104,15 @@ impl<'a, B: OfHub<H>, S: AsyncRead + AsyncWrite, H: SessionHash, R: Wait + Momen
 
     /// Gives all slots that have no connection, once all tasks are over.
     pub(crate) fn into_free(self) -> Vec<FreeSlot<B, S, H>> {
-        let Server { free, .. } = self;
+        let Server {
+            rt: _,
+            hub: _,
+            hash: _,
+            setup: _,
+            shared,
+            free,
+        } = self;
+        drop(shared);
         free.into_inner()
     }
 }
