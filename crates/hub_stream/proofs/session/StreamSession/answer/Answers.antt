@@ -21,7 +21,7 @@ returns-in_err-_verdict-clause-err g c =
 
 pub write_waiting-requires : goal.write_waiting-requires
 write_waiting-requires g c = record {
-  running = said_running (arc_value c.args.setup.now) (g.H.SessionHash.digest_of c.args.hash.now) c.args.self.now.core c.line-2.new.self _ c.args.self.now.connection
+  running = said_running (arc_value c.args.setup.now) (g.H.SessionHash.digest_of c.args.hash.now) c.args.self.now.core c.line.new.self _ c.args.self.now.connection
       c.args.self.now.line.items c.in_ok-line.line c.in_ok-_verdict._verdict c.args.self.now.is_first
       (c.in_ok-line.ensures ∙ ap₂ (λ s bytes. prepared_line s (g.H.SessionHash.digest_of c.args.hash.now) zeros bytes) c.deref.ensures c.deref-2.ensures.value)
       c.in_ok-_verdict.ensures.moves c.requires.ready;
@@ -30,14 +30,14 @@ write_waiting-requires g c = record {
 pub returns-in_err-ended-clause-err : goal.returns-in_err-ended-clause-err
 returns-in_err-ended-clause-err g c =
     at_refusal c.from_residual-in_err-ended.result
-    (said_short (arc_value c.args.setup.now) (g.H.SessionHash.digest_of c.args.hash.now) c.args.self.now.core c.line-2.new.self _ c.args.self.now.connection
+    (said_short (arc_value c.args.setup.now) (g.H.SessionHash.digest_of c.args.hash.now) c.args.self.now.core c.line.new.self _ c.args.self.now.connection
     c.args.self.now.line.items c.in_ok-line.line c.in_ok-_verdict._verdict c.args.self.now.is_first
     (c.in_ok-line.ensures ∙ ap₂ (λ s bytes. prepared_line s (g.H.SessionHash.digest_of c.args.hash.now) zeros bytes) c.deref.ensures c.deref-2.ensures.value)
     c.in_ok-_verdict.ensures.moves c.write_waiting.new.self.core _ (c.in_err-ended.ensures.err (arc_value c.args.setup.now) (g.H.SessionHash.digest_of c.args.hash.now)))
 
 pub returns-clause-ok : goal.returns-clause-ok
 returns-clause-ok g c =
-    said_whole (arc_value c.args.setup.now) (g.H.SessionHash.digest_of c.args.hash.now) c.args.self.now.core c.line-2.new.self _ c.args.self.now.connection
+    said_whole (arc_value c.args.setup.now) (g.H.SessionHash.digest_of c.args.hash.now) c.args.self.now.core c.line.new.self _ c.args.self.now.connection
     c.args.self.now.line.items c.in_ok-line.line c.in_ok-_verdict._verdict c.args.self.now.is_first
     (c.in_ok-line.ensures ∙ ap₂ (λ s bytes. prepared_line s (g.H.SessionHash.digest_of c.args.hash.now) zeros bytes) c.deref.ensures c.deref-2.ensures.value)
     c.in_ok-_verdict.ensures.moves c.write_waiting.new.self.core _ c.in_ok-ended.ended
