@@ -1,7 +1,8 @@
 // Loads a hub on this machine with clients, and prints a row for each kind of load.
 //
-// load TABLES PORT HUB USERS SECONDS: the file with Tiger's tables, the port on 127.0.0.1, the number of the hub's process,
-// how many clients log in (2 to 900), and how long each load lasts.
+// load TABLES PORT HUB USERS SECONDS [nats]: the file with Tiger's tables, the port on 127.0.0.1, the number of the hub's process,
+// how many clients log in (2 to 900), and how long each load lasts. With the word nats the hub is a nats-server: what is said to all is
+// published under one subject, which all subscribe to, and there is only that load.
 //
 // One thread serves all clients. Whatever a client is owed and does not get within a minute ends the program with status 1.
 
@@ -45,7 +46,7 @@ static char input[CHUNK + (1 << 17)];
 static double latencies[MAX_LATENCIES];
 static size_t latency_count;
 static uint64_t present, infos, chats, directs, sent;
-static bool is_sending;
+static bool is_sending, is_nats;
 
 static void fail(const char *what) {
   fprintf(stderr, "load: %s\n", what);
@@ -135,6 +136,13 @@ static void log_in(Client *client) {
   say(client, line, length);
 }
 
+// Has a nats-server answer once the client is subscribed.
+static void subscribe(Client *client) {
+  static const char text[] = "CONNECT {\"verbose\":false,\"pedantic\":false}\r\nSUB chat 1\r\nPING\r\n";
+  snprintf(client->sid, sizeof client->sid, "%04d", client->number);
+  say(client, text, sizeof text - 1);
+}
+
 static void sends(Client *client) {
   client->sent_at[(client->oldest + client->in_flight++) % MAX_IN_FLIGHT] = now();
   sent++;
@@ -145,6 +153,11 @@ static void chat(Client *client) {
   int length = snprintf(line, sizeof line, "BMSG %s a\\sline\\sof\\schat\\sof\\susual\\slength,\\s%llu\n", client->sid,
                         (unsigned long long)sent);
   sends(client);
+  if (is_nats) {
+    char message[140];
+    int size = snprintf(message, sizeof message, "PUB chat %d\r\n%s\r\n", length, line);
+    return say(client, message, size);
+  }
   say(client, line, length);
 }
 
@@ -202,6 +215,14 @@ static void hear(Client *client, const char *line, size_t length) {
   if (begins(line, length, "BMSG ")) return hear_chat(client, line);
   if (begins(line, length, "DMSG ")) return hear_direct(client);
   if (begins(line, length, "BINF ")) return hear_info(client, line);
+  if (is_nats && begins(line, length, "INFO ")) return subscribe(client);
+  if (is_nats && begins(line, length, "PING")) return say(client, "PONG\r\n", 6);
+  if (is_nats && begins(line, length, "PONG") && !client->is_present) {
+    client->is_present = true;
+    present++;
+    return;
+  }
+  if (is_nats && begins(line, length, "-ERR")) fail("a client was refused something");
   if (begins(line, length, "ISID ")) {
     memcpy(client->sid, line + 5, 4);
     return log_in(client);
@@ -343,7 +364,7 @@ static void connect_client(Client *client, int number, int port) {
   fcntl(client->socket, F_SETFL, O_NONBLOCK);
   struct epoll_event event = {.events = EPOLLIN, .data.ptr = client};
   if (epoll_ctl(poll_set, EPOLL_CTL_ADD, client->socket, &event)) fail("no place among those that are waited for");
-  say(client, "HSUP ADBASE ADTIGR\n", 19);
+  if (!is_nats) say(client, "HSUP ADBASE ADTIGR\n", 19);
 }
 
 static void enter_all(int port) {
@@ -352,6 +373,7 @@ static void enter_all(int port) {
   wait_for(&present, users, "a client did not enter");
   Moment end = moment();
   print_row("logins", users, start, end);
+  if (is_nats) return;
   wait_for(&infos, (uint64_t)users * users, "a client did not hear of all others");
 }
 
@@ -386,7 +408,8 @@ static void print_memory(void) {
 }
 
 int main(int count, char **words) {
-  if (count != 6) fail("load TABLES PORT HUB USERS SECONDS");
+  is_nats = count == 7 && !strcmp(words[6], "nats");
+  if (count != 6 && !is_nats) fail("load TABLES PORT HUB USERS SECONDS [nats]");
   read_tables(words[1]);
   hub_process = atoi(words[3]);
   users = atoi(words[4]);
@@ -396,6 +419,10 @@ int main(int count, char **words) {
   poll_set = epoll_create1(0);
   enter_all(atoi(words[2]));
   chats_of("10 senders, 10 lines each on their way", 10, 10, seconds);
+  if (is_nats) {
+    print_memory();
+    return 0;
+  }
   chats_of("1 sender, 1 line on its way", 1, 1, seconds);
   pairs_of("1 pair, lines for one alone", 1, seconds);
   pairs_of("many pairs, lines for one alone", pairs, seconds);
