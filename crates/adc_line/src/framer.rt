@@ -30,7 +30,6 @@ pub struct Framer {
 }
 
 impl Drop for Framer {
-    // By hand, so that who lets go of one has one call to prove, and not the drop of all that is in it.
     fn drop(self) {
         let Framer {
             buffer,

@@ -25,7 +25,6 @@ pub struct Line {
 }
 
 impl Drop for Line {
-    // By hand, so that who lets go of one has one call to prove, and not the drop of all that is in it.
     fn drop(self) {
         let Line { text, header: _ } = self;
         drop(text);

@@ -42,7 +42,6 @@ pub struct Accept<I, T> {
 }
 
 impl<I: Drop, T: Drop> Drop for Accept<I, T> {
-    // By hand, so that who lets go of one has one call to prove, and not the drop of all that is in it.
     fn drop(self) {
         let Accept {
             incoming,

@@ -1,8 +1,7 @@
 ghost use Rattle.std.specs.Prelude.{◌≡◌, ◌≤◌, ◌++◌, ℕ, List, IfOk, OnErr};
 ghost use Rattle.adc_sessions.specs.Events.{PortCall};
 
-use hub_rules::Verdict;
-use hub_setup::LineRefused;
+use hub_rules::{LineRefused, Verdict};
 use outboxes::{TakeRefused, Taken};
 use std::alloc::Global;
 

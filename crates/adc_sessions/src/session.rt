@@ -36,7 +36,6 @@ pub struct Session<S, P, B> {
 }
 
 impl<S: Drop, P: Drop, B: Drop> Drop for Session<S, P, B> {
-    // By hand, so that who lets go of one has one call to prove, and not the drop of all that is in it.
     fn drop(self) {
         let Session { live } = self;
         drop(live);

@@ -23,7 +23,6 @@ pub struct Shared<T, S> {
 }
 
 impl<T: Drop, S: Drop> Drop for Shared<T, S> {
-    // By hand, so that who lets go of one has one call to prove, and not the drop of all that is in it.
     fn drop(self) {
         let Shared {
             wakers,

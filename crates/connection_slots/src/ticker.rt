@@ -20,7 +20,6 @@ pub struct Ticker<'a, T, S, R> {
 }
 
 impl<'a, T, S, R> Drop for Ticker<'a, T, S, R> {
-    // By hand, so that who lets go of one has one call to prove, and not the drop of all that is in it.
     fn drop(self) {
         let Ticker {
             shared: _,

@@ -13,7 +13,6 @@ pub struct Challenges {
 }
 
 impl Drop for Challenges {
-    // By hand, so that who lets go of one has one call to prove, and not the drop of all that is in it.
     fn drop(self) {
         let Challenges { words } = self;
         drop(words);

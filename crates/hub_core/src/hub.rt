@@ -22,8 +22,8 @@ use crate::sid_index::SidIndex;
 use crate::{JoinRefused, OpenRefused};
 use adc_base32::Sid;
 use hub_decisions::Sight;
-use hub_rules::{Effect, Topic, Verdict};
-use hub_setup::{LineRefused, Prepared, Setup};
+use hub_rules::{Effect, LineRefused, Topic, Verdict};
+use hub_setup::{Prepared, Setup};
 use operator_acts::Bans;
 use outboxes::{Outbox, TakeRefused, Taken};
 use std::alloc::{AllocError, Global};
@@ -52,7 +52,6 @@ pub struct Core {
 }
 
 impl Drop for Core {
-    // By hand, so that who lets go of a hub has one call to prove, and not the drop of all that is in it.
     fn drop(self) {
         let Core {
             setup,

@@ -15,9 +15,9 @@ mod sid_index;
 pub use calls::{Answer, Ask, Asked, run_calls};
 pub use connection::Connection as Conn;
 pub use hub::Core;
-pub use hub_rules::Verdict;
+pub use hub_rules::{LineRefused, Verdict};
 pub use hub_setup::{
-    Account, LineRefused, MenuEntry, MenuItem, Options, Prepared, Setup, SetupRefused, prepare,
+    Account, MenuEntry, MenuItem, Options, Prepared, Setup, SetupRefused, prepare,
 };
 pub use login_state::Stage;
 pub use look::Look;

@@ -33,7 +33,6 @@ pub struct PresentLines {
 }
 
 impl Drop for PresentLines {
-    // By hand, so that who lets go of one has one call to prove, and not the drop of all that is in it.
     fn drop(self) {
         let PresentLines { lines } = self;
         drop(lines);

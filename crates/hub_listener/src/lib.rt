@@ -7,7 +7,6 @@ mod moments;
 mod opening;
 mod socket;
 mod time_task;
-mod workers;
 
 pub use bind::Bind;
 pub use listener::{Listener, Listens};
@@ -15,4 +14,3 @@ pub use moments::{Moments, moment};
 pub use opening::{say_start, warn_of_descriptors};
 pub use socket::Socket;
 pub use time_task::TimeTask;
-pub use workers::Workers;

@@ -60,7 +60,6 @@ pub struct Listener<'a, R, L, I> {
 }
 
 impl<'a, R, L, I: Drop> Drop for Listener<'a, R, L, I> {
-    // By hand, so that who lets go of one has one call to prove, and not the drop of all that is in it.
     fn drop(self) {
         let Listener {
             socket,

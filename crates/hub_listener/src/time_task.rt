@@ -22,7 +22,6 @@ pub struct TimeTask<'a, T, S, R, L> {
 }
 
 impl<'a, T, S, R, L> Drop for TimeTask<'a, T, S, R, L> {
-    // By hand, so that who lets go of one has one call to prove, and not the drop of all that is in it.
     fn drop(self) {
         let TimeTask {
             ticker,

@@ -3,8 +3,10 @@
 
 mod effect;
 mod history;
+mod refused;
 
 pub use effect::{
     Banned, Change, Effect, Entrant, Hearers, HubChange, Revision, SenderChange, Topic,
 };
 pub use history::{Call, Entry, Reply, Verdict};
+pub use refused::LineRefused;

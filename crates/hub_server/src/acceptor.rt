@@ -29,7 +29,6 @@ pub(crate) struct Acceptor<'a, B: OfHub<H>, S: Stream, H: SessionHash, R: Moment
 
 impl<'a, B: OfHub<H>, S: Stream, H: SessionHash, R: Moments, L> Drop
     for Acceptor<'a, B, S, H, R, L> {
-    // By hand, so that who lets go of one has one call to prove, and not the drop of all that is in it.
     fn drop(self) {
         let Acceptor {
             server: _,

@@ -33,7 +33,6 @@ pub struct Connection<'a, B: OfHub<H>, S: Stream, H: SessionHash, R: Moments> {
 }
 
 impl<'a, B: OfHub<H>, S: Stream, H: SessionHash, R: Moments> Drop for Connection<'a, B, S, H, R> {
-    // By hand, so that who lets go of one has one call to prove, and not the drop of all that is in it.
     fn drop(self) {
         let Connection {
             server: _,

@@ -1,4 +1,4 @@
-ghost use Rattle.std.specs.Prelude.{◌≡◌, ◌≤◌, [], Some, ℕ, IfOk};
+ghost use Rattle.std.specs.Prelude.{◌≡◌, ◌≤◌, [], Some, ℕ, IfOk, OnOk};
 ghost use Rattle.std.specs.List.{All};
 ghost use Rattle.one_history.specs.States.{Home};
 ghost use Rattle.hub_shared.specs.declared.about.About.{About};
@@ -15,12 +15,12 @@ use connection_slots::{Fault, Startup, Ticker};
 use hub_challenges::Challenges;
 use hub_endings::Ending;
 use hub_listener::{
-    Bind, Listener, Listens, Moments, Socket, TimeTask, Workers, moment, say_start,
-    warn_of_descriptors,
+    Bind, Listener, Listens, Moments, Socket, TimeTask, moment, say_start, warn_of_descriptors,
 };
 use hub_settings::Settings;
 use hub_shared::{Host, Hub, Report, Visitor};
 use hub_warnings::{End, Journal, Moment, Warnings};
+use hub_workers::Workers;
 use log::{Level, Log, Logged, info};
 use session_hash::SessionHash;
 use std::alloc::{AllocGlobal, Global};
@@ -273,8 +273,8 @@ where
         settings_file,
         warnings,
     };
-    let (hub, host) = open(&plan)?;
-    let (host, visitors) = run::<Brand, H, R, A, W, L>(&plan, &hub, host, seed, address, output)?;
+    let (hub, mut host) = open(&plan)?;
+    let visitors = run::<Brand, H, R, A, W, L>(&plan, &hub, &mut host, seed, address, output)?;
     close::<A::Socket, H, R, L>(&plan, hub, host, visitors)
 }
 
@@ -324,15 +324,15 @@ fn open<H: SessionHash, R: AllocGlobal, L>(
     Hub::open(plan.rt.alloc(), setup, plan.hash).map_err(|_| Ending::Memory)
 }
 
-/// Runs the server, and gives the host back with all visitors of the hub, or those that are left where memory ran out.
+/// Runs the server, and gives all visitors of the hub back, or those that are left where memory ran out.
 fn run<'a, B, H, R, A, W, L>(
     plan: &Plan<'a, H, R, L>,
     hub: &'a Hub<H>,
-    host: Host<H>,
+    host: &mut Host<H>,
     seed: [u8; 32],
     address: A,
     output: &mut W,
-) -> Result<(Host<H>, Vec<Visitor<H>>), Ending>
+) -> Result<Vec<Visitor<H>>, Ending>
 where
     B: OfHub<H> + Send + Sync,
     H: SessionHash + Send + Sync,
@@ -342,21 +342,19 @@ where
     L: Log + Sync,
     requires here { B.home ≡ Some hub.now.home }
     requires timed { (moment : ℕ) → R.tells plan.now.rt.now moment → ∥ B.tells moment ∥₁ }
-    requires host { host ≡ record { home = hub.now.home; admitted = 0 } }
+    requires host { host.old ≡ record { home = hub.now.home; admitted = 0 } }
     requires set { hub.now.setup ≡ plan.now.settings.now.hub }
     requires hashed { hub.now.hash ≡ plan.now.hash.now }
-    ensures host { IfOk result (λ r. r.0.home ≡ hub.now.home) }
-    ensures visitors { IfOk result (λ r. All (λ v. v.home ≡ hub.now.home) r.1.items) }
-    ensures visits { IfOk result (λ r. All (λ v. HasVisited ⟦<A::Socket as Stream>⟧.told B.tells v) r.1.items) }
+    ensures host { OnOk result (host.new.home ≡ hub.now.home) }
+    ensures visitors { IfOk result (λ visitors. All (λ v. v.home ≡ hub.now.home) visitors.items) }
+    ensures visits { IfOk result (λ visitors. All (λ v. HasVisited ⟦<A::Socket as Stream>⟧.told B.tells v) visitors.items) }
 {
     let alloc = plan.rt.alloc();
     let count = slot_count(plan.settings);
     let visitors = Vec::with_capacity(alloc, count)?;
-    let mut host = host;
-    let free = admit::<B, A::Socket, H>(alloc, &mut host, hub, count)?;
-    let challenges = Challenges::from_seed(seed);
-    let free = run_slots::<B, H, R, A, W, L>(plan, hub, free, challenges, address, output)?;
-    Ok((host, leave(free, visitors)))
+    let free = admit::<B, A::Socket, H>(alloc, host, hub, count)?;
+    let free = run_slots::<B, H, R, A, W, L>(plan, hub, free, seed, address, output)?;
+    Ok(leave(free, visitors))
 }
 
 /// Gives the number of slots: one more joins where the hub is full, to be told so.
@@ -371,7 +369,7 @@ fn run_slots<'a, B, H, R, A, W, L>(
     plan: &Plan<'a, H, R, L>,
     hub: &'a Hub<H>,
     free: Vec<FreeSlot<B, A::Socket, H>>,
-    challenges: Challenges,
+    seed: [u8; 32],
     address: A,
     output: &mut W,
 ) -> Result<Vec<FreeSlot<B, A::Socket, H>>, Ending>
@@ -390,15 +388,8 @@ where
     let (rt, setup) = (plan.rt, plan.settings.setup());
     let count = slot_count(plan.settings);
     let server = Server::new(rt.alloc(), rt, hub, plan.hash, setup, count, free)?;
-    let served = run_tasks(plan, &server, plan.warnings, address, challenges, output);
-    let free = server.into_free();
-    match served {
-        Ok(()) => Ok(free),
-        Err(ending) => {
-            drop(free);
-            Err(ending)
-        }
-    }
+    let served = run_tasks(plan, &server, plan.warnings, address, seed, output);
+    server.into_free_after(served)
 }
 
 /// Runs the tasks of a server that listens at this address, with as many threads as its settings say.
@@ -407,7 +398,7 @@ fn run_tasks<'a, B, H, R, A, W, L>(
     server: &'a Server<'a, B, A::Socket, H, R>,
     warnings: &'a Warnings<L>,
     address: A,
-    challenges: Challenges,
+    seed: [u8; 32],
     output: &'a mut W,
 ) -> Result<(), Ending>
 where
@@ -423,46 +414,12 @@ where
     let Ok(mut workers) = Workers::new(plan.rt, threads) else {
         return Err(Ending::Memory);
     };
-    let served = listen_and_serve(
-        plan,
-        &mut workers,
-        server,
-        warnings,
-        address,
-        challenges,
-        output,
-    );
+    let served = serve_all(plan, &mut workers, server, warnings, address, seed, output);
     drop(workers);
     served
 }
 
-/// Listens at this address, and serves all connections that come.
-fn listen_and_serve<'a, B, H, R, A, W, L>(
-    plan: &Plan<'_, H, R, L>,
-    workers: &mut Workers,
-    server: &'a Server<'a, B, A::Socket, H, R>,
-    warnings: &'a Warnings<L>,
-    address: A,
-    challenges: Challenges,
-    output: &'a mut W,
-) -> Result<(), Ending>
-where
-    B: OfHub<H> + Send + Sync,
-    H: SessionHash + Send + Sync,
-    R: Wait + Threads + Clock + Moments + Net + RandomSource + AllocGlobal + Sync,
-    A: Bind,
-    W: Write,
-    L: Log + Sync,
-{
-    let timers = make_timers(plan.rt, workers.time())?;
-    let listener = listen(plan, workers, address)?;
-    let settings = plan.settings;
-    serve_all(
-        settings, workers, server, warnings, listener, timers, challenges, output,
-    )
-}
-
-/// Listens at this address, and says so to the journal, where it is to have it.
+/// Makes the timers of the tasks, listens at this address, and says so to the journal, where it is to have it.
 fn listen<H, R, A, L>(
     plan: &Plan<'_, H, R, L>,
     workers: &Workers,
@@ -473,6 +430,7 @@ where
     A: Bind,
     L: Log,
 {
+    let timers = make_timers(plan.rt, workers.time())?;
     let users = plan.settings.setup().max_users();
     warn_of_descriptors(plan.rt, &plan.warnings.log, users);
     let listener = match address.bind(plan.rt, workers.reactor()) {
@@ -486,14 +444,19 @@ where
     if let Some(settings_file) = plan.settings_file {
         say_start(plan.rt, &plan.warnings.log, settings_file, address, users);
     }
-    Ok(Listening { listener, address })
+    Ok(Listening {
+        listener,
+        address,
+        timers,
+    })
 }
 
-/// A listener, and the address at which it listens.
+/// A listener, the address at which it listens, and the timers of the tasks.
 #[derive(Drop)]
 struct Listening<I> {
     listener: I,
     address: SocketAddr,
+    timers: Timers,
 }
 
 /// The timers of the tasks, which are not set yet.
@@ -513,33 +476,36 @@ fn make_timers<R: Clock>(rt: &R, time: &time::Handle) -> Result<Timers, Ending> 
     })
 }
 
-/// Serves all connections that come.
-fn serve_all<'a, B, S, H, R, L, I, W>(
-    settings: &Settings,
+/// Listens at this address, and serves all connections that come.
+fn serve_all<'a, B, H, R, A, W, L>(
+    plan: &Plan<'_, H, R, L>,
     workers: &mut Workers,
-    server: &'a Server<'a, B, S, H, R>,
+    server: &'a Server<'a, B, A::Socket, H, R>,
     warnings: &'a Warnings<L>,
-    listening: Listening<I>,
-    timers: Timers,
-    challenges: Challenges,
+    address: A,
+    seed: [u8; 32],
     output: &'a mut W,
 ) -> Result<(), Ending>
 where
     B: OfHub<H> + Send + Sync,
-    S: Socket + Send,
     H: SessionHash + Send + Sync,
     R: Wait + Threads + Clock + Moments + Net + RandomSource + AllocGlobal + Sync,
-    L: Log + Sync,
-    I: Listens<Socket = S> + Send,
+    A: Bind,
     W: Write,
+    L: Log + Sync,
 {
+    let Listening {
+        listener,
+        address,
+        timers,
+    } = listen(plan, workers, address)?;
     let Timers {
         accepting,
         ticking,
         counting,
     } = timers;
-    let Listening { listener, address } = listening;
-    let accept = accept_task(settings, server, warnings, listener, challenges, accepting);
+    let settings = plan.settings;
+    let accept = accept_task(settings, server, warnings, listener, seed, accepting);
     let startup = Startup::new(&server.shared, server.rt, output, address);
     let ticker = Ticker::new(&server.shared, server.rt, ticking);
     let time_task = TimeTask::new(ticker, counting, server.rt, warnings);
@@ -557,7 +523,7 @@ fn accept_task<'a, B, S, H, R, L, I>(
     server: &'a Server<'a, B, S, H, R>,
     warnings: &'a Warnings<L>,
     listener: I,
-    challenges: Challenges,
+    seed: [u8; 32],
     timer: Sleep,
 ) -> AcceptTask<'a, B, S, H, R, L, I>
 where
@@ -573,7 +539,7 @@ where
         count => Some(u64::from(count)),
     };
     let listener = Listener::new(listener, &server.shared.wakers, server.rt, warnings, timer);
-    let acceptor = Acceptor::new(server, challenges, warnings);
+    let acceptor = Acceptor::new(server, Challenges::from_seed(seed), warnings);
     let accept = Accept::new(listener, acceptor, stop_after);
     AcceptTask::new(accept, server)
 }

@@ -37,7 +37,6 @@ pub(crate) struct ServedSlot<'a, B: OfHub<H>, S: Stream, H: SessionHash, R: Mome
 }
 
 impl<'a, B: OfHub<H>, S: Stream, H: SessionHash, R: Moments> Drop for ServedSlot<'a, B, S, H, R> {
-    // By hand, so that who lets go of one has one call to prove, and not the drop of all that is in it.
     fn drop(self) {
         let ServedSlot { meaning, session } = self;
         drop(meaning);

@@ -5,6 +5,7 @@ use crate::free_slot::{FreeSlot, OfHub};
 use adc_sessions::Stream;
 use connection_slots::{Fault, Shared};
 use hub_core::Setup;
+use hub_endings::Ending;
 use hub_listener::Moments;
 use hub_shared::Hub;
 use session_hash::SessionHash;
@@ -29,7 +30,6 @@ pub struct Server<'a, B: OfHub<H>, S: Stream, H: SessionHash, R: Moments> {
 }
 
 impl<'a, B: OfHub<H>, S: Stream, H: SessionHash, R: Moments> Drop for Server<'a, B, S, H, R> {
-    // By hand, so that who lets go of one has one call to prove, and not the drop of all that is in it.
     fn drop(self) {
         let Server {
             rt: _,
@@ -102,8 +102,22 @@ impl<'a, B: OfHub<H>, S: AsyncRead + AsyncWrite, H: SessionHash, R: Wait + Momen
         self.shared.close(self.rt, fault);
     }
 
-    /// Gives all slots that have no connection, once all tasks are over.
-    pub(crate) fn into_free(self) -> Vec<FreeSlot<B, S, H>> {
+    /// Gives all slots that have no connection, once all tasks are over, or the ending by which these could not go on.
+    pub(crate) fn into_free_after(
+        self,
+        served: Result<(), Ending>,
+    ) -> Result<Vec<FreeSlot<B, S, H>>, Ending> {
+        let free = self.into_free();
+        match served {
+            Ok(()) => Ok(free),
+            Err(ending) => {
+                drop(free);
+                Err(ending)
+            }
+        }
+    }
+
+    fn into_free(self) -> Vec<FreeSlot<B, S, H>> {
         let Server {
             rt: _,
             hub: _,

@@ -49,7 +49,6 @@ pub(crate) struct AcceptTask<'a, B: OfHub<H>, S: Stream, H: SessionHash, R: Mome
 
 impl<'a, B: OfHub<H>, S: Stream, H: SessionHash, R: Moments, L, I: Drop> Drop
     for AcceptTask<'a, B, S, H, R, L, I> {
-    // By hand, so that who lets go of one has one call to prove, and not the drop of all that is in it.
     fn drop(self) {
         let AcceptTask {
             accept,
@@ -146,7 +145,6 @@ pub(crate) struct SlotTask<'a, B: OfHub<H>, S: Stream, H: SessionHash, R: Moment
 
 impl<'a, B: OfHub<H>, S: Stream, H: SessionHash, R: Moments, L> Drop
     for SlotTask<'a, B, S, H, R, L> {
-    // By hand, so that who lets go of one has one call to prove, and not the drop of all that is in it.
     fn drop(self) {
         let SlotTask {
             served,

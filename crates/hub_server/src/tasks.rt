@@ -46,7 +46,6 @@ impl<
     I: Drop,
     W,
 > Drop for Tasks<'a, B, S, H, R, L, I, W> {
-    // By hand, so that who lets go of one has one call to prove, and not the drop of all that is in it.
     fn drop(self) {
         let Tasks {
             time,

@@ -22,7 +22,6 @@ pub struct Settings {
 }
 
 impl Drop for Settings {
-    // By hand, so that who lets go of one has one call to prove, and not the drop of all that is in it.
     fn drop(self) {
         let Settings {
             setup,

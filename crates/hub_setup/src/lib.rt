@@ -16,7 +16,7 @@ pub use options::{
     Account, DEFAULT_USERS, MOST_ACCOUNTS, MOST_COMMANDS, MOST_USERS, MenuEntry, MenuItem, Options,
 };
 pub use preparation::{Prepared, Says, prepare};
-pub use refused::{LineRefused, ListRefused, SetupRefused};
+pub use refused::{ListRefused, SetupRefused};
 pub use setup::Setup;
 pub use texts::{
     challenge_line, denial_line, done_line, hub_line, identifier_line, passed_line, ping_fields,

@@ -10,10 +10,10 @@ ghost use Rattle.hub_rules.specs.Prepared.{owner_digest, password_digest, passwo
 ghost use Rattle.hub_setup.specs.PreparedReading.{IsSaid};
 
 use crate::accounts::Registered;
-use crate::refused::LineRefused;
 use crate::setup::Setup;
 use adc_ids::Pid;
 use adc_line::{Kind, Line, LineFault, UnescapeFault, unescape};
+use hub_rules::LineRefused;
 use inf_fields::{FieldName, InfFault, Update};
 use session_hash::SessionHash;
 use std::alloc::{AllocError, Global};
@@ -29,7 +29,6 @@ pub struct Prepared {
 }
 
 impl Drop for Prepared {
-    // By hand, so that who lets go of one has one call to prove, and not the drop of all that is in it.
     fn drop(self) {
         let Prepared {
             content,

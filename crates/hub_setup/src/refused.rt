@@ -27,13 +27,6 @@ pub enum ListRefused {
     Entry = 3,
 }
 
-/// The cause for which a line was not made ready; it may be tried again.
-#[derive(Clone, Copy, Debug, PartialEq, Eq)]
-pub enum LineRefused {
-    /// Memory ran out.
-    Memory = 1,
-}
-
 impl From<AllocError> for SetupRefused {
     ghost use Rattle.std.specs.Prelude.{◌≡◌};
     ghost use Rattle.hub_setup.specs.declared.refused.SetupRefused.TheVariants.{Memory};
@@ -53,11 +46,5 @@ impl From<AllocError> for ListRefused {
 
     fn from(_: AllocError) -> ListRefused {
         ListRefused::Memory
-    }
-}
-
-impl From<AllocError> for LineRefused {
-    fn from(_: AllocError) -> LineRefused {
-        LineRefused::Memory
     }
 }

@@ -26,7 +26,6 @@ pub struct Setup {
 }
 
 impl Drop for Setup {
-    // By hand, so that who lets go of one has one call to prove, and not the drop of all that is in it.
     fn drop(self) {
         let Setup {
             name,

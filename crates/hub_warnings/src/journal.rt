@@ -18,7 +18,6 @@ pub struct Journal<R: Wait, W> {
 }
 
 impl<R: Wait + Drop, W: Drop> Drop for Journal<R, W> {
-    // By hand, so that who lets go of one has one call to prove, and not the drop of all that is in it.
     fn drop(self) {
         let Journal {
             rt,

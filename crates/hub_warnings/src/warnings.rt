@@ -17,7 +17,6 @@ pub struct Warnings<L> {
 }
 
 impl<L: Drop> Drop for Warnings<L> {
-    // By hand, so that who lets go of one has one call to prove, and not the drop of all that is in it.
     fn drop(self) {
         let Warnings { table, log } = self;
         drop(table);

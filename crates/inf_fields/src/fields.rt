@@ -20,7 +20,6 @@ pub struct Fields {
 }
 
 impl Drop for Fields {
-    // By hand, so that who lets go of one has one call to prove, and not the drop of all that is in it.
     fn drop(self) {
         let Fields { entries } = self;
         drop(entries);

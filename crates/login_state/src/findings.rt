@@ -1,5 +1,5 @@
 /// The finding on a field that a login must have.
-#[derive(Clone, Copy, PartialEq, Eq)]
+#[derive(Clone, Copy)]
 pub enum Required {
     /// The field is not there, or empty.
     Missing,
@@ -10,7 +10,7 @@ pub enum Required {
 }
 
 /// The finding on the validity of what was sent. A field that need not be there is valid where it is not.
-#[derive(Clone, Copy, PartialEq, Eq)]
+#[derive(Clone, Copy)]
 pub enum Validity {
     /// The value is not valid.
     Bad,
@@ -19,7 +19,7 @@ pub enum Validity {
 }
 
 /// The finding on whose the identifier is that a client sent.
-#[derive(Clone, Copy, PartialEq, Eq)]
+#[derive(Clone, Copy)]
 pub enum Identity {
     /// The client's own, or none was sent where none need be.
     Own,
@@ -28,7 +28,7 @@ pub enum Identity {
 }
 
 /// The time for which a client is shut out.
-#[derive(Clone, Copy, PartialEq, Eq)]
+#[derive(Clone, Copy)]
 pub enum Ban {
     /// No time: the client is not shut out.
     Free,
@@ -39,7 +39,7 @@ pub enum Ban {
 }
 
 /// The address that a client sent.
-#[derive(Clone, Copy, PartialEq, Eq)]
+#[derive(Clone, Copy)]
 pub enum Address {
     /// The address is the one that the hub sees, or leaves the choice to the hub.
     Right,
@@ -48,7 +48,7 @@ pub enum Address {
 }
 
 /// The users whom the hub lets in.
-#[derive(Clone, Copy, PartialEq, Eq)]
+#[derive(Clone, Copy)]
 pub enum Admission {
     /// The client that asks.
     Admitted,
@@ -57,7 +57,7 @@ pub enum Admission {
 }
 
 /// The finding on whether another user has what a client wants.
-#[derive(Clone, Copy, PartialEq, Eq)]
+#[derive(Clone, Copy)]
 pub enum Claim {
     /// No other user has it.
     Free,
@@ -66,7 +66,7 @@ pub enum Claim {
 }
 
 /// The finding on a change of nick: that it leaves the nick of an account, or takes one, or neither.
-#[derive(Clone, Copy, PartialEq, Eq)]
+#[derive(Clone, Copy)]
 pub enum Account {
     /// No account's nick is left or taken.
     Untouched,
@@ -75,7 +75,7 @@ pub enum Account {
 }
 
 /// The finding on how many fields a user has once an update is merged.
-#[derive(Clone, Copy, PartialEq, Eq)]
+#[derive(Clone, Copy)]
 pub enum Size {
     /// The fields are at most 40.
     Fits,

@@ -26,7 +26,6 @@ pub struct Batch {
 }
 
 impl Drop for Batch {
-    // By hand, so that who lets go of one has one call to prove, and not the drop of all that is in it.
     fn drop(self) {
         let Batch { alloc: _, lines } = self;
         drop(lines);

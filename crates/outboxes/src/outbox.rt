@@ -124,7 +124,6 @@ pub struct Outbox {
 }
 
 impl Drop for Outbox {
-    // By hand, so that who lets go of one has one call to prove, and not the drop of all that is in it.
     fn drop(self) {
         let Outbox {
             places,

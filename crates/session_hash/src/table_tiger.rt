@@ -47,7 +47,6 @@ pub struct TableTiger {
 }
 
 impl Drop for TableTiger {
-    // By hand, so that who lets go of one has one call to prove, and not the drop of all that is in it.
     fn drop(self) {
         let TableTiger { words } = self;
         drop(words);

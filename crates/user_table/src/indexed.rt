@@ -25,7 +25,6 @@ pub struct IndexedUsers {
 }
 
 impl Drop for IndexedUsers {
-    // By hand, so that who lets go of one has one call to prove, and not the drop of all that is in it.
     fn drop(self) {
         let IndexedUsers {
             roster,

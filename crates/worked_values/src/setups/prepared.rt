@@ -1,6 +1,7 @@
 use super::*;
 use crate::rows::{Part, play, say};
-use hub_setup::{LineRefused, Prepared, Says, prepare};
+use hub_rules::LineRefused;
+use hub_setup::{Prepared, Says, prepare};
 use inf_fields::FieldName;
 use session_hash::First24;
 

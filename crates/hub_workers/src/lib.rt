@@ -1,0 +1,6 @@
+//! The threads of a server.
+#![tactic(auto)]
+
+mod workers;
+
+pub use workers::Workers;
