@@ -397,14 +397,20 @@ static void come_and_go(double seconds, int port) {
   print_row("users who come and go", cycles, start, moment());
 }
 
-static void print_memory(void) {
+// The kilobytes that the hub has in memory: now ("VmRSS: %ld kB"), or at most so far ("VmHWM: %ld kB").
+static long hub_memory(const char *line) {
   char path[64], text[256];
-  long peak = 0;
+  long kilobytes = 0;
   snprintf(path, sizeof path, "/proc/%d/status", hub_process);
   FILE *file = fopen(path, "r");
-  while (file && fgets(text, sizeof text, file)) sscanf(text, "VmHWM: %ld kB", &peak);
-  if (peak == 0) fail("the hub's memory is not told");
-  printf("| %d | peak memory | %.0f MB | | | | |\n", users, peak / 1e3);
+  while (file && fgets(text, sizeof text, file)) sscanf(text, line, &kilobytes);
+  if (file) fclose(file);
+  if (kilobytes == 0) fail("the hub's memory is not told");
+  return kilobytes;
+}
+
+static void print_memory(void) {
+  printf("| %d | peak memory | %.0f MB | | | | |\n", users, hub_memory("VmHWM: %ld kB") / 1e3);
 }
 
 int main(int count, char **words) {
@@ -417,7 +423,11 @@ int main(int count, char **words) {
   if (users < 2 || users > MAX_USERS) fail("2 to 900 users");
   int pairs = users / 2 < 50 ? users / 2 : 50;
   poll_set = epoll_create1(0);
+  long before = hub_memory("VmRSS: %ld kB");
   enter_all(atoi(words[2]));
+  // All have read what waited for them.
+  double more = hub_memory("VmRSS: %ld kB") - before;
+  printf("| %d | an idle connection | %.1f KB | | | | |\n", users, more / users);
   chats_of("10 senders, 10 lines each on their way", 10, 10, seconds);
   if (is_nats) {
     print_memory();
