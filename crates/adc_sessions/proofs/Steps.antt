@@ -7,7 +7,7 @@ use Rattle.adc_line.specs.Frames.{lf}
 use Rattle.adc_line.specs.Stream.{IsLine}
 use Rattle.adc_sessions.specs.declared.ending.End.{End}
 use Rattle.adc_sessions.specs.declared.ending.End.TheVariants as ends
-use Rattle.adc_sessions.specs.Events.{StreamCall, PortCall, Event, read, met_end, read_failed, wrote, write_failed, handed, took, refused, on_stream, on_port, over_by, fresh_by, after, IsFault, HasNoFault, StopsAtFault, EndsWith}
+use Rattle.adc_sessions.specs.Events.{StreamCall, PortCall, Event, read, met_end, read_failed, wrote, write_failed, handed, took, refused, on_stream, on_port, most_read, over_by, fresh_by, after, IsFault, HasNoFault, StopsAtFault, EndsWith}
 use Rattle.adc_sessions.specs.Machine.{State, at_poll, Step, Moves, MovesIn, MovesBy, EndsAs, FinishesIn, GivesIn, Gives}
 
 pub HasNoFault-append : (before events : List Event) → HasNoFault before → HasNoFault events → HasNoFault (before ++ events)
@@ -19,12 +19,13 @@ StopsAtFault-append [] events first second = second
 StopsAtFault-append (event ∷ before) events first second = (λ fault. absurd (first.0 fault), StopsAtFault-append before events first.1 second)
 
 module _ {S P : Type 0} (told : S → StreamCall → S → Type 0) (calls : P → PortCall → P → Type 0) where
-  pub did_read : (x y : State S P) (bytes : List ℕ) → told x.stream (read bytes) y.stream → y.port ≡ x.port → y.unread ≡ x.unread ++ bytes → y.pending ≡ x.pending → y.met ≡ x.met → y.told ≡ x.told → y.over ≡ x.over → y.owes ≡ x.owes → y.fresh ≡ x.fresh → x.over ≡ false → x.fresh ≡ false → Step told calls x (on_stream (read bytes)) y
-  did_read x y bytes step port unread pending met last over owes fresh hearing taken = record {
+  pub did_read : (x y : State S P) (bytes : List ℕ) → told x.stream (read bytes) y.stream → y.port ≡ x.port → y.unread ≡ x.unread ++ bytes → y.pending ≡ x.pending → y.met ≡ x.met → y.told ≡ x.told → y.over ≡ x.over → y.owes ≡ x.owes → y.fresh ≡ x.fresh → x.over ≡ false → x.fresh ≡ false → length bytes ≤ most_read → Step told calls x (on_stream (read bytes)) y
+  did_read x y bytes step port unread pending met last over owes fresh hearing taken few = record {
     happened = (step, port);
     lines_kept = sym unread;
     bytes_kept = append-nil x.pending ∙ sym pending;
     are_lines = All-nil IsLine;
+    reads_few = few;
     met_kept = met;
     told_kept = last;
     over_kept = over;
@@ -41,6 +42,7 @@ module _ {S P : Type 0} (told : S → StreamCall → S → Type 0) (calls : P �
     lines_kept = append-nil x.unread ∙ sym unread;
     bytes_kept = append-nil x.pending ∙ sym pending;
     are_lines = All-nil IsLine;
+    reads_few = omega arith;
     met_kept = met;
     told_kept = last;
     over_kept = over;
@@ -57,6 +59,7 @@ module _ {S P : Type 0} (told : S → StreamCall → S → Type 0) (calls : P �
     lines_kept = append-nil x.unread ∙ sym unread;
     bytes_kept = append-nil x.pending ∙ sym pending;
     are_lines = All-nil IsLine;
+    reads_few = omega arith;
     met_kept = met;
     told_kept = last;
     over_kept = over;
@@ -73,6 +76,7 @@ module _ {S P : Type 0} (told : S → StreamCall → S → Type 0) (calls : P �
     lines_kept = append-nil x.unread ∙ sym unread;
     bytes_kept = append-nil x.pending ∙ pending;
     are_lines = All-nil IsLine;
+    reads_few = omega arith;
     met_kept = met;
     told_kept = last;
     over_kept = over;
@@ -89,6 +93,7 @@ module _ {S P : Type 0} (told : S → StreamCall → S → Type 0) (calls : P �
     lines_kept = append-nil x.unread ∙ sym unread;
     bytes_kept = append-nil x.pending ∙ sym pending;
     are_lines = All-nil IsLine;
+    reads_few = omega arith;
     met_kept = met;
     told_kept = last;
     over_kept = over;
@@ -105,6 +110,7 @@ module _ {S P : Type 0} (told : S → StreamCall → S → Type 0) (calls : P �
     lines_kept = append-nil x.unread ∙ unread ∙ sym (append_assoc line (lf ∷ []) y.unread) ∙ ap (λ front. front ++ y.unread) (sym (append-nil (line ++ lf ∷ [])));
     bytes_kept = append-nil x.pending ∙ sym pending;
     are_lines = All-cons IsLine line [] is (All-nil IsLine);
+    reads_few = omega arith;
     met_kept = met;
     told_kept = last;
     over_kept = over;
@@ -121,6 +127,7 @@ module _ {S P : Type 0} (told : S → StreamCall → S → Type 0) (calls : P �
     lines_kept = append-nil x.unread ∙ sym unread;
     bytes_kept = sym pending;
     are_lines = All-nil IsLine;
+    reads_few = omega arith;
     met_kept = met;
     told_kept = last;
     over_kept = over;
@@ -137,6 +144,7 @@ module _ {S P : Type 0} (told : S → StreamCall → S → Type 0) (calls : P �
     lines_kept = append-nil x.unread ∙ sym unread;
     bytes_kept = append-nil x.pending ∙ sym pending;
     are_lines = All-nil IsLine;
+    reads_few = omega arith;
     met_kept = met;
     told_kept = last;
     over_kept = over;
@@ -229,6 +237,7 @@ module _ {S P : Type 0} (told : S → StreamCall → S → Type 0) (calls : P �
     lines_kept = step.lines_kept;
     bytes_kept = step.bytes_kept;
     are_lines = step.are_lines;
+    reads_few = step.reads_few;
     met_kept = step.met_kept;
     told_kept = step.told_kept;
     over_kept = step.over_kept;

@@ -1,8 +1,8 @@
 -- Facts of the bytes that the calls of a session keep, one after another, and that hold at its end.
-use Rattle.std.proofs.Common.{◌≡◌, ◌++◌, ℕ, Bool, true, false, List, [], ◌∷◌, length, Option, None, IsSomeAnd, refl, sym, ap, subst, ◌∙◌, append_assoc, append-nil, length-append, arith}
+use Rattle.std.proofs.Common.{◌≡◌, ◌≤◌, ◌++◌, ℕ, Bool, true, false, List, [], ◌∷◌, length, Option, None, IsSomeAnd, refl, sym, ap, subst, ◌∙◌, append_assoc, append-nil, length-append, arith}
 use Rattle.std.specs.List.{All, flat_map}
 use Rattle.std.proofs.lemmas.Grind.{flat_map-append}
-use Rattle.std.proofs.lemmas.List.Elements.{All-nil, All-append}
+use Rattle.std.proofs.lemmas.List.Elements.{All-nil, All-cons, All-append}
 use Rattle.outboxes.specs.declared.taken.Taken.{Taken}
 use Rattle.adc_line.specs.Frames.{lf}
 use Rattle.adc_line.specs.Stream.{lines, joined_lines, IsLine}
@@ -10,7 +10,7 @@ use Rattle.adc_line.proofs.FrameLemmas.{lines-more, lines-too_long}
 use Rattle.adc_line.proofs.StreamLemmas.{lines-joined}
 use Rattle.adc_sessions.specs.declared.ending.End.{End}
 use Rattle.adc_sessions.specs.declared.ending.End.TheVariants as ends
-use Rattle.adc_sessions.specs.Events.{StreamCall, PortCall, Event, Happen, bytes_read, bytes_written, lines_handed, bytes_taken, met_by, told_by, owes_by, after, all_read, all_written, all_handed, all_taken, FallsSilent, waiting_by, CallsWhenWritten}
+use Rattle.adc_sessions.specs.Events.{StreamCall, PortCall, Event, Happen, most_read, bytes_read, bytes_written, lines_handed, bytes_taken, met_by, told_by, owes_by, after, all_read, all_written, all_handed, all_taken, FallsSilent, waiting_by, CallsWhenWritten}
 use Rattle.adc_sessions.specs.Machine.{State, Step, Moves, EndsAs, Gives}
 use Rattle.adc_sessions.specs.State.{fresh}
 use Rattle.adc_sessions.specs.Served.{handed_all, wrote_all, Cause, Served}
@@ -41,6 +41,10 @@ module _ {S P : Type 0} (told : S → StreamCall → S → Type 0) (calls : P �
   all_are_lines : (events : List Event) (x y : State S P) → Moves told calls x events y → All IsLine (all_handed events)
   all_are_lines [] x y moves = All-nil IsLine
   all_are_lines (event ∷ events) x y moves = All-append IsLine (lines_handed event) (all_handed events) moves.1.are_lines (all_are_lines events moves.0 y moves.2)
+
+  all_read_few : (events : List Event) (x y : State S P) → Moves told calls x events y → All (λ event. length (bytes_read event) ≤ most_read) events
+  all_read_few [] x y moves = All-nil (λ event. length (bytes_read event) ≤ most_read)
+  all_read_few (event ∷ events) x y moves = All-cons (λ event. length (bytes_read event) ≤ most_read) event events moves.1.reads_few (all_read_few events moves.0 y moves.2)
 
   -- what the fold over all calls says of a value that each call changes
   pub followed : {A : Type 0} (by : A → Event → A) (value : State S P → A) → ((x y : State S P) (event : Event) → Step told calls x event y → value y ≡ by (value x) event)
@@ -120,6 +124,7 @@ module _ {S P Left : Type 0} (told : S → StreamCall → S → Type 0) (calls :
         all_lines = λ all. handed ∙ ap (λ rest. all_handed events ++ rest) (no_more end events y finish.3 all) ∙ append-nil (all_handed events);
         first_bytes = (y.pending, written);
         all_bytes = λ all. written ∙ ap (λ rest. all_written events ++ rest) (nothing_waits end events y finish.3 all) ∙ append-nil (all_written events);
+        reads_few = all_read_few told calls events x y finish.2;
         is_written = calls_when_written told calls events x y finish.2;
         stops = finish.7;
         silent = falls_silent told calls events x y finish.2;

@@ -52,6 +52,10 @@ bytes_read (on_stream (wrote bytes)) = []
 bytes_read (on_stream write_failed) = []
 bytes_read (on_port call) = []
 
+-- how many bytes one read may give
+abbrev pub most_read : ℕ
+most_read = 2_048
+
 abbrev pub bytes_written : Event → List ℕ
 bytes_written (on_stream (read bytes)) = []
 bytes_written (on_stream met_end) = []

@@ -6,7 +6,7 @@ use Rattle.adc_line.specs.Frames.{max_line, HasNoLf}
 use Rattle.adc_line.specs.Stream.{joined_lines, IsLine}
 use Rattle.adc_sessions.specs.declared.ending.End.{End}
 use Rattle.adc_sessions.specs.declared.ending.End.TheVariants as ends
-use Rattle.adc_sessions.specs.Events.{StreamCall, PortCall, Event, on_stream, read_failed, wrote, write_failed, Happens, bytes_read, bytes_written, lines_handed, bytes_taken, met_by, told_by, over_by, owes_by, fresh_by, HearsNothing, IsOfPort, GoesFirst, TakesFirst, IsCaughtUp, HasNoFault, StopsAtFault, EndsWith}
+use Rattle.adc_sessions.specs.Events.{StreamCall, PortCall, Event, on_stream, read_failed, wrote, write_failed, Happens, most_read, bytes_read, bytes_written, lines_handed, bytes_taken, met_by, told_by, over_by, owes_by, fresh_by, HearsNothing, IsOfPort, GoesFirst, TakesFirst, IsCaughtUp, HasNoFault, StopsAtFault, EndsWith}
 
 -- the stream, the port, the bytes that were read and are in no line handed over, the bytes that were taken and are not written,
 -- whether the end of the input was met, what the last take told, whether the port said that it hears nothing more, whether a take has to
@@ -29,6 +29,7 @@ module _ {S P : Type 0} (told : S → StreamCall → S → Type 0) (calls : P �
     pub lines_kept : a.unread ++ bytes_read event ≡ joined_lines (lines_handed event) ++ b.unread
     pub bytes_kept : a.pending ++ bytes_taken event ≡ bytes_written event ++ b.pending
     pub are_lines : All IsLine (lines_handed event)
+    pub reads_few : length (bytes_read event) ≤ most_read
     pub met_kept : b.met ≡ met_by a.met event
     pub told_kept : b.told ≡ told_by a.told event
     pub over_kept : b.over ≡ over_by a.over event

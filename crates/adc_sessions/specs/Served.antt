@@ -1,10 +1,11 @@
 -- Facts of a session as a whole, from its making to its end.
-use Rattle.std.specs.Prelude.{◌≡◌, ◌<◌, ◌++◌, ◌+◌, ℕ, Bool, true, false, List, length, take, None, IsSomeAnd, ⊤}
+use Rattle.std.specs.Prelude.{◌≡◌, ◌≤◌, ◌<◌, ◌++◌, ◌+◌, ℕ, Bool, true, false, List, length, take, None, IsSomeAnd, ⊤}
+use Rattle.std.specs.List.{All}
 use Rattle.adc_line.specs.Frames.{max_line, HasNoLf}
 use Rattle.adc_line.specs.Stream.{lines, joined_lines}
 use Rattle.adc_sessions.specs.declared.ending.End.{End}
 use Rattle.adc_sessions.specs.declared.ending.End.TheVariants as ends
-use Rattle.adc_sessions.specs.Events.{StreamCall, PortCall, Event, on_stream, read_failed, write_failed, Happen, all_read, all_written, all_handed, all_taken, after, told_by, FallsSilent, CallsWhenWritten, IsDrained, StopsAtFault, EndsWith}
+use Rattle.adc_sessions.specs.Events.{StreamCall, PortCall, Event, on_stream, read_failed, write_failed, Happen, most_read, bytes_read, all_read, all_written, all_handed, all_taken, after, told_by, FallsSilent, CallsWhenWritten, IsDrained, StopsAtFault, EndsWith}
 
 -- a session that ends this way has handed over all lines that came
 abbrev pub handed_all : End → Bool
@@ -50,6 +51,8 @@ pub record Served {S P Left : Type 0} (told : S → StreamCall → S → Type 0)
   -- the bytes written are the first of the bytes taken
   pub first_bytes : (more : List ℕ) × (all_taken events ≡ all_written events ++ more)
   pub all_bytes : wrote_all end ≡ true → all_taken events ≡ all_written events
+  -- each read gives few bytes
+  pub reads_few : All (λ event. length (bytes_read event) ≤ most_read) events
   -- the port is called only once all that was taken before is written
   pub is_written : CallsWhenWritten 0 events
   -- nothing comes after a call that failed or was refused

@@ -21,6 +21,9 @@ const BATCH: usize = 256;
 /// The number of bytes for output that a session keeps room for while it rests.
 const KEPT: usize = 512;
 
+/// The number of bytes that one read may give at most.
+const MOST_ROOM: usize = 2_048;
+
 /// The number of turns that one poll makes at most.
 const TURNS: u8 = 64;
 
@@ -64,6 +67,7 @@ pub(crate) struct Live<S, P, B> {
     may_have_line: bool,
     ghost in_range: { written ≤ length output.items },
     ghost has_room: { 0 < length input.items },
+    ghost reads_few: { length input.items ≤ 2_048 },
 }
 
 impl<S: AsyncRead + AsyncWrite, P: Port, B: Bell> Live<S, P, B> {
@@ -71,7 +75,8 @@ impl<S: AsyncRead + AsyncWrite, P: Port, B: Bell> Live<S, P, B> {
 
     /// Makes a session of which nothing was read, taken or written, with room for one read.
     pub(crate) fn new(alloc: Global, stream: S, port: P, bell: B, input: Vec<u8>) -> Live<S, P, B>
-        requires { 0 < length input.items }
+        requires some { 0 < length input.items }
+        requires few { length input.items ≤ 2_048 }
         ensures { state_of result ≡ fresh stream port }
     {
         Live {
@@ -304,7 +309,19 @@ impl<S: AsyncRead + AsyncWrite, P: Port, B: Bell> Live<S, P, B> {
         self.take()
     }
 
-    /// Reads at most 2,048 bytes, once.
+    /// Doubles the room for reads, up to 2,048 bytes, where one that gave so many bytes has filled it: who says little takes
+    /// little. Where memory is refused the room stays as it is.
+    fn widen(&mut self, count: usize)
+        ensures state { state_of self.new ≡ state_of self.old }
+        ensures listens { self.new.is_listening ≡ self.old.is_listening }
+    {
+        let room = self.input.len();
+        if count == room && room < MOST_ROOM {
+            let _ = self.input.resize(MOST_ROOM.min(room * 2), 0);
+        }
+    }
+
+    /// Reads what there is room for, once.
     fn read(&mut self, cx: &mut Context<'_>) -> Turn
         requires no_line { HasNoLf self.old.framer }
         requires heard { self.old.is_over ≡ false }
@@ -323,7 +340,10 @@ impl<S: AsyncRead + AsyncWrite, P: Port, B: Bell> Live<S, P, B> {
             Poll::Ready(Ok(count)) => {
                 self.may_have_line = true;
                 match self.framer.feed(&self.input[..count]) {
-                    Ok(()) => Turn::Again,
+                    Ok(()) => {
+                        self.widen(count);
+                        Turn::Again
+                    }
                     Err(_) => Turn::Over(End::Memory),
                 }
             }

@@ -13,8 +13,8 @@ use futures::task::{Context, Poll};
 use std::alloc::{AllocError, Global};
 use tokio::io::{AsyncRead, AsyncWrite};
 
-/// The number of bytes that one read may give.
-const ROOM: usize = 2_048;
+/// The number of bytes that the first read may give.
+const ROOM_AT_FIRST: usize = 256;
 
 /// A session of one connection: a future that hands the lines of a stream to a port, and writes what the port gives.
 ///
@@ -29,8 +29,8 @@ const ROOM: usize = 2_048;
 /// Reads and takes alternate, and each poll takes once before it reads, unless bytes still wait to be written: so a client
 /// that sends without pause, and reads, gets what is meant for it. A take is made only once all that was taken before is
 /// written, and one write is offered everything a take gave: so a client that does not read lags at the hub. A session
-/// holds what one take of at most 256 lines gave, and of its input at most 65,536 bytes without a line feed and one read of
-/// 2,048 bytes.
+/// holds what one take of at most 256 lines gave, and of its input at most 65,536 bytes without a line feed and one read. A
+/// read gives at most 256 bytes at first, and twice as many once one gave so many, up to 2,048.
 pub struct Session<S, P, B> {
     live: Option<Live<S, P, B>>,
 }
@@ -63,11 +63,11 @@ impl<S: AsyncRead + AsyncWrite, P: Port, B: Bell> Session<S, P, B> {
     }
 }
 
-/// Makes room for one read.
+/// Makes room for the first read.
 fn input(alloc: Global) -> Result<Vec<u8>, AllocError>
-    ensures { IfOk result (λ input. length input.items ≡ 2_048) }
+    ensures { IfOk result (λ input. length input.items ≡ 256) }
 {
-    vec![in alloc; 0; ROOM]
+    vec![in alloc; 0; ROOM_AT_FIRST]
 }
 
 impl<S: AsyncRead + AsyncWrite, P: Port, B: Bell> Future for Session<S, P, B> {

@@ -237,6 +237,7 @@ module _ {H S P Rest K : Type 0} (told : S → StreamCall → S → Type 0) (tel
         all_lines = served.all_lines;
         first_bytes = served.first_bytes;
         all_bytes = served.all_bytes;
+        reads_few = served.reads_few;
         is_written = served.is_written;
         stops = served.stops;
         silent = served.silent;

@@ -160,6 +160,22 @@ fn five_thousand_lines_without_pause_come_back(rt: HostRuntime) {
     drop(task);
 }
 
+/// Tests that reads ask for 256 bytes, and for twice as many once one gave as many as it asked for, up to 2,048.
+#[test]
+fn reads_ask_for_more_where_more_comes(rt: HostRuntime) {
+    let task = new_task(&rt);
+    let much = chatter(&rt, rt.alloc(), LOGIN, 1_000);
+    for (input, most) in [(LOGIN, 256), (much.as_slice(), 2_048)] {
+        let (_end, wire) = says(&rt, rt.alloc(), &task, input, 4_096);
+        let (first_room, most_room) = wire.rooms();
+        are_so_many(&rt, 0, first_room, 256);
+        are_so_many(&rt, 1, most_room, most);
+        drop(wire);
+    }
+    drop(much);
+    drop(task);
+}
+
 #[test]
 fn one_write_carries_what_one_take_gave(rt: HostRuntime) {
     let task = new_task(&rt);

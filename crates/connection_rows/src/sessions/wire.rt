@@ -30,6 +30,9 @@ pub(crate) struct Wire {
     // Every second read has to wait.
     is_slow: bool,
     reads: u32,
+    // The number of bytes that the first read asked for, and the most that one did.
+    first_room: usize,
+    most_room: usize,
     writes: u32,
     written: Vec<u8>,
 }
@@ -43,6 +46,8 @@ impl Wire {
             trouble: Trouble::Nowhere,
             is_slow: false,
             reads: 0,
+            first_room: 0,
+            most_room: 0,
             writes: 0,
             written: Vec::new(alloc),
         }
@@ -68,6 +73,11 @@ impl Wire {
         self.input.len().saturating_sub(self.at)
     }
 
+    /// Gives how many bytes the first read asked for, and the most that one did.
+    pub(crate) fn rooms(&self) -> (usize, usize) {
+        (self.first_room, self.most_room)
+    }
+
     /// Gives how many times it was written to.
     pub(crate) fn writes(&self) -> u32 {
         self.writes
@@ -84,6 +94,10 @@ impl AsyncRead for Wire {
     ghost reads_in_order = { λ _ _ _ _ _ _ _. tt };
 
     fn poll_read(&mut self, cx: &mut Context<'_>, buf: &mut [u8]) -> Poll<io::Result<usize>> {
+        if self.reads == 0 {
+            self.first_room = buf.len();
+        }
+        self.most_room = self.most_room.max(buf.len());
         self.reads = self.reads.saturating_add(1);
         if matches!(self.trouble, Trouble::Read(call) if call == self.reads) {
             return Poll::Ready(Err(io::ErrorKind::ConnectionReset.into()));

@@ -13,13 +13,13 @@ returns-in-Ready-Ok-eq0-clause-turned g c =
 
 pub returns-in-Ok-clause-turned : goal.returns-in-Ok-clause-turned
 returns-in-Ok-clause-turned g c =
-    one_call _ _ _ _ _ (did_read _ _ _ _ (take c.in-Ready-Ok.count c.poll_read.new.buf) (rw c.in-Ready-Ok.field-0-is at c.in-Ready-Ok.ensures.bytes) refl (grind (arith, common_steps, with_items_is)) refl refl refl refl refl refl c.requires.heard c.requires.taken) (λ fault. fault)
+    rw c.widen.ensures.state (one_call _ _ _ _ _ (did_read _ _ _ _ (take c.in-Ready-Ok.count c.poll_read.new.buf) (rw c.in-Ready-Ok.field-0-is at c.in-Ready-Ok.ensures.bytes) refl (grind (arith, common_steps, with_items_is)) refl refl refl refl refl refl c.requires.heard c.requires.taken (grind (arith, common_steps, with_items_is, c.args.self.now.reads_few))) (λ fault. fault))
 
 pub returns-in-Err-clause-turned : goal.returns-in-Err-clause-turned
 returns-in-Err-clause-turned g c =
     let bytes = take c.in-Ready-Ok.count c.poll_read.new.buf in
     let left = record (state_of c.args.self.now) { stream = c.poll_read.new.self; unread = c.args.self.now.framer ++ bytes } in
-    ends_after _ _ ends.Memory _ left _ (did_read _ _ _ left bytes (rw c.in-Ready-Ok.field-0-is at c.in-Ready-Ok.ensures.bytes) refl refl refl refl refl refl refl refl c.requires.heard c.requires.taken) (tt {0})
+    ends_after _ _ ends.Memory _ left _ (did_read _ _ _ left bytes (rw c.in-Ready-Ok.field-0-is at c.in-Ready-Ok.ensures.bytes) refl refl refl refl refl refl refl refl c.requires.heard c.requires.taken (grind (arith, common_steps, with_items_is, c.args.self.now.reads_few))) (tt {0})
 
 pub returns-in-Ready-Err-clause-turned : goal.returns-in-Ready-Err-clause-turned
 returns-in-Ready-Err-clause-turned g c =
@@ -30,8 +30,8 @@ returns-in-Ready-Err-clause-turned g c =
 pub returns-then-may_rest-clause-turned : goal.returns-then-may_rest-clause-turned
 returns-then-may_rest-clause-turned g c =
     let rests = c.may_rest.ensures c.if-may_rest.true in
-    inr (at_most _ _ 1 1 _ _ (omega arith) (one_call _ _ _ _ _ (did_read _ _ _ _ [] c.in-Pending.ensures.bytes refl (sym (append-nil _)) refl refl refl refl refl refl c.requires.heard c.requires.taken) (λ fault. fault)), rests.1, c.requires.taken, rests.0)
+    inr (at_most _ _ 1 1 _ _ (omega arith) (one_call _ _ _ _ _ (did_read _ _ _ _ [] c.in-Pending.ensures.bytes refl (sym (append-nil _)) refl refl refl refl refl refl c.requires.heard c.requires.taken (omega arith)) (λ fault. fault)), rests.1, c.requires.taken, rests.0)
 
 pub returns-else-may_rest-clause-turned : goal.returns-else-may_rest-clause-turned
 returns-else-may_rest-clause-turned g c =
-    one_call _ _ _ _ _ (did_read _ _ _ _ [] c.in-Pending.ensures.bytes refl (sym (append-nil _)) refl refl refl refl refl refl c.requires.heard c.requires.taken) (λ fault. fault)
+    one_call _ _ _ _ _ (did_read _ _ _ _ [] c.in-Pending.ensures.bytes refl (sym (append-nil _)) refl refl refl refl refl refl c.requires.heard c.requires.taken (omega arith)) (λ fault. fault)
