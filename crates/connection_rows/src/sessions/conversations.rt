@@ -164,7 +164,7 @@ fn five_thousand_lines_without_pause_come_back(rt: HostRuntime) {
 #[test]
 fn reads_ask_for_more_where_more_comes(rt: HostRuntime) {
     let task = new_task(&rt);
-    let much = chatter(&rt, rt.alloc(), LOGIN, 1_000);
+    let much = chatter(&rt, rt.alloc(), LOGIN, 250);
     for (input, most) in [(LOGIN, 256), (much.as_slice(), 2_048)] {
         let (_end, wire) = says(&rt, rt.alloc(), &task, input, 4_096);
         let (first_room, most_room) = wire.rooms();
