@@ -1,6 +1,8 @@
-use hub_client::{Request, act_line};
+use adc_base32::Sid;
+use hub_client::{ClientFault, Identity, NickText, Request, act_line, login_line};
 use second_try::again;
-use std::alloc::AllocGlobal;
+use session_hash::TableTiger;
+use std::alloc::{AllocGlobal, Global};
 use std::process::Abort;
 
 fn sends(rt: &(impl Abort + AllocGlobal), request: &Request<'_>, wanted: &str) {
@@ -43,4 +45,29 @@ fn requests_are_messages(rt: HostRuntime) {
         Err(adc_ids::NickFault::Invalid) => Ok(()),
         Err(fault) => Err(fault),
     });
+}
+
+/// Gives the login of a client whose private identifier is 24 bytes 7, by Tiger with tables of zeros.
+fn login(alloc: Global) -> Result<String, ClientFault> {
+    let Ok(hash) = TableTiger::from_bytes(alloc, &[0; 8192]) else {
+        return Err(ClientFault::Memory);
+    };
+    let Ok(nick) = NickText::parse(alloc, "op") else {
+        return Err(ClientFault::Memory);
+    };
+    let Some(sid) = Sid::from_u32(1) else {
+        return Err(ClientFault::NotAdc);
+    };
+    let line = login_line(alloc, sid, &Identity::of(&hash, [7; 24]), &nick)?;
+    Ok(String::from_str(alloc, line.text())?)
+}
+
+#[test]
+fn a_login_has_both_identifiers(rt: HostRuntime) {
+    // `tiger` of bench/hostile.py, with tables of zeros, gives this client identifier.
+    let line = again!(&rt; login(rt.alloc()));
+    assert_eq!(rt;
+        line.as_str(),
+        "BINF AAAB IDBNFUWPDSHNVTBUBFFFITKR2HIRITEF27ZFFVOHQ PDA4DQOBYHA4DQOBYHA4DQOBYHA4DQOBYHA4DQOBY NIop SS0 SF0 VEadc-hubctl\\s1.0"
+    );
 }
