@@ -7,7 +7,20 @@ use crate::lock::counter::{CountersSeat, add, open_counter};
 use crate::lock::worker::{Worker, both, disband, eight, hire, interrupt, is_one_run, leave, team};
 use one_history::NotAlone;
 use std::alloc::{AllocError, AllocFailed, Global};
+use std::process::Abort;
 use std::test::Fail;
+use std::time::{CpuClock, Duration};
+
+/// The number of milliseconds of processor time that may pass while one caller holds the counter and another waits for it.
+const SPENT: u64 = 50;
+
+// Gives the processor time that all threads of the test have used.
+fn processor_time<R: CpuClock + Abort>(rt: &R) -> Duration {
+    match rt.process_cpu_time() {
+        Ok(time) => time,
+        Err(_) => panic!(rt; "no processor time"),
+    }
+}
 
 // Puts one element in a new vector. Want of memory is met once more, and not twice.
 fn only<S: Drop>(alloc: Global, item: S) -> Result<Vec<S>, AllocError>
@@ -88,7 +101,10 @@ fn sleeps_until_the_value_is_back(rt: HostRuntime) -> Result<(), Fail> {
     let (lock, mut host) = open_counter(rt.alloc(), 0)?;
     let holder = host.admit(&lock);
     let worker = hire(&lock, &mut host, 2);
+    let before = processor_time(&rt);
     let (holder, worker) = interrupt(&rt, &lock, holder, worker);
+    let spent = processor_time(&rt).saturating_sub(before);
+    assert!(rt; spent < Duration::from_millis(SPENT), "{spent:?}");
     host.gather(&lock, holder);
     assert!(rt; is_one_run(0, &[leave(&lock, &mut host, worker)]));
     Ok(())

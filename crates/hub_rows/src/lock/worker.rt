@@ -12,6 +12,9 @@ use std::time::{Clock, Duration};
 
 pub const ROUNDS: usize = 500;
 
+/// The number of milliseconds for which a caller holds the counter that another waits for.
+const HELD: u64 = 200;
+
 /// A caller, what it adds each time, and what it was told.
 #[derive(Drop)]
 pub struct Worker {
@@ -67,7 +70,7 @@ pub fn hold<R: Wait + Clock>(rt: &R, lock: &Counters, seat: CountersSeat) -> Cou
 {
     let mut seat = seat;
     let counter = lock.take(rt, &mut seat);
-    thread::sleep(rt, Duration::from_millis(30));
+    thread::sleep(rt, Duration::from_millis(HELD));
     lock.put_back(&mut seat, counter);
     seat
 }
