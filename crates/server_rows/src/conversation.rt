@@ -17,10 +17,15 @@
 //                               was lost
 //     a digest begins           a digest begins, which does not end yet
 //     the digest may end        it may end
+//     a second passes           nobody does anything for a little longer than a second
 use crate::client::{Client, connect};
 use crate::gate::GateHash;
 use std::io::{Read, Write};
 use std::net::{Net, OpenStream, SocketAddr};
+use std::time::{Clock, Duration};
+
+/// The number of milliseconds that pass where a second passes.
+const SECOND: u64 = 1_050;
 
 /// The clients that are connected.
 #[derive(Drop)]
@@ -30,7 +35,12 @@ struct Clients<S> {
 }
 
 /// Plays these parts, one after the other. Nothing where a client does not hear what it should.
-pub fn plays<R: Net>(rt: &R, address: SocketAddr, gate: &GateHash, parts: &[&str]) -> Option<()> {
+pub fn plays<R: Clock + Net>(
+    rt: &R,
+    address: SocketAddr,
+    gate: &GateHash,
+    parts: &[&str],
+) -> Option<()> {
     let mut clients = Clients {
         ana: None,
         bob: None,
@@ -41,16 +51,20 @@ pub fn plays<R: Net>(rt: &R, address: SocketAddr, gate: &GateHash, parts: &[&str
             match who {
                 "ana" => goes_on(rt, address, &mut clients.ana, deed)?,
                 "bob" => goes_on(rt, address, &mut clients.bob, deed)?,
-                _ => holds_up(gate, line)?,
+                _ => happens(rt, gate, line)?,
             }
         }
     }
     Some(())
 }
 
-/// A digest begins, or may end.
-fn holds_up(gate: &GateHash, line: &str) -> Option<()> {
+/// A digest begins, or may end, or a second passes.
+fn happens<R: Clock>(rt: &R, gate: &GateHash, line: &str) -> Option<()> {
     match line {
+        "a second passes" => {
+            rt.sleep(Duration::from_millis(SECOND));
+            Some(())
+        }
         "a digest begins" => gate.begins(),
         "the digest may end" => {
             gate.open();

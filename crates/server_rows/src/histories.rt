@@ -1,6 +1,6 @@
 // Histories that are recorded while sessions over memory call on a hub, and what is found of them.
 mod client;
-mod clock;
+pub(crate) mod clock;
 mod play;
 mod polls;
 mod record;

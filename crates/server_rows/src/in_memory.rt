@@ -28,7 +28,7 @@ const BOB: usize = 1;
 const TOO_MANY: usize = 65_537;
 
 const ANA_SAYS: &[u8] = b"HSUP ADBASE ADTIGR\n\
-BINF AAAB IDAAAAAAAAAAAAAAAAAAAAAAAAAAAAAAAAAAAAAAA PDAAAAAAAAAAAAAAAAAAAAAAAAAAAAAAAAAAAAAAA NIana\n\
+BINF AAAB IDAAAAAAAAAAAAAAAAAAAAAAAAAAAAAAAAAAAAAAA PDAAAAAAAAAAAAAAAAAAAAAAAAAAAAAAAAAAAAAAA NIana I40.0.0.0\n\
 BMSG AAAB hi\n";
 
 /// Ana waits for Bob, says something, and leaves once he has answered.
@@ -40,7 +40,7 @@ const ANA_CUES: &[Cue] = &[
 ];
 
 const BOB_SAYS: &[u8] = b"HSUP ADBASE ADTIGR\n\
-BINF AAAC IDAAAAAAAAAAAAAAAAAAAAAAAAAAAAAAAAAAAAAAI PDAAAAAAAAAAAAAAAAAAAAAAAAAAAAAAAAAAAAAAI NIbob\n\
+BINF AAAC IDAAAAAAAAAAAAAAAAAAAAAAAAAAAAAAAAAAAAAAI PDAAAAAAAAAAAAAAAAAAAAAAAAAAAAAAAAAAAAAAI NIbob I40.0.0.0\n\
 BMSG AAAC hello\n";
 
 /// Bob comes once Ana is there, answers her, and leaves after her.
@@ -52,15 +52,16 @@ const BOB_CUES: &[Cue] = &[
 ];
 
 /// What each is sent: the two who chat; one who sends too long a line; one who cannot agree on a hash; one who closes at once;
-/// and one who closes once it is greeted.
+/// and one who closes once it is greeted. The first comes from 127.0.0.2, the second from 127.0.0.3, and so on; each who chats is
+/// shown with its own address.
 const WANTED: [&[u8]; 6] = [
     b"ISUP ADBASE ADTIGR ADPING ADUCMD\nISID AAAB\nIINF CT32 NIHub VEadc-hub\\s1.0\n\
-BINF AAAB IDAAAAAAAAAAAAAAAAAAAAAAAAAAAAAAAAAAAAAAA NIana\n\
-BINF AAAC IDAAAAAAAAAAAAAAAAAAAAAAAAAAAAAAAAAAAAAAI NIbob\n\
+BINF AAAB IDAAAAAAAAAAAAAAAAAAAAAAAAAAAAAAAAAAAAAAA NIana I4127.0.0.2\n\
+BINF AAAC IDAAAAAAAAAAAAAAAAAAAAAAAAAAAAAAAAAAAAAAI NIbob I4127.0.0.3\n\
 BMSG AAAB hi\nBMSG AAAC hello\n",
     b"ISUP ADBASE ADTIGR ADPING ADUCMD\nISID AAAC\nIINF CT32 NIHub VEadc-hub\\s1.0\n\
-BINF AAAB IDAAAAAAAAAAAAAAAAAAAAAAAAAAAAAAAAAAAAAAA NIana\n\
-BINF AAAC IDAAAAAAAAAAAAAAAAAAAAAAAAAAAAAAAAAAAAAAI NIbob\n\
+BINF AAAB IDAAAAAAAAAAAAAAAAAAAAAAAAAAAAAAAAAAAAAAA NIana I4127.0.0.2\n\
+BINF AAAC IDAAAAAAAAAAAAAAAAAAAAAAAAAAAAAAAAAAAAAAI NIbob I4127.0.0.3\n\
 BMSG AAAB hi\nBMSG AAAC hello\nIQUI AAAB\n",
     b"ISUP ADBASE ADTIGR ADPING ADUCMD\nISID AAAD\nIINF CT32 NIHub VEadc-hub\\s1.0\n",
     b"ISTA 247 No\\scommon\\shash\n",
@@ -68,10 +69,10 @@ BMSG AAAB hi\nBMSG AAAC hello\nIQUI AAAB\n",
     b"ISUP ADBASE ADTIGR ADPING ADUCMD\nISID AAAG\nIINF CT32 NIHub VEadc-hub\\s1.0\n",
 ];
 
-/// What the server says, and what it warns of, times and ports apart.
+/// What the server says, and what it warns of, times apart.
 const SAID: &[u8] = b"listening 127.0.0.1:4111\njoins 6 present 0\n";
 
-const WARNED: &[u8] = b"TIME 127.0.0.1:PORT a session ended by TooLong\n";
+const WARNED: &[u8] = b"TIME 127.0.0.4:4111 a session ended by TooLong\n";
 
 /// The outcome of a server.
 #[derive(Drop)]

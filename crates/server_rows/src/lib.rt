@@ -14,6 +14,8 @@ mod histories;
 #[cfg(test)]
 mod in_memory;
 #[cfg(test)]
+mod lingering;
+#[cfg(test)]
 mod listening;
 #[cfg(test)]
 mod over_memory;

@@ -2,7 +2,7 @@
 ghost use Rattle.std.specs.Prelude.{◌≡◌, Some, ℕ, ⊤};
 
 use crate::sessions::hold;
-use adc_sessions::End;
+use adc_sessions::{Bell, End};
 use futures::task::{Context, Poll};
 use futures::test::MockTask;
 use hub_core::{Options, Setup};
@@ -111,13 +111,17 @@ fn session<
     Some((end, wire.written))
 }
 
+/// Makes the setup of a hub.
+fn setup<R: AllocGlobal>(rt: &R) -> Option<Arc<Setup>> {
+    let setup = Setup::new(rt.alloc(), &Options::named("Hub")).ok()?;
+    Arc::new(rt.alloc(), setup).ok()
+}
+
 fn attempt<R: Wait + Clock + RandomSource + AllocGlobal>(
     rt: &R,
     input: &[u8],
 ) -> Option<(End, Vec<u8>)> {
-    let options = Options::named("Hub");
-    let setup = Setup::new(rt.alloc(), &options).ok()?;
-    let setup = Arc::new(rt.alloc(), setup).ok()?;
+    let setup = setup(rt)?;
     let (hub, mut host) = Hub::open(rt.alloc(), setup.clone().ok()?, &First24).ok()?;
     match session::<Brand, Wire<'_>, R>(rt, &hub, &mut host, &setup, input) {
         Some((End::Memory, _)) | None => None,
@@ -150,4 +154,58 @@ fn a_session_over_memory_is_answered(rt: HostRuntime) {
         assert!(&rt; ran.0 == end, "{:?}", ran.0);
         assert!(&rt; ran.1.as_slice() == wanted);
     }
+}
+
+/// Answers whether the bell of a connection rings at once, where that of the connection that had its slot before was rung and
+/// nobody has heard it; nothing where memory was refused.
+fn inherits_ring<
+    B: OfHub<First24>,
+    S: AsyncRead + AsyncWrite,
+    R: Wait + Clock + RandomSource + AllocGlobal,
+>(rt: &R, hub: &Hub<First24>, host: &mut Host<First24>, setup: &Setup) -> Option<bool>
+    requires here { B.home ≡ Some hub.now.home }
+    requires timed { (moment : ℕ) → ∥ B.tells moment ∥₁ }
+    requires host { host.old ≡ record { home = hub.now.home; admitted = 0 } }
+    requires set { hub.now.setup ≡ setup.now }
+{
+    let (one, other) = (host.admit(hub), host.admit(hub));
+    let one = hub
+        .join(rt, rt.alloc(), one, [127, 0, 0, 1], CHALLENGE, 0)
+        .ok()?;
+    let other = hub
+        .join(rt, rt.alloc(), other, [127, 0, 0, 1], CHALLENGE, 0)
+        .ok()?;
+    let free = Vec::new(rt.alloc());
+    let server = Server::<B, S, First24, R>::new(
+        rt.alloc(),
+        rt,
+        hub,
+        &First24,
+        setup,
+        1,
+        free,
+    ).ok()?;
+    let task = MockTask::new(rt).ok()?;
+    let before = Connection::new(&server, one, CHALLENGE, 0);
+    before.bell().ring();
+    let mut bell = Connection::new(&server, other, CHALLENGE, 0).bell();
+    Some(task.enter(|cx| bell.wait(cx)))
+}
+
+fn try_inheriting<R: Wait + Clock + RandomSource + AllocGlobal>(rt: &R) -> Option<bool> {
+    let setup = setup(rt)?;
+    let (hub, mut host) = Hub::open(rt.alloc(), setup.clone().ok()?, &First24).ok()?;
+    inherits_ring::<Brand, Wire<'_>, R>(rt, &hub, &mut host, &setup)
+}
+
+#[test]
+fn a_connection_has_its_slot_for_itself(rt: HostRuntime) {
+    let inherits = match try_inheriting(&rt) {
+        Some(inherits) => inherits,
+        None => match try_inheriting(&rt) {
+            Some(inherits) => inherits,
+            None => panic!(&rt; "refused twice"),
+        },
+    };
+    assert!(&rt; !inherits);
 }

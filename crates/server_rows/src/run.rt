@@ -24,6 +24,9 @@ const LAST_LOOKS: u32 = 10_000;
 /// would come after it.
 const FIRST_LOOKS: u32 = 500;
 
+/// The seed of the challenges of each server.
+const SEED: [u8; 32] = [1; 32];
+
 /// The output of the server, for its clients to see.
 #[derive(Drop)]
 struct Heard {
@@ -235,19 +238,19 @@ where
             move || {
                 let mut output = Told { rt, heard };
                 let status = match way {
-                    Way::AsSet => serve_on(rt, settings, served, [0; 32], &mut output, errors),
+                    Way::AsSet => serve_on(rt, settings, served, SEED, &mut output, errors),
                     Way::Journal => serve_for_journal(
                         rt,
                         settings,
                         "/etc/adc-hub/hub.toml",
                         served,
-                        [0; 32],
+                        SEED,
                         &mut output,
                         errors,
                     ),
                     Way::Flaky => {
                         let address = Flaky(settings.listen());
-                        serve_at(rt, settings, served, [0; 32], address, &mut output, errors)
+                        serve_at(rt, settings, served, SEED, address, &mut output, errors)
                     }
                 };
                 heard.end();

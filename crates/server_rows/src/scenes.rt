@@ -1,4 +1,6 @@
 // Scenes that clients see of a server on loopback sockets.
+mod bans;
+
 use crate::gate::GateHash;
 use crate::run::{Ran, Way, runs};
 use crate::warnings::shape;
@@ -225,9 +227,9 @@ const WITH_OPERATOR: &str =
     "listen = \"127.0.0.1:0\"\nhash = \"first24\"\nstop_after = 2\nmax_users = 4\n\
 [[account]]\nnick = \"op\"\npassword = \"sesame\"\noperator = true\n";
 
-/// An operator comes in Ana's place, and Bob after her. Her challenge is the first 24 bytes of ChaCha20's stream for a key of
-/// zeros (RFC 8439, appendix A.1), in base32; her answer the password and the challenge behind it, of which the stand-in for a
-/// hash takes 24 bytes, in base32.
+/// An operator comes in Ana's place, and Bob after her. Her challenge is the first 24 bytes of ChaCha20's stream for the seed of
+/// 32 bytes 1, in base32. OpenSSL 3 prints these bytes: `head -c 24 /dev/zero | openssl enc -chacha20 -K 01..01 -iv 00..00`. Her
+/// answer is the password and the challenge behind it, of which the stand-in for a hash takes 24 bytes, in base32.
 const OPERATOR_AND_BOB_ENTER: &str = "\
 ana connects
 ana says HSUP ADBASE ADTIGR
@@ -235,8 +237,8 @@ ana hears ISUP ADBASE ADTIGR ADPING ADUCMD
 ana hears ISID AAAB
 ana hears IINF CT32 NIHub VEadc-hub\\s1.0
 ana says BINF AAAB IDAAAAAAAAAAAAAAAAAAAAAAAAAAAAAAAAAAAAAAA PDAAAAAAAAAAAAAAAAAAAAAAAAAAAAAAAAAAAAAAA NIop
-ana hears IGPA O24OBLNA6E6ZAQC5NLSVHBV5FC65EGNYUCG62GQ
-ana says HPAS ONSXGYLNMV3LRYFNUDYT3ECALVVOKU4GXUUL3UQ
+ana hears IGPA AI7TOIB2ER3MIJLGUYOMKXB4VB25XNGMIHAN5NY
+ana says HPAS ONSXGYLNMUBD6NZAHISHNRBFM2TBZRK4HSUHLWY
 ana hears BINF AAAB IDAAAAAAAAAAAAAAAAAAAAAAAAAAAAAAAAAAAAAAA NIop CT4
 bob connects
 bob says HSUP ADBASE ADTIGR

@@ -7,6 +7,7 @@ use log::{Level, Logged};
 use second_try::again;
 use std::alloc::{AllocError, AllocGlobal, Global};
 use std::fmt::Display;
+use std::io::{self, Write};
 use std::net::{Ipv4Addr, SocketAddr, SocketAddrV4};
 use std::process::Abort;
 
@@ -198,6 +199,51 @@ fn the_oldest_makes_room(rt: HostRuntime) {
         more: 1,
     };
     assert!(&rt; take(&mut table, of(HOME, Cause::ReadFailed), 7) == Told::Said(Some(oldest)));
+}
+
+/// A journal that takes three bytes, then fails once, and then takes all.
+#[derive(Drop)]
+struct Tearing {
+    got: Vec<u8>,
+    calls: u32,
+}
+
+impl Write for Tearing {
+    fn write(&mut self, buf: &[u8]) -> io::Result<usize> {
+        self.calls = self.calls.saturating_add(1);
+        if self.calls == 2 {
+            return Err(io::ErrorKind::BrokenPipe.into());
+        }
+        let count = if self.calls == 1 {
+            buf.len().min(3)
+        } else {
+            buf.len()
+        };
+        self.got.extend_from_slice(&buf[..count])?;
+        Ok(count)
+    }
+
+    fn flush(&mut self) -> io::Result<()> {
+        Ok(())
+    }
+}
+
+#[test]
+fn a_torn_line_is_ended_before_the_next(rt: HostRuntime) {
+    let mut tearing = Tearing {
+        got: again!(&rt; Vec::with_capacity(rt.alloc(), 256)),
+        calls: 0,
+    };
+    let journal = Journal::new(&rt, true, &mut tearing);
+    let warnings = Warnings::new(Logged::new((), Level::Info, journal));
+    warnings.warn(&rt, None, Cause::ReadFailed);
+    warnings.warn(&rt, None, Cause::Lost);
+    drop(warnings);
+    let shape = again!(&rt; shape(rt.alloc(), &tearing.got));
+    assert!(&rt;
+        shape.as_slice() == b"<4>\n<4>TIME a connection was lost by Memory\n".as_slice(),
+        "{shape:?}"
+    );
 }
 
 #[test]

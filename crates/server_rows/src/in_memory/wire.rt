@@ -20,6 +20,9 @@ const ROOM: usize = 4_096;
 /// The port to which all come, and from which.
 const PORT: u16 = 4_111;
 
+/// The last number of the address from which the first client comes.
+const FIRST_HOME: u8 = 2;
+
 /// The time at which a client says its next line, or ends.
 #[derive(Clone, Copy)]
 pub(crate) enum Cue {
@@ -91,6 +94,12 @@ impl<R: Clock> Wire<'_, R> {
 
 fn here() -> SocketAddr {
     SocketAddr::V4(SocketAddrV4::new(Ipv4Addr::LOCALHOST, PORT))
+}
+
+/// Gives the address from which the client at this place comes: 127.0.0.2, 127.0.0.3 and so on.
+fn home_of(place: usize) -> SocketAddr {
+    let home = Ipv4Addr::new(127, 0, 0, FIRST_HOME.wrapping_add(place as u8));
+    SocketAddr::V4(SocketAddrV4::new(home, PORT))
 }
 
 /// Gives the length of the first line, with its line feed where it has one.
@@ -210,7 +219,7 @@ impl<R: Clock> AsyncWrite for Wire<'_, R> {
 
 impl<R: Clock> Socket for Wire<'_, R> {
     fn peer_addr(&self) -> io::Result<SocketAddr> {
-        Ok(here())
+        Ok(home_of(self.place))
     }
 
     fn set_nodelay(&self, _is_at_once: bool) -> io::Result<()> {
@@ -288,7 +297,7 @@ impl<'a, R: Clock> Listens for Lobby<'a, R> {
             has_entered: false,
             sent,
         };
-        Poll::Ready(Ok((wire, here())))
+        Poll::Ready(Ok((wire, home_of(place))))
     }
 
     fn address(&self) -> io::Result<SocketAddr> {

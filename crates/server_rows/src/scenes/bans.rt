@@ -1,0 +1,33 @@
+// A ban ends by the clock of the server, which moves on between its calls.
+use crate::scenes::{BOTH_LEAVE, OPERATOR_AND_BOB_ENTER, serves};
+
+const WITH_OPERATOR_FOR_THREE: &str =
+    "listen = \"127.0.0.1:0\"\nhash = \"first24\"\nstop_after = 3\nmax_users = 4\n\
+[[account]]\nnick = \"op\"\npassword = \"sesame\"\noperator = true\n";
+
+const THREE_JOINED: &[u8] = b"\njoins 3 present 0\n";
+
+/// Bob is banned for a second, and comes again after it.
+const BAN: &str = "\
+ana says HMSG !ban\\sbob\\s1
+bob hears IQUI AAAC IDAAAB TL1
+bob hears-the-end
+ana hears IQUI AAAC IDAAAB TL1
+ana hears ISTA 000 Done
+a second passes
+bob connects
+bob says HSUP ADBASE ADTIGR
+bob hears ISUP ADBASE ADTIGR ADPING ADUCMD
+bob hears ISID AAAD
+bob hears IINF CT32 NIHub VEadc-hub\\s1.0
+bob says BINF AAAD IDAAAAAAAAAAAAAAAAAAAAAAAAAAAAAAAAAAAAAAI PDAAAAAAAAAAAAAAAAAAAAAAAAAAAAAAAAAAAAAAI NIbob
+bob hears BINF AAAB IDAAAAAAAAAAAAAAAAAAAAAAAAAAAAAAAAAAAAAAA NIop CT4
+bob hears BINF AAAD IDAAAAAAAAAAAAAAAAAAAAAAAAAAAAAAAAAAAAAAI NIbob
+ana hears BINF AAAD IDAAAAAAAAAAAAAAAAAAAAAAAAAAAAAAAAAAAAAAI NIbob
+";
+
+#[test]
+fn a_ban_of_a_second_ends(rt: HostRuntime) {
+    let parts = [OPERATOR_AND_BOB_ENTER, BAN, BOTH_LEAVE];
+    serves(&rt, WITH_OPERATOR_FOR_THREE, &parts, THREE_JOINED);
+}
