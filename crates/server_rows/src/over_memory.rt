@@ -158,7 +158,7 @@ fn a_session_over_memory_is_answered(rt: HostRuntime) {
 
 /// Answers whether the bell of a connection rings at once, where that of the connection that had its slot before was rung and
 /// nobody has heard it; nothing where memory was refused.
-fn inherits_ring<
+fn inherits<
     B: OfHub<First24>,
     S: AsyncRead + AsyncWrite,
     R: Wait + Clock + RandomSource + AllocGlobal,
@@ -195,7 +195,7 @@ fn inherits_ring<
 fn try_inheriting<R: Wait + Clock + RandomSource + AllocGlobal>(rt: &R) -> Option<bool> {
     let setup = setup(rt)?;
     let (hub, mut host) = Hub::open(rt.alloc(), setup.clone().ok()?, &First24).ok()?;
-    inherits_ring::<Brand, Wire<'_>, R>(rt, &hub, &mut host, &setup)
+    inherits::<Brand, Wire<'_>, R>(rt, &hub, &mut host, &setup)
 }
 
 #[test]
