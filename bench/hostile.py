@@ -110,10 +110,12 @@ class Gone(Exception):
 class Client:
     """A client that waits for each answer."""
 
-    def __init__(self, port, timeout=5, window=None):
+    def __init__(self, port, timeout=5, window=None, source=None):
         self.socket, self.rest, self.sid = socket.socket(), b"", None
         if window:
             self.socket.setsockopt(socket.SOL_SOCKET, socket.SO_RCVBUF, window)
+        if source:
+            self.socket.bind((source, 0))
         self.socket.settimeout(timeout)
         self.socket.connect(("127.0.0.1", port))
 
@@ -138,8 +140,8 @@ class Client:
                 return line
         raise Gone("an answer did not come")
 
-    def greet(self):
-        self.say(HELLO)
+    def greet(self, hello=HELLO):
+        self.say(hello)
         self.sid = self.hear(b"ISID ")[5:9]
 
     def log_in(self, number, nick=None):
@@ -250,9 +252,11 @@ class Report(ctypes.Structure):
 class Hub:
     """A hub that was started, and what there is to see of it."""
 
-    def __init__(self, words, port=None, limits=(), **refuse):
+    def __init__(self, words, port=None, limits=(), journal=False, **refuse):
         self.shared = os.memfd_create("report")
-        env = dict(os.environ)
+        env = {name: value for name, value in os.environ.items() if name != "JOURNAL_STREAM"}
+        if journal:
+            env["JOURNAL_STREAM"] = "8:4111"
         if refuse:
             env |= {"LD_PRELOAD": os.path.abspath("refuse.so"), "REFUSE_REPORT": str(self.shared)}
         env |= {f"REFUSE_{name}": str(value) for name, value in refuse.items()}
@@ -682,8 +686,8 @@ def operator(port):
     client = Client(port)
     client.greet()
     client.say(login_line(client.sid, 500_000, b"op"))
-    challenge = decoded(client.hear(b"IGPA ")[5:].decode())
-    client.say(b"HPAS %s\n" % base32(tiger(b"sesame" + challenge)))
+    client.challenge = decoded(client.hear(b"IGPA ")[5:].decode())
+    client.say(b"HPAS %s\n" % base32(tiger(b"sesame" + client.challenge)))
     client.hear(b"BINF " + client.sid)
     return client
 
@@ -735,6 +739,110 @@ def last_lines(table, threads):
         hub.stop()
 
 
+# ---- what a hub is given at its start
+
+
+# The fourth connection's challenge is bytes 72 to 95 of the ChaCha20 stream of this seed. RFC 8439, appendix A.1, test vector 3, prints the
+# bytes of the stream from 64 on.
+SEED = bytes(31) + b"\1"
+FOURTH_CHALLENGE = bytes.fromhex("9b9d828db1ced4dd832025e8018b8160b82284f3c949aa5a")
+
+
+def enter_from(port, address, number):
+    """A client that enters from this address, and the line that shows it."""
+    client = Client(port, source=address)
+    client.greet()
+    client.say(login_line(client.sid, number).replace(b" SL1", b" I40.0.0.0 SL1"))
+    return client, client.hear(b"BINF " + client.sid)
+
+
+def up_of(port):
+    """The seconds since the start of the hub, as a pinger is told."""
+    client = Client(port)
+    client.greet(b"HSUP ADBASE ADTIGR ADPING\n")
+    fields = client.hear(b"IINF ").split()
+    client.close()
+    return next(int(field[2:]) for field in fields if field.startswith(b"UP"))
+
+
+def has_journal_lines(port):
+    """Whether the hub began its lines with priorities, and told the journal what it serves."""
+    with open("warned", "rb") as file:
+        line = file.readline()
+    return line.startswith(b"<6>") and b" serves hub.toml at 127.0.0.1:%d," % port in line
+
+
+def facts_of_start(port, began):
+    """What the hub makes of its seed, its clock, its environment and the addresses of clients: a name and whether it is right."""
+    (ana, of_ana), (bob, of_bob) = enter_from(port, "127.0.0.2", 600_000), enter_from(port, "127.0.0.3", 600_001)
+    heard = ana.hear(b"BINF " + bob.sid)
+    yield "addresses", b" I4127.0.0.2 " in of_ana and b" I4127.0.0.3 " in of_bob and heard == of_bob
+    up = up_of(port)
+    yield "opening", up <= time.monotonic() - began + 1
+    yield "seed", operator(port).challenge == FOURTH_CHALLENGE
+    yield "journal", has_journal_lines(port)
+    time.sleep(1.1)
+    yield "clock", up_of(port) > up
+
+
+def given_at_start(table, threads):
+    """Whether the hub goes by its seed file, its hash, its clock and its environment."""
+    name = "its seed, clock, journal and addresses"
+    if not table.wants(name) or table.options.against:
+        return
+    began = time.monotonic()
+    with open("seed.bin", "wb") as file:
+        file.write(SEED)
+    settings(threads, 64, 'seed_file = "seed.bin"\n' + OPERATOR)
+    hub = start(table.options, journal=True)
+    try:
+        if not hub.listens():
+            raise Gone("it does not listen")
+        wrong = [fact for fact, is_right in facts_of_start(hub.port, began) if not is_right]
+        cells = ["yes" if hub.status() is None else "no", f"wrong: {', '.join(wrong) or 'nothing'}", "", "", "", f"{hub.megabytes() or 0:.1f}"]
+        table.row(name, threads, began, cells, not wrong and serves(hub.port))
+    except (OSError, Gone) as error:
+        table.row(f"{name}: {error}", threads, began, ["no"] * 6, False)
+    finally:
+        hub.stop()
+
+
+# Each newcomer is sent a menu of about 500 kB at once. The hub may not keep room for it: 60 newcomers may add this many MB.
+ENTRIES, ENTRY = 25, 20_000
+NEWCOMERS, KEPT_MB = 60, 12
+
+
+def room_for_output(table, threads):
+    """Whether newcomers who stay take no more memory for what they were sent at once."""
+    name = "room for output is given back"
+    if not table.wants(name) or table.options.against:
+        return
+    began = time.monotonic()
+    settings(threads, 64, "".join(f'[[command]]\nname = "m{number}"\ncontext = 1\ntext = "{"x" * ENTRY}"\n' for number in range(ENTRIES)))
+    hub = start(table.options)
+    try:
+        if not hub.listens():
+            raise Gone("it does not listen")
+        clients, first = [], None
+        for number in range(NEWCOMERS + 4):
+            client = Client(hub.port)
+            client.greet(b"HSUP ADBASE ADTIGR ADUCM0\n")
+            client.say(login_line(client.sid, 700_000 + number))
+            client.hear(b"ICMD m%d " % (ENTRIES - 1))
+            clients.append(client)
+            # The first few fill the hub's own pools.
+            first = hub.megabytes() if number == 3 else first
+        added = hub.megabytes() - first
+        cells = ["yes" if hub.status() is None else "no", f"{added:.1f} MB added", "", "", "", f"{hub.megabytes():.1f}"]
+        for client in clients:
+            client.close()
+        table.row(name, threads, began, cells, added <= KEPT_MB and serves(hub.port))
+    except (OSError, Gone) as error:
+        table.row(f"{name}: {error}", threads, began, ["no"] * 6, False)
+    finally:
+        hub.stop()
+
+
 def main():
     parser = argparse.ArgumentParser(prog="bench/hostile")
     parser.add_argument("program")
@@ -756,6 +864,8 @@ def main():
     play(table, "many who come and go", comers, 2)
     play(table, "logins with long identifiers", long_logins, 2)
     last_lines(table, 2)
+    given_at_start(table, 2)
+    room_for_output(table, 2)
     starts(table, 2)
     # Each of 18 ways; a short run takes six of them.
     for place, each in enumerate((2, 3, 7, 20, 50, 997)):
