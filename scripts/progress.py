@@ -11,6 +11,8 @@ import kit
 
 # So many seconds pass at most between two lines, on a terminal and elsewhere.
 EACH = (1, 10)
+# Set once this process is told to end.
+ENDING = threading.Event()
 
 
 class Progress:
@@ -28,7 +30,7 @@ class Progress:
 
     def show(self):
         with self.lock:
-            if self.ended.is_set():
+            if self.ended.is_set() or ENDING.is_set():
                 return
             if self.is_terminal:
                 width = os.get_terminal_size(sys.stderr.fileno()).columns or 80
@@ -71,10 +73,11 @@ def end_at_signals(rtlib, who, then, rooms):
     def end(number, _):
         for it in (signal.SIGINT, signal.SIGTERM, signal.SIGHUP):
             signal.signal(it, signal.SIG_IGN)
-        kit.kill_started(rtlib)
+        ENDING.set()
         start = "\r\033[K" if sys.stderr.isatty() else ""
         # A thread may be in the middle of a line, so this goes past Python's own buffers.
         os.write(2, f"{start}{who}: interrupted; {then}\n".encode())
+        kit.kill_started(rtlib)
         for it in rooms:
             shutil.rmtree(it, ignore_errors=True)
         # Not by an exception: threads that wait for what was killed would begin it again.
