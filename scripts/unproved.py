@@ -18,9 +18,8 @@ import kit
 import programs
 import progress
 
-# What such a build of the hub takes on a quiet machine, in seconds. The steps that a build goes through, and what part of that they begin at.
-TAKES = 120
-STEPS = {"reading the sources": 0, "compiling": 0.4, "linking": 0.95}
+# What such a build of the hub takes on a quiet machine, in seconds, and which part of that it reads the sources.
+TAKES, READING = 120, 0.4
 # Words of the tool for clang that do not fit an optimised build without its checks.
 UNWANTED = ("-O0", "-Werror", "-fsanitize=address")
 # The tool first asks clang for a tiny module, to see that it works; the real one is to have the checks of AddressSanitizer.
@@ -40,7 +39,9 @@ class Build:
     """A build of one program, in a folder of its own."""
 
     def __init__(self, rtlib, crate, room):
-        self.rtlib, self.crate, self.room, self.step = rtlib, crate, f"{room}/{crate.name}", next(iter(STEPS))
+        self.rtlib, self.crate, self.room = rtlib, crate, f"{room}/{crate.name}"
+        # What it does, and how many seconds it read the sources.
+        self.step, self.begun, self.read_for = "reading the sources", time.monotonic(), None
 
     def run(self):
         sources = programs.sum_of_sources(self.crate.name)
@@ -76,7 +77,7 @@ class Build:
             raise Failed
 
     def compile(self, how):
-        self.step = "compiling"
+        self.step, self.read_for = "compiling", time.monotonic() - self.begun
         with open(f"{self.room}/words", encoding="utf-8") as it:
             words = [word for word in it.read().split("\n")[:-1] if word not in UNWANTED]
         words = [*self.rtlib.guarded(), f"{kit.toolchain_of(self.rtlib)}/bin/clang", *words, "-O2"]
@@ -94,7 +95,8 @@ class Build:
             it.write(made.read())
         os.chmod(part, 0o755)
         os.replace(part, path)
-        programs.record(path, sources)
+        if programs.sum_of_sources(self.crate.name) == sources:
+            programs.record(path, sources)
 
 
 def start(build):
@@ -110,19 +112,19 @@ def start(build):
     return ended
 
 
-def text_of(who, builds, begun):
-    """Returns the line that says how far the first of these builds is, which is the longest."""
-    spent, step = time.monotonic() - begun, builds[0].step
-    # Never more is left than the steps that were begun leave of it.
-    left = max(min(TAKES - spent, TAKES * (1 - STEPS[step])), 0)
-    return f"{who}: {progress.clock(spent)}, {progress.left(left)}: {step}"
+def text_of(who, build):
+    """Returns the line that says how far this build is. How long it has read tells how long it compiles."""
+    spent = time.monotonic() - build.begun
+    whole = build.read_for / READING if build.read_for else max(TAKES, spent / READING)
+    return f"{who}: {progress.clock(spent)}, {progress.left(whole - spent)}: {build.step}"
 
 
 def build_all(rtlib, who, names, room):
     """Builds these programs side by side. Returns whether all are built."""
     crates = {it.name: it for it in rtlib.crates_below(programs.TOP) if it.name in names}
-    builds, begun = [Build(rtlib, crates[it], room) for it in names], time.monotonic()
-    line = progress.Progress(lambda: text_of(who, builds, begun))
+    builds = [Build(rtlib, crates[it], room) for it in names]
+    # The first is the longest.
+    line = progress.Progress(lambda: text_of(who, builds[0]))
     is_well = True
     try:
         for build, ended in [(it, start(it)) for it in builds]:
