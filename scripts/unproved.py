@@ -161,15 +161,16 @@ def alone(who, names):
 
 def build(who, names):
     """Builds those of these programs that are not built, the longest first. Returns whether all are built then."""
-    with alone(who, names), tempfile.TemporaryDirectory(prefix=f"{who}-") as room:
-        names = [it for it in names if not programs.built(it)]
-        if not names:
-            return True
-        rtlib = kit.load_rtlib(who)
-        print(f"{who}: building without proof ({', '.join(names)}), which takes about two minutes", file=sys.stderr, flush=True)
-        progress.end_at_signals(rtlib, who, "the next call begins this build anew", [room])
-        try:
-            return build_all(rtlib, who, names, room)
-        finally:
-            kit.kill_started(rtlib)
-            progress.forget_signals()
+    rtlib, rooms = kit.load_rtlib(who), []
+    progress.end_at_signals(rtlib, who, "the next call begins this build anew", rooms)
+    try:
+        with alone(who, names), tempfile.TemporaryDirectory(prefix=f"{who}-") as room:
+            rooms.append(room)
+            # Another process may have built them in the meantime.
+            names = [it for it in names if not programs.built(it)]
+            if names:
+                print(f"{who}: building without proof ({', '.join(names)}), which takes about two minutes", file=sys.stderr, flush=True)
+            return not names or build_all(rtlib, who, names, room)
+    finally:
+        kit.kill_started(rtlib)
+        progress.forget_signals()
