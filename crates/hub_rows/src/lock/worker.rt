@@ -13,7 +13,7 @@ use std::time::{Clock, Duration};
 pub const ROUNDS: usize = 500;
 
 /// The number of milliseconds for which a caller holds the counter that another waits for.
-const HELD: u64 = 200;
+const HELD: u64 = 400;
 
 /// A caller, what it adds each time, and what it was told.
 #[derive(Drop)]
