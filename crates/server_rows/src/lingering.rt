@@ -14,6 +14,7 @@ use std::sync::atomic::{AtomicU64, Ordering};
 use std::time::{Clock, Duration};
 use tokio::io::{AsyncRead, AsyncWrite};
 use tokio::runtime::Runtime;
+use tokio::time::Sleep;
 
 /// A socket whose client neither sends anything nor closes. Once it is closed, its number is noted.
 struct Silent<'a> {
@@ -135,11 +136,21 @@ fn is_over_after<R: Wait + Clock + Net + RandomSource + AllocGlobal>(
     shared.lingering.let_out(&clock, socket);
     shared.close(&clock, None);
     clock.set(seconds);
-    let mut ticker = Ticker::new(&shared, &clock, timer);
-    Ok(match task.enter(|cx| ticker.poll_over(cx)) {
+    Ok(is_over(&shared, &clock, timer, &task))
+}
+
+/// Answers whether the ticker of this server is over.
+fn is_over<'a, 's, R: Wait>(
+    shared: &'a Shared<(), Silent<'s>>,
+    clock: &'a StillClock<R>,
+    timer: Sleep,
+    task: &MockTask,
+) -> bool {
+    let mut ticker = Ticker::new(shared, clock, timer);
+    match task.enter(|cx| ticker.poll_over(cx)) {
         Poll::Ready(()) => true,
         Poll::Pending => false,
-    })
+    }
 }
 
 #[test]
