@@ -159,10 +159,11 @@ fn a_session_over_memory_is_answered(rt: HostRuntime) {
 /// Answers whether the bell of a connection rings at once, where that of the connection that had its slot before was rung and
 /// nobody has heard it; nothing where memory was refused.
 fn inherits<
+    'a,
     B: OfHub<First24>,
     S: AsyncRead + AsyncWrite,
     R: Wait + Clock + RandomSource + AllocGlobal,
->(rt: &R, hub: &Hub<First24>, host: &mut Host<First24>, setup: &Setup) -> Option<bool>
+>(rt: &'a R, hub: &'a Hub<First24>, host: &mut Host<First24>, setup: &'a Setup) -> Option<bool>
     requires here { B.home ≡ Some hub.now.home }
     requires timed { (moment : ℕ) → ∥ B.tells moment ∥₁ }
     requires host { host.old ≡ record { home = hub.now.home; admitted = 0 } }
