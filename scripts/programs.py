@@ -44,6 +44,11 @@ def files_of(name):
     return found
 
 
+def text_of(fault):
+    """Returns what a file could not be used for, as one line: a folder that may not be written, a full disk."""
+    return f"{fault.filename}: {fault.strerror}" if fault.filename else f"{fault.strerror}"
+
+
 def sum_of(path):
     with open(path, "rb") as it:
         return hashlib.sha256(it.read()).hexdigest()
