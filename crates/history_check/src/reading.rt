@@ -95,6 +95,10 @@ fn read_join(mut rest: &[u8]) -> Option<(Call, Reply)> {
 
 /// Reads the reply to a join, up to the end of the line.
 fn read_joined(mut rest: &[u8]) -> Option<Reply> {
+    // A blank stands between words, and behind none.
+    if rest.ends_with(b" ") {
+        return None;
+    }
     let told = word(&mut rest);
     let reply = if told == b"joined".as_slice() {
         Reply::Joined(number(word(&mut rest))?)

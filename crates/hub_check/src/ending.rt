@@ -4,7 +4,7 @@ use std::io;
 /// A reason why nothing was said of a history.
 #[derive(Drop)]
 pub(crate) enum Ending {
-    /// The arguments are not two words.
+    /// The arguments are not two words, each of which is text.
     Usage,
     /// A file cannot be read.
     File,

@@ -24,7 +24,12 @@ fn main(rt: HostRuntime) -> ExitCode {
 
 /// Answers whether the history is legal, after what is said of it was written.
 fn run(rt: &HostRuntime, alloc: Global) -> Result<bool, Ending> {
-    let words: Vec<String> = env::args(rt)?.skip(1).collect(alloc)?;
+    let words = match env::args(rt) {
+        Ok(words) => words,
+        Err(error) if error.kind() == io::ErrorKind::OutOfMemory => return Err(Ending::Memory),
+        Err(_) => return Err(Ending::Usage),
+    };
+    let words: Vec<String> = words.skip(1).collect(alloc)?;
     let [settings, history] = words.as_slice() else {
         return Err(Ending::Usage);
     };

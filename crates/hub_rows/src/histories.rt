@@ -312,6 +312,16 @@ fn a_line_that_is_no_entry_is_named(rt: HostRuntime) {
     is_none(&rt, "x quit 1 left");
     is_none(&rt, "1 quit 1");
     is_none(&rt, "1 quit 1 left now");
+    // A blank stands behind no word that is the last, whatever the reply.
+    is_none(&rt, "1 quit 1 left ");
+    is_none(
+        &rt,
+        "1 join 127.0.0.1 AAAAAAAAAAAAAAAAAAAAAAAAAAAAAAAAAAAAAAA 0 joined 1 ",
+    );
+    is_none(
+        &rt,
+        "1 join 127.0.0.1 AAAAAAAAAAAAAAAAAAAAAAAAAAAAAAAAAAAAAAA 0 full ",
+    );
     is_none(&rt, "1 take 1 0 0 more");
     is_none(&rt, "1 take 1 257 0 more");
     is_none(&rt, "1 take 1 256 0 less");
