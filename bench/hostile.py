@@ -110,14 +110,14 @@ class Gone(Exception):
 class Client:
     """A client that waits for each answer."""
 
-    def __init__(self, port, timeout=5, window=None, source=None):
+    def __init__(self, port, timeout=5, window=None, host="127.0.0.1", source=None):
         self.socket, self.rest, self.sid = socket.socket(), b"", None
         if window:
             self.socket.setsockopt(socket.SOL_SOCKET, socket.SO_RCVBUF, window)
         if source:
             self.socket.bind((source, 0))
         self.socket.settimeout(timeout)
-        self.socket.connect(("127.0.0.1", port))
+        self.socket.connect((host, port))
 
     def say(self, line):
         self.socket.sendall(line)
@@ -252,7 +252,7 @@ class Report(ctypes.Structure):
 class Hub:
     """A hub that was started, and what there is to see of it."""
 
-    def __init__(self, words, port=None, limits=(), journal=False, **refuse):
+    def __init__(self, words, port=None, limits=(), journal=False, errors=None, **refuse):
         self.shared = os.memfd_create("report")
         env = {name: value for name, value in os.environ.items() if name != "JOURNAL_STREAM"}
         if journal:
@@ -264,7 +264,7 @@ class Hub:
         # What the hub says is read by a handle of its own: one that both had would have one place in the file.
         self.said, self.reader = open("said", "wb"), open("said", "rb")
         self.warned = open("warned", "wb")
-        how = {"env": env, "preexec_fn": limit, "stdin": subprocess.DEVNULL, "stdout": self.said, "stderr": self.warned}
+        how = {"env": env, "preexec_fn": limit, "stdin": subprocess.DEVNULL, "stdout": self.said, "stderr": self.warned if errors is None else errors}
         self.process = subprocess.Popen(words, pass_fds=[self.shared], **how)
         self.port = port
 
@@ -504,9 +504,9 @@ def long_logins(port, short):
 # ---- rows
 
 
-def settings(threads, users=512, more=""):
+def settings(threads, users=512, more="", host="127.0.0.1"):
     with open("hub.toml", "w", encoding="utf-8") as file:
-        file.write(f'listen = "127.0.0.1:0"\nmax_users = {users}\nthreads = {threads}\n{more}')
+        file.write(f'listen = "{host}:0"\nmax_users = {users}\nthreads = {threads}\n{more}')
 
 
 def friends_of(port):
@@ -844,6 +844,9 @@ def room_for_output(table, threads):
 
 
 def main():
+    # It takes its clients from here.
+    import floods
+
     parser = argparse.ArgumentParser(prog="bench/hostile")
     parser.add_argument("program")
     parser.add_argument("--short", action="store_true")
@@ -866,6 +869,7 @@ def main():
     last_lines(table, 2)
     given_at_start(table, 2)
     room_for_output(table, 2)
+    floods.floods(table)
     starts(table, 2)
     # Each of 18 ways; a short run takes six of them.
     for place, each in enumerate((2, 3, 7, 20, 50, 997)):

@@ -15,10 +15,14 @@ pub trait Bell: Drop {
         ensures registered { result ≡ false → IsArmed cx.new }
         ensures kept { Keeps cx.old cx.new };
 
-    /// Answers whether a line may be handed over now. It is asked before each. Where it may not, the session goes on to
-    /// write and to take, hands over and reads nothing, and asks again once the bell is rung. So a bell that has said no
-    /// has to be rung later, whatever happens.
-    fn may_hand(&mut self) -> bool {
+    /// Answers whether a line may be handed over now. It is asked before each, and told how many bytes were read and not handed
+    /// over, which are those of the line and some more. Where it may not, the session goes on to write and to take, hands over
+    /// and reads nothing, and asks again once the bell is rung. So a bell that has said no has to be rung later, whatever
+    /// happens.
+    fn may_hand(&mut self, _bytes: usize) -> bool {
         true
     }
+
+    /// Notes that the stream took so many bytes, and whether it would take none when it was written before.
+    fn wrote(&mut self, _bytes: usize, _was_full: bool) {}
 }

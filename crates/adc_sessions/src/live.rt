@@ -11,6 +11,7 @@ use crate::stream::Stream;
 use adc_line::{Framer, Next};
 use futures::task::{Context, Poll};
 use hub_rules::Verdict;
+use memchr::memchr;
 use outboxes::Taken;
 use std::alloc::Global;
 use tokio::io::{AsyncRead, AsyncWrite};
@@ -63,8 +64,12 @@ pub(crate) struct Live<S, P, B> {
     reads_next: bool,
     // The bell was not rung when it was last heard, so that it wakes the task.
     is_listening: bool,
-    // Bytes were read since the framer last had no whole line.
+    // A line feed was read since the framer last had no whole line.
     may_have_line: bool,
+    // The number of bytes that were read and not handed over.
+    unread_bytes: usize,
+    // The stream would take nothing when it was last written.
+    is_full: bool,
     ghost in_range: { written ≤ length output.items },
     ghost has_room: { 0 < length input.items },
     ghost reads_few: { length input.items ≤ 2_048 },
@@ -97,6 +102,8 @@ impl<S: AsyncRead + AsyncWrite, P: Port, B: Bell> Live<S, P, B> {
             reads_next: false,
             is_listening: false,
             may_have_line: false,
+            unread_bytes: 0,
+            is_full: false,
         }
     }
 
@@ -173,7 +180,7 @@ impl<S: AsyncRead + AsyncWrite, P: Port, B: Bell> Live<S, P, B> {
         if !self.may_have_line {
             return false;
         }
-        !self.bell.may_hand()
+        !self.bell.may_hand(self.unread_bytes)
     }
 
     /// Hands over the next line, or looks for what else there is to do.
@@ -236,6 +243,8 @@ impl<S: AsyncRead + AsyncWrite, P: Port, B: Bell> Live<S, P, B> {
         ensures goes_on { result ≢ Turn.Rest }
     {
         self.owes_take = true;
+        let handed = self.line.len().saturating_add(1);
+        self.unread_bytes = self.unread_bytes.saturating_sub(handed);
         match self.port.line(self.alloc, &self.line) {
             Ok(Verdict::Kept) => Turn::Again,
             Ok(Verdict::Ended) => {
@@ -338,7 +347,8 @@ impl<S: AsyncRead + AsyncWrite, P: Port, B: Bell> Live<S, P, B> {
                 Turn::Again
             }
             Poll::Ready(Ok(count)) => {
-                self.may_have_line = true;
+                self.unread_bytes = self.unread_bytes.saturating_add(count);
+                self.may_have_line |= memchr(b'\n', &self.input[..count]).is_some();
                 match self.framer.feed(&self.input[..count]) {
                     Ok(()) => {
                         self.widen(count);
@@ -377,10 +387,15 @@ impl<S: AsyncRead + AsyncWrite, P: Port, B: Bell> Live<S, P, B> {
             Poll::Ready(Ok(0)) => Turn::Over(End::WriteFailed),
             Poll::Ready(Ok(count)) => {
                 self.written += count;
+                self.bell.wrote(count, self.is_full);
+                self.is_full = false;
                 Turn::Again
             }
             Poll::Ready(Err(_)) => Turn::Over(End::WriteFailed),
-            Poll::Pending => Turn::Rest,
+            Poll::Pending => {
+                self.is_full = true;
+                Turn::Rest
+            }
         }
     }
 }

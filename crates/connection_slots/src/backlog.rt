@@ -1,113 +1,106 @@
-//! The backlog of a client: how far it is behind.
-/// The number of waiting lines beyond which a client is far behind: half of the lines that its outbox holds.
-pub const FAR_BEHIND: u64 = 512;
+//! The backlog of a client: how far it is behind, and whether it reads.
+use crate::amount::Amount;
+
+/// What waits beyond which a client is far behind: half of the lines, or of the bytes, that its outbox holds.
+pub const FAR_BEHIND: Amount = Amount {
+    lines: 512,
+    bytes: 524_288,
+};
 
 /// The number of ticks in a row for which a client is waited for that takes nothing, and a sender gives way: a fifth of a
 /// second. On a busy machine a thread may stand still for a tenth.
 pub const PATIENCE: u64 = 40;
 
-/// The number of lines that wait for a client, as far as is known. It is counted, and put right by each take that finds no
+/// The number of bytes a tick that a client takes at least which reads: 16 KB a second.
+pub const PACE: u64 = 82;
+
+/// The number of bytes that count for later ticks at most: those of six seconds. The system says that there is room in a
+/// socket again once a third of its buffer is free, so that who reads slowly is seen to take 85 KB at a time.
+pub const MOST_CREDIT: u64 = 1_200 * PACE;
+
+/// The number of bytes of takes that count for later ticks at most: those of two seconds. The system may hold them, and its
+/// client read none.
+pub const TAKEN_CREDIT: u64 = 400 * PACE;
+
+/// What waits for a client, as far as is known, and whether it reads. It is counted, and put right by each take that finds no
 /// more.
 #[derive(Clone, Copy, Debug, PartialEq, Eq)]
 pub struct Backlog {
-    // So many lines waited when so many had been said to everybody.
-    waiting: u64,
-    said: u64,
+    // So much waited when so much had been said to everybody.
+    waiting: Amount,
+    said: Amount,
     // The number of ticks that it was waited for since it last moved.
     waited_for: u64,
+    // The number of bytes that it took and that no tick has used up.
+    credit: u64,
 }
 
 impl Backlog {
-    /// Makes that of a client for whom nothing waits, once `said` lines were said to everybody.
-    pub fn new(said: u64) -> Backlog {
+    /// Makes that of a client for whom nothing waits, once `said` was said to everybody.
+    pub fn new(said: Amount) -> Backlog {
         Backlog {
-            waiting: 0,
+            waiting: Amount::NONE,
             said,
             waited_for: 0,
+            credit: 0,
         }
     }
 
-    /// Counts a line for this client alone.
-    pub fn give(&mut self) {
-        self.waiting = self.waiting.saturating_add(1);
+    /// Counts a line of so many bytes for this client alone.
+    pub fn give(&mut self, bytes: u64) {
+        self.waiting = self.waiting.plus(Amount::of_line(bytes));
     }
 
-    /// Counts `lines` taken, after which more may be left or none is.
-    pub fn count_taken(&mut self, said: u64, lines: u64, has_more: bool) {
+    /// Counts what was taken, after which more may be left or none is.
+    pub fn count_taken(&mut self, said: Amount, taken: Amount, has_more: bool) {
         self.waiting = if has_more {
-            self.lines(said).saturating_sub(lines)
+            self.waiting(said).minus(taken)
         } else {
-            0
+            Amount::NONE
         };
         self.said = said;
-        if lines != 0 {
+        if taken.lines != 0 {
             self.waited_for = 0;
+        }
+        self.earn(taken.bytes, TAKEN_CREDIT);
+    }
+
+    /// Counts bytes that its socket took which had been full: so its client has read about as many.
+    pub fn count_written(&mut self, bytes: u64) {
+        self.earn(bytes, MOST_CREDIT);
+    }
+
+    fn earn(&mut self, bytes: u64, most: u64) {
+        if self.credit < most {
+            self.credit = self.credit.saturating_add(bytes).min(most);
         }
     }
 
     /// Counts a tick; where the client is far behind, it was waited for.
-    pub fn tick(&mut self, said: u64) {
-        if self.lines(said) > FAR_BEHIND {
+    pub fn tick(&mut self, said: Amount) {
+        if self.waiting(said).is_beyond(FAR_BEHIND) {
+            self.credit = self.credit.saturating_sub(PACE);
             self.waited_for = self.waited_for.saturating_add(1);
         }
     }
 
-    /// Answers whether the client is far behind and still takes lines, so that senders are to give way.
-    pub fn is_behind(&self, said: u64) -> bool {
-        self.waited_for < PATIENCE && self.lines(said) > FAR_BEHIND
+    /// Answers whether senders are to wait for this client, where it is far behind: it has moved of late, or reads.
+    pub fn is_waited_for(&self) -> bool {
+        self.waited_for < PATIENCE || self.reads()
     }
 
-    fn lines(&self, said: u64) -> u64 {
-        self.waiting.saturating_add(said.wrapping_sub(self.said))
-    }
-}
-
-// The throttle of a sender: how long it gives way.
-/// The number of lines that a sender may hand over that gave way for long. After as many for everybody it is looked who is
-/// behind.
-pub const BURST: u64 = 16;
-
-/// The throttle of one sender: since when it gives way, and how many lines it may hand over.
-#[derive(Clone, Copy, Debug, PartialEq, Eq)]
-pub struct Throttle {
-    since: Option<u64>,
-    // The number of lines that it may hand over before it gives way again.
-    left: u64,
-}
-
-impl Throttle {
-    /// Makes that of a sender that gives way to nobody.
-    pub fn new() -> Throttle {
-        Throttle {
-            since: None,
-            left: 0,
-        }
+    /// Answers whether the client is known to read: it took 16 KB a second at least.
+    pub fn reads(&self) -> bool {
+        self.credit > 0
     }
 
-    /// Takes one of the lines that a sender may hand over at once, if there is one.
-    pub fn spend(&mut self) -> bool {
-        match self.left.checked_sub(1) {
-            Some(left) => {
-                self.left = left;
-                true
-            }
-            None => false,
-        }
+    /// Answers whether the client is far behind and waited for, so that senders are to give way.
+    pub fn is_behind(&self, said: Amount) -> bool {
+        self.is_waited_for() && self.waiting(said).is_beyond(FAR_BEHIND)
     }
 
-    /// Answers whether the sender has given way for long enough at this tick, and may hand over lines.
-    pub fn is_over(&mut self, tick: u64) -> bool {
-        match self.since {
-            Some(since) if tick.wrapping_sub(since) >= PATIENCE => {
-                self.since = None;
-                self.left = BURST - 1;
-                true
-            }
-            Some(_) => false,
-            None => {
-                self.since = Some(tick);
-                false
-            }
-        }
+    /// Gives what waits once this was said to everybody.
+    pub fn waiting(&self, said: Amount) -> Amount {
+        self.waiting.plus(said.minus(self.said))
     }
 }

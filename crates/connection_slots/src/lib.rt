@@ -4,26 +4,33 @@
 
 mod accept_error;
 mod accept_waker;
+mod amount;
 mod backlog;
 mod bells;
 mod descriptors;
+mod giving_way;
 mod handoff;
 mod lifecycle;
 mod lingering;
 mod lingering_socket;
+mod sender;
 mod shared;
+mod sight;
 mod slots;
 mod startup;
 mod ticker;
 mod wakers;
 
 pub use accept_error::{AcceptError, accept_error_of};
-pub use backlog::{BURST, Backlog, FAR_BEHIND, PATIENCE, Throttle};
+pub use amount::Amount;
+pub use backlog::{Backlog, FAR_BEHIND, MOST_CREDIT, PACE, PATIENCE};
 pub use descriptors::{descriptor_limit, descriptors_needed};
 pub use handoff::Handoff;
 pub use lifecycle::{Fault, Lifecycle};
 pub use lingering::Lingering;
+pub use sender::{BURST, BURST_BYTES, EACH_LINE, Given, LITTLE, SHORT, Throttle};
 pub use shared::Shared;
+pub use sight::{NEARLY_FULL, Sight};
 pub use startup::Startup;
 pub use ticker::Ticker;
 pub use wakers::Wakers;

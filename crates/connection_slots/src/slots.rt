@@ -5,8 +5,11 @@ ghost use Rattle.connection_slots.specs.Named.{IsSetAt, IsNamed, OthersStayNamed
 ghost use Rattle.connection_slots.specs.Rung.{IsRung, HasHeard, IsAwake, Rests, OthersStay, SameSlots, StaysRung};
 
 use crate::accept_waker::AcceptWaker;
-use crate::backlog::{Backlog, Throttle};
+use crate::amount::Amount;
+use crate::backlog::Backlog;
 use crate::bells::Bells;
+use crate::sender::Given;
+use crate::sight::Sight;
 use adc_base32::Sid;
 use futures::task::{Context, Poll, Source, Waker};
 use std::alloc::{AllocError, Global};
@@ -14,33 +17,42 @@ use std::collections::BTreeMap;
 
 /// The state of the session that has a slot, beside its bell.
 #[derive(Drop)]
-struct Slot {
+pub(crate) struct Slot {
     // The identifier by which it is woken alone. Nobody can mean it before it has one that others know.
     sid: Option<Sid>,
     // It is among those that give way.
-    is_held: bool,
+    pub(crate) is_held: bool,
     // That of its client; nobody is waited for where the slot is free.
     backlog: Option<Backlog>,
+    // What it gave of late to all, and to those who were far behind.
+    pub(crate) given: Given,
+    // The number of bytes of a long line of its own that is being said.
+    pub(crate) on_the_way: u64,
 }
 
 /// The slots of all sessions, under the lock of `Wakers`.
 #[derive(Drop)]
 pub(crate) struct Slots {
-    bells: Bells,
-    slots: Vec<Slot>,
+    pub(crate) bells: Bells,
+    pub(crate) slots: Vec<Slot>,
     // The slots by the identifiers of their sessions.
-    places: BTreeMap<Sid, usize>,
+    pub(crate) places: BTreeMap<Sid, usize>,
     // There was no memory to put one there, so all slots are looked at.
-    lacks_some: bool,
+    pub(crate) lacks_some: bool,
     // Those that give way.
-    held: Vec<usize>,
-    ticks: u64,
-    ticker: Option<Waker>,
+    pub(crate) held: Vec<usize>,
+    pub(crate) ticks: u64,
+    // The second of the last call that told one.
+    pub(crate) second: u64,
+    pub(crate) sight: Sight,
+    // The number of bytes of all long lines that are being said.
+    pub(crate) on_the_way: u64,
+    pub(crate) ticker: Option<Waker>,
     pub(crate) accept: AcceptWaker,
 }
 
 /// Answers whether the slot has a client that is far behind.
-fn is_far_behind(slot: &Slot, said: u64) -> bool {
+fn is_far_behind(slot: &Slot, said: Amount) -> bool {
     match &slot.backlog {
         Some(backlog) => backlog.is_behind(said),
         None => false,
@@ -70,6 +82,8 @@ impl Slots {
                 sid: None,
                 is_held: false,
                 backlog: None,
+                given: Given::new(),
+                on_the_way: 0,
             })?;
         }
         Ok(Slots {
@@ -79,6 +93,9 @@ impl Slots {
             lacks_some: false,
             held: Vec::with_capacity(alloc, count)?,
             ticks: 0,
+            second: 0,
+            sight: Sight::CLEAR,
+            on_the_way: 0,
             ticker: None,
             accept: AcceptWaker::new(),
         })
@@ -97,7 +114,9 @@ impl Slots {
             forget(&mut self.places, slot.sid, place);
             slot.sid = None;
             slot.backlog = backlog;
+            slot.given = Given::new();
         }
+        self.end_line(place);
     }
 
     /// Notes the identifier by which the session of this slot is known.
@@ -116,8 +135,8 @@ impl Slots {
         }
     }
 
-    /// Wakes the session with this identifier, which was given a line. Answers whether it is behind.
-    pub(crate) fn wake_one(&mut self, sid: Sid, own: usize, said: u64) -> bool
+    /// Wakes the session with this identifier, which was given a line of so many bytes. Answers whether it is behind.
+    pub(crate) fn wake_one(&mut self, sid: Sid, own: usize, bytes: u64, said: Amount) -> bool
         ensures rung { (place : ℕ) → slot_at self.old.places.entries sid ≡ Some place → place ≢ own → IsRung self.new.bells place }
         ensures woken { (place : ℕ) → slot_at self.old.places.entries sid ≡ Some place → place ≢ own → IsAwake self.new.bells place }
         ensures walked { slot_at self.old.places.entries sid ≡ None → self.old.lacks_some ≡ true → (place : ℕ) → IsNamed self.old place sid
@@ -130,7 +149,7 @@ impl Slots {
         ensures index { SameIndex self.old self.new }
     {
         match self.place(sid) {
-            Some(place) if place != own => self.wake_for_line(place, said),
+            Some(place) if place != own => self.wake_for_line(place, bytes, said),
             _ => false,
         }
     }
@@ -149,8 +168,8 @@ impl Slots {
         }
     }
 
-    /// Wakes the session of a slot, which was given a line. Answers whether it is behind.
-    fn wake_for_line(&mut self, place: usize, said: u64) -> bool
+    /// Wakes the session of a slot, which was given a line of so many bytes. Answers whether it is behind.
+    fn wake_for_line(&mut self, place: usize, bytes: u64, said: Amount) -> bool
         ensures rung { IsRung self.new.bells place }
         ensures woken { IsAwake self.new.bells place }
         ensures others { OthersStay self.old.bells self.new.bells place }
@@ -161,7 +180,10 @@ impl Slots {
             return false;
         };
         if let Some(backlog) = &mut slot.backlog {
-            backlog.give();
+            backlog.give(bytes);
+            if backlog.is_waited_for() {
+                self.sight.add(backlog.waiting(said), backlog.reads());
+            }
         }
         is_far_behind(slot, said)
     }
@@ -201,57 +223,75 @@ impl Slots {
         self.bells.was_rung(slot, cx, source)
     }
 
-    /// Counts `lines` taken for the session of this slot.
-    pub(crate) fn count_taken(&mut self, slot: usize, said: u64, lines: u64, has_more: bool)
+    /// Counts what the session of this slot gave in this second.
+    pub(crate) fn count_given(&mut self, slot: usize, second: u64, bytes: u64)
+        ensures bells { self.new.bells ≡ self.old.bells }
+        ensures index { SameIndex self.old self.new }
+    {
+        self.second = second;
+        if let Some(slot) = self.slots.get_mut(slot) {
+            slot.given.count(second, bytes);
+        }
+    }
+
+    /// Counts what was taken for the session of this slot.
+    pub(crate) fn count_taken(&mut self, slot: usize, said: Amount, taken: Amount, has_more: bool)
         ensures bells { self.new.bells ≡ self.old.bells }
         ensures index { SameIndex self.old self.new }
     {
         if let Some(slot) = self.slots.get_mut(slot)
             && let Some(backlog) = &mut slot.backlog
         {
-            backlog.count_taken(said, lines, has_more);
+            backlog.count_taken(said, taken, has_more);
+        }
+    }
+
+    /// Counts bytes that the socket of this slot took, which had been full.
+    pub(crate) fn count_written(&mut self, slot: usize, bytes: u64)
+        ensures bells { self.new.bells ≡ self.old.bells }
+        ensures index { SameIndex self.old self.new }
+    {
+        if let Some(slot) = self.slots.get_mut(slot)
+            && let Some(backlog) = &mut slot.backlog
+        {
+            backlog.count_written(bytes);
         }
     }
 
     /// Answers whether the client of this slot is far behind.
-    pub(crate) fn is_slot_behind(&self, slot: usize, said: u64) -> bool {
+    pub(crate) fn is_slot_behind(&self, slot: usize, said: Amount) -> bool {
         match self.slots.get(slot) {
             Some(slot) => is_far_behind(slot, said),
             None => false,
         }
     }
 
-    /// Answers whether somebody is behind, so that senders give way.
-    pub(crate) fn is_behind(&self, said: u64) -> bool {
-        for slot in &self.slots {
-            if is_far_behind(slot, said) {
-                return true;
-            }
-        }
-        false
-    }
-
-    /// Answers whether the session of this slot may hand over a line although somebody is behind. Where it may not, it is
-    /// woken once nobody is, and at the next tick.
-    pub(crate) fn may_send(&mut self, slot: usize, throttle: &mut Throttle) -> bool
+    /// Looks who is behind, and answers whether somebody is, so that senders give way.
+    pub(crate) fn look(&mut self, said: Amount) -> bool
         ensures bells { self.new.bells ≡ self.old.bells }
+        ensures held { self.new.held ≡ self.old.held }
         ensures index { SameIndex self.old self.new }
     {
-        if throttle.is_over(self.ticks) {
-            return true;
-        }
-        let place = slot;
-        let Some(slot) = self.slots.get_mut(place) else {
-            return true;
-        };
-        if !slot.is_held {
-            if self.held.push(place).is_err() {
-                return true;
+        let sight = self.sight_of(said);
+        self.sight = sight;
+        sight.is_behind
+    }
+
+    fn sight_of(&self, said: Amount) -> Sight {
+        let mut sight = Sight::CLEAR;
+        for slot in &self.slots {
+            if let Some(backlog) = &slot.backlog
+                && backlog.is_waited_for()
+            {
+                sight.add(backlog.waiting(said), backlog.reads());
             }
-            slot.is_held = true;
-            self.ticker = None;
         }
-        false
+        sight
+    }
+
+    /// Answers whether somebody is behind, as was last seen.
+    pub(crate) fn is_behind(&self) -> bool {
+        self.sight.is_behind
     }
 
     /// Wakes those who give way.
@@ -283,12 +323,13 @@ impl Slots {
         }
     }
 
-    /// Counts a tick for each client that is far behind.
-    pub(crate) fn tick(&mut self, said: u64)
+    /// Counts a tick, in this second, for each client that is far behind.
+    pub(crate) fn tick(&mut self, said: Amount, second: u64)
         ensures bells { self.new.bells ≡ self.old.bells }
         ensures index { SameIndex self.old self.new }
     {
         self.ticks = self.ticks.wrapping_add(1);
+        self.second = second;
         for slot in self.slots.iter_mut() {
             if let Some(backlog) = &mut slot.backlog {
                 backlog.tick(said);

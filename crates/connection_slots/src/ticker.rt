@@ -62,7 +62,7 @@ impl<'a, T, S: AsyncRead + AsyncWrite, R: Wait + Clock> Ticker<'a, T, S, R> {
         match self.timer.poll_elapsed(cx) {
             Poll::Pending => Poll::Pending,
             Poll::Ready(_) => {
-                self.shared.wakers.tick();
+                self.shared.wakers.tick(seconds(self.rt));
                 self.set();
                 cx.yield_now()
             }
@@ -75,5 +75,13 @@ impl<'a, T, S: AsyncRead + AsyncWrite, R: Wait + Clock> Ticker<'a, T, S, R> {
         {
             self.timer.reset(next);
         }
+    }
+}
+
+/// Gives the seconds since 1970; 0 where the clock cannot be read.
+fn seconds<R: Clock>(rt: &R) -> u64 {
+    match rt.since_1970() {
+        Ok(time) => time.as_secs(),
+        Err(_) => 0,
     }
 }

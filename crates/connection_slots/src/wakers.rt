@@ -1,7 +1,9 @@
 ghost use Rattle.std.specs.Prelude.{◌≡◌, false};
 ghost use Rattle.futures.specs.Task.{IsArmed, Keeps};
 
-use crate::backlog::{BURST, Backlog, Throttle};
+use crate::amount::Amount;
+use crate::backlog::Backlog;
+use crate::sender::{BURST, BURST_BYTES, EACH_LINE, SHORT, Throttle};
 use crate::slots::Slots;
 use adc_base32::Sid;
 use futures::spin::lock;
@@ -15,14 +17,15 @@ use std::sync::atomic::{AtomicBool, AtomicU64, Ordering};
 /// One more waker is the accept task's. Where a call may be long, it wakes that task: so another thread comes to look for
 /// what the sockets have, while the one of the call does not.
 ///
-/// Also counted, roughly, is how many lines wait for each client: senders give way while a client that reads is far behind.
-/// No promise of a session rests on it. A slot that there is not is never woken, and holds up nobody.
+/// Also counted, roughly, is what waits for each client, and what each sender gives: senders give way while a client that reads
+/// is far behind. No promise of a session rests on it. A slot that there is not is never woken, and holds up nobody.
 #[derive(Drop)]
 pub struct Wakers {
     source: Source,
     slots: Mutex<Slots>,
-    // The number of lines that were said to everybody.
+    // The number of lines that were said to everybody, and that of their bytes.
     said: AtomicU64,
+    said_bytes: AtomicU64,
     // Somebody is behind, so that senders ask before each line.
     is_behind: AtomicBool,
 }
@@ -34,6 +37,7 @@ impl Wakers {
             source: Source::new(),
             slots: Mutex::new(Slots::new(alloc, count)?),
             said: AtomicU64::new(0),
+            said_bytes: AtomicU64::new(0),
             is_behind: AtomicBool::new(false),
         })
     }
@@ -62,30 +66,29 @@ impl Wakers {
         }
     }
 
-    /// Wakes the session with this identifier, which was given a line by the session of the slot `own`. A session is not
-    /// woken by its own call: it takes what waits after each of them.
-    pub fn wake_one(&self, sid: Sid, own: usize) {
+    /// Wakes the session with this identifier, which was given a line of so many bytes by the session of the slot `own` in this
+    /// second. A session is not woken by its own call: it takes what waits after each of them.
+    pub fn wake_one(&self, sid: Sid, own: usize, bytes: u64, second: u64) {
         if let Some(mut slots) = lock(&self.slots)
-            && slots.wake_one(sid, own, self.said.load(Ordering::SeqCst))
+            && slots.wake_one(sid, own, bytes, self.broadcasts())
         {
+            slots.count_given(own, second, bytes.saturating_add(EACH_LINE));
             self.is_behind.store(true, Ordering::SeqCst);
         }
     }
 
-    /// Wakes two sessions.
-    pub fn wake_two(&self, one: Sid, other: Sid, own: usize) {
-        if let Some(mut slots) = lock(&self.slots) {
-            let said = self.said.load(Ordering::SeqCst);
-            let is_behind = slots.wake_one(one, own, said);
-            if slots.wake_one(other, own, said) | is_behind {
-                self.is_behind.store(true, Ordering::SeqCst);
-            }
-        }
+    /// Wakes two sessions, each of which was given a line of so many bytes.
+    pub fn wake_two(&self, one: Sid, other: Sid, own: usize, bytes: u64, second: u64) {
+        self.wake_one(one, own, bytes, second);
+        self.wake_one(other, own, bytes, second);
     }
 
-    /// Wakes all sessions but that of the slot `own`.
-    pub fn wake_everybody(&self, own: usize) {
+    /// Wakes all sessions but that of the slot `own`, which gave them lines of so many bytes in this second: 256 more count for
+    /// each line.
+    pub fn wake_everybody(&self, own: usize, given: Amount, second: u64) {
         if let Some(mut slots) = lock(&self.slots) {
+            let weight = given.lines.saturating_mul(EACH_LINE);
+            slots.count_given(own, second, given.bytes.saturating_add(weight));
             slots.wake_everybody(own);
         }
     }
@@ -111,25 +114,30 @@ impl Wakers {
         }
     }
 
-    /// Counts a line that was said to everybody. Now and then it is looked who is behind.
-    pub fn count_broadcast(&self) {
-        let before = self.said.fetch_add(1, Ordering::SeqCst);
-        if before % BURST == 0 {
+    /// Counts a line of so many bytes that was said to everybody. Now and then it is looked who is behind.
+    pub fn count_broadcast(&self, bytes: u64) {
+        let lines = self.said.fetch_add(1, Ordering::SeqCst);
+        let before = self.said_bytes.fetch_add(bytes, Ordering::SeqCst);
+        let after = before.wrapping_add(bytes);
+        if lines % BURST == 0 || before / BURST_BYTES != after / BURST_BYTES {
             self.look();
         }
     }
 
-    /// Gives the number of lines that were said to everybody so far.
-    pub fn broadcasts(&self) -> u64 {
-        self.said.load(Ordering::SeqCst)
+    /// Gives what was said to everybody so far.
+    pub fn broadcasts(&self) -> Amount {
+        Amount {
+            lines: self.said.load(Ordering::SeqCst),
+            bytes: self.said_bytes.load(Ordering::SeqCst),
+        }
     }
 
-    /// Counts `lines` taken for the session of this slot, after which more may be left or none is. Before the hub was asked for
-    /// them, `said` lines had been said to everybody; what was said since may be left. Where that is much, the session is woken
-    /// to take again.
-    pub fn count_taken(&self, slot: usize, said: u64, lines: u64, has_more: bool) {
+    /// Counts what was taken for the session of this slot, after which more may be left or none is. Before the hub was asked for
+    /// it, `said` had been said to everybody; what was said since may be left. Where that is much, the session is woken to take
+    /// again.
+    pub fn count_taken(&self, slot: usize, said: Amount, taken: Amount, has_more: bool) {
         if let Some(mut slots) = lock(&self.slots) {
-            slots.count_taken(slot, said, lines, has_more);
+            slots.count_taken(slot, said, taken, has_more);
             if !has_more && slots.is_slot_behind(slot, self.broadcasts()) {
                 slots.wake_slot(slot);
             }
@@ -139,32 +147,50 @@ impl Wakers {
         }
     }
 
+    /// Counts bytes that the socket of this slot took, which had been full.
+    pub fn count_written(&self, slot: usize, bytes: u64) {
+        if let Some(mut slots) = lock(&self.slots) {
+            slots.count_written(slot, bytes);
+        }
+    }
+
     /// Answers whether somebody is behind, as was last seen.
     pub fn is_behind(&self) -> bool {
         self.is_behind.load(Ordering::SeqCst)
     }
 
-    /// Answers whether the session of this slot may hand over a line now. Where it may not, since somebody is behind, it is
-    /// woken once nobody is, and at the next tick.
-    pub fn may_send(&self, slot: usize, throttle: &mut Throttle) -> bool {
-        if !self.is_behind() {
-            *throttle = Throttle::new();
-            return true;
-        }
-        if throttle.spend() {
+    /// Answers whether the session of this slot may hand over lines of so many bytes now. Where it may not, since somebody is
+    /// behind, it is woken once nobody is, and at the next tick. Whatever it may hand over is to be done, and counted, before it
+    /// asks again.
+    pub fn may_send(&self, slot: usize, bytes: u64, throttle: &mut Throttle) -> bool {
+        if bytes <= SHORT && !throttle.is_on_the_way && !self.is_behind() {
+            throttle.open();
             return true;
         }
         match lock(&self.slots) {
-            // It may be that nobody is behind any more.
-            Some(mut slots) => !self.is_behind() || slots.may_send(slot, throttle),
+            Some(mut slots) => {
+                let may_send = slots.may_send(slot, bytes, self.broadcasts(), throttle);
+                self.is_behind.store(slots.is_behind(), Ordering::SeqCst);
+                may_send
+            }
             None => true,
+        }
+    }
+
+    /// Notes that the last line of the session of this slot was said.
+    pub fn end_line(&self, slot: usize, throttle: &mut Throttle) {
+        if throttle.is_on_the_way
+            && let Some(mut slots) = lock(&self.slots)
+        {
+            slots.end_line(slot);
+            throttle.is_on_the_way = false;
         }
     }
 
     /// Looks who is behind, and wakes those who gave way where nobody is.
     fn look(&self) {
         if let Some(mut slots) = lock(&self.slots) {
-            let is_behind = slots.is_behind(self.said.load(Ordering::SeqCst));
+            let is_behind = slots.look(self.broadcasts());
             self.is_behind.store(is_behind, Ordering::SeqCst);
             if !is_behind {
                 slots.let_go();
@@ -172,13 +198,13 @@ impl Wakers {
         }
     }
 
-    /// Counts a tick: those who give way ask again, and those for whom they do are waited for once more.
-    pub fn tick(&self) {
+    /// Counts a tick in this second: those who give way ask again, and those for whom they do are waited for once more.
+    pub fn tick(&self, second: u64) {
         if let Some(mut slots) = lock(&self.slots) {
-            let said = self.said.load(Ordering::SeqCst);
-            slots.tick(said);
-            self.is_behind
-                .store(slots.is_behind(said), Ordering::SeqCst);
+            let said = self.broadcasts();
+            slots.tick(said, second);
+            let is_behind = slots.look(said);
+            self.is_behind.store(is_behind, Ordering::SeqCst);
             slots.let_go();
         }
     }

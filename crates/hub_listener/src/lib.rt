@@ -5,6 +5,7 @@ mod bind;
 mod listener;
 mod moments;
 mod opening;
+mod options;
 mod socket;
 mod time_task;
 

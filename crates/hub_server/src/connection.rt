@@ -7,7 +7,7 @@ use crate::free_slot::OfHub;
 use crate::left_slot::LeftSlot;
 use crate::server::Server;
 use adc_sessions::{Bell, Port, Session, Stream};
-use connection_slots::{Throttle, Wakers};
+use connection_slots::{Amount, Throttle, Wakers};
 use futures::Future;
 use futures::task::Context;
 use hub_core::{LineRefused, Prepared, Setup, TakeRefused, Taken, Touched, Verdict, prepare};
@@ -19,6 +19,9 @@ use std::sync::Wait;
 use std::time::Clock;
 use tokio::io::{AsyncRead, AsyncWrite};
 
+/// The number of bytes of the line by which all hear that a connection has quit, where nothing more is said.
+const QUIT: u64 = 10;
+
 /// One connection of the hub, for its session.
 pub struct Connection<'a, B: OfHub<H>, S: Stream, H: SessionHash, R: Moments> {
     server: &'a Server<'a, B, S, H, R>,
@@ -26,8 +29,9 @@ pub struct Connection<'a, B: OfHub<H>, S: Stream, H: SessionHash, R: Moments> {
     challenge: [u8; 24],
     slot: usize,
     is_named: bool,
-    // A line was for everybody, and nobody was woken yet.
-    owes_wake: bool,
+    // Lines for everybody for which nobody was woken yet, and the second of the last of them.
+    owed: Amount,
+    second: u64,
     ghost here: { pass.home ≡ server.now.hub.now.home },
     ghost challenged: { pass.challenge ≡ challenge },
 }
@@ -40,7 +44,8 @@ impl<'a, B: OfHub<H>, S: Stream, H: SessionHash, R: Moments> Drop for Connection
             challenge: _,
             slot: _,
             is_named: _,
-            owes_wake: _,
+            owed: _,
+            second: _,
         } = self;
         drop(pass);
     }
@@ -72,7 +77,8 @@ impl<
             challenge,
             slot,
             is_named: false,
-            owes_wake: false,
+            owed: Amount::NONE,
+            second: 0,
         }
     }
 
@@ -81,9 +87,9 @@ impl<
         SlotBell::new(&self.server.shared.wakers, self.slot)
     }
 
-    /// Wakes those whom the last line concerned. A client's lines often come together, so where one is for everybody,
-    /// they are woken once for all, by the take that follows.
-    fn wake(&mut self, touched: Touched)
+    /// Wakes those whom the last line concerned, of so many bytes. A client's lines often come together, so where one is for
+    /// everybody, they are woken once for all, by the take that follows.
+    fn wake(&mut self, touched: Touched, bytes: u64)
         ensures server { self.new.server ≡ self.old.server }
         ensures pass { self.new.pass ≡ self.old.pass }
     {
@@ -95,10 +101,16 @@ impl<
             self.is_named = true;
         }
         if let Touched::Everybody = touched {
-            self.server.shared.wakers.count_broadcast();
-            self.owes_wake = true;
+            self.server.shared.wakers.count_broadcast(bytes);
+            self.owed = self.owed.plus(Amount::of_line(bytes));
         } else {
-            wake_touched(&self.server.shared.wakers, touched, self.slot);
+            wake_touched(
+                &self.server.shared.wakers,
+                touched,
+                self.slot,
+                bytes,
+                self.second,
+            );
         }
     }
 
@@ -107,20 +119,27 @@ impl<
         ensures server { self.new.server ≡ self.old.server }
         ensures pass { self.new.pass ≡ self.old.pass }
     {
-        if self.owes_wake {
-            self.owes_wake = false;
-            self.server.shared.wakers.wake_everybody(self.slot);
+        let owed = self.owed;
+        if owed.lines != 0 {
+            self.owed = Amount::NONE;
+            self.server
+                .shared
+                .wakers
+                .wake_everybody(self.slot, owed, self.second);
         }
     }
 }
 
-/// Wakes those whom a call of the session of this slot concerned.
-fn wake_touched(wakers: &Wakers, touched: Touched, slot: usize) {
+/// Wakes those whom a call of the session of this slot concerned, which gave each a line of about so many bytes in this second.
+fn wake_touched(wakers: &Wakers, touched: Touched, slot: usize, bytes: u64, second: u64) {
     match touched {
         Touched::Nobody => {}
-        Touched::One(sid) => wakers.wake_one(sid, slot),
-        Touched::Two(one, other) => wakers.wake_two(one, other, slot),
-        Touched::Everybody => wakers.wake_everybody(slot),
+        Touched::One(sid) => wakers.wake_one(sid, slot, bytes, second),
+        Touched::Two(one, other) => wakers.wake_two(one, other, slot, bytes, second),
+        Touched::Everybody => {
+            wakers.count_broadcast(bytes);
+            wakers.wake_everybody(slot, Amount::of_line(bytes), second);
+        }
     }
 }
 
@@ -162,9 +181,11 @@ impl<B: OfHub<H>, S: AsyncRead + AsyncWrite, H: SessionHash, R: Wait + Clock + M
         let verdict = server
             .hub
             .line(server.rt, alloc, &mut self.pass, &prepared, now)?;
+        self.second = now;
         let connection = &*self;
         let touched = connection.pass.touched();
-        self.wake(touched);
+        let bytes = (line.len() as u64).saturating_add(1);
+        self.wake(touched, bytes);
         Ok(verdict)
     }
 
@@ -173,10 +194,15 @@ impl<B: OfHub<H>, S: AsyncRead + AsyncWrite, H: SessionHash, R: Wait + Clock + M
         let server = self.server;
         // What others say while the hub is asked may not be among what it gives.
         let said = server.shared.wakers.broadcasts();
+        let before = out.len();
         let taken = server.hub.take(server.rt, &mut self.pass, count, out)?;
         let has_more = taken.lines >= count as u64;
+        let amount = Amount {
+            lines: taken.lines,
+            bytes: out.len().saturating_sub(before) as u64,
+        };
         let wakers = &server.shared.wakers;
-        wakers.count_taken(self.slot, said, taken.lines, has_more);
+        wakers.count_taken(self.slot, said, amount, has_more);
         Ok(taken)
     }
 
@@ -188,10 +214,11 @@ impl<B: OfHub<H>, S: AsyncRead + AsyncWrite, H: SessionHash, R: Wait + Clock + M
             challenge: _,
             slot,
             is_named: _,
-            owes_wake: _,
+            owed: _,
+            second,
         } = self;
         let visitor = server.hub.quit(server.rt, pass);
-        wake_touched(&server.shared.wakers, visitor.touched(), slot);
+        wake_touched(&server.shared.wakers, visitor.touched(), slot, QUIT, second);
         LeftSlot { visitor, slot }
     }
 }
@@ -258,10 +285,18 @@ impl Bell for SlotBell<'_> {
     }
 
     fn wait(&mut self, cx: &mut Context<'_>) -> bool {
+        self.wakers.end_line(self.slot, &mut self.throttle);
         self.wakers.was_woken(self.slot, cx)
     }
 
-    fn may_hand(&mut self) -> bool {
-        self.wakers.may_send(self.slot, &mut self.throttle)
+    fn may_hand(&mut self, bytes: usize) -> bool {
+        let bytes = bytes as u64;
+        self.wakers.may_send(self.slot, bytes, &mut self.throttle)
+    }
+
+    fn wrote(&mut self, bytes: usize, was_full: bool) {
+        if was_full {
+            self.wakers.count_written(self.slot, bytes as u64);
+        }
     }
 }

@@ -1,24 +1,38 @@
-// Tests of how far behind a client is, and how long others give way to it.
-use connection_slots::{BURST, Backlog, FAR_BEHIND, PATIENCE, Throttle};
+// Tests of how far behind a client is, and whether it reads.
+use connection_slots::{
+    Amount, Backlog, FAR_BEHIND, MOST_CREDIT, NEARLY_FULL, PACE, PATIENCE, Sight,
+};
 use std::process::Abort;
 
+/// The number of bytes of each line here.
+const LINE: u64 = 60;
+
+fn lines(count: u64) -> Amount {
+    Amount {
+        lines: count,
+        bytes: count * LINE,
+    }
+}
+
+fn bytes(count: u64) -> Amount {
+    Amount {
+        lines: 1,
+        bytes: count,
+    }
+}
+
 /// Makes a backlog of so many lines that were for everybody.
-fn behind_by(lines: u64) -> Backlog {
-    let mut backlog = Backlog::new(0);
+fn behind_by(count: u64) -> Backlog {
+    let mut backlog = Backlog::new(Amount::NONE);
     // One line more was for this client alone. A take of one line leaves as many as were for everybody.
-    backlog.give();
-    backlog.count_taken(lines, 1, true);
+    backlog.give(LINE);
+    backlog.count_taken(lines(count), lines(1), true);
     backlog
 }
 
-/// Stops the test unless so many lines wait, as far as is known.
-fn has(rt: &impl Abort, backlog: &Backlog, said: u64, lines: u64) {
-    let mut more = *backlog;
-    for _line in lines..=FAR_BEHIND {
-        assert!(rt; !more.is_behind(said));
-        more.give();
-    }
-    assert!(rt; more.is_behind(said));
+/// Stops the test unless so much waits, as far as is known.
+fn has(rt: &impl Abort, backlog: &Backlog, said: u64, wanted: u64) {
+    assert!(rt; backlog.waiting(lines(said)) == lines(wanted));
 }
 
 #[test]
@@ -27,60 +41,117 @@ fn a_backlog_grows_and_shrinks(rt: HostRuntime) {
     has(&rt, &backlog, 100, 100);
     has(&rt, &backlog, 150, 150);
     let mut taken = backlog;
-    taken.count_taken(150, 90, true);
+    taken.count_taken(lines(150), lines(90), true);
     has(&rt, &taken, 150, 60);
     has(&rt, &taken, 160, 70);
-    taken.count_taken(160, 10, false);
+    taken.count_taken(lines(160), lines(10), false);
     has(&rt, &taken, 160, 0);
     // A count that was too high is put right, and one that was too low does not go below none.
-    taken.count_taken(160, 256, true);
+    taken.count_taken(lines(160), lines(256), true);
     has(&rt, &taken, 160, 0);
 }
 
 #[test]
 fn half_an_outbox_is_far_behind(rt: HostRuntime) {
-    let backlog = Backlog::new(1_000);
-    assert!(&rt; !backlog.is_behind(1_000 + FAR_BEHIND));
-    assert!(&rt; backlog.is_behind(1_001 + FAR_BEHIND));
+    // By the rules of the hub an outbox holds 1,024 lines, and 1,048,576 bytes.
+    let backlog = Backlog::new(lines(1_000));
+    assert!(&rt; !backlog.is_behind(lines(1_000 + 512)));
+    assert!(&rt; backlog.is_behind(lines(1_000 + 513)));
+    let backlog = Backlog::new(Amount::NONE);
+    assert!(&rt; !backlog.is_behind(bytes(524_288)));
+    assert!(&rt; backlog.is_behind(bytes(524_289)));
 }
 
 #[test]
 fn who_does_not_move_is_waited_for_no_longer(rt: HostRuntime) {
-    let mut backlog = Backlog::new(0);
+    let far = lines(FAR_BEHIND.lines + 1);
+    let mut backlog = Backlog::new(Amount::NONE);
     for _tick in 0..PATIENCE {
-        assert!(&rt; backlog.is_behind(FAR_BEHIND + 1));
-        backlog.tick(FAR_BEHIND + 1);
+        assert!(&rt; backlog.is_behind(far));
+        backlog.tick(far);
     }
-    assert!(&rt; !backlog.is_behind(FAR_BEHIND + 1));
+    assert!(&rt; !backlog.is_behind(far));
     // A take without a line is no move, one with a line is.
-    backlog.count_taken(FAR_BEHIND + 1, 0, true);
-    assert!(&rt; !backlog.is_behind(FAR_BEHIND + 2));
-    backlog.count_taken(FAR_BEHIND + 2, 1, true);
-    assert!(&rt; backlog.is_behind(FAR_BEHIND + 3));
+    backlog.count_taken(far, Amount::NONE, true);
+    assert!(&rt; !backlog.is_behind(far.plus(lines(1))));
+    backlog.count_taken(far.plus(lines(1)), lines(1), true);
+    assert!(&rt; backlog.is_behind(far.plus(lines(2))));
+}
+
+/// Counts for how many ticks a client that takes nothing more is waited for.
+fn waited_for(backlog: &Backlog, far: Amount) -> u64 {
+    let mut backlog = *backlog;
+    let mut ticks = 0;
+    for _tick in 0..10_000 {
+        if !backlog.is_behind(far) {
+            return ticks;
+        }
+        backlog.tick(far);
+        ticks += 1;
+    }
+    ticks
+}
+
+#[test]
+fn who_reads_is_waited_for_at_its_pace(rt: HostRuntime) {
+    let far = bytes(FAR_BEHIND.bytes + 1);
+    let mut backlog = Backlog::new(Amount::NONE);
+    assert!(&rt; !backlog.reads() && waited_for(&backlog, far) == 40);
+    // What was taken counts for two seconds at most, since the system may hold it.
+    let mut taken = backlog;
+    taken.count_taken(far, bytes(8_200), true);
+    assert!(&rt; taken.reads() && waited_for(&taken, far.plus(far)) == 100);
+    taken.count_taken(far, bytes(200_000), true);
+    assert!(&rt; waited_for(&taken, far.plus(far)) == 400);
+    // What a full socket took counts for a second where it is 16 KB, and for six at most.
+    backlog.count_written(16_400);
+    assert!(&rt; backlog.reads() && waited_for(&backlog, far) == 200);
+    backlog.count_written(1_000_000);
+    assert!(&rt; waited_for(&backlog, far) == 1_200 && MOST_CREDIT == 1_200 * PACE);
+    // 85 KB each five seconds are enough, for as long as it takes.
+    for _turn in 0..20 {
+        for _tick in 0..1_000 {
+            assert!(&rt; backlog.is_behind(far));
+            backlog.tick(far);
+        }
+        backlog.count_written(85_000);
+    }
 }
 
 #[test]
 fn ticks_do_not_count_where_little_waits(rt: HostRuntime) {
-    let mut backlog = Backlog::new(0);
+    let mut backlog = Backlog::new(Amount::NONE);
     for _tick in 0..10 * PATIENCE {
         backlog.tick(FAR_BEHIND);
     }
-    assert!(&rt; backlog.is_behind(FAR_BEHIND + 1));
+    assert!(&rt; backlog.is_behind(FAR_BEHIND.plus(lines(1))));
 }
 
 #[test]
-fn a_session_gives_way_for_so_long_and_no_longer(rt: HostRuntime) {
-    let mut throttle = Throttle::new();
-    for turn in 0..3 {
-        assert!(&rt; !throttle.spend());
-        let begin = turn * 100;
-        for tick in 0..PATIENCE {
-            assert!(&rt; !throttle.is_over(begin + tick));
-        }
-        assert!(&rt; throttle.is_over(begin + PATIENCE));
-        // The line that it may hand over now is one of those.
-        for _line in 1..BURST {
-            assert!(&rt; throttle.spend());
-        }
-    }
+fn the_fullest_outbox_counts(rt: HostRuntime) {
+    let mut sight = Sight::CLEAR;
+    assert!(&rt; !sight.would_be_behind(524_288) && sight.would_be_behind(524_289));
+    sight.add(bytes(500_000), false);
+    sight.add(bytes(100), true);
+    assert!(&rt; !sight.is_behind && !sight.one_reads);
+    assert!(&rt; !sight.would_be_behind(24_288) && sight.would_be_behind(24_289));
+    sight.add(lines(513), true);
+    assert!(&rt; sight.is_behind && sight.one_reads && sight.would_be_behind(0));
+    assert!(&rt; !sight.would_be_full(NEARLY_FULL.bytes - 500_000));
+    assert!(&rt; sight.would_be_full(NEARLY_FULL.bytes - 499_999));
+    sight.add(lines(769), true);
+    assert!(&rt; sight.would_be_full(0));
+}
+
+#[test]
+fn an_eighth_of_what_is_left_may_be_handed_over(rt: HostRuntime) {
+    let mut sight = Sight::CLEAR;
+    sight.add(bytes(1_048_576 - 80_000), true);
+    assert!(&rt; !sight.spend(10_001));
+    assert!(&rt; sight.spend(6_000) && sight.spend(4_000));
+    assert!(&rt; !sight.spend(1));
+    let mut sight = Sight::CLEAR;
+    sight.add(lines(1_024 - 24), true);
+    assert!(&rt; sight.spend(60) && sight.spend(60) && sight.spend(60));
+    assert!(&rt; !sight.spend(60));
 }

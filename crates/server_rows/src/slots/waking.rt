@@ -1,7 +1,7 @@
 // Tests of who is woken, and who gives way.
 use adc_base32::Sid;
 use adc_sessions::Bell;
-use connection_slots::{BURST, FAR_BEHIND, PATIENCE, Wakers};
+use connection_slots::{Amount, BURST, FAR_BEHIND, LITTLE, PATIENCE, Wakers};
 use futures::test::MockTask;
 use hub_server::SlotBell;
 use std::alloc::AllocGlobal;
@@ -10,6 +10,12 @@ use std::random::RandomSource;
 
 /// The number of sessions.
 const COUNT: usize = 4;
+
+/// The number of bytes of each line, where nothing else is said.
+const LINE: u64 = 60;
+
+/// The second in which all is said.
+const SECOND: u64 = 1_000;
 
 fn sid(rt: &impl Abort, number: u32) -> Sid {
     match Sid::from_u32(number) {
@@ -82,14 +88,18 @@ impl Waiters {
 fn those_are_woken_whom_a_call_concerned(rt: HostRuntime) {
     let waiters = Waiters::new(&rt);
     waiters.are_woken(&rt, [false; COUNT]);
-    waiters.wakers.wake_one(sid(&rt, 3), 0);
+    waiters.wakers.wake_one(sid(&rt, 3), 0, LINE, SECOND);
     waiters.are_woken(&rt, [false, false, true, false]);
-    waiters.wakers.wake_two(sid(&rt, 2), sid(&rt, 4), 0);
+    waiters
+        .wakers
+        .wake_two(sid(&rt, 2), sid(&rt, 4), 0, LINE, SECOND);
     waiters.are_woken(&rt, [false, true, false, true]);
-    waiters.wakers.wake_everybody(1);
+    waiters.wakers.wake_everybody(1, Amount::NONE, SECOND);
     waiters.are_woken(&rt, [true, false, true, true]);
     // A session is not woken by its own call.
-    waiters.wakers.wake_two(sid(&rt, 1), sid(&rt, 2), 0);
+    waiters
+        .wakers
+        .wake_two(sid(&rt, 1), sid(&rt, 2), 0, LINE, SECOND);
     waiters.are_woken(&rt, [false, true, false, false]);
 }
 
@@ -98,19 +108,19 @@ fn who_left_is_not_woken_alone(rt: HostRuntime) {
     let waiters = Waiters::new(&rt);
     waiters.wakers.vacate(2);
     waiters.all_wait(&rt);
-    waiters.wakers.wake_one(sid(&rt, 3), 0);
+    waiters.wakers.wake_one(sid(&rt, 3), 0, LINE, SECOND);
     waiters.are_woken(&rt, [false; COUNT]);
     waiters.wakers.name(2, sid(&rt, 9));
-    waiters.wakers.wake_one(sid(&rt, 9), 0);
+    waiters.wakers.wake_one(sid(&rt, 9), 0, LINE, SECOND);
     waiters.are_woken(&rt, [false, false, true, false]);
 }
 
 #[test]
 fn a_wake_that_nobody_waits_for_is_heard(rt: HostRuntime) {
     let waiters = Waiters::new(&rt);
-    waiters.wakers.wake_everybody(0);
-    waiters.wakers.wake_everybody(1);
-    waiters.wakers.wake_one(sid(&rt, 2), 0);
+    waiters.wakers.wake_everybody(0, Amount::NONE, SECOND);
+    waiters.wakers.wake_everybody(1, Amount::NONE, SECOND);
+    waiters.wakers.wake_one(sid(&rt, 2), 0, LINE, SECOND);
     waiters.are_woken(&rt, [true, true, true, true]);
 }
 
@@ -134,101 +144,204 @@ fn a_call_for_help_wakes_the_accepting_task(rt: HostRuntime) {
     waiters.are_woken(&rt, [false, true, true, true]);
 }
 
-/// Says so many lines to everybody.
+/// Says so many lines to everybody, whoever does.
 fn says(waiters: &Waiters, count: u64) {
     for _line in 0..count {
-        waiters.wakers.count_broadcast();
+        waiters.wakers.count_broadcast(LINE);
     }
 }
 
-#[test]
-fn who_speaks_gives_way_to_who_is_behind(rt: HostRuntime) {
-    let waiters = Waiters::new(&rt);
-    let mut bell = SlotBell::new(&waiters.wakers, 0);
-    says(&waiters, FAR_BEHIND);
-    assert!(&rt; bell.may_hand());
-    says(&waiters, BURST);
-    // All are behind. It gives way, and is rung for once nobody is.
-    assert!(&rt; !bell.may_hand());
-    waiters.are_woken(&rt, [false; COUNT]);
-    for slot in 0..COUNT {
-        assert!(&rt; !bell.may_hand());
-        let said = waiters.wakers.broadcasts();
-        waiters.wakers.count_taken(slot, said, 256, false);
-    }
-    assert!(&rt; bell.may_hand());
-    waiters.are_woken(&rt, [true, false, false, false]);
-}
-
-#[test]
-fn who_speaks_gives_way_for_a_while(rt: HostRuntime) {
-    let waiters = Waiters::new(&rt);
-    let mut bell = SlotBell::new(&waiters.wakers, 0);
-    says(&waiters, 2 * FAR_BEHIND);
-    for _tick in 0..PATIENCE - 1 {
-        assert!(&rt; !bell.may_hand());
-        // Some of them move, so that they are waited for; they have as much waiting as before.
-        waiters
-            .wakers
-            .count_taken(1, waiters.wakers.broadcasts(), 1, true);
-        waiters.wakers.tick();
-        waiters.are_woken(&rt, [true, false, false, false]);
-    }
-    assert!(&rt; !bell.may_hand());
+/// Takes all that waits for the session of this slot.
+fn takes_all(waiters: &Waiters, slot: usize) {
+    let said = waiters.wakers.broadcasts();
     waiters
         .wakers
-        .count_taken(1, waiters.wakers.broadcasts(), 1, true);
-    waiters.wakers.tick();
+        .count_taken(slot, said, Amount::of_line(LINE), false);
+}
+
+/// Takes one line of all that wait, so that as much waits as before once another is said.
+fn moves(waiters: &Waiters, slot: usize) {
+    let said = waiters.wakers.broadcasts();
+    waiters
+        .wakers
+        .count_taken(slot, said, Amount::of_line(LINE), true);
+}
+
+/// Lets the session of this slot give so many bytes, of which all have heard.
+fn gives(rt: &impl Abort, waiters: &Waiters, slot: usize, bytes: u64) {
+    waiters
+        .wakers
+        .wake_everybody(slot, Amount { lines: 0, bytes }, SECOND);
+    waiters.all_wait(rt);
+}
+
+#[test]
+fn who_gives_much_gives_way_to_who_is_behind(rt: HostRuntime) {
+    let waiters = Waiters::new(&rt);
+    let mut bell = SlotBell::new(&waiters.wakers, 0);
+    gives(&rt, &waiters, 0, LITTLE + 1);
+    says(&waiters, FAR_BEHIND.lines);
+    assert!(&rt; bell.may_hand(60));
+    says(&waiters, BURST);
+    // All are behind. It gives way, and is rung for once nobody is.
+    assert!(&rt; !bell.may_hand(60));
+    waiters.are_woken(&rt, [false; COUNT]);
+    for slot in 0..COUNT {
+        assert!(&rt; !bell.may_hand(60));
+        takes_all(&waiters, slot);
+    }
+    assert!(&rt; bell.may_hand(60));
     waiters.are_woken(&rt, [true, false, false, false]);
+}
+
+#[test]
+fn who_says_little_does_not_give_way(rt: HostRuntime) {
+    let waiters = Waiters::new(&rt);
+    let mut bell = SlotBell::new(&waiters.wakers, 0);
+    gives(&rt, &waiters, 0, LITTLE - 60);
+    gives(&rt, &waiters, 1, 100 * LITTLE);
+    says(&waiters, FAR_BEHIND.lines + BURST);
+    assert!(&rt; waiters.wakers.is_behind() && bell.may_hand(60));
+    // Its line itself would be much.
+    assert!(&rt; !bell.may_hand(61));
+    // Nor does it for long where an outbox is nearly full.
+    says(&waiters, 256);
+    for _tick in 0..PATIENCE {
+        assert!(&rt; !bell.may_hand(60));
+        moves(&waiters, 1);
+        says(&waiters, 1);
+        waiters.wakers.tick(SECOND);
+    }
+    for _line in 0..BURST {
+        assert!(&rt; bell.may_hand(60));
+    }
+    assert!(&rt; !bell.may_hand(60));
+}
+
+#[test]
+fn much_is_little_two_seconds_later(rt: HostRuntime) {
+    let waiters = Waiters::new(&rt);
+    let mut bell = SlotBell::new(&waiters.wakers, 0);
+    gives(&rt, &waiters, 0, LITTLE + 1);
+    says(&waiters, FAR_BEHIND.lines + BURST);
+    assert!(&rt; !bell.may_hand(60));
+    waiters.wakers.tick(SECOND + 1);
+    assert!(&rt; !bell.may_hand(60));
+    waiters.wakers.tick(SECOND + 2);
+    assert!(&rt; waiters.wakers.is_behind() && bell.may_hand(60));
+}
+
+#[test]
+fn who_gives_much_waits_for_who_reads(rt: HostRuntime) {
+    let waiters = Waiters::new(&rt);
+    let mut bell = SlotBell::new(&waiters.wakers, 0);
+    gives(&rt, &waiters, 0, LITTLE + 1);
+    says(&waiters, FAR_BEHIND.lines + BURST);
+    for _tick in 0..10 * PATIENCE {
+        assert!(&rt; !bell.may_hand(60));
+        // 20 KB a second, and no take.
+        waiters.wakers.count_written(1, 100);
+        waiters.wakers.tick(SECOND);
+    }
+    // Once it reads no more, it is waited for no longer than it has earned.
+    for _tick in 0..100 {
+        waiters.wakers.tick(SECOND);
+    }
+    assert!(&rt; !waiters.wakers.is_behind() && bell.may_hand(60));
+}
+
+#[test]
+fn who_gives_much_gives_way_for_a_while_to_who_hardly_moves(rt: HostRuntime) {
+    let waiters = Waiters::new(&rt);
+    let mut bell = SlotBell::new(&waiters.wakers, 0);
+    gives(&rt, &waiters, 0, LITTLE + 1);
+    says(&waiters, FAR_BEHIND.lines + 100);
+    for _tick in 0..PATIENCE {
+        assert!(&rt; !bell.may_hand(60));
+        // Some of them move, so that they are waited for.
+        moves(&waiters, 1);
+        waiters.wakers.tick(SECOND);
+        waiters.are_woken(&rt, [true, false, false, false]);
+    }
     // It has waited for long, and may hand over some.
     for _line in 0..BURST {
-        assert!(&rt; bell.may_hand());
+        assert!(&rt; bell.may_hand(60));
     }
-    assert!(&rt; !bell.may_hand());
+    assert!(&rt; !bell.may_hand(60));
 }
 
 #[test]
 fn who_never_moves_holds_up_nobody(rt: HostRuntime) {
     let waiters = Waiters::new(&rt);
     let mut bell = SlotBell::new(&waiters.wakers, 0);
-    says(&waiters, 2 * FAR_BEHIND);
+    gives(&rt, &waiters, 0, LITTLE + 1);
+    says(&waiters, 2 * FAR_BEHIND.lines);
     for _tick in 0..PATIENCE {
-        assert!(&rt; !bell.may_hand());
-        waiters.wakers.tick();
+        assert!(&rt; !bell.may_hand(60));
+        waiters.wakers.tick(SECOND);
     }
     assert!(&rt; !waiters.wakers.is_behind());
     for _line in 0..10 * BURST {
-        assert!(&rt; bell.may_hand());
-        waiters.wakers.count_broadcast();
+        assert!(&rt; bell.may_hand(60));
+        waiters.wakers.count_broadcast(LINE);
     }
 }
 
 #[test]
-fn who_leaves_is_not_waited_for(rt: HostRuntime) {
+fn long_lines_on_the_way_count(rt: HostRuntime) {
+    let waiters = Waiters::new(&rt);
+    let mut first = SlotBell::new(&waiters.wakers, 0);
+    let mut second = SlotBell::new(&waiters.wakers, 1);
+    let mut third = SlotBell::new(&waiters.wakers, 2);
+    // Nothing was said, and half an outbox is on the way.
+    assert!(&rt; first.may_hand(262_144) && second.may_hand(262_144));
+    assert!(&rt; !third.may_hand(10_000));
+    // The first has said its line: it asks for another, or rests.
+    waiters.wakers.count_broadcast(200_000);
+    assert!(&rt; first.may_hand(60));
+    assert!(&rt; third.may_hand(10_000));
+    // The second has gone.
+    assert!(&rt; !first.may_hand(100_000));
+    waiters.wakers.vacate(1);
+    assert!(&rt; first.may_hand(100_000));
+}
+
+#[test]
+fn who_gives_much_to_one_gives_way_and_nobody_else(rt: HostRuntime) {
     let waiters = Waiters::new(&rt);
     let mut bell = SlotBell::new(&waiters.wakers, 0);
-    // Lines for one alone.
-    for _line in 0..FAR_BEHIND + 1 {
-        assert!(&rt; bell.may_hand());
-        waiters.wakers.wake_one(sid(&rt, 3), 0);
+    let mut other = SlotBell::new(&waiters.wakers, 1);
+    // Both give as much to one alone, of whom one is far behind.
+    let mut refused_at = 0;
+    for line in 0..2_000 {
+        if !bell.may_hand(1_000) {
+            refused_at = line;
+            break;
+        }
+        waiters.wakers.wake_one(sid(&rt, 3), 0, 1_000, SECOND);
+        assert!(&rt; other.may_hand(1_000));
+        waiters.wakers.wake_one(sid(&rt, 4), 1, 1_000, SECOND);
+        takes_all(&waiters, 3);
     }
-    assert!(&rt; !bell.may_hand());
+    // By lines: 513 and some more, whose bytes and 64 for each are little.
+    assert!(&rt; refused_at > 512 && refused_at < 530, "{refused_at}");
+    assert!(&rt; other.may_hand(1_000));
     waiters.wakers.vacate(2);
-    assert!(&rt; bell.may_hand());
+    assert!(&rt; bell.may_hand(1_000));
 }
 
 #[test]
 fn nobody_gives_way_to_a_free_slot(rt: HostRuntime) {
     let waiters = Waiters::new(&rt);
     let mut bell = SlotBell::new(&waiters.wakers, 0);
+    gives(&rt, &waiters, 0, LITTLE + 1);
     waiters.wakers.vacate(2);
-    says(&waiters, FAR_BEHIND);
+    says(&waiters, FAR_BEHIND.lines);
     for slot in [0, 1, 3] {
-        let said = waiters.wakers.broadcasts();
-        waiters.wakers.count_taken(slot, said, 256, false);
+        takes_all(&waiters, slot);
     }
     says(&waiters, BURST);
-    assert!(&rt; bell.may_hand());
+    assert!(&rt; bell.may_hand(60));
 }
 
 #[test]
@@ -236,10 +349,14 @@ fn who_may_have_missed_much_takes_again(rt: HostRuntime) {
     let waiters = Waiters::new(&rt);
     // So much is said while the hub gives it three lines.
     let said = waiters.wakers.broadcasts();
-    says(&waiters, FAR_BEHIND);
-    waiters.wakers.count_taken(1, said, 3, false);
+    let three = Amount {
+        lines: 3,
+        bytes: 3 * LINE,
+    };
+    says(&waiters, FAR_BEHIND.lines);
+    waiters.wakers.count_taken(1, said, three, false);
     waiters.are_woken(&rt, [false; COUNT]);
     says(&waiters, 1);
-    waiters.wakers.count_taken(1, said, 3, false);
+    waiters.wakers.count_taken(1, said, three, false);
     waiters.are_woken(&rt, [false, true, false, false]);
 }
