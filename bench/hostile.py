@@ -844,8 +844,9 @@ def room_for_output(table, threads):
 
 
 def main():
-    # It takes its clients from here.
+    # They take their clients from here.
     import floods
+    import stuck
 
     parser = argparse.ArgumentParser(prog="bench/hostile")
     parser.add_argument("program")
@@ -870,6 +871,7 @@ def main():
     given_at_start(table, 2)
     room_for_output(table, 2)
     floods.floods(table)
+    stuck.stuck(table)
     starts(table, 2)
     # Each of 18 ways; a short run takes six of them.
     for place, each in enumerate((2, 3, 7, 20, 50, 997)):

@@ -5,21 +5,34 @@ pub use hub_challenges::Challenges;
 use hub_endings::Ending;
 pub use hub_program::program;
 pub use hub_server::serve_on;
+use hub_starts::{has_journal, settings_path};
 pub use hub_stream::{CountedRead, CountedWrite, Counting, Failures, RunFault, run_one};
+use hub_warnings::queue;
 use std::alloc::Global;
 use std::process::ExitCode;
-use std::{env, io};
+use std::{env, io, thread};
 
 fn main(rt: HostRuntime) -> ExitCode {
-    let mut errors = rt.stderr();
-    let status = match arguments(&rt, rt.alloc()) {
-        Ok(words) => {
-            let mut input = Counting::new(rt.reader());
-            let mut output = Counting::new(io::writer(&rt));
-            program(&rt, &words, &mut input, &mut output, &mut errors)
-        }
-        Err(ending) => ending.tell(&mut errors),
+    let words = match arguments(&rt, rt.alloc()) {
+        Ok(words) => words,
+        Err(ending) => return ExitCode::from(ending.tell(&mut rt.stderr())),
     };
+    let mut input = Counting::new(rt.reader());
+    let mut output = Counting::new(io::writer(&rt));
+    if settings_path(&words).is_none() {
+        let status = program(&rt, &words, &mut input, &mut output, &mut rt.stderr());
+        return ExitCode::from(status);
+    }
+    // No thread of the server waits for who reads standard error: one of its own writes there.
+    let Ok((mut errors, lines, end)) = queue(rt, rt.alloc(), has_journal(&rt)) else {
+        return ExitCode::from(Ending::Memory.tell(&mut rt.stderr()));
+    };
+    if thread::spawn(&rt, move || lines.write(&rt, &mut rt.stderr())).is_err() {
+        return ExitCode::from(Ending::Memory.tell(&mut rt.stderr()));
+    }
+    let status = program(&rt, &words, &mut input, &mut output, &mut errors);
+    drop(errors);
+    end.wait(&rt);
     ExitCode::from(status)
 }
 

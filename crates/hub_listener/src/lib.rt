@@ -7,11 +7,9 @@ mod moments;
 mod opening;
 mod options;
 mod socket;
-mod time_task;
 
 pub use bind::Bind;
 pub use listener::{Listener, Listens};
 pub use moments::{Moments, moment};
 pub use opening::{say_start, warn_of_descriptors};
 pub use socket::Socket;
-pub use time_task::TimeTask;

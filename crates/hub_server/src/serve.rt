@@ -15,7 +15,7 @@ use connection_slots::{Fault, Startup, Ticker};
 use hub_challenges::Challenges;
 use hub_endings::Ending;
 use hub_listener::{
-    Bind, Listener, Listens, Moments, Socket, TimeTask, moment, say_start, warn_of_descriptors,
+    Bind, Listener, Listens, Moments, Socket, moment, say_start, warn_of_descriptors,
 };
 use hub_settings::Settings;
 use hub_shared::{Host, Hub, Report, Visitor};
@@ -39,9 +39,9 @@ use tokio::time::{self, Sleep};
 ///
 /// On `output` it says `listening` and the address that was bound, as `a.b.c.d:port`, once all of its tasks came to be, and
 /// at the end `joins`, the number of joins that were accepted, `present 0`. On `errors` goes a warning for each session
-/// that ends by a fault of its connection or for want of memory, with the time, the peer's address and the cause; of equal
-/// ones of one address within a minute the first, and a line with the number of the others. One more goes there at the start
-/// where the system allows fewer descriptors than as many users need as the settings admit.
+/// that ends by a fault of its connection or for want of memory, with the time, the peer's address and the cause. One more goes
+/// there at the start where the system allows fewer descriptors than as many users need as the settings admit. Who writes
+/// there waits: a writer that may take long is to keep the lines, as [`hub_warnings::QueueWriter`] does.
 ///
 /// The status is 0 once as many connections were accepted as the settings say, and all are over. It is 3 where the address
 /// cannot be had, or accepting failed 64 times in a row by a fault of the listener. It is 4 where memory or threads cannot
@@ -143,7 +143,7 @@ where
     ending.tell(errors)
 }
 
-/// Serves with this log, and says there what was counted, and at the end, for the journal, why it ended.
+/// Serves with this log, and says there at the end, for the journal, why it ended.
 fn serve_and_warn<H, R, A, W, L>(
     rt: &R,
     settings: &Settings,
@@ -172,7 +172,6 @@ where
         output,
         &warnings,
     );
-    warnings.tell_all(rt);
     if settings_file.is_some() {
         say_end(rt, &warnings.log, &served);
     }
@@ -464,7 +463,6 @@ struct Listening<I> {
 struct Timers {
     accepting: Sleep,
     ticking: Sleep,
-    counting: Sleep,
 }
 
 /// Makes the timers of the tasks.
@@ -472,7 +470,6 @@ fn make_timers<R: Clock>(rt: &R, time: &time::Handle) -> Result<Timers, Ending> 
     Ok(Timers {
         accepting: timer(rt, time)?,
         ticking: timer(rt, time)?,
-        counting: timer(rt, time)?,
     })
 }
 
@@ -499,18 +496,13 @@ where
         address,
         timers,
     } = listen(plan, workers, address)?;
-    let Timers {
-        accepting,
-        ticking,
-        counting,
-    } = timers;
+    let Timers { accepting, ticking } = timers;
     let settings = plan.settings;
     let accept = accept_task(settings, server, warnings, listener, seed, accepting);
     let startup = Startup::new(&server.shared, server.rt, output, address);
     let ticker = Ticker::new(&server.shared, server.rt, ticking);
-    let time_task = TimeTask::new(ticker, counting, server.rt, warnings);
     let count = slot_count(settings);
-    let tasks = Tasks::new(time_task, count, accept, startup, server, warnings);
+    let tasks = Tasks::new(ticker, count, accept, startup, server, warnings);
     match workers.run_all(server.rt, tasks) {
         Ok(()) => ending_by(server.shared.fault()),
         Err(_) => Err(Ending::Memory),

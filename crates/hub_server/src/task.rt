@@ -9,10 +9,10 @@ use crate::left_slot::LeftSlot;
 use crate::served_slot::ServedSlot;
 use crate::server::Server;
 use adc_sessions::{Accept, AcceptEnd, End, Stream};
-use connection_slots::Fault;
+use connection_slots::{Fault, Ticker};
 use futures::Future;
 use futures::task::{Context, Poll};
-use hub_listener::{Listener, Listens, Moments, Socket, TimeTask};
+use hub_listener::{Listener, Listens, Moments, Socket};
 use hub_warnings::{Cause, Warnings};
 use log::Log;
 use session_hash::SessionHash;
@@ -31,7 +31,7 @@ pub(crate) type Accepts<'a, B, S, H, R, L, I> = Accept<
 #[derive(Drop)]
 pub(crate) enum Task<'a, B: OfHub<H>, S: Stream, H: SessionHash, R: Moments, L, I> {
     /// Keeps time.
-    Ticking(TimeTask<'a, Accepted<B, S, H>, S, R, L>),
+    Ticking(Ticker<'a, Accepted<B, S, H>, S, R>),
     /// Serves the connections of one slot.
     Serving(SlotTask<'a, B, S, H, R, L>),
     /// Accepts connections.
@@ -71,7 +71,7 @@ impl<
 
     fn poll(&mut self, cx: &mut Context<'_>) -> Poll<()> {
         let polled = match self {
-            Task::Ticking(time) => time.poll_over(cx),
+            Task::Ticking(ticker) => ticker.poll_over(cx),
             Task::Serving(slot) => slot.poll_over(cx),
             Task::Accepting(accept) => accept.poll_over(cx),
             Task::Done => cx.yield_now(),

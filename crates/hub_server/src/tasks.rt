@@ -2,10 +2,10 @@ use crate::accepted::Accepted;
 use crate::free_slot::OfHub;
 use crate::server::Server;
 use crate::task::{AcceptTask, SlotTask, Task};
-use connection_slots::Startup;
+use connection_slots::{Startup, Ticker};
 use futures::Stream;
 use futures::task::{Context, Poll};
-use hub_listener::{Listens, Moments, Socket, TimeTask};
+use hub_listener::{Listens, Moments, Socket};
 use hub_warnings::Warnings;
 use log::Log;
 use session_hash::SessionHash;
@@ -26,7 +26,7 @@ pub(crate) struct Tasks<
     I,
     W,
 > {
-    time: Option<TimeTask<'a, Accepted<B, S, H>, S, R, L>>,
+    ticker: Option<Ticker<'a, Accepted<B, S, H>, S, R>>,
     // The slot of the next task, and how many slots there are.
     next: usize,
     count: usize,
@@ -48,7 +48,7 @@ impl<
 > Drop for Tasks<'a, B, S, H, R, L, I, W> {
     fn drop(self) {
         let Tasks {
-            time,
+            ticker,
             next: _,
             count: _,
             accept,
@@ -56,7 +56,7 @@ impl<
             server: _,
             warnings: _,
         } = self;
-        drop(time);
+        drop(ticker);
         drop(accept);
         drop(startup);
     }
@@ -74,7 +74,7 @@ impl<
 > Tasks<'a, B, S, H, R, L, I, W> {
     /// Makes the tasks for so many slots.
     pub(crate) fn new(
-        time: TimeTask<'a, Accepted<B, S, H>, S, R, L>,
+        ticker: Ticker<'a, Accepted<B, S, H>, S, R>,
         count: usize,
         accept: AcceptTask<'a, B, S, H, R, L, I>,
         startup: Startup<'a, Accepted<B, S, H>, S, R, W>,
@@ -82,7 +82,7 @@ impl<
         warnings: &'a Warnings<L>,
     ) -> Tasks<'a, B, S, H, R, L, I, W> {
         Tasks {
-            time: Some(time),
+            ticker: Some(ticker),
             next: 0,
             count,
             accept: Some(accept),
@@ -107,8 +107,8 @@ impl<
 
     /// Gives the next task. It ends once all tasks came to be; then the server opens.
     fn poll_next(&mut self, _cx: &mut Context<'_>) -> Poll<Option<Self::Item>> {
-        if let Some(time) = self.time.take() {
-            return Poll::Ready(Some(Task::Ticking(time)));
+        if let Some(ticker) = self.ticker.take() {
+            return Poll::Ready(Some(Task::Ticking(ticker)));
         }
         let slot = self.next;
         if slot < self.count {

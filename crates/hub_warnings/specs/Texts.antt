@@ -1,9 +1,7 @@
 -- The texts of warnings.
 use Rattle.std.specs.Prelude.{ℕ, ◌/◌, ◌%◌, List, ◌++◌, codes, Option, Some, None}
-use Rattle.std.specs.declared.net.ipv4_addr.Ipv4Addr.{Ipv4Addr}
 use Rattle.std.specs.declared.net.socket_addr.SocketAddrV4.{SocketAddrV4}
-use Rattle.std.specs.Net.Addr.{ipv4_octets}
-use Rattle.std.specs.Net.Text.{ipv4_text, socket_v4_text, socket_text}
+use Rattle.std.specs.Net.Text.{socket_v4_text, socket_text}
 use Rattle.jiff_core.specs.declared.civil.date.Date.{Date}
 use Rattle.jiff_core.specs.declared.civil.time.Time.{Time}
 use Rattle.std.specs.Fmt.{decimal, signed_decimal}
@@ -11,7 +9,7 @@ use Rattle.hub_warnings.specs.declared.cause.Cause.{Cause}
 use Rattle.hub_warnings.specs.declared.cause.Cause.TheVariants as causes
 use Rattle.hub_warnings.specs.declared.moment.Moment.{Moment}
 use Rattle.hub_warnings.specs.declared.lines.Warning.{Warning}
-use Rattle.hub_warnings.specs.declared.lines.Repeats.{Repeats}
+use Rattle.hub_warnings.specs.declared.lines.Dropped.{Dropped}
 use Rattle.hub_warnings.specs.declared.lines.Start.{Start}
 use Rattle.hub_warnings.specs.declared.lines.End.{End}
 use Rattle.log.specs.declared.level.Level.{Level}
@@ -57,14 +55,8 @@ of_peer (Some peer) text = socket_v4_text peer ++ (codes " " ++ text)
 abbrev pub warning_text : Warning → List ℕ
 warning_text w = moment_text w.moment ++ (codes " " ++ of_peer w.peer (cause_text w.cause))
 
-abbrev pub of_address : Option Ipv4Addr → List ℕ → List ℕ
-of_address None text = text
-of_address (Some address) text = ipv4_text (ipv4_octets address) ++ (codes " " ++ text)
-
-abbrev pub repeats_text : Repeats → List ℕ
-repeats_text r =
-    moment_text r.moment
-    ++ (codes " " ++ of_address r.address (cause_text r.cause ++ (codes ", " ++ (decimal r.more ++ (codes " more since " ++ moment_text r.since)))))
+abbrev pub dropped_text : Dropped → List ℕ
+dropped_text d = moment_text d.moment ++ (codes " lines dropped for want of room: " ++ decimal d.count)
 
 -- the descriptors that are needed, and those that the system allows where that is known
 abbrev pub descriptors_text : ℕ → Option ℕ → List ℕ

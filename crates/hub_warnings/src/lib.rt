@@ -1,19 +1,17 @@
-//! Lines of a server to those who run it: warnings with time, address and cause, of which equal ones are counted
-//! together, and a line at its start and at its end. No part knows a hub.
+//! Lines of a server to those who run it: warnings with time, address and cause, a line at its start and at its end, and a queue
+//! by which nobody waits for who reads them. No part knows a hub.
 #![tactic(auto)]
 
 mod cause;
-mod counted;
 mod journal;
 mod lines;
 mod moment;
-mod table;
+mod queue;
 mod warnings;
 
 pub use cause::Cause;
-pub use counted::{Counted, Subject};
 pub use journal::Journal;
-pub use lines::{End, Repeats, Start, Warning};
+pub use lines::{Dropped, End, Start, Warning};
 pub use moment::Moment;
-pub use table::{PLACES, Table, Told};
+pub use queue::{MOST_LINES, QueueEnd, QueueWriter, QueuedLines, queue};
 pub use warnings::Warnings;

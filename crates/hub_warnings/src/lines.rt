@@ -1,11 +1,11 @@
 ghost use Rattle.std.specs.Prelude.{◌≡◌, Some};
-ghost use Rattle.hub_warnings.specs.Texts.{warning_text, repeats_text, start_text, end_text};
+ghost use Rattle.hub_warnings.specs.Texts.{warning_text, dropped_text, start_text, end_text};
 
 use crate::cause::Cause;
 use crate::moment::Moment;
 use std::fmt;
 use std::fmt::{Display, Formatter};
-use std::net::{Ipv4Addr, SocketAddr, SocketAddrV4};
+use std::net::{SocketAddr, SocketAddrV4};
 
 /// A warning, as `2026-11-25T13:07:11Z 127.0.0.1:40112 a session ended by ReadFailed`.
 #[derive(Clone, Copy)]
@@ -31,34 +31,22 @@ impl Display for Warning {
     }
 }
 
-/// The number of equal warnings that were only counted, as
-/// `2026-11-25T13:08:11Z 127.0.0.1 a session ended by ReadFailed, 499 more since 2026-11-25T13:07:11Z`.
+/// The number of lines that were dropped, as `2026-11-25T13:08:11Z lines dropped for want of room: 499`.
 #[derive(Clone, Copy)]
-pub struct Repeats {
+pub struct Dropped {
     /// The second in which it is said.
     pub moment: Moment,
-    /// The peers' address, where it is known.
-    pub address: Option<Ipv4Addr>,
-    /// The cause.
-    pub cause: Cause,
-    /// The number of warnings.
-    pub more: u32,
-    /// The second in which the first of them was said, which does not count here.
-    pub since: Moment,
+    /// The number of lines.
+    pub count: u64,
 }
 
-impl Display for Repeats {
-    ghost output = { λ r. Some (repeats_text r) };
+impl Display for Dropped {
+    ghost output = { λ d. Some (dropped_text d) };
 
     fn fmt<W: fmt::Write>(&self, f: &mut Formatter<W>) -> fmt::Result {
         let moment = self.moment;
-        let cause = self.cause;
-        let more = self.more;
-        let since = self.since;
-        match self.address {
-            Some(address) => write!(f, "{moment} {address} {cause}, {more} more since {since}"),
-            None => write!(f, "{moment} {cause}, {more} more since {since}"),
-        }
+        let count = self.count;
+        write!(f, "{moment} lines dropped for want of room: {count}")
     }
 }
 

@@ -329,9 +329,9 @@ fn a_line_too_long_is_warned_of(rt: HostRuntime) {
 }
 
 #[test]
-fn equal_warnings_are_counted(rt: HostRuntime) {
+fn each_session_has_its_warning(rt: HostRuntime) {
     let said = b"TIME 127.0.0.1:PORT a session ended by TooLong\n\
-TIME 127.0.0.1 a session ended by TooLong, 1 more since TIME\n";
+TIME 127.0.0.1:PORT a session ended by TooLong\n";
     let parts = [ANA_FLOODS, BOB_FLOODS];
     warns(&rt, TWO, Way::AsSet, &parts, TWO_JOINED, said);
 }

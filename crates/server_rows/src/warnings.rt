@@ -1,8 +1,5 @@
-// Warnings: what stands in each line, which are counted, and what the journal has of them.
-use hub_warnings::{
-    Cause, Counted, End, Journal, Moment, PLACES, Repeats, Start, Subject, Table, Told, Warning,
-    Warnings,
-};
+// Warnings: what stands in each line, what the journal has of them, and the queue by which nobody waits.
+use hub_warnings::{Cause, Dropped, End, Journal, Moment, Start, Warning, Warnings, queue};
 use log::{Level, Logged};
 use second_try::again;
 use std::alloc::{AllocError, AllocGlobal, Global};
@@ -10,6 +7,8 @@ use std::fmt::Display;
 use std::io::{self, Write};
 use std::net::{Ipv4Addr, SocketAddr, SocketAddrV4};
 use std::process::Abort;
+use std::sync::Wait;
+use std::time::Clock;
 
 const HOME: Ipv4Addr = Ipv4Addr::LOCALHOST;
 
@@ -105,16 +104,9 @@ fn lines_have_time_address_and_cause(rt: HostRuntime) {
     };
     let text = "2026-11-25T13:07:11Z a connection was lost by Memory";
     shows(&rt, &warning, text);
-    let repeats = Repeats {
-        moment: Moment::from_seconds(1_795_612_091),
-        address: Some(Ipv4Addr::new(192, 0, 2, 7)),
-        cause: Cause::TooLong,
-        more: 499,
-        since: moment,
-    };
-    let text =
-        "2026-11-25T13:08:11Z 192.0.2.7 a session ended by TooLong, 499 more since 2026-11-25T13:07:11Z";
-    shows(&rt, &repeats, text);
+    let dropped = Dropped { moment, count: 499 };
+    let text = "2026-11-25T13:07:11Z lines dropped for want of room: 499";
+    shows(&rt, &dropped, text);
 }
 
 #[test]
@@ -137,68 +129,6 @@ fn a_server_says_its_start_and_its_end(rt: HostRuntime) {
     };
     let text = "2026-11-25T13:07:11Z adc_hub ended: standard output failed";
     shows(&rt, &end, text);
-}
-
-fn of(address: Ipv4Addr, cause: Cause) -> Subject {
-    Subject {
-        address: Some(address),
-        cause,
-    }
-}
-
-// A table promises much of each call, so that each stands in a function of its own, which promises nothing.
-fn take(table: &mut Table, subject: Subject, now: u64) -> Told {
-    table.take(subject, now)
-}
-
-fn take_over(table: &mut Table, now: u64) -> Option<Counted> {
-    table.take_over(now)
-}
-
-fn take_oldest(table: &mut Table) -> Option<Subject> {
-    match table.take_oldest() {
-        Some(oldest) => Some(oldest.subject),
-        None => None,
-    }
-}
-
-#[test]
-fn equal_ones_are_counted_for_a_minute(rt: HostRuntime) {
-    let mut table = Table::new();
-    let resets = of(HOME, Cause::ReadFailed);
-    let floods = of(HOME, Cause::TooLong);
-    assert!(&rt; take(&mut table, resets, 1_000) == Told::Said(None));
-    assert!(&rt; take(&mut table, resets, 1_000) == Told::Counted);
-    assert!(&rt; take(&mut table, floods, 1_030) == Told::Said(None));
-    assert!(&rt; take(&mut table, resets, 1_059) == Told::Counted);
-    assert!(&rt; take_over(&mut table, 1_059).is_none());
-    let counted = Counted {
-        subject: resets,
-        since: 1_000,
-        more: 2,
-    };
-    assert!(&rt; take_over(&mut table, 1_060) == Some(counted));
-    assert!(&rt; take_over(&mut table, 1_060).is_none());
-    assert!(&rt; take(&mut table, resets, 1_060) == Told::Said(None));
-    assert!(&rt; take_oldest(&mut table) == Some(floods));
-    assert!(&rt; take_oldest(&mut table) == Some(resets));
-    assert!(&rt; take_oldest(&mut table).is_none());
-}
-
-#[test]
-fn the_oldest_makes_room(rt: HostRuntime) {
-    let mut table = Table::new();
-    for last in 0..PLACES as u8 {
-        let subject = of(Ipv4Addr::new(10, 0, 0, last), Cause::ReadFailed);
-        assert!(&rt; take(&mut table, subject, 5) == Told::Said(None));
-        assert!(&rt; take(&mut table, subject, 6) == Told::Counted);
-    }
-    let oldest = Counted {
-        subject: of(Ipv4Addr::new(10, 0, 0, 0), Cause::ReadFailed),
-        since: 5,
-        more: 1,
-    };
-    assert!(&rt; take(&mut table, of(HOME, Cause::ReadFailed), 7) == Told::Said(Some(oldest)));
 }
 
 /// A journal that takes three bytes, then fails once, and then takes all.
@@ -247,22 +177,54 @@ fn a_torn_line_is_ended_before_the_next(rt: HostRuntime) {
 }
 
 #[test]
-fn the_journal_has_one_line_for_many(rt: HostRuntime) {
+fn the_journal_has_a_line_for_each(rt: HostRuntime) {
     let mut said = again!(&rt; Vec::with_capacity(rt.alloc(), 4_096));
     let warnings = Warnings::new(Logged::new((), Level::Info, Journal::new(&rt, true, &mut said)));
     let peer = Some(SocketAddrV4::new(HOME, 4111));
-    for _time in 0..500 {
+    for _time in 0..3 {
         warnings.warn(&rt, peer, Cause::ReadFailed);
     }
     warnings.warn(&rt, None, Cause::Lost);
-    warnings.tell_all(&rt);
     drop(warnings);
     let shape = again!(&rt; shape(rt.alloc(), &said));
     assert!(&rt;
         shape.as_slice()
             == b"<4>TIME 127.0.0.1:PORT a session ended by ReadFailed\n\
-<4>TIME a connection was lost by Memory\n\
-<4>TIME 127.0.0.1 a session ended by ReadFailed, 499 more since TIME\n"
+<4>TIME 127.0.0.1:PORT a session ended by ReadFailed\n\
+<4>TIME 127.0.0.1:PORT a session ended by ReadFailed\n\
+<4>TIME a connection was lost by Memory\n"
                 .as_slice()
     );
+}
+
+/// Puts so many lines of four bytes into a queue, and gives what is written once somebody writes.
+fn written_of<R: Wait + Clock + Abort + AllocGlobal + Copy + Drop>(rt: R, count: u64) -> Vec<u8> {
+    let (mut writer, lines, end) = again!(&rt; queue(rt, rt.alloc(), true));
+    for _line in 0..count {
+        // Nobody writes yet, and nobody waits.
+        assert!(&rt; writer.write_all(b"li").is_ok() && writer.write_all(b"ne\n").is_ok());
+    }
+    drop(writer);
+    let mut said = again!(&rt; Vec::with_capacity(rt.alloc(), 4_096));
+    lines.write(&rt, &mut said);
+    end.wait(&rt);
+    said
+}
+
+#[test]
+fn a_queue_keeps_256_lines_and_counts_the_rest(rt: HostRuntime) {
+    let said = written_of(rt, 300);
+    let shape = again!(&rt; shape(rt.alloc(), &said));
+    let (lines, last) = shape.split_at(256 * 5);
+    assert!(&rt; lines.chunks(5).all(|line| line == b"line\n".as_slice()));
+    assert!(&rt; last == b"<4>TIME lines dropped for want of room: 44\n".as_slice());
+}
+
+#[test]
+fn a_line_without_memory_is_counted(rt: HostRuntime) {
+    let said = written_of(rt, 3);
+    let shape = again!(&rt; shape(rt.alloc(), &said));
+    let all = b"line\nline\nline\n".as_slice();
+    let fewer = b"line\nline\n<4>TIME lines dropped for want of room: 1\n".as_slice();
+    assert!(&rt; shape.as_slice() == all || shape.as_slice() == fewer);
 }
