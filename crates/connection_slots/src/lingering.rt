@@ -11,11 +11,11 @@ use tokio::io::{AsyncRead, AsyncWrite};
 /// The number of sockets that linger at a time at most.
 const MOST: usize = 16;
 
-/// The number of seconds for which a socket lingers.
-const SECONDS: u64 = 2;
+/// The number of seconds for which a socket lingers at most: a client that takes 32 KB a second has all that the system held then.
+const SECONDS: u64 = 10;
 
 /// The sockets whose sessions are over, or for which the hub had no room, while their last lines are on the way: 16 at most,
-/// each for 2 seconds.
+/// each for 10 seconds, or until its client has closed.
 #[derive(Drop)]
 pub struct Lingering<S> {
     source: Source,
