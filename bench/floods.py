@@ -12,7 +12,7 @@ import socket
 import subprocess
 import time
 
-from hostile import LONGEST, Client, Gone, Hub, friends_of, serves, settings, told_by
+from hostile import LONGEST, OPERATOR, Client, Gone, Hub, friends_of, operator, serves, settings, told_by
 
 READERS = 10
 LENGTHS = (60, 1000, 2000, 2100, 4000, 16_000, 65_000)
@@ -49,7 +49,9 @@ def links_of(net):
         print(f"no namespaces: {getattr(error, 'stderr', None) or error}", flush=True)
         yield None
     finally:
-        for name in names:
+        # The links first: with a namespace they would go by and by.
+        for number, name in enumerate(names):
+            subprocess.run(["ip", "link", "del", f"h{os.getpid() % 100000}a{number}"], stderr=subprocess.DEVNULL, check=False)
             subprocess.run(["ip", "netns", "del", name], stderr=subprocess.DEVNULL, check=False)
 
 
@@ -230,10 +232,68 @@ def flood_once(table, name, net, kind, count, threads, lengths, seconds, names):
             end(it)
 
 
+# ---- a kick's reason
+
+
+def hears_why(port, names, number):
+    """Whether one behind a slow link, with 400 KB on the way, hears all and why it was kicked although it goes on talking."""
+    op = operator(port)
+    here = os.open("/proc/self/ns/net", os.O_RDONLY)
+    enter(names[0])
+    bob = Client(port, 10, host="10.213.0.1").log_in(500_001 + number, b"bob")
+    ctypes.CDLL(None).setns(here, NEWNET)
+    os.close(here)
+    op.hear(b"BINF " + bob.sid)
+    for _ in range(200):
+        op.say(b"DMSG %s %s %s\n" % (op.sid, bob.sid, b"x" * 2000))
+    op.say(b"HMSG !kick\\sbob\\sgo\n")
+    op.hear(b"IQUI " + bob.sid)
+    op.close()
+    heard, until = bob.rest, time.monotonic() + 20
+    try:
+        while time.monotonic() < until:
+            if select.select([bob.socket], [], [], 0.005)[0]:
+                more = bob.socket.recv(1 << 16)
+                if not more:
+                    break
+                heard += more
+            with contextlib.suppress(OSError):
+                bob.socket.send(b"BMSG %s still\\shere\n" % bob.sid)
+    except OSError:
+        pass
+    bob.close()
+    return heard.count(b"DMSG ") == 200 and b"\nIQUI %s " % bob.sid in heard
+
+
+def play_reason(table, times):
+    name = "a kick's reason behind 1 Mbit/s"
+    if not table.wants(name):
+        return
+    with links_of(Net("1 Mbit/s", 1, 1)) as names:
+        if names is None:
+            print(f"{name}: not played")
+            table.failed += 1
+            return
+        began, arrived = time.monotonic(), 0
+        settings(2, 64, OPERATOR, host="0.0.0.0")
+        hub = Hub([table.options.program, "serve", "hub.toml"])
+        try:
+            hub.listens()
+            for number in range(times):
+                arrived += hears_why(hub.port, names, number)
+            cells = ["yes" if hub.status() is None else "no", f"{arrived} of {times} arrive", "", "", "", f"{hub.megabytes() or 0:.1f}"]
+            table.row(name, 2, began, cells, arrived == times and serves(hub.port))
+        except (OSError, Gone) as error:
+            table.row(f"{name}: {error}", 2, began, ["no"] * 6, False)
+        finally:
+            hub.stop()
+
+
 def floods(table):
     """All floods, or with --short four of them."""
     if table.options.against:
         return
+    play_reason(table, 1 if table.options.short else 10)
     if table.options.short:
         play_flood(table, LOOPBACK, "BMSG", 1, 2, (2100, 65_000), 0.6)
         play_flood(table, LOOPBACK, "DMSG", 5, 4, (2100, 65_000), 0.6)

@@ -27,6 +27,8 @@ STOOD_STILL = 0.25
 # Peak memory: what a hub without clients may have, and what each place may add, in MB.
 BASE_MB, PLACE_MB = 24, 1.25
 LINGER = struct.pack("ii", 1, 0)
+# What a friend says, and how many bytes the system is to hold for it.
+FRIEND, WINDOW = b" friend\\s", 1 << 18
 
 
 # ---- identities
@@ -162,7 +164,8 @@ class Friend:
     """A client that chats and reads, and notes what it hears of the others."""
 
     def __init__(self, port, number):
-        client = Client(port).log_in(number)
+        # The system would hold megabytes for a client that is behind, in which its echoes waited, whatever the hub does.
+        client = Client(port, window=WINDOW).log_in(number)
         self.socket, self.rest, self.sid = client.socket, client.rest, client.sid
         self.socket.setblocking(False)
         self.said, self.at, self.heard, self.is_gone = 0, {}, {}, False
@@ -188,14 +191,19 @@ class Friend:
             more = b""
         if not more:
             self.is_gone = True
-        *lines, self.rest = (self.rest + more).split(b"\n")
+        heard = self.rest + more
+        end = heard.rfind(b"\n") + 1
+        self.rest = heard[end:]
         now = time.monotonic()
-        for line in lines:
-            if line.startswith(b"BMSG ") and line[9:18] == b" friend\\s":
-                sid, number = line[5:9], int(line[18:])
-                self.heard.setdefault(sid, []).append(number)
-                if sid == self.sid:
-                    longest = max(longest, now - self.at.pop(number, now))
+        # Nobody else says this word, and what a flood says is passed over.
+        at = heard.find(FRIEND, 0, end)
+        while at >= 0:
+            stop = heard.find(b"\n", at)
+            sid, number = heard[at - 4 : at], int(heard[at + len(FRIEND) : stop])
+            self.heard.setdefault(sid, []).append(number)
+            if sid == self.sid:
+                longest = max(longest, now - self.at.pop(number, now))
+            at = heard.find(FRIEND, stop, end)
         return longest
 
 

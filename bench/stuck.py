@@ -94,7 +94,7 @@ class Filled(Pipe):
 def sip(reader):
     signal.signal(signal.SIGINT, signal.SIG_IGN)
     while os.getppid() != 1:
-        os.read(reader, 8192)
+        os.read(reader, 256)
         time.sleep(0.05)
 
 

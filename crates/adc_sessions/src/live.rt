@@ -16,8 +16,12 @@ use outboxes::Taken;
 use std::alloc::Global;
 use tokio::io::{AsyncRead, AsyncWrite};
 
-/// The number of lines that one take asks for.
+/// The number of lines that one take asks for at most.
 const BATCH: usize = 256;
+
+/// The number of bytes that one take is to give, by what the lines before had: a stream that takes them slowly takes as many at
+/// once, so that its client is heard between two takes, however much waits for it.
+const TAKEN: u64 = 32_768;
 
 /// The number of bytes for output that a session keeps room for while it rests.
 const KEPT: usize = 512;
@@ -52,6 +56,8 @@ pub(crate) struct Live<S, P, B> {
     // The bytes from `written` on were taken and are not written yet.
     output: Vec<u8>,
     written: usize,
+    // The number of lines that the next take asks for.
+    batch: usize,
     has_met_end: bool,
     // The port said that it hears nothing more.
     is_over: bool,
@@ -73,6 +79,8 @@ pub(crate) struct Live<S, P, B> {
     ghost in_range: { written ≤ length output.items },
     ghost has_room: { 0 < length input.items },
     ghost reads_few: { length input.items ≤ 2_048 },
+    ghost takes_some: { 1 ≤ batch },
+    ghost takes_few: { batch ≤ 256 },
 }
 
 impl<S: AsyncRead + AsyncWrite, P: Port, B: Bell> Live<S, P, B> {
@@ -94,6 +102,7 @@ impl<S: AsyncRead + AsyncWrite, P: Port, B: Bell> Live<S, P, B> {
             input,
             output: Vec::new(alloc),
             written: 0,
+            batch: BATCH,
             has_met_end: false,
             is_over: false,
             taken: None,
@@ -223,9 +232,10 @@ impl<S: AsyncRead + AsyncWrite, P: Port, B: Bell> Live<S, P, B> {
         self.written = 0;
         self.is_fresh = false;
         self.reads_next = true;
-        match self.port.take(BATCH, &mut self.output) {
+        match self.port.take(self.batch, &mut self.output) {
             Ok(taken) => {
-                self.owes_take = taken.lines >= BATCH as u64;
+                self.owes_take = taken.lines >= self.batch as u64;
+                self.batch = batch_after(taken.lines, self.output.len());
                 self.taken = Some(taken);
                 Turn::Again
             }
@@ -398,6 +408,18 @@ impl<S: AsyncRead + AsyncWrite, P: Port, B: Bell> Live<S, P, B> {
             }
         }
     }
+}
+
+/// Gives how many lines the next take asks for, where the last gave so many with so many bytes.
+fn batch_after(lines: u64, bytes: usize) -> usize
+    ensures some { 1 ≤ result }
+    ensures few { result ≤ 256 }
+{
+    let Some(each) = (bytes as u64).checked_div(lines) else {
+        return BATCH;
+    };
+    let count = TAKEN.checked_div(each).unwrap_or(TAKEN) as usize;
+    count.max(1).min(BATCH)
 }
 
 /// Answers whether the last take said that nothing will follow.

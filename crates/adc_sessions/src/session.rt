@@ -29,8 +29,9 @@ const ROOM_AT_FIRST: usize = 256;
 /// Reads and takes alternate, and each poll takes once before it reads, unless bytes still wait to be written: so a client
 /// that sends without pause, and reads, gets what is meant for it. A take is made only once all that was taken before is
 /// written, and one write is offered everything a take gave: so a client that does not read lags at the hub. A session
-/// holds what one take of at most 256 lines gave, and of its input at most 65,536 bytes without a line feed and one read. A
-/// read gives at most 256 bytes at first, and twice as many once one gave so many, up to 2,048.
+/// holds what one take of at most 256 lines gave, which asks for fewer where those before were long, so that it gives about
+/// 32,768 bytes; and of its input at most 65,536 bytes without a line feed and one read. A read gives at most 256 bytes at
+/// first, and twice as many once one gave so many, up to 2,048.
 pub struct Session<S, P, B> {
     live: Option<Live<S, P, B>>,
 }

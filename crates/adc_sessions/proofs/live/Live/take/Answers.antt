@@ -9,7 +9,7 @@ pub returns-in-Ok-clause-turned : goal.returns-in-Ok-clause-turned
 returns-in-Ok-clause-turned g c =
     let taken = c.in-Ok.ensures.ok in
     let none = drop_all c.args.self.now.written c.args.self.now.output.items c.requires in
-    one_call _ _ _ _ _ (did_take _ _ _ _ 256 taken.0 c.in-Ok.taken taken.2 refl refl (taken.1 ∙ ap (λ front. front ++ taken.0) (c.clear.ensures.items ∙ sym none)) refl refl refl refl refl none) (λ fault. fault)
+    one_call _ _ _ _ _ (did_take _ _ _ _ c.args.self.now.batch taken.0 c.in-Ok.taken taken.2 refl refl (taken.1 ∙ ap (λ front. front ++ taken.0) (c.clear.ensures.items ∙ sym none)) refl refl refl refl refl none) (λ fault. fault)
 
 pub returns-in-Err-clause-turned : goal.returns-in-Err-clause-turned
 returns-in-Err-clause-turned g c =
