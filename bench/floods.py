@@ -34,9 +34,19 @@ def run(words):
 def links_of(net):
     """Network namespaces behind links of this pace, which are gone at the end. Nothing where they cannot be made."""
     names = [f"hub{os.getpid()}n{number}" for number in range(net.links)]
+    links = [(f"h{os.getpid() % 100000}a{number}", f"h{os.getpid() % 100000}b{number}") for number in range(net.links)]
     try:
-        for number, name in enumerate(names):
-            here, there = f"h{os.getpid() % 100000}a{number}", f"h{os.getpid() % 100000}b{number}"
+        yield names if make_links(net, names, links) else None
+    finally:
+        # The links first: with a namespace they would go by and by.
+        for name, (here, _) in zip(names, links):
+            subprocess.run(["ip", "link", "del", here], stderr=subprocess.DEVNULL, check=False)
+            subprocess.run(["ip", "netns", "del", name], stderr=subprocess.DEVNULL, check=False)
+
+
+def make_links(net, names, links):
+    try:
+        for number, (name, (here, there)) in enumerate(zip(names, links)):
             run(f"ip netns add {name}")
             run(f"ip link add {here} type veth peer name {there} netns {name}")
             run(f"ip addr add 10.213.{number}.1/24 dev {here}")
@@ -44,15 +54,10 @@ def links_of(net):
             run(f"ip -n {name} addr add 10.213.{number}.2/24 dev {there}")
             run(f"ip -n {name} link set {there} up")
             run(f"tc qdisc add dev {here} root tbf rate {net.pace}mbit burst {max(16, net.pace)}kb latency 100ms")
-        yield names
+        return True
     except (OSError, subprocess.CalledProcessError) as error:
         print(f"no namespaces: {getattr(error, 'stderr', None) or error}", flush=True)
-        yield None
-    finally:
-        # The links first: with a namespace they would go by and by.
-        for number, name in enumerate(names):
-            subprocess.run(["ip", "link", "del", f"h{os.getpid() % 100000}a{number}"], stderr=subprocess.DEVNULL, check=False)
-            subprocess.run(["ip", "netns", "del", name], stderr=subprocess.DEVNULL, check=False)
+        return False
 
 
 def enter(name):
