@@ -6,12 +6,12 @@ mod cause;
 mod journal;
 mod lines;
 mod moment;
-mod queue;
+mod queued;
 mod warnings;
 
 pub use cause::Cause;
 pub use journal::Journal;
 pub use lines::{Dropped, End, Start, Warning};
 pub use moment::Moment;
-pub use queue::{MOST_LINES, QueueEnd, QueueWriter, QueuedLines, queue};
+pub use queued::{MOST_LINES, QueueEnd, QueueWriter, QueuedLines, queue};
 pub use warnings::Warnings;

@@ -105,11 +105,11 @@ impl<R: Wait + Drop> Write for QueueWriter<R> {
 impl QueuedLines {
     /// Writes each line, until the other end is gone. Where lines were dropped, one says how many, once there is room again.
     pub fn write<R: Wait + Clock, W: Write>(self, rt: &R, writer: &mut W) {
-        let mut since = 0;
+        let mut since = 0usize;
         for line in self.lines.iter(rt) {
             // That it cannot be written changes nothing.
             let _ = writer.write_all(&line);
-            since += 1;
+            since = since.saturating_add(1);
             if since >= MOST_LINES || self.lines.is_empty() {
                 since = 0;
                 self.tell_dropped(rt, writer);
