@@ -86,8 +86,8 @@ fn lingers_after<R: Wait + RandomSource + AllocGlobal>(
 }
 
 #[test]
-fn a_socket_lingers_for_two_seconds(rt: HostRuntime) {
-    for (seconds, wanted) in [(1, true), (2, false)] {
+fn a_socket_lingers_for_ten_seconds(rt: HostRuntime) {
+    for (seconds, wanted) in [(9, true), (10, false)] {
         let lingers = again!(&rt; lingers_after(&rt, seconds));
         assert!(&rt; lingers == wanted, "after {seconds} seconds");
     }
@@ -155,7 +155,7 @@ fn is_over<'a, 's, R: Wait>(
 
 #[test]
 fn the_ticker_waits_for_who_lingers(rt: HostRuntime) {
-    for (seconds, wanted) in [(1, false), (2, true)] {
+    for (seconds, wanted) in [(9, false), (10, true)] {
         let is_over = again!(&rt; is_over_after(&rt, seconds));
         assert!(&rt; is_over == wanted, "after {seconds} seconds");
     }
