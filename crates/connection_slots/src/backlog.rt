@@ -14,13 +14,13 @@ pub const PATIENCE: u64 = 40;
 /// The number of bytes a tick that a client takes at least which reads: 16 KB a second.
 pub const PACE: u64 = 82;
 
-/// The number of bytes that count for later ticks at most: those of six seconds. The system says that there is room in a
+/// The number of bytes that count for later ticks at most: those of two seconds. The system says that there is room in a
 /// socket again once a third of its buffer is free, so that who reads slowly is seen to take 85 KB at a time.
-pub const MOST_CREDIT: u64 = 1_200 * PACE;
+pub const MOST_CREDIT: u64 = 400 * PACE;
 
-/// The number of bytes of takes that count for later ticks at most: those of two seconds. The system may hold them, and its
+/// The number of bytes of takes that count for later ticks at most: those of one second. The system may hold them, and its
 /// client read none.
-pub const TAKEN_CREDIT: u64 = 400 * PACE;
+pub const TAKEN_CREDIT: u64 = 200 * PACE;
 
 /// What waits for a client, as far as is known, and whether it reads. It is counted, and put right by each take that finds no
 /// more.
@@ -76,10 +76,10 @@ impl Backlog {
         }
     }
 
-    /// Counts a tick; where the client is far behind, it was waited for.
-    pub fn tick(&mut self, said: Amount) {
+    /// Counts a tick, for which as many were due; where the client is far behind, it was waited for.
+    pub fn tick(&mut self, said: Amount, due: u64) {
         if self.waiting(said).is_beyond(FAR_BEHIND) {
-            self.credit = self.credit.saturating_sub(PACE);
+            self.credit = self.credit.saturating_sub(due.saturating_mul(PACE));
             self.waited_for = self.waited_for.saturating_add(1);
         }
     }

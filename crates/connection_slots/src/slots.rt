@@ -323,8 +323,8 @@ impl Slots {
         }
     }
 
-    /// Counts a tick, in this second, for each client that is far behind.
-    pub(crate) fn tick(&mut self, said: Amount, second: u64)
+    /// Counts a tick in this second, for which as many were due, for each client that is far behind.
+    pub(crate) fn tick(&mut self, said: Amount, second: u64, due: u64)
         ensures bells { self.new.bells ≡ self.old.bells }
         ensures index { SameIndex self.old self.new }
     {
@@ -332,7 +332,7 @@ impl Slots {
         self.second = second;
         for slot in self.slots.iter_mut() {
             if let Some(backlog) = &mut slot.backlog {
-                backlog.tick(said);
+                backlog.tick(said, due);
             }
         }
     }

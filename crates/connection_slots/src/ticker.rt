@@ -11,12 +11,17 @@ use tokio::time::Sleep;
 /// The number of milliseconds that a tick takes.
 const TICK: u64 = 5;
 
+/// The number of ticks that are due at once at most: where the machine itself stood still, nobody could read.
+const MOST_DUE: u64 = 20;
+
 /// The task that keeps time while somebody gives way or lingers: every 5 ms it wakes those who give way, and closes the
 /// sockets that have lingered for long. Otherwise it rests.
 pub struct Ticker<'a, T, S, R> {
     shared: &'a Shared<T, S>,
     rt: &'a R,
     timer: Sleep,
+    // The moment of the last tick.
+    ticked: Option<Instant>,
 }
 
 impl<'a, T, S, R> Drop for Ticker<'a, T, S, R> {
@@ -25,6 +30,7 @@ impl<'a, T, S, R> Drop for Ticker<'a, T, S, R> {
             shared: _,
             rt: _,
             timer,
+            ticked: _,
         } = self;
         drop(timer);
     }
@@ -33,7 +39,12 @@ impl<'a, T, S, R> Drop for Ticker<'a, T, S, R> {
 impl<'a, T, S: AsyncRead + AsyncWrite, R: Wait + Clock> Ticker<'a, T, S, R> {
     /// Makes the task, which uses this timer, whatever it is set to.
     pub fn new(shared: &'a Shared<T, S>, rt: &'a R, timer: Sleep) -> Ticker<'a, T, S, R> {
-        Ticker { shared, rt, timer }
+        Ticker {
+            shared,
+            rt,
+            timer,
+            ticked: None,
+        }
     }
 
     /// Works as a task does. It is over once nobody is served any more, and nobody lingers.
@@ -62,11 +73,23 @@ impl<'a, T, S: AsyncRead + AsyncWrite, R: Wait + Clock> Ticker<'a, T, S, R> {
         match self.timer.poll_elapsed(cx) {
             Poll::Pending => Poll::Pending,
             Poll::Ready(_) => {
-                self.shared.wakers.tick(seconds(self.rt));
+                let due = self.due();
+                self.shared.wakers.tick(seconds(self.rt), due);
                 self.set();
                 cx.yield_now()
             }
         }
+    }
+
+    /// Counts the ticks that were due since the last one, which on a busy machine are more than one.
+    fn due(&mut self) -> u64 {
+        let Ok(now) = Instant::now(self.rt) else {
+            return 1;
+        };
+        let before = self.ticked.unwrap_or(now);
+        self.ticked = Some(now);
+        let passed = now.saturating_duration_since(before).as_millis() as u64;
+        (passed / TICK).max(1).min(MOST_DUE)
     }
 
     fn set(&mut self) {

@@ -198,11 +198,12 @@ impl Wakers {
         }
     }
 
-    /// Counts a tick in this second: those who give way ask again, and those for whom they do are waited for once more.
-    pub fn tick(&self, second: u64) {
+    /// Counts a tick in this second, for which as many were due as 5 ms have passed: those who give way ask again, and those for
+    /// whom they do are waited for once more.
+    pub fn tick(&self, second: u64, due: u64) {
         if let Some(mut slots) = lock(&self.slots) {
             let said = self.broadcasts();
-            slots.tick(said, second);
+            slots.tick(said, second, due);
             let is_behind = slots.look(said);
             self.is_behind.store(is_behind, Ordering::SeqCst);
             slots.let_go();

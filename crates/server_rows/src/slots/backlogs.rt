@@ -68,7 +68,7 @@ fn who_does_not_move_is_waited_for_no_longer(rt: HostRuntime) {
     let mut backlog = Backlog::new(Amount::NONE);
     for _tick in 0..PATIENCE {
         assert!(&rt; backlog.is_behind(far));
-        backlog.tick(far);
+        backlog.tick(far, 1);
     }
     assert!(&rt; !backlog.is_behind(far));
     // A take without a line is no move, one with a line is.
@@ -86,7 +86,7 @@ fn waited_for(backlog: &Backlog, far: Amount) -> u64 {
         if !backlog.is_behind(far) {
             return ticks;
         }
-        backlog.tick(far);
+        backlog.tick(far, 1);
         ticks += 1;
     }
     ticks
@@ -97,22 +97,28 @@ fn who_reads_is_waited_for_at_its_pace(rt: HostRuntime) {
     let far = bytes(FAR_BEHIND.bytes + 1);
     let mut backlog = Backlog::new(Amount::NONE);
     assert!(&rt; !backlog.reads() && waited_for(&backlog, far) == 40);
-    // What was taken counts for two seconds at most, since the system may hold it.
+    // What was taken counts for a second at most, since the system may hold it.
     let mut taken = backlog;
     taken.count_taken(far, bytes(8_200), true);
     assert!(&rt; taken.reads() && waited_for(&taken, far.plus(far)) == 100);
     taken.count_taken(far, bytes(200_000), true);
-    assert!(&rt; waited_for(&taken, far.plus(far)) == 400);
-    // What a full socket took counts for a second where it is 16 KB, and for six at most.
+    assert!(&rt; waited_for(&taken, far.plus(far)) == 200);
+    // What a full socket took counts for a second where it is 16 KB, and for two at most.
     backlog.count_written(16_400);
     assert!(&rt; backlog.reads() && waited_for(&backlog, far) == 200);
     backlog.count_written(1_000_000);
-    assert!(&rt; waited_for(&backlog, far) == 1_200 && MOST_CREDIT == 1_200 * PACE);
-    // 85 KB each five seconds are enough, for as long as it takes.
+    assert!(&rt; waited_for(&backlog, far) == 400 && MOST_CREDIT == 400 * PACE);
+    // Ticks that come late count as so many.
+    let mut late = backlog;
+    late.tick(far, 399);
+    assert!(&rt; late.reads());
+    late.tick(far, 1);
+    assert!(&rt; !late.reads());
+    // 85 KB in less than two seconds are enough, for as long as it takes.
     for _turn in 0..20 {
-        for _tick in 0..1_000 {
+        for _tick in 0..390 {
             assert!(&rt; backlog.is_behind(far));
-            backlog.tick(far);
+            backlog.tick(far, 1);
         }
         backlog.count_written(85_000);
     }
@@ -122,7 +128,7 @@ fn who_reads_is_waited_for_at_its_pace(rt: HostRuntime) {
 fn ticks_do_not_count_where_little_waits(rt: HostRuntime) {
     let mut backlog = Backlog::new(Amount::NONE);
     for _tick in 0..10 * PATIENCE {
-        backlog.tick(FAR_BEHIND);
+        backlog.tick(FAR_BEHIND, 1);
     }
     assert!(&rt; backlog.is_behind(FAR_BEHIND.plus(lines(1))));
 }

@@ -210,7 +210,7 @@ fn who_says_little_does_not_give_way(rt: HostRuntime) {
         assert!(&rt; !bell.may_hand(60));
         moves(&waiters, 1);
         says(&waiters, 1);
-        waiters.wakers.tick(SECOND);
+        waiters.wakers.tick(SECOND, 1);
     }
     for _line in 0..BURST {
         assert!(&rt; bell.may_hand(60));
@@ -225,9 +225,9 @@ fn much_is_little_two_seconds_later(rt: HostRuntime) {
     gives(&rt, &waiters, 0, LITTLE + 1);
     says(&waiters, FAR_BEHIND.lines + BURST);
     assert!(&rt; !bell.may_hand(60));
-    waiters.wakers.tick(SECOND + 1);
+    waiters.wakers.tick(SECOND + 1, 1);
     assert!(&rt; !bell.may_hand(60));
-    waiters.wakers.tick(SECOND + 2);
+    waiters.wakers.tick(SECOND + 2, 1);
     assert!(&rt; waiters.wakers.is_behind() && bell.may_hand(60));
 }
 
@@ -241,11 +241,11 @@ fn who_gives_much_waits_for_who_reads(rt: HostRuntime) {
         assert!(&rt; !bell.may_hand(60));
         // 20 KB a second, and no take.
         waiters.wakers.count_written(1, 100);
-        waiters.wakers.tick(SECOND);
+        waiters.wakers.tick(SECOND, 1);
     }
     // Once it reads no more, it is waited for no longer than it has earned.
     for _tick in 0..100 {
-        waiters.wakers.tick(SECOND);
+        waiters.wakers.tick(SECOND, 1);
     }
     assert!(&rt; !waiters.wakers.is_behind() && bell.may_hand(60));
 }
@@ -260,7 +260,7 @@ fn who_gives_much_gives_way_for_a_while_to_who_hardly_moves(rt: HostRuntime) {
         assert!(&rt; !bell.may_hand(60));
         // Some of them move, so that they are waited for.
         moves(&waiters, 1);
-        waiters.wakers.tick(SECOND);
+        waiters.wakers.tick(SECOND, 1);
         waiters.are_woken(&rt, [true, false, false, false]);
     }
     // It has waited for long, and may hand over some.
@@ -278,7 +278,7 @@ fn who_never_moves_holds_up_nobody(rt: HostRuntime) {
     says(&waiters, 2 * FAR_BEHIND.lines);
     for _tick in 0..PATIENCE {
         assert!(&rt; !bell.may_hand(60));
-        waiters.wakers.tick(SECOND);
+        waiters.wakers.tick(SECOND, 1);
     }
     assert!(&rt; !waiters.wakers.is_behind());
     for _line in 0..10 * BURST {
