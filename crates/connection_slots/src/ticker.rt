@@ -88,8 +88,13 @@ impl<'a, T, S: AsyncRead + AsyncWrite, R: Wait + Clock> Ticker<'a, T, S, R> {
         };
         let before = self.ticked.unwrap_or(now);
         self.ticked = Some(now);
-        let passed = now.saturating_duration_since(before).as_millis() as u64;
-        (passed / TICK).max(1).min(MOST_DUE)
+        let passed = now.saturating_duration_since(before);
+        if passed.as_secs() > 0 {
+            return MOST_DUE;
+        }
+        (u64::from(passed.subsec_millis()) / TICK)
+            .max(1)
+            .min(MOST_DUE)
     }
 
     fn set(&mut self) {
