@@ -11,8 +11,11 @@ use tokio::io::{AsyncRead, AsyncWrite};
 /// The number of sockets that linger at a time at most.
 const MOST: usize = 16;
 
-/// The number of seconds for which a socket lingers at most: a client that takes 32 KB a second has all that the system held then.
+/// The number of seconds for which a socket lingers at most: a client that takes 26 KB a second has all that the system held then.
 const SECONDS: u64 = 10;
+
+/// The number of seconds for which it does where nobody is served any more, so that a server ends soon.
+const SECONDS_AT_END: u64 = 2;
 
 /// The sockets whose sessions are over, or for which the hub had no room, while their last lines are on the way: 16 at most,
 /// each for 10 seconds, or until its client has closed.
@@ -53,7 +56,10 @@ impl<S: AsyncRead + AsyncWrite> Lingering<S> {
         let Some(until) = now.checked_add(Duration::from_secs(SECONDS)) else {
             return;
         };
-        let socket = LingeringSocket::new(stream, until);
+        let Some(soon) = now.checked_add(Duration::from_secs(SECONDS_AT_END)) else {
+            return;
+        };
+        let socket = LingeringSocket::new(stream, soon, until);
         let oldest = self.held.lock(rt).replace(socket);
         // It is closed here, and not under the lock.
         drop(oldest);
@@ -65,11 +71,24 @@ impl<S: AsyncRead + AsyncWrite> Lingering<S> {
         ensures registered { result ≡ false → IsArmed cx.new }
         ensures kept { Keeps cx.old cx.new }
     {
+        self.linger_until(rt, cx, false)
+    }
+
+    /// Does so where it is the end, at which nobody is served any more, or is not.
+    pub(crate) fn linger_until<R: Wait + Clock>(
+        &self,
+        rt: &R,
+        cx: &mut Context<'_>,
+        is_end: bool,
+    ) -> bool
+        ensures registered { result ≡ false → IsArmed cx.new }
+        ensures kept { Keeps cx.old cx.new }
+    {
         let Ok(now) = Instant::now(rt) else {
             let _: Poll<()> = cx.yield_now();
             return false;
         };
-        self.held.lock(rt).linger(cx, &self.source, now)
+        self.held.lock(rt).linger(cx, &self.source, now, is_end)
     }
 }
 
@@ -109,14 +128,14 @@ impl<S: AsyncRead + AsyncWrite> Held<S> {
         }
     }
 
-    fn linger(&mut self, cx: &mut Context<'_>, source: &Source, now: Instant) -> bool
+    fn linger(&mut self, cx: &mut Context<'_>, source: &Source, now: Instant, is_end: bool) -> bool
         ensures registered { IsArmed cx.new }
         ensures kept { Keeps cx.old cx.new }
     {
         let mut some_linger = false;
         for place in self.places.iter_mut() {
             if let Some(held) = place {
-                if held.lingers(cx, now) {
+                if held.lingers(cx, now, is_end) {
                     some_linger = true;
                 } else {
                     *place = None;

@@ -18,16 +18,18 @@ const ROOM: usize = 4_096;
 #[derive(Drop)]
 pub(crate) struct LingeringSocket<S> {
     stream: S,
+    soon: Instant,
     until: Instant,
     left: usize,
     is_shut: bool,
 }
 
 impl<S: AsyncRead + AsyncWrite> LingeringSocket<S> {
-    /// Holds a socket until this moment at most.
-    pub(crate) fn new(stream: S, until: Instant) -> LingeringSocket<S> {
+    /// Holds a socket until the later moment at most, or at the end until the sooner one.
+    pub(crate) fn new(stream: S, soon: Instant, until: Instant) -> LingeringSocket<S> {
         LingeringSocket {
             stream,
+            soon,
             until,
             left: MOST_BYTES,
             is_shut: false,
@@ -40,10 +42,10 @@ impl<S: AsyncRead + AsyncWrite> LingeringSocket<S> {
     }
 
     /// Ends what is sent, then reads and drops. Answers whether it is to be held on.
-    pub(crate) fn lingers(&mut self, cx: &mut Context<'_>, now: Instant) -> bool
+    pub(crate) fn lingers(&mut self, cx: &mut Context<'_>, now: Instant, is_end: bool) -> bool
         ensures { Keeps cx.old cx.new }
     {
-        if now >= self.until {
+        if now >= self.until || is_end && now >= self.soon {
             return false;
         }
         if !self.is_shut {

@@ -52,10 +52,12 @@ impl<'a, T, S: AsyncRead + AsyncWrite, R: Wait + Clock> Ticker<'a, T, S, R> {
         ensures registered { OnPending result (IsArmed cx.new) }
         ensures kept { Keeps cx.old cx.new }
     {
-        let some_linger = self.shared.lingering.linger(self.rt, cx);
+        let is_end = self.shared.is_over(self.rt);
+        let some_linger = self.shared.lingering.linger_until(self.rt, cx, is_end);
         if some_linger {
             return self.wait(cx);
         }
+        // It is asked again: what ends before the waker stands wakes nobody.
         if self.shared.is_over(self.rt) {
             return Poll::Ready(());
         }
