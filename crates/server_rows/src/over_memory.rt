@@ -2,7 +2,7 @@
 ghost use Rattle.std.specs.Prelude.{◌≡◌, Some, ℕ, ⊤};
 
 use crate::sessions::hold;
-use adc_sessions::{Bell, End};
+use adc_sessions::End;
 use futures::task::{Context, Poll};
 use futures::test::MockTask;
 use hub_core::{Options, Setup};
@@ -154,59 +154,4 @@ fn a_session_over_memory_is_answered(rt: HostRuntime) {
         assert!(&rt; ran.0 == end, "{:?}", ran.0);
         assert!(&rt; ran.1.as_slice() == wanted);
     }
-}
-
-/// Answers whether the bell of a connection rings at once, where that of the connection that had its slot before was rung and
-/// nobody has heard it; nothing where memory was refused.
-fn inherits<
-    'a,
-    B: OfHub<First24>,
-    S: AsyncRead + AsyncWrite,
-    R: Wait + Clock + RandomSource + AllocGlobal,
->(rt: &'a R, hub: &'a Hub<First24>, host: &mut Host<First24>, setup: &'a Setup) -> Option<bool>
-    requires here { B.home ≡ Some hub.now.home }
-    requires timed { (moment : ℕ) → ∥ B.tells moment ∥₁ }
-    requires host { host.old ≡ record { home = hub.now.home; admitted = 0 } }
-    requires set { hub.now.setup ≡ setup.now }
-{
-    let (one, other) = (host.admit(hub), host.admit(hub));
-    let one = hub
-        .join(rt, rt.alloc(), one, [127, 0, 0, 1], CHALLENGE, 0)
-        .ok()?;
-    let other = hub
-        .join(rt, rt.alloc(), other, [127, 0, 0, 1], CHALLENGE, 0)
-        .ok()?;
-    let free = Vec::new(rt.alloc());
-    let server = Server::<B, S, First24, R>::new(
-        rt.alloc(),
-        rt,
-        hub,
-        &First24,
-        setup,
-        1,
-        free,
-    ).ok()?;
-    let task = MockTask::new(rt).ok()?;
-    let before = Connection::new(&server, one, CHALLENGE, 0);
-    before.bell().ring();
-    let mut bell = Connection::new(&server, other, CHALLENGE, 0).bell();
-    Some(task.enter(|cx| bell.wait(cx)))
-}
-
-fn try_inheriting<R: Wait + Clock + RandomSource + AllocGlobal>(rt: &R) -> Option<bool> {
-    let setup = setup(rt)?;
-    let (hub, mut host) = Hub::open(rt.alloc(), setup.clone().ok()?, &First24).ok()?;
-    inherits::<Brand, Wire<'_>, R>(rt, &hub, &mut host, &setup)
-}
-
-#[test]
-fn a_connection_has_its_slot_for_itself(rt: HostRuntime) {
-    let inherits = match try_inheriting(&rt) {
-        Some(inherits) => inherits,
-        None => match try_inheriting(&rt) {
-            Some(inherits) => inherits,
-            None => panic!(&rt; "refused twice"),
-        },
-    };
-    assert!(&rt; !inherits);
 }

@@ -98,7 +98,8 @@ fn here() -> SocketAddr {
 
 /// Gives the address from which the client at this place comes: 127.0.0.2, 127.0.0.3 and so on.
 fn home_of(place: usize) -> SocketAddr {
-    let home = Ipv4Addr::new(127, 0, 0, FIRST_HOME.wrapping_add(place as u8));
+    let number = u8::try_from(place).unwrap_or(u8::MAX);
+    let home = Ipv4Addr::new(127, 0, 0, FIRST_HOME.saturating_add(number));
     SocketAddr::V4(SocketAddrV4::new(home, PORT))
 }
 

@@ -10,7 +10,7 @@ const LINE: u64 = 60;
 fn lines(count: u64) -> Amount {
     Amount {
         lines: count,
-        bytes: count * LINE,
+        bytes: count.saturating_mul(LINE),
     }
 }
 
@@ -81,15 +81,13 @@ fn who_does_not_move_is_waited_for_no_longer(rt: HostRuntime) {
 /// Counts for how many ticks a client that takes nothing more is waited for.
 fn waited_for(backlog: &Backlog, far: Amount) -> u64 {
     let mut backlog = *backlog;
-    let mut ticks = 0;
-    for _tick in 0..10_000 {
+    for ticks in 0..10_000 {
         if !backlog.is_behind(far) {
             return ticks;
         }
         backlog.tick(far, 1);
-        ticks += 1;
     }
-    ticks
+    10_000
 }
 
 #[test]
