@@ -136,7 +136,8 @@ def play_stuck(table, kind, threads, count):
         dropped = sum(int(it) for it in DROPPED.findall(said))
         warned = len(WARNING.findall(said))
         late = told["longest"] > LONGEST
-        is_counted = dropped > 0 and (isinstance(errors, Filled) or dropped + warned >= count * 0.9)
+        # A connection that is reset before the hub accepts it has no session, and so no warning: on a quiet machine some are.
+        is_counted = dropped > 0 and (isinstance(errors, Filled) or warned >= 256 and dropped + warned >= count * 0.5)
         yes = lambda it: "yes" if it else "no"
         cells = [yes(is_alive), yes(is_served), told["gone"], told["lost"], f"{told['longest'] * 1000:.0f}", f"{hub.megabytes() or 0:.1f}"]
         is_well = is_alive and is_served and not told["gone"] and not told["lost"] and is_counted and ends(hub, kind, threads)
