@@ -1,4 +1,4 @@
-use crate::words::{hex_digit, number, word};
+use crate::words::{byte_of, number, word};
 use crate::written::{Call, Entry, LineCount, Reply};
 use adc_base32::decode24;
 use hub_core::Verdict;
@@ -171,25 +171,17 @@ fn end_of(told: &[u8]) -> Option<bool> {
 /// Reads bytes, of which `%` and two hexadecimal digits stand for one; nothing where they do not follow.
 fn read_bytes(alloc: Global, text: &[u8]) -> Result<Option<Vec<u8>>, AllocError> {
     let mut bytes = Vec::with_capacity(alloc, text.len())?;
-    let mut place = 0;
-    while place < text.len() {
-        if text[place] != b'%' {
-            bytes.push(text[place])?;
-            place += 1;
-            continue;
-        }
-        let Some(byte) = byte_of(&text[place..]) else {
+    let mut pieces = text.split(|byte| *byte == b'%');
+    bytes.extend_from_slice(pieces.next().unwrap_or(b""))?;
+    for piece in pieces {
+        let Some((digits, rest)) = piece.split_at_checked(2) else {
+            return Ok(None);
+        };
+        let Some(byte) = byte_of(digits) else {
             return Ok(None);
         };
         bytes.push(byte)?;
-        place = place.saturating_add(3);
+        bytes.extend_from_slice(rest)?;
     }
     Ok(Some(bytes))
-}
-
-/// Gives the byte that a percent sign and two digits spell.
-fn byte_of(text: &[u8]) -> Option<u8> {
-    let high = hex_digit(*text.get(1)?)?;
-    let low = hex_digit(*text.get(2)?)?;
-    Some(high.wrapping_mul(16).wrapping_add(low))
 }

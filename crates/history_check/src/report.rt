@@ -6,8 +6,6 @@ use session_hash::SessionHash;
 use std::alloc::{AllocError, Global};
 use std::sync::Arc;
 
-const DIGITS: [u8; 16] = *b"0123456789ABCDEF";
-
 /// Says of a written history `legal`, or which line is not and what the rules demand there, as text without a line feed.
 ///
 /// Refused only where memory runs out.
@@ -59,18 +57,17 @@ fn append_reply(text: &mut Vec<u8>, alloc: Global, reply: &Reply) -> Result<(), 
         Reply::Took(bytes, lines, ended) => {
             let end = if *ended { "over" } else { "more" };
             text.extend_from_slice(format!(in alloc; "{lines} {end} ")?.as_bytes())?;
-            append_bytes(text, bytes)
+            append_bytes(text, alloc, bytes)
         }
     }
 }
 
 /// Appends bytes as a history has them.
-fn append_bytes(text: &mut Vec<u8>, bytes: &[u8]) -> Result<(), AllocError> {
+fn append_bytes(text: &mut Vec<u8>, alloc: Global, bytes: &[u8]) -> Result<(), AllocError> {
     for byte in bytes {
         if *byte < b' ' || *byte == b'%' {
             text.push(b'%')?;
-            text.push(DIGITS[(*byte / 16) as usize])?;
-            text.push(DIGITS[(*byte % 16) as usize])?;
+            text.extend_from_slice(hex::encode_upper(alloc, [*byte])?.as_bytes())?;
         } else {
             text.push(*byte)?;
         }

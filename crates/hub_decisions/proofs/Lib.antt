@@ -1,4 +1,6 @@
-pub mod Grounds
+pub mod FirstGrounds
+pub mod GroundLists
+pub mod CheckGrounds
 pub mod Found
 pub mod Told
 pub mod Held

@@ -1,4 +1,4 @@
--- The findings of an update decide about it as the rules want.
+-- What an update leaves known of a user, as the rules want.
 use Rattle.std.specs.Result.{result_ok}
 use Rattle.std.proofs.Common.{◌≡◌, ◌∙◌, sym, ap, ap₂, refl, ℕ, true, not, ◌&&◌, cond, List, [], ◌∷◌, ◌++◌, Option, Some, None, unwrap_or}
 use Rattle.std.specs.Option.{option_map, option_or}
@@ -10,41 +10,11 @@ use Rattle.inf_fields.specs.Merging.{is_empty_value, latest, leave, merged_with}
 use Rattle.inf_fields.specs.declared.fault.InfFault.{InfFault}
 use Rattle.inf_fields.proofs.MergingLaws.{value_of-settled}
 use Rattle.inf_fields.proofs.NameLemmas.{value_of-append, value_of-besides}
-use Rattle.login_state.specs.declared.asks.UpdateAsk.{UpdateAsk}
-use Rattle.login_state.specs.declared.findings.Account.{Account}
-use Rattle.login_state.specs.declared.findings.Address.{Address}
-use Rattle.login_state.specs.declared.findings.Claim.{Claim}
-use Rattle.login_state.specs.declared.findings.Identity.{Identity}
-use Rattle.login_state.specs.declared.findings.Size.{Size}
-use Rattle.login_state.specs.declared.findings.Validity.{Validity}
-use Rattle.login_state.specs.declared.findings.Validity.TheVariants.{Good}
 use Rattle.hub_rules.specs.Denied.{update_denied}
 use Rattle.hub_rules.specs.Effects.{unless_denied, updates_user}
 use Rattle.hub_rules.specs.Identities.{value_or_empty, key_in, key_of, meaning, su_in}
 use Rattle.hub_rules.specs.Sights.{Own, Sight}
 use Rattle.hub_decisions.specs.Requested.{effect_of_update}
-
--- ---- findings, all together
-
-abbrev findings : Identity → Option (List ℕ) → Validity → Account → Address → Size → Claim → UpdateAsk
-findings d b n t a z m = record {
-  words = Good;
-  identity = d;
-  bad_number = b;
-  nick = n;
-  account = t;
-  address = a;
-  size = z;
-  nick_claim = m;
-}
-
-pub same-findings : {d d' : Identity} {b b' : Option (List ℕ)} {n n' : Validity} {t t' : Account} {a a' : Address} {z z' : Size} {m m' : Claim}
-    → d ≡ d' → b ≡ b' → n ≡ n' → t ≡ t' → a ≡ a' → z ≡ z' → m ≡ m' → findings d b n t a z m ≡ findings d' b' n' t' a' z' m'
-same-findings {d} {d'} {b} {b'} {n} {n'} {t} {t'} {a} {a'} {z} {z'} {m} {m'} ed eb en et ea ez em =
-    ap₂ (λ x y. findings x y n t a z m) ed eb
-    ∙ ap₂ (λ x y. findings d' b' x y a z m) en et
-    ∙ ap₂ (λ x y. findings d' b' n' t' x y m) ea ez
-    ∙ ap (findings d' b' n' t' a' z') em
 
 -- ---- one field after an update
 

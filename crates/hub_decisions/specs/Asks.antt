@@ -3,10 +3,10 @@ use Rattle.std.specs.Prelude.{ℕ, ◌==◌, ◌&&◌, ◌||◌, not, Bool, true
 use Rattle.std.specs.Str.{bytes_eq}
 use Rattle.adc_base32.specs.Spelled.{spelled_bytes}
 use Rattle.adc_ids.specs.Nicks.{is_nick}
-use Rattle.inf_fields.specs.Amounts.{bad_number}
+use Rattle.inf_fields.specs.Amounts.{is_bad_number}
 use Rattle.inf_fields.specs.Cleaning.{any_address, clean, dotted_decimal}
 use Rattle.inf_fields.specs.Field.{Field, value_of}
-use Rattle.inf_fields.specs.FieldNames.{id_name, private_id_name, nick_name, address_name}
+use Rattle.inf_fields.specs.FieldNames.{id_name, private_id_name, nick_name, share_size_name, shared_files_name, address_name}
 use Rattle.inf_fields.specs.Merging.{fits}
 use Rattle.login_state.specs.declared.asks.EntryAsk.{EntryAsk}
 use Rattle.login_state.specs.declared.asks.InfAsk.{InfAsk}
@@ -34,6 +34,7 @@ use Rattle.login_state.specs.declared.findings.Validity.TheVariants.{Bad, Good}
 use Rattle.operator_acts.specs.Bans.{left_of_bans}
 use Rattle.operator_acts.specs.declared.left.Left.{Left}
 use Rattle.operator_acts.specs.declared.left.Left.TheVariants as lefts
+use Rattle.hub_rules.specs.Grounds.{is_digest}
 use Rattle.hub_rules.specs.Identities.{value_or_empty, meaning, nick_in, key_in}
 use Rattle.hub_rules.specs.Sights as sights
 use Rattle.hub_rules.specs.Sights.{Sight, is_account, is_here, another_has_key}
@@ -59,11 +60,9 @@ required_found valid [] = required.Missing
 required_found true (b ∷ more) = required.Good
 required_found false (b ∷ more) = required.Bad
 
--- the client's identifier is the hash of the private one
-abbrev pub identity_found : Option (List ℕ) → Option (List ℕ) → Identity
-identity_found (Some cid) (Some digest) = if bytes_eq cid digest then Own else Foreign
-identity_found (Some cid) None = Foreign
-identity_found None digest = Foreign
+-- a field that is to be a number
+abbrev pub good_number : List ℕ → List Field → Validity
+good_number name u = good_if (not (is_bad_number (value_or_empty name u)))
 
 -- an address: none, one that the hub is to fill in, or the one that it sees
 abbrev pub address_found : List ℕ → List ℕ → Address
@@ -93,8 +92,9 @@ login_ask hub now peer digest u user = record {
   id = required_found (is_some (spelled_bytes 24 (value_or_empty id_name u))) (value_or_empty id_name u);
   pid = required_found (is_some digest) (value_or_empty private_id_name u);
   nick = required_found (is_nick (chars (nick_in u))) (value_or_empty nick_name u);
-  bad_number = bad_number u;
-  identity = identity_found (spelled_bytes 24 (value_or_empty id_name u)) digest;
+  share_size = good_number share_size_name u;
+  shared_files = good_number shared_files_name u;
+  identity = if is_digest user.cid digest then Own else Foreign;
   address = address_found peer (value_or_empty address_name u);
   admission = admission_found hub user.key;
   entry = entry_ask hub now user;
@@ -120,7 +120,8 @@ unfoldable pub update_ask : Sight → sights.Own → List Field → Listed → U
 update_ask hub own u user = record {
   words = Good;
   identity = own_if_given own.fields (value_of id_name u);
-  bad_number = bad_number u;
+  share_size = good_number share_size_name u;
+  shared_files = good_number shared_files_name u;
   nick = nick_found (value_of nick_name u);
   account = account_found hub (key_in own.fields) user.key;
   address = address_found own.peer (value_or_empty address_name u);

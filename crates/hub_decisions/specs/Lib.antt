@@ -3,5 +3,5 @@ pub mod Known
 pub mod OwnView
 pub mod Requested
 pub mod Commands
-pub mod Findings
+pub mod Admissions
 pub mod Present

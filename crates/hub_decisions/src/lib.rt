@@ -2,12 +2,13 @@
 #![tactic(auto)]
 
 mod act;
-mod asks;
+mod agreement;
 mod decision;
 mod denial;
 mod effect;
 mod entering;
 mod given;
+mod grounds;
 mod lines;
 mod login;
 mod message;
@@ -19,6 +20,7 @@ mod sup;
 mod update;
 mod words;
 
+pub use agreement::checks_agree;
 pub use decision::decide;
 pub use lines::PresentLines;
 pub use own::Own;

@@ -1,25 +1,29 @@
-ghost use Rattle.std.specs.Prelude.{◌≡◌, [], IfErr, IfOk, Ok, Some};
+ghost use Rattle.std.specs.Prelude.{◌≡◌, ◌&&◌, not, [], IfOk, Ok};
 ghost use Rattle.std.specs.String.{string_bytes};
-ghost use Rattle.hub_decisions.specs.Findings.{HasFoundId, IsAdmission, entry_found, login_found};
+ghost use Rattle.adc_base32.specs.Spelled.{spelled_bytes};
+ghost use Rattle.hub_decisions.specs.Admissions.{IsAdmission, MayEnter, cid_of};
 ghost use Rattle.hub_decisions.specs.Requested.{effect_of_login, inf_in};
 ghost use Rattle.hub_rules.specs.Denied.{login_denied};
 ghost use Rattle.hub_rules.specs.Effects.{admits, entrant};
-ghost use Rattle.hub_rules.specs.Identities.{cid_in, key_in, listed_user};
+ghost use Rattle.hub_rules.specs.Grounds.{entrant_grounds, identifier_grounds, is_empty, login_grounds};
+ghost use Rattle.hub_rules.specs.Identities.{cid_in, key_in, listed_user, value_or_empty};
 ghost use Rattle.hub_rules.specs.Sights.{is_account, user_after};
 ghost use Rattle.inf_fields.specs.Cleaning.{clean};
+ghost use Rattle.inf_fields.specs.FieldNames.{id_name};
 ghost use Rattle.inf_fields.specs.Merging.{merged_with};
-ghost use Rattle.login_state.specs.Checks.{first_denial};
-ghost use Rattle.login_state.specs.Orders.{inf_rules};
+ghost use Rattle.login_state.specs.NamedFields.{name_of};
 ghost use Rattle.user_table.specs.Listed.{Listed};
 
-use crate::asks::{
-    address_found, admission_found, entry_ask, identity_found, is_account, required_found,
-};
 use crate::denial::denial;
 use crate::effect::{answer, one};
 use crate::entering;
 use crate::given::{passed_on, value_in_fields, value_in_update};
+use crate::grounds::{
+    first_ground, is_digest, is_empty, is_ever, is_timed, is_wrong_address, number_ground,
+    seconds_of,
+};
 use crate::own::Own;
+use crate::present::{has_cid, has_key, is_account};
 use crate::sight::Sight;
 use crate::words::{is_nick, key_of};
 use adc_base32::Sid;
@@ -28,7 +32,7 @@ use feature_route::FeatureSet;
 use hub_rules::{Change, Effect, Entrant, SenderChange};
 use hub_setup::{Prepared, challenge_line};
 use inf_fields::{FieldName, Fields, Update};
-use login_state::{Ban, Check, Claim, Deny, EntryAsk, InfAsk, Validity, check_inf};
+use login_state::{Deny, NamedField, Severity};
 use std::alloc::{AllocError, Global};
 use user_table::User;
 
@@ -91,9 +95,7 @@ fn user_of_login(
 {
     let fields = made_known(alloc, own, update)?;
     let key = key_of(alloc, value_in_fields(&fields, FieldName::nick()))?;
-    let cid = Cid::parse(value_in_update(update, FieldName::id()).as_bytes());
-    let ask = login_found(alloc, hub, own, owner, update, cid, &key, now)?;
-    match verdict(&ask, cid) {
+    match may_enter(alloc, hub, own, owner, update, &key, now)? {
         Ok(cid) => Ok(Ok(entrant(alloc, own.sid, cid, key, fields)?)),
         Err(deny) => Ok(Err(deny)),
     }
@@ -111,70 +113,111 @@ fn made_known(alloc: Global, own: &Own<'_>, update: &Update) -> Result<Fields, A
     }
 }
 
-/// Tells what the checks of a login find.
-#[tactic(auto, unfolding(crate::specs::Findings::login_found))]
-fn login_found(
+/// Gives the identifier of a client that may enter, or tells why it may not.
+fn may_enter(
     alloc: Global,
     hub: &Sight<'_>,
     own: &Own<'_>,
     owner: Option<[u8; 24]>,
     update: &Update,
-    cid: Option<Cid>,
     key: &str,
     now: u64,
-) -> Result<InfAsk, AllocError>
-    ensures { IfOk result (λ ask. ask ≡ login_found hub.now own.now now owner update.now cid key.now) }
+) -> Result<Result<Cid, Deny>, AllocError>
+    ensures { IfOk result (λ answer. (user : Listed) → user.cid ≡ cid_of update.now → user.key ≡ key.now → MayEnter answer user.cid (login_grounds hub.now own.now now owner update.now user)) }
 {
-    let nick = value_in_update(update, FieldName::nick());
-    let is_nick = is_nick(alloc, nick)?;
-    let address = address_found(
-        alloc,
-        own.peer,
-        value_in_update(update, FieldName::address()),
-    )?;
-    Ok(InfAsk {
-        words: Validity::Good,
-        id: required_found(cid.is_some(), value_in_update(update, FieldName::id())),
-        pid: required_found(
-            owner.is_some(),
-            value_in_update(update, FieldName::private_id()),
-        ),
-        nick: required_found(is_nick, nick),
-        bad_number: update.bad_number(),
-        identity: identity_found(cid, owner),
-        address,
-        admission: admission_found(hub, key),
-        entry: entry_found(hub, now, cid, key),
-    })
-}
-
-/// Tells what is found of a client that is to enter, by its identifier, if it has one.
-fn entry_found(hub: &Sight<'_>, now: u64, cid: Option<Cid>, key: &str) -> EntryAsk
-    ensures { result ≡ entry_found hub.now now cid key.now }
-{
-    match cid {
-        Some(cid) => entry_ask(hub, now, cid, key),
-        None => EntryAsk {
-            ban: Ban::Free,
-            nick_claim: Claim::Free,
-            cid_claim: Claim::Free,
-        },
-    }
-}
-
-/// Gives the identifier of a client that may enter, or why it may not. A client without one may not.
-fn verdict(ask: &InfAsk, cid: Option<Cid>) -> Result<Cid, Deny>
-    requires { HasFoundId ask.now cid }
-    ensures go { IfOk result (λ found. (cid ≡ Some found) × (first_denial (inf_rules ask.now) ≡ Check.Go)) }
-    ensures deny { IfErr result (λ deny. first_denial (inf_rules ask.now) ≡ Check.Deny deny) }
-{
-    match check_inf(ask) {
-        Check::Deny(deny) => Err(deny),
-        Check::Go => match cid {
-            Some(cid) => Ok(cid),
+    let cid = Cid::parse(value_in_update(update, FieldName::id()).as_bytes());
+    match first_ground(&identifier_grounds(update, cid)) {
+        Some(deny) => Ok(Err(deny)),
+        None => match &cid {
+            Some(cid) => may_enter_as(alloc, hub, own, owner, update, *cid, key, now),
             None => unreachable!(),
         },
     }
+}
+
+/// Gives the identifier of a client that may enter with it, or tells why it may not.
+fn may_enter_as(
+    alloc: Global,
+    hub: &Sight<'_>,
+    own: &Own<'_>,
+    owner: Option<[u8; 24]>,
+    update: &Update,
+    cid: Cid,
+    key: &str,
+    now: u64,
+) -> Result<Result<Cid, Deny>, AllocError>
+    ensures { IfOk result (λ answer. (user : Listed) → user.cid ≡ cid → user.key ≡ key.now → MayEnter answer user.cid (entrant_grounds hub.now own.now now owner update.now user)) }
+{
+    let grounds = entrant_grounds(alloc, hub, own, owner, update, cid, key, now)?;
+    match first_ground(&grounds) {
+        Some(deny) => Ok(Err(deny)),
+        None => Ok(Ok(cid)),
+    }
+}
+
+/// Makes the grounds that something is missing, or that the identifier is none.
+fn identifier_grounds(update: &Update, cid: Option<Cid>) -> [(bool, Deny); 4]
+    ensures { cid ≡ spelled_bytes 24 (value_or_empty id_name update.now) → result ≡ identifier_grounds update.now }
+{
+    [
+        missing_ground(update, NamedField::Id),
+        missing_ground(update, NamedField::PrivateId),
+        missing_ground(update, NamedField::Nick),
+        (
+            cid.is_none(),
+            Deny::BadField(Severity::Fatal, NamedField::Id),
+        ),
+    ]
+}
+
+fn missing_ground(update: &Update, field: NamedField) -> (bool, Deny)
+    ensures { result ≡ (is_empty (value_or_empty (name_of field) update.now), Deny.Missing field) }
+{
+    (
+        is_empty(value_in_update(update, field.name())),
+        Deny::Missing(field),
+    )
+}
+
+/// Makes the other grounds of a login, of a client with this identifier and a nick of this key.
+fn entrant_grounds(
+    alloc: Global,
+    hub: &Sight<'_>,
+    own: &Own<'_>,
+    owner: Option<[u8; 24]>,
+    update: &Update,
+    cid: Cid,
+    key: &str,
+    now: u64,
+) -> Result<[(bool, Deny); 11], AllocError>
+    ensures { IfOk result (λ grounds. (user : Listed) → user.cid ≡ cid → user.key ≡ key.now → grounds ≡ entrant_grounds hub.now own.now now owner update.now user) }
+{
+    let severity = Severity::Fatal;
+    let address = value_in_update(update, FieldName::address());
+    let is_nick = is_nick(alloc, value_in_update(update, FieldName::nick()))?;
+    let is_wrong_address = is_wrong_address(alloc, own.peer, address)?;
+    let has_owner = owner.is_some();
+    let left = hub.bans.left(cid, now);
+    Ok([
+        (!has_owner, Deny::BadField(severity, NamedField::PrivateId)),
+        number_ground(severity, NamedField::ShareSize, update),
+        number_ground(severity, NamedField::SharedFiles, update),
+        (!is_digest(&cid.bytes(), owner), Deny::BadPid),
+        (!is_nick, Deny::BadNick(severity)),
+        (is_ever(left), Deny::BannedEver),
+        (is_timed(left), Deny::BannedFor(seconds_of(left))),
+        (is_wrong_address, Deny::Address(severity, own.peer)),
+        (is_barred(hub, key), Deny::Registered),
+        (has_key(hub, key), Deny::NickTaken(severity)),
+        (has_cid(hub, cid), Deny::CidTaken),
+    ])
+}
+
+/// Tells whether the hub lets accounts alone in, and the nick of this key is none's.
+fn is_barred(hub: &Sight<'_>, key: &str) -> bool
+    ensures { result ≡ (hub.now.setup.registered_only && not (is_account hub.now key.now)) }
+{
+    hub.setup.registered_only() && !is_account(hub, key)
 }
 
 /// Makes the entrant: the user with these fields, who may enter.

@@ -2,20 +2,19 @@ ghost use Rattle.std.specs.Prelude.{◌≡◌, IfOk};
 ghost use Rattle.adc_line.specs.WordsLeft.{words_left};
 ghost use Rattle.hub_decisions.specs.Known.{IsUser};
 ghost use Rattle.hub_decisions.specs.Requested.{effect_of_password};
-ghost use Rattle.hub_rules.specs.Denied.{digest_given, password_denied};
-ghost use Rattle.hub_decisions.specs.Asks.{denial_of};
-ghost use Rattle.login_state.specs.Checks.{first_denial};
-ghost use Rattle.login_state.specs.Orders.{pass_rules};
+ghost use Rattle.hub_rules.specs.Denied.{digest_given};
+ghost use Rattle.hub_rules.specs.Grounds.{is_digest, password_grounds};
 
-use crate::asks::entry_ask;
 use crate::denial::denial;
 use crate::entering;
+use crate::grounds::{first_ground, is_digest, is_ever, is_timed, seconds_of};
 use crate::own::Own;
+use crate::present::{has_cid, has_key};
 use crate::sight::Sight;
 use adc_base32::decode24;
 use adc_line::Words;
 use hub_rules::Effect;
-use login_state::{Check, Deny, check_entry, check_pass};
+use login_state::{Deny, Severity};
 use std::alloc::{AllocError, Global};
 use user_table::User;
 
@@ -34,29 +33,39 @@ pub(crate) fn decide_password<'a>(
 ) -> Result<Effect<'a>, AllocError>
     ensures { IfOk result (λ effect. IsUser own.now user.now → effect ≡ effect_of_password hub.now own.now now (words_left words.entry)) }
 {
-    match password_denial(hub, own, user, words, now) {
-        Check::Deny(deny) => denial(alloc, own, deny),
-        Check::Go => entering::effect_of_entry(alloc, hub, own, user),
+    match first_ground(&password_grounds(hub, own, user, digest_given(words), now)) {
+        Some(deny) => denial(alloc, own, deny),
+        None => entering::effect_of_entry(alloc, hub, own, user),
     }
 }
 
-/// Tells whether the password is wrong, and then whether the user may still enter.
-fn password_denial(hub: &Sight<'_>, own: &Own<'_>, user: &User, words: Words<'_>, now: u64) -> Check
-    ensures { IsUser own.now user.now → denial_of result ≡ password_denied hub.now own.now now (words_left words.entry) }
+/// Makes the grounds of a password: it is wrong, or something changed since the login.
+fn password_grounds(
+    hub: &Sight<'_>,
+    own: &Own<'_>,
+    user: &User,
+    digest: Option<[u8; 24]>,
+    now: u64,
+) -> [(bool, Deny); 5]
+    ensures { result ≡ password_grounds hub.now own.now now digest user.now }
 {
-    match check_digest(own, digest_given(words)) {
-        Check::Deny(deny) => Check::Deny(deny),
-        Check::Go => check_entry(&entry_ask(hub, now, user.cid(), user.key())),
-    }
+    let left = hub.bans.left(user.cid(), now);
+    [
+        (!is_expected(own, digest), Deny::Password),
+        (is_ever(left), Deny::BannedEver),
+        (is_timed(left), Deny::BannedFor(seconds_of(left))),
+        (has_key(hub, user.key()), Deny::NickTaken(Severity::Fatal)),
+        (has_cid(hub, user.cid()), Deny::CidTaken),
+    ]
 }
 
-/// Tells whether a digest is the expected one. Where none is expected, each is wrong.
-fn check_digest(own: &Own<'_>, given: Option<[u8; 24]>) -> Check
-    ensures { result ≡ first_denial (pass_rules own.now.expected given) }
+/// Tells whether a digest is the expected one. Where none is expected, none is.
+fn is_expected(own: &Own<'_>, digest: Option<[u8; 24]>) -> bool
+    ensures { result ≡ is_digest own.now.expected digest }
 {
     match &own.expected {
-        Some(expected) => check_pass(expected, given),
-        None => Check::Deny(Deny::Password),
+        Some(expected) => is_digest(expected, digest),
+        None => false,
     }
 }
 

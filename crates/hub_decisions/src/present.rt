@@ -1,5 +1,5 @@
 ghost use Rattle.std.specs.Prelude.{◌≡◌};
-ghost use Rattle.hub_rules.specs.Sights.{is_here};
+ghost use Rattle.hub_rules.specs.Sights.{is_account, is_here};
 ghost use Rattle.user_table.specs.Tables.{has_cid, has_key, has_sid};
 
 use crate::sight::Sight;
@@ -26,4 +26,11 @@ pub(crate) fn has_cid(hub: &Sight<'_>, cid: Cid) -> bool
     ensures { result ≡ is_here (has_cid cid) hub.now }
 {
     hub.users.by_cid(cid).is_some()
+}
+
+/// Answers whether this is the key of an account's nick. Takes no memory.
+pub(crate) fn is_account(hub: &Sight<'_>, key: &str) -> bool
+    ensures { result ≡ is_account hub.now key.now }
+{
+    hub.setup.account(key).is_some()
 }

@@ -1,25 +1,26 @@
-ghost use Rattle.std.specs.Prelude.{◌≡◌, not, IfOk, Some, if◌then◌else◌, ℕ, List, chars};
-ghost use Rattle.std.specs.Option.{option_map, unwrap_or};
+ghost use Rattle.std.specs.Prelude.{◌≡◌, not, IfOk, Some, ℕ, List, chars};
+ghost use Rattle.std.specs.Option.{option_copied, option_map, unwrap_or};
 ghost use Rattle.std.specs.String.{string_bytes};
 ghost use Rattle.feature_route.specs.Matching.{feature_set};
 ghost use Rattle.hub_decisions.specs.Known.{IsUser};
 ghost use Rattle.hub_decisions.specs.Requested.{effect_of_update, inf_in};
-ghost use Rattle.hub_decisions.specs.Asks.{account_found, nick_found, own_if_given, update_ask};
 ghost use Rattle.hub_rules.specs.Effects.{line_unless_empty, update_effect};
+ghost use Rattle.hub_rules.specs.Grounds.{differs, is_bad_nick, touches_account, update_grounds};
 ghost use Rattle.hub_rules.specs.Identities.{value_or_empty, key_in, meaning, su_in};
-ghost use Rattle.hub_rules.specs.Sights.{another_has_key, user_after};
+ghost use Rattle.hub_rules.specs.Sights.{another_has_key};
 ghost use Rattle.inf_fields.specs.Cleaning.{clean};
 ghost use Rattle.inf_fields.specs.Field.{value_of};
 ghost use Rattle.inf_fields.specs.FieldNames.{id_name, nick_name, support_name};
-ghost use Rattle.inf_fields.specs.Merging.{fits, merged_with};
-ghost use Rattle.login_state.specs.declared.findings.Size.TheVariants.{Fits, TooMany};
+ghost use Rattle.inf_fields.specs.Merging.{merged_with};
+ghost use Rattle.user_table.specs.Listed.{Listed};
 ghost use Rattle.user_table.specs.Tables.{has_sid};
 
-use crate::asks::{address_found, good_if, is_account, taken_if};
 use crate::denial::denial;
 use crate::effect::{one, publish};
 use crate::given::{passed_on, value_in_fields, value_in_update};
+use crate::grounds::{first_ground, is_wrong_address, number_ground};
 use crate::own::Own;
+use crate::present::is_account;
 use crate::sight::Sight;
 use crate::words::{is_nick, key_of, meaning};
 use adc_base32::Sid;
@@ -28,7 +29,7 @@ use feature_route::{Audience, FeatureSet};
 use hub_rules::{Change, Effect, Revision, SenderChange};
 use hub_setup::{Prepared, update_line};
 use inf_fields::{FieldName, Fields, Update};
-use login_state::{Account, Check, Deny, Identity, Size, UpdateAsk, Validity, check_update};
+use login_state::{Deny, NamedField, Severity};
 use outboxes::Batch;
 use std::alloc::{AllocError, Global};
 use user_table::{User, Users};
@@ -65,42 +66,50 @@ fn decide_change<'a>(
     ensures { IfOk result (λ effect. IsUser own.now user.now → effect ≡ effect_of_update hub.now own.now (Some update.now)) }
 {
     let cleaned = passed_on(alloc, own.peer, update)?;
-    let ask = update_found(alloc, hub, own, user, update, &cleaned)?;
-    match check_update(&ask) {
-        Check::Deny(deny) => denial(alloc, own, deny),
-        Check::Go => effect_of_update(alloc, own, user, cleaned),
+    let key = key_after(alloc, user, &cleaned)?;
+    let grounds = update_grounds(alloc, hub, own, user, update, &cleaned, &key)?;
+    match first_ground(&grounds) {
+        Some(deny) => denial(alloc, own, deny),
+        None => effect_of_update(alloc, own, user, cleaned),
     }
 }
 
-/// Tells what the checks of an update find.
-fn update_found(
+/// Makes the grounds of an update, after which the nick has this key.
+fn update_grounds(
     alloc: Global,
     hub: &Sight<'_>,
     own: &Own<'_>,
     user: &User,
     update: &Update,
     cleaned: &Update,
-) -> Result<UpdateAsk, AllocError>
+    key: &str,
+) -> Result<[(bool, Deny); 8], AllocError>
     requires { cleaned.now ≡ clean update.now own.now.peer }
-    ensures { IfOk result (λ ask. IsUser own.now user.now → ask ≡ update_ask hub.now own.now update.now (user_after own.now update.now)) }
+    ensures { IfOk result (λ grounds. (after : Listed) → IsUser own.now user.now → after.key ≡ key.now → grounds ≡ update_grounds hub.now own.now update.now after) }
 {
-    let key = key_after(alloc, user, cleaned)?;
-    let address = address_found(
-        alloc,
-        own.peer,
-        value_in_update(update, FieldName::address()),
-    )?;
-    let nick = nick_found(alloc, update)?;
-    Ok(UpdateAsk {
-        words: Validity::Good,
-        identity: own_if_given(user.fields(), update),
-        bad_number: update.bad_number(),
-        nick,
-        account: account_found(hub, user.key(), &key),
-        address,
-        size: size_found(user.fields(), cleaned),
-        nick_claim: taken_if(another_has_key(hub, own.sid, &key)),
-    })
+    let severity = Severity::Recoverable;
+    let address = value_in_update(update, FieldName::address());
+    let is_bad_nick = is_bad_nick(alloc, update.get(FieldName::nick()))?;
+    let is_wrong_address = is_wrong_address(alloc, own.peer, address)?;
+    Ok([
+        (
+            changes_id(user.fields(), update),
+            Deny::BadField(severity, NamedField::Id),
+        ),
+        number_ground(severity, NamedField::ShareSize, update),
+        number_ground(severity, NamedField::SharedFiles, update),
+        (is_bad_nick, Deny::BadNick(severity)),
+        (
+            touches_account(hub, user.key(), key),
+            Deny::Access(*b"BINF"),
+        ),
+        (is_wrong_address, Deny::Address(severity, own.peer)),
+        (!user.fields().fits(cleaned), Deny::Protocol),
+        (
+            another_has_key(hub, own.sid, key),
+            Deny::NickTaken(severity),
+        ),
+    ])
 }
 
 /// Gives the key of the user's nick after an update: of the nick that it gives, and else the one before.
@@ -113,49 +122,29 @@ fn key_after(alloc: Global, user: &User, update: &Update) -> Result<String, Allo
     }
 }
 
-/// Tells whether an identifier that is given is the user's own, as it must be.
-fn own_if_given(fields: &Fields, update: &Update) -> Identity
-    ensures { result ≡ own_if_given fields.now (value_of id_name update.now) }
+/// Tells whether an identifier that is given is another than the user's own.
+fn changes_id(fields: &Fields, update: &Update) -> bool
+    ensures { result ≡ differs (unwrap_or (value_of id_name update.now) (value_or_empty id_name fields.now)) (value_or_empty id_name fields.now) }
 {
-    let Some(id) = update.get(FieldName::id()) else {
-        return Identity::Own;
-    };
-    if id == value_in_fields(fields, FieldName::id()) {
-        Identity::Own
-    } else {
-        Identity::Foreign
-    }
+    let own = value_in_fields(fields, FieldName::id());
+    update.get(FieldName::id()).unwrap_or(own) != own
 }
 
-/// Tells whether a nick that is given is one, as it must be.
-fn nick_found(alloc: Global, update: &Update) -> Result<Validity, AllocError>
-    ensures { IfOk result (λ found. found ≡ nick_found (value_of nick_name update.now)) }
+/// Tells whether a nick that is given is none.
+fn is_bad_nick(alloc: Global, nick: Option<&str>) -> Result<bool, AllocError>
+    ensures { IfOk result (λ bad. bad ≡ is_bad_nick (option_copied nick.entry)) }
 {
-    match update.get(FieldName::nick()) {
-        Some(word) => Ok(good_if(is_nick(alloc, word)?)),
-        None => Ok(Validity::Good),
+    match nick {
+        Some(word) => Ok(!is_nick(alloc, word)?),
+        None => Ok(false),
     }
 }
 
 /// Tells whether an update takes the nick of an account or leaves it, as nobody may.
-fn account_found(hub: &Sight<'_>, before: &str, after: &str) -> Account
-    ensures { result ≡ account_found hub.now before.now after.now }
+fn touches_account(hub: &Sight<'_>, before: &str, after: &str) -> bool
+    ensures { result ≡ touches_account hub.now before.now after.now }
 {
-    if after != before && (is_account(hub, before) || is_account(hub, after)) {
-        Account::Touched
-    } else {
-        Account::Untouched
-    }
-}
-
-fn size_found(fields: &Fields, cleaned: &Update) -> Size
-    ensures { result ≡ (if fits fields.now cleaned.now then Fits else TooMany) }
-{
-    if fields.fits(cleaned) {
-        Size::Fits
-    } else {
-        Size::TooMany
-    }
+    after != before && (is_account(hub, before) || is_account(hub, after))
 }
 
 /// Answers whether another present user has a nick of this key.

@@ -1,5 +1,5 @@
 -- One view of what a call makes of a connection. Each law that every call keeps is a walk over these cases.
-use Rattle.std.proofs.Common.{◌≡◌, ap, ap₂, refl, subst, ℕ, ◌+◌, Bool, true, false, ◌&&◌, ◌==◌, List, length, take, cond}
+use Rattle.std.proofs.Common.{◌≡◌, ap, ap₂, refl, subst, ℕ, ◌+◌, Bool, true, false, ◌&&◌, ◌==◌, List, length, take, cond, arith}
 use Rattle.std.proofs.lemmas.Bool.{eqb-true}
 use Rattle.hub_rules.specs.declared.history.Call.{Call}
 use Rattle.hub_rules.specs.declared.history.Call.TheVariants.{Join, Line, Quit, Take}
@@ -22,8 +22,7 @@ pub data Becomes (setup : Configured) (hash : List ℕ → List ℕ) (f : Facts)
   takes : (c count : ℕ) → Becomes setup hash f caller d (Take c count) (taken_by (d == c) count (f.about d))
 
 take-one : (count : ℕ) (a : About) (same : Bool) → taken_by same count a ≡ cond same (with_lines_taken count a) a
-take-one count a true = refl
-take-one count a false = refl
+take-one count a same = grind arith
 
 pub take-facts : (c count : ℕ) (f : Facts) → record f { about = λ d. taken_by (d == c) count (f.about d) } ≡ record f { about = with_one c (with_lines_taken count) f.about }
 take-facts c count f = λ i. record f { about = λ d. take-one count (f.about d) (d == c) i }

@@ -19,82 +19,52 @@ use Rattle.hub_invariants.proofs.Sound.{Sound, departed-over, happens-sound, or-
 -- ---- a join
 
 pub above : (f : Facts) → Sound f → (n : ℕ) → f.joins < n → (b : Bool) → has n f.opened ≡ b → b ≡ false
-above f sound n more true is = absurd (omega (arith, sound.counted n is, more))
-above f sound n more false is = refl
+above f sound n more b is = grind arith
 
 pub not-open : (f : Facts) → Sound f → has (f.joins + 1) f.opened ≡ false
 not-open f sound = above f sound (f.joins + 1) (omega arith) (has (f.joins + 1) f.opened) refl
 
 pub over-unless : (f : Facts) → Sound f → (d : ℕ) → has d f.opened ≡ false → (b : Bool) → is_over (f.about d).stage ≡ b → b ≡ true
-over-unless f sound d none true is = refl
-over-unless f sound d none false is = absurd (false≢true (sym none ∙ sound.are_open d is))
+over-unless f sound d none b is = grind arith
 
 pub present-over : (stage : Stage) → is_over stage ≡ true → is_present stage ≡ false
-present-over stages.Gone over = refl
-present-over _ over = absurd (false≢true over)
+present-over stage over = grind arith
 
 pub absent-newcomer : (f : Facts) → Sound f → is_present (f.about (f.joins + 1)).stage ≡ false
-absent-newcomer f sound =
-    present-over (f.about (f.joins + 1)).stage (over-unless f sound (f.joins + 1) (not-open f sound) (is_over (f.about (f.joins + 1)).stage) refl)
+absent-newcomer f sound = grind arith
 
 join-open : (f : Facts) (owner : ℕ) (peer challenge : List ℕ) → Sound f → (d : ℕ) (same : Bool) → (d == (f.joins + 1)) ≡ same
     → is_over (cond same (newcomer owner (next_sid f) peer challenge) (f.about d)).stage ≡ false → has d (f.opened ++ (f.joins + 1) ∷ []) ≡ true
-join-open f owner peer challenge sound d true is open_after =
-    has-append d f.opened ((f.joins + 1) ∷ [])
-    ∙ ap (λ b. has d f.opened || (b || false)) (eq-eqb (f.joins + 1) d (sym (eqb-true d (f.joins + 1) is)))
-    ∙ or-true (has d f.opened)
-join-open f owner peer challenge sound d false is open_after =
-    has-append d f.opened ((f.joins + 1) ∷ []) ∙ ap (λ b. b || (eqb (f.joins + 1) d || false)) (sound.are_open d open_after)
+join-open f owner peer challenge sound d same is open_after = grind (arith, has-append, eq-eqb, eqb-true, or-true)
 
 join-counted : (f : Facts) → Sound f → (d : ℕ) (before : Bool) → has d f.opened ≡ before → (before || (eqb (f.joins + 1) d || false)) ≡ true → d ≤ f.joins + 1
-join-counted f sound d true is there = omega (arith, sound.counted d is)
-join-counted f sound d false is there = let same : f.joins + 1 ≡ d = eqb-true (f.joins + 1) d (sym (or-false (eqb (f.joins + 1) d)) ∙ there) in omega (arith, same)
+join-counted f sound d before is there = grind arith
 
 join-entered : (f : Facts) (owner : ℕ) (peer challenge : List ℕ) → Sound f → (d : ℕ) (same : Bool) → (d == (f.joins + 1)) ≡ same
     → has d f.present ≡ is_present (cond same (newcomer owner (next_sid f) peer challenge) (f.about d)).stage
-join-entered f owner peer challenge sound d true is =
-    ap (λ x. has x f.present) (eqb-true d (f.joins + 1) is) ∙ sound.entered (f.joins + 1) ∙ absent-newcomer f sound
-join-entered f owner peer challenge sound d false is = sound.entered d
+join-entered f owner peer challenge sound d same is = grind arith
 
 join-taken : (f : Facts) (owner : ℕ) (peer challenge : List ℕ) → Sound f → (d : ℕ) (same : Bool)
     → (cond same (newcomer owner (next_sid f) peer challenge) (f.about d)).taken ≤ length (cond same (newcomer owner (next_sid f) peer challenge) (f.about d)).owed
-join-taken f owner peer challenge sound d true = omega arith
-join-taken f owner peer challenge sound d false = sound.taken d
+join-taken f owner peer challenge sound d same = grind arith
 
 joined-sound : (f : Facts) (owner : ℕ) (peer challenge : List ℕ) → Sound f → Sound (with_connection f owner peer challenge)
 unfolding with_connection
-joined-sound f owner peer challenge sound = record {
-  open_once = apart-push (f.joins + 1) f.opened (not-open f sound) sound.open_once;
-  counted = λ d there. join-counted f sound d (has d f.opened) refl (sym (has-append d f.opened ((f.joins + 1) ∷ [])) ∙ there);
-  are_open = λ d open_after. join-open f owner peer challenge sound d (d == (f.joins + 1)) refl open_after;
-  entered = λ d. join-entered f owner peer challenge sound d (d == (f.joins + 1)) refl;
-  present_once = sound.present_once;
-  taken = λ d. join-taken f owner peer challenge sound d (d == (f.joins + 1));
-}
+joined-sound f owner peer challenge sound = grind (arith, apart-push, not-open, join-counted, has-append, join-open, join-entered, join-taken)
 
 -- ---- a quit
 
 left-open : (c d : ℕ) (xs : List ℕ) (same : Bool) → (d == c) ≡ same → has d xs ≡ true → (same ≡ true → ⊥) → has d (filter (λ x. not (x == c)) xs) ≡ true
-left-open c d xs true is there other = absurd (other refl)
-left-open c d xs false is there other = has-filter (λ x. not (x == c)) d xs ∙ ap₂ (λ a b. a && not b) there is
+left-open c d xs same is there other = grind (arith, has-filter)
 
 closed-sound : (c : ℕ) (f : Facts) → is_over (f.about c).stage ≡ true → Sound f → Sound (without_connection c f)
 unfolding without_connection
-closed-sound c f over sound = record {
-  open_once = apart-filter (λ x. not (x == c)) f.opened sound.open_once;
-  counted = λ d there. sound.counted d ((and_parts (has d f.opened) (not (d == c)) (sym (has-filter (λ x. not (x == c)) d f.opened) ∙ there)).0);
-  are_open = λ d open_after. left-open c d f.opened (d == c) refl (sound.are_open d open_after)
-      (λ same. false≢true (sym open_after ∙ ap (λ x. is_over (f.about x).stage) (eqb-true d c same) ∙ over));
-  entered = sound.entered;
-  present_once = sound.present_once;
-  taken = sound.taken;
-}
+closed-sound c f over sound = grind (arith, apart-filter, has-filter, left-open, eqb-true)
 
 -- ---- a take
 
 taken-few : (same : Bool) (count : ℕ) (a : About) → a.taken ≤ length a.owed → (taken_by same count a).taken ≤ length a.owed
-taken-few true count a few = omega (arith, few, length-take count (waiting a), length-drop a.taken a.owed)
-taken-few false count a few = few
+taken-few same count a few = grind (arith, length-take, length-drop)
 
 taken-sound : (c count : ℕ) (f : Facts) → Sound f → Sound (record f { about = with_one c (with_lines_taken count) f.about })
 taken-sound c count f sound = subst Sound (take-facts c count f) (record {

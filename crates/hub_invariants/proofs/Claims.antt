@@ -1,5 +1,5 @@
 -- Where a login, a password or an update is not denied, nobody else who is present has the nick or the identifier.
-use Rattle.std.proofs.Common.{◌≡◌, ◌∙◌, sym, ap, refl, ℕ, Bool, true, false, not, List, [], ◌∷◌, Option, Some, None, unwrap_or}
+use Rattle.std.proofs.Common.{◌≡◌, ◌∙◌, sym, ap, refl, ℕ, Bool, true, false, not, List, [], ◌∷◌, Option, Some, None, unwrap_or, arith}
 use Rattle.std.specs.Str.{bytes_eq}
 use Rattle.std.proofs.lemmas.Bool.{false≢true}
 use Rattle.std.proofs.lemmas.Slice.Eq.{bytes_eq-Decides}
@@ -53,8 +53,7 @@ grounds_of is_so [] = []
 grounds_of is_so ((test, deny) ∷ more) = before_if (is_so deny) (test, deny) (grounds_of is_so more)
 
 false-before : (so : Bool) (deny : Deny) (more : List (Bool × Deny)) → AllFalse more → AllFalse (before_if so (false, deny) more)
-false-before true deny more tests = (refl, tests)
-false-before false deny more tests = tests
+false-before so deny more tests = grind arith
 
 -- none of those holds where nothing is denied
 pub none-of : (is_so : Deny → Bool) (grounds : List (Bool × Deny)) → first_ground grounds ≡ None → AllFalse (grounds_of is_so grounds)
@@ -68,15 +67,11 @@ Unclaimed hub user = (is_here (has_key user.key) hub ≡ false) × (is_here (has
 -- where a user may enter, nobody has its nick or its identifier
 pub entry-free : (hub : Sight) (now : ℕ) (user : Listed) → first_ground (entry_grounds hub now user) ≡ None → Unclaimed hub user
 unfolding entry_grounds
-entry-free hub now user none =
-    let nick : AllFalse (grounds_of is_nick_taken (entry_grounds hub now user)) = none-of is_nick_taken (entry_grounds hub now user) none in
-    let cid : AllFalse (grounds_of is_cid_taken (entry_grounds hub now user)) = none-of is_cid_taken (entry_grounds hub now user) none in
-    (nick.0, cid.0)
+entry-free hub now user none = grind arith
 
 -- where the first of several grounds denies nothing, nor do the others
 past : (test : Bool) (deny : Deny) (more : List (Bool × Deny)) → first_ground ((test, deny) ∷ more) ≡ None → first_ground more ≡ None
-past true deny more none = absurd (some-none none)
-past false deny more none = none
+past test deny more none = grind arith
 
 -- a password that is right leaves what is asked of each entry
 pub password-entry : (hub : Sight) (own : sights.Own) (now : ℕ) (digest : Option (List ℕ)) (user : Listed) → first_ground (password_grounds hub own now digest user) ≡ None
@@ -96,8 +91,7 @@ login-free hub own now digest u user none =
     (nick.0, cid.0)
 
 same-value : (value other : List ℕ) (same : Bool) → bytes_eq value other ≡ same → not same ≡ false → value ≡ other
-same-value value other true is equal = (bytes_eq-Decides value other).0 is
-same-value value other false is equal = absurd (false≢true (sym equal))
+same-value value other same is equal = grind (arith, bytes_eq-Decides)
 
 -- the identifier that an update gives, or else the one before, is the one before
 abbrev pub NamesOwn : List Field → List Field → Type 0
@@ -114,8 +108,4 @@ update-free hub own u user none =
 -- an update that names no other identifier leaves the one that is known
 pub same-cid : (own : sights.Own) (u : List Field) (infs : List (List Field)) → own.fields ≡ merged_fields infs → NamesOwn own.fields u
     → cid_in (merged_with own.fields (clean u own.peer)) ≡ cid_in own.fields
-same-cid own u infs known identity =
-    ap (λ (id : List ℕ). unwrap_or (spelled_bytes 24 id) [])
-    (given-after id_name own.fields infs (clean u own.peer) known
-    ∙ ap (λ id. unwrap_or id (value_or_empty id_name own.fields)) (id-clean u own.peer)
-    ∙ identity)
+same-cid own u infs known identity = grind (arith, given-after, id-clean)

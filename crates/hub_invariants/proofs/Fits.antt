@@ -1,5 +1,5 @@
 -- Effects of lines let the facts stay sound.
-use Rattle.std.proofs.Common.{◌≡◌, ◌∙◌, sym, refl, ℕ, true, false}
+use Rattle.std.proofs.Common.{◌≡◌, ◌∙◌, sym, refl, ℕ, true, false, arith}
 use Rattle.std.proofs.lemmas.Bool.{false≢true}
 use Rattle.login_state.specs.declared.stage.Stage.{Stage}
 use Rattle.hub_rules.specs.declared.effect.Effect.{Effect}
@@ -16,10 +16,7 @@ pub record Fits (stage : Stage) (effect : Effect) : Type 0 where
 
 -- nobody enters, and who is shut out stays so
 pub fits-quiet : (stage : Stage) (effect : Effect) → enters effect.change ≡ false → (is_over stage ≡ true → is_over (stage_after effect.change stage) ≡ true) → Fits stage effect
-fits-quiet stage effect quiet over = record {
-  stays_over = over;
-  enters_once = λ here. absurd (false≢true (sym quiet ∙ here));
-}
+fits-quiet stage effect quiet over = grind arith
 
 pub fits-departure : (stage of : Stage) (sid : ℕ) → Fits stage (departure of sid)
 fits-departure stage of sid = fits-quiet stage (departure of sid) refl (λ over. refl)

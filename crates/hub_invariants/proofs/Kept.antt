@@ -15,7 +15,7 @@ use Rattle.hub_rules.specs.Configured.{Configured}
 use Rattle.hub_rules.specs.Effects.{is_over, is_present}
 use Rattle.hub_rules.specs.Facts.{Facts, facts, after, with_connection, without_connection, happens, with_lines_taken, has_place, has_joins}
 use Rattle.hub_rules.specs.Legal.{Legal, MayCall, reply, take_reply}
-use Rattle.hub_rules.specs.Promises.{FewAreOpen, OthersAreOut, PresentAreUsers, SidsAreGiven, SidsDiffer, TakenIsTheSum, UsersAreOpen, lines_of_take, lines_taken, taken_in}
+use Rattle.hub_invariants.specs.Promises.{FewAreOpen, OthersAreOut, PresentAreUsers, SidsAreGiven, SidsDiffer, TakenIsTheSum, UsersAreOpen, lines_of_take, lines_taken, taken_in}
 use Rattle.hub_rules.specs.Shares.{About, waiting}
 use Rattle.hub_invariants.proofs.Becoming.{Becomes, becomes, taken_by}
 use Rattle.hub_invariants.proofs.Calls.{over-unless, sound_of}
@@ -26,12 +26,10 @@ use Rattle.hub_invariants.proofs.Sound.{Sound, eqb-sym, or-true}
 -- ---- who is present
 
 pub is-normal : (stage : Stage) → is_present stage ≡ true → stage ≡ stages.Normal
-is-normal stages.Normal here = refl
-is-normal _ here = absurd (false≢true here)
+is-normal stage here = grind arith
 
 is-gone : (stage : Stage) → is_over stage ≡ true → stage ≡ stages.Gone
-is-gone stages.Gone over = refl
-is-gone _ over = absurd (false≢true over)
+is-gone stage over = grind arith
 
 pub present_are_users : PresentAreUsers
 present_are_users setup hash h c = (
@@ -52,8 +50,7 @@ head-or-rest : (x c : ℕ) (xs : List ℕ) (same : Bool) → eqb x c ≡ same �
 head-or-rest x c xs same is there = ((λ e. eqb-true x c (is ∙ e)), (λ e. sym (ap (λ b. b || has c xs) (is ∙ e)) ∙ there))
 
 has-map-by : (g : ℕ → ℕ) (d x : ℕ) (xs : List ℕ) (same : Bool) → eqb x d ≡ same → (same ≡ false → has (g d) (map g xs) ≡ true) → has (g d) (map g (x ∷ xs)) ≡ true
-has-map-by g d x xs true is rest = ap (λ b. b || has (g d) (map g xs)) (eq-eqb (g x) (g d) (ap g (eqb-true x d is)))
-has-map-by g d x xs false is rest = ap (λ b. eqb (g x) (g d) || b) (rest refl) ∙ or-true (eqb (g x) (g d))
+has-map-by g d x xs same is rest = grind arith
 
 has-map : (g : ℕ → ℕ) (d : ℕ) (xs : List ℕ) → has d xs ≡ true → has (g d) (map g xs) ≡ true
 has-map g d [] there = absurd (false≢true there)
@@ -62,15 +59,7 @@ has-map g d (x ∷ xs) there =
 
 one-of : (g : ℕ → ℕ) (x c d : ℕ) (xs : List ℕ) (first second : Bool) → eqb x c ≡ first → eqb x d ≡ second → has (g x) (map g xs) ≡ false
     → has c (x ∷ xs) ≡ true → has d (x ∷ xs) ≡ true → g c ≡ g d → (has c xs ≡ true → has d xs ≡ true → c ≡ d) → c ≡ d
-one-of g x c d xs true true is-c is-d fresh there-c there-d same rest = sym (eqb-true x c is-c) ∙ eqb-true x d is-d
-one-of g x c d xs true false is-c is-d fresh there-c there-d same rest =
-    let d_later = (head-or-rest x d xs false is-d there-d).1 refl in
-    absurd (false≢true (sym fresh ∙ ap (λ y. has y (map g xs)) (ap g (eqb-true x c is-c) ∙ same) ∙ has-map g d xs d_later))
-one-of g x c d xs false true is-c is-d fresh there-c there-d same rest =
-    let c_later = (head-or-rest x c xs false is-c there-c).1 refl in
-    absurd (false≢true (sym fresh ∙ ap (λ y. has y (map g xs)) (ap g (eqb-true x d is-d) ∙ sym same) ∙ has-map g c xs c_later))
-one-of g x c d xs false false is-c is-d fresh there-c there-d same rest =
-    rest ((head-or-rest x c xs false is-c there-c).1 refl) ((head-or-rest x d xs false is-d there-d).1 refl)
+one-of g x c d xs first second is-c is-d fresh there-c there-d same rest = grind (arith, eqb-true, head-or-rest, has-map)
 
 pub apart-one : (g : ℕ → ℕ) (c d : ℕ) (xs : List ℕ) → apart (map g xs) ≡ true → has c xs ≡ true → has d xs ≡ true → g c ≡ g d → c ≡ d
 apart-one g c d [] once there-c there-d same = absurd (false≢true there-c)
@@ -81,9 +70,7 @@ apart-one g c d (x ∷ xs) once there-c there-d same =
 
 pub differs-sid : (setup : Configured) (f : Facts) → Sound f → Numbered setup f → (c d : ℕ) → has c f.opened ≡ true → has d f.opened ≡ true → (c == d) ≡ false → (same : Bool)
     → eqb (f.about d).sid (f.about c).sid ≡ same → same ≡ false
-differs-sid setup f sound n c d open-c open-d other true is =
-    absurd (false≢true (sym other ∙ eq-eqb c d (apart-one (λ x. (f.about x).sid) c d f.opened n.apart_sids open-c open-d (sym (eqb-true (f.about d).sid (f.about c).sid is)))))
-differs-sid setup f sound n c d open-c open-d other false is = refl
+differs-sid setup f sound n c d open-c open-d other same is = grind (arith, eq-eqb, apart-one, eqb-true)
 
 pub sids_differ : SidsDiffer
 sids_differ setup hash h small c d there-c there-d same =
@@ -103,18 +90,12 @@ take-of_taken count xs = rw length-take (take_min count xs)
 
 -- the bytes that were taken after a take: those that were taken before it, and what it gave
 pub given-bytes : (count : ℕ) (a : About) → concat (take (with_lines_taken count a).taken (with_lines_taken count a).owed) ≡ concat (take a.taken a.owed) ++ concat (take count (waiting a))
-given-bytes count a =
-    ap concat (take-add a.taken (length (take count (waiting a))) a.owed ∙ ap (λ xs. take a.taken a.owed ++ xs) (take-of_taken count (waiting a)))
-    ∙ concat-append (take a.taken a.owed) (take count (waiting a))
+given-bytes count a = grind (arith, take-add, take-of_taken, concat-append)
 
 -- what a connection has taken after one call more
 taken-one : (f : Facts) (c count d : ℕ) (same other : Bool) → (d == c) ≡ same → same ≡ other
     → (taken_by same count (f.about d)).taken ≡ (f.about d).taken + lines_of_take other (take_reply count (f.about c))
-taken-one f c count d true true is alike =
-    ap (λ x. (f.about d).taken + length (take count (waiting (f.about x)))) (eqb-true d c is)
-taken-one f c count d true false is alike = absurd (false≢true (sym alike))
-taken-one f c count d false true is alike = absurd (false≢true alike)
-taken-one f c count d false false is alike = omega arith
+taken-one f c count d same other is alike = grind arith
 
 module _ {setup : Configured} {hash : List ℕ → List ℕ} {f : Facts} {caller d : ℕ} where
   taken-after : {call : Call} {a : About} → Becomes setup hash f caller d call a → (f.joins < d → (f.about d).taken ≡ 0)
@@ -130,21 +111,17 @@ step-taken setup hash f caller call d = taken-after (becomes setup hash f caller
 
 joins-kept : (f : Facts) (owner : ℕ) (peer challenge : List ℕ) (accepted : Bool) → f.joins ≤ (cond accepted (with_connection f owner peer challenge) f).joins
 unfolding with_connection
-joins-kept f owner peer challenge true = omega arith
-joins-kept f owner peer challenge false = omega arith
+joins-kept f owner peer challenge accepted = grind arith
 
 pub joins-grow : (setup : Configured) (hash : List ℕ → List ℕ) (f : Facts) (caller : ℕ) (call : Call) → f.joins ≤ (after setup hash f caller call).joins
 unfolding after happens without_connection
-joins-grow setup hash f caller (Join peer challenge now) = joins-kept f caller peer challenge (has_place setup f && has_joins f)
-joins-grow setup hash f caller _ = omega arith
+joins-grow setup hash f caller call = grind (arith, joins-kept)
 
 none-of : (c d : ℕ) (reply : Reply) (same : Bool) → (c == d) ≡ same → c < d → lines_of_take same reply ≡ 0
-none-of c d reply true is below = let e : c ≡ d = eqb-true c d is in absurd (omega (arith, e, below))
-none-of c d reply false is below = refl
+none-of c d reply same is below = grind arith
 
 none-taken : (f : Facts) → Sound f → (caller : ℕ) (call : Call) (reply : Reply) (d : ℕ) → MayCall f caller call → f.joins < d → lines_taken d call reply ≡ 0
-none-taken f sound caller (Take c count) reply d may above = none-of c d reply (c == d) refl (omega (arith, sound.counted c may.0, above))
-none-taken f sound caller _ reply d may above = refl
+none-taken f sound caller call reply d may above = grind arith
 
 pub fresh-taken : (setup : Configured) (hash : List ℕ → List ℕ) (h : List Entry) → Legal setup hash h → (d : ℕ) → (facts setup hash h).joins < d → ((facts setup hash h).about d).taken ≡ 0
 unfolding facts Legal

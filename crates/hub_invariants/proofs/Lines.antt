@@ -1,5 +1,5 @@
 -- The effect of a line suits the stage of its connection.
-use Rattle.std.proofs.Common.{◌≡◌, ◌∙◌, sym, ap, refl, ℕ, false, List, Option}
+use Rattle.std.proofs.Common.{◌≡◌, ◌∙◌, sym, ap, refl, ℕ, false, List, Option, arith}
 use Rattle.std.proofs.lemmas.Bool.{false≢true}
 use Rattle.adc_line.specs.Lines.{Reading}
 use Rattle.login_state.specs.declared.stage.Stage.{Stage}
@@ -15,10 +15,7 @@ use Rattle.hub_invariants.proofs.Outcomes.{Outcome, greets, lets_in, line-outcom
 
 -- whatever comes of a line before its connection has a user fits
 fits-at : (own : Own) (effect : Effect) (stage : Stage) → own.stage ≡ stage → is_over stage ≡ false → is_present stage ≡ false → Fits own.stage effect
-fits-at own effect stage at still new = record {
-  stays_over = λ over. absurd (false≢true (sym still ∙ ap is_over (sym at) ∙ over));
-  enters_once = λ here. ap is_present at ∙ new;
-}
+fits-at own effect stage at still new = grind arith
 
 module _ {hub : Sight} {own : Own} {line : PreparedLine} {now : ℕ} where
   fits-outcome : {said : Option Reading} {request : Request} {effect : Effect} → Outcome hub own line now said request effect → Fits own.stage effect

@@ -10,7 +10,7 @@ use Rattle.hub_rules.specs.Configured.{Configured}
 use Rattle.hub_rules.specs.Effects.{departure}
 use Rattle.hub_rules.specs.Facts.{Facts, facts, after, without_connection, effect_of_line, happens, has_joins, has_place, with_connection}
 use Rattle.hub_rules.specs.Legal.{Legal, MayCall, join_reply, reply}
-use Rattle.hub_rules.specs.Opening.{OpenAreThoseThatStayed, has_joined, has_quit, joins_as, quits}
+use Rattle.hub_invariants.specs.Opening.{OpenAreThoseThatStayed, has_joined, has_quit, joins_as, quits}
 use Rattle.hub_invariants.proofs.Calls.{sound_of}
 use Rattle.hub_invariants.proofs.Kept.{joins-grow}
 use Rattle.hub_invariants.proofs.Members.{and-false, has, has-append, has-filter}
@@ -19,12 +19,10 @@ use Rattle.hub_invariants.proofs.Sound.{Sound, eqb-sym, or-false, or-true}
 -- ---- a connection that never joined never quit
 
 same-number : (d c : ℕ) (same : Bool) → eqb d c ≡ same → d < c → same ≡ false
-same-number d c true is below = let e : d ≡ c = eqb-true d c is in absurd (omega (arith, e, below))
-same-number d c false is below = refl
+same-number d c same is below = grind arith
 
 no-quit : (f : Facts) → Sound f → (caller : ℕ) (call : Call) (c : ℕ) → MayCall f caller call → f.joins < c → quits c call ≡ false
-no-quit f sound caller (Quit d) c may beyond = same-number d c (eqb d c) refl (omega (arith, sound.counted d may.0, beyond))
-no-quit f sound caller _ c may beyond = refl
+no-quit f sound caller call c may beyond = grind arith
 
 never-quit : (setup : Configured) (hash : List ℕ → List ℕ) (h : List Entry) → Legal setup hash h → (c : ℕ) → (facts setup hash h).joins < c → has_quit c h ≡ false
 unfolding facts Legal
@@ -41,20 +39,14 @@ joined-opened f owner peer challenge c = has-append c f.opened ((f.joins + 1) �
 
 -- a join: the one that it makes has not quit
 join-stays : (new before with_connection quit : Bool) → (new ≡ true → quit ≡ false) → before ≡ (with_connection && not quit) → (before || new) ≡ ((new || with_connection) && not quit)
-join-stays true before with_connection quit fresh is = or-true before ∙ sym (ap not (fresh refl))
-join-stays false before with_connection quit fresh is = or-false before ∙ is
+join-stays new before with_connection quit fresh is = grind arith
 
 quit-stays : (leaves before with_connection quit : Bool) → before ≡ (with_connection && not quit) → (before && not leaves) ≡ ((false || with_connection) && not (leaves || quit))
-quit-stays true before with_connection quit is = and-false before ∙ sym (and-false with_connection)
-quit-stays false before with_connection quit is = and-true before ∙ is
+quit-stays leaves before with_connection quit is = grind arith
 
 join-accepted : (f : Facts) (owner : ℕ) (peer challenge : List ℕ) (c : ℕ) (place counted before quit : Bool) → (f.joins < c → quit ≡ false) → has c f.opened ≡ (before && not quit)
     → has c (cond (place && counted) (with_connection f owner peer challenge) f).opened ≡ ((joins_as c (join_reply place counted f.joins) || before) && not (false || quit))
-join-accepted f owner peer challenge c true true before quit fresh is =
-    joined-opened f owner peer challenge c
-    ∙ join-stays (eqb (f.joins + 1) c) (has c f.opened) before quit (λ new. let e : f.joins + 1 ≡ c = eqb-true (f.joins + 1) c new in fresh (omega (arith, e))) is
-join-accepted f owner peer challenge c true false before quit fresh is = is
-join-accepted f owner peer challenge c false counted before quit fresh is = is
+join-accepted f owner peer challenge c place counted before quit fresh is = grind (arith, joined-opened, join-stays, eqb-true)
 
 happens-opened : (c : ℕ) (effect : Effect) (f : Facts) → (happens c effect f).opened ≡ f.opened
 unfolding happens
@@ -68,14 +60,7 @@ open-after : (setup : Configured) (hash : List ℕ → List ℕ) (f : Facts) (ca
     → has c f.opened ≡ (before && not quit)
     → has c (after setup hash f caller call).opened ≡ ((joins_as c (reply setup hash f caller call) || before) && not (quits c call || quit))
 unfolding after reply
-open-after setup hash f caller (Join peer challenge now) c before quit fresh is =
-    join-accepted f caller peer challenge c (has_place setup f) (has_joins f) before quit fresh is
-open-after setup hash f caller (Line d bytes now) c before quit fresh is = ap (has c) (happens-opened d (effect_of_line setup hash f d bytes now) f) ∙ is
-open-after setup hash f caller (Quit d) c before quit fresh is =
-    closed-opened d (happens d (departure (f.about d).stage (f.about d).sid) f) c
-    ∙ ap₂ (λ a b. a && not b) (ap (has c) (happens-opened d (departure (f.about d).stage (f.about d).sid) f)) (eqb-sym c d (eqb c d) (eqb d c) refl refl)
-    ∙ quit-stays (eqb d c) (has c f.opened) before quit is
-open-after setup hash f caller (Take d count) c before quit fresh is = is
+open-after setup hash f caller call c before quit fresh is = grind (arith, join-accepted, happens-opened, closed-opened, eqb-sym, quit-stays)
 
 -- ---- every history
 

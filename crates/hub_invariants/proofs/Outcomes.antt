@@ -1,6 +1,6 @@
 -- One view of what a line leads to: every line has one of these outcomes. Each law about lines is a walk over them.
 use Rattle.std.specs.Option.{option_or}
-use Rattle.std.proofs.Common.{◌≡◌, refl, ℕ, Bool, true, false, not, ◌==◌, ◌||◌, List, [], ◌∷◌, length, Option, Some, None, is_some, Result, Ok, Err}
+use Rattle.std.proofs.Common.{◌≡◌, refl, ℕ, Bool, true, false, not, ◌==◌, ◌||◌, List, [], ◌∷◌, length, Option, Some, None, is_some, Result, Ok, Err, arith}
 use Rattle.std.specs.Prelude.{if◌then◌else◌, codes, cond}
 use Rattle.std.specs.Result.{result_err, result_unwrap_or}
 use Rattle.std.specs.Str.{bytes_eq}
@@ -45,7 +45,7 @@ use Rattle.hub_rules.specs.Identities.{listed_user}
 use Rattle.hub_rules.specs.Quiet.{nothing}
 use Rattle.login_state.specs.Requests.{bad_stage, is_of_the_hub, is_to_the_hub, request_at, status, to_the_hub, to_users}
 use Rattle.hub_rules.specs.Requests.{refusal_of, request_of}
-use Rattle.hub_rules.specs.Said.{accepted_line, kept_unless, unless_refused}
+use Rattle.hub_invariants.specs.Said.{accepted_line, kept_unless, unless_refused}
 use Rattle.hub_rules.specs.Sights.{Own, PreparedLine, Sight, is_account, user_after}
 use Rattle.hub_rules.specs.Texts.{removal_line, topic_line}
 use Rattle.hub_invariants.proofs.Claims.{some-none}
@@ -63,44 +63,12 @@ abbrev AskedIn : Stage → Result Request Deny → Type 0
 AskedIn stage (Ok request) = Asked stage request
 AskedIn stage (Err deny) = Unit {0}
 
-asked-if : (stage : Stage) (b : Bool) (x y : Result Request Deny) → AskedIn stage x → AskedIn stage y → AskedIn stage (if b then x else y)
-asked-if stage true x y first second = first
-asked-if stage false x y first second = second
-
-asked-users : (command : List ℕ) → AskedIn stages.Normal (to_users command)
-asked-users command =
-    asked-if stages.Normal (is_of_the_hub command || is_to_the_hub command) (Err denials.Protocol) _ tt
-    (asked-if stages.Normal (bytes_eq command (codes "SCH")) (Ok requests.Search) (Ok requests.Message) refl refl)
-
-asked-status : (stage : Stage) (command : List ℕ) → AskedIn stage (status command)
-asked-status stage command = asked-if stage (bytes_eq command (codes "STA")) (Ok requests.Nothing) (bad_stage kinds.Hub command) tt tt
-
-asked-hub : (command : List ℕ) → AskedIn stages.Normal (to_the_hub command)
-asked-hub command =
-    asked-if stages.Normal (is_of_the_hub command || bytes_eq command (codes "INF")) (Err denials.Protocol) _ tt
-    (asked-if stages.Normal (bytes_eq command (codes "PAS")) (bad_stage kinds.Hub command) _ tt
-    (asked-if stages.Normal (bytes_eq command (codes "SUP")) (Ok requests.Support) _ refl
-    (asked-if stages.Normal (bytes_eq command (codes "MSG")) (Ok requests.Act) (Ok requests.Nothing) refl tt)))
-
 asked-at : (stage : Stage) (kind : Kind) (command : List ℕ) → AskedIn stage (request_at stage kind command)
 unfolding request_at
-asked-at stage kinds.Client command = tt
-asked-at stage kinds.Info command = tt
-asked-at stage kinds.Udp command = tt
-asked-at stages.Protocol kinds.Hub command = asked-if stages.Protocol (bytes_eq command (codes "SUP")) (Ok requests.Greeting) _ refl (asked-status _ command)
-asked-at stages.Identify kinds.Hub command = asked-status _ command
-asked-at stages.Identify kinds.Broadcast command = asked-if stages.Identify (bytes_eq command (codes "INF")) (Ok requests.Login) (bad_stage kinds.Broadcast command) refl tt
-asked-at stages.Verify kinds.Hub command = asked-if stages.Verify (bytes_eq command (codes "PAS")) (Ok requests.Password) _ refl (asked-status _ command)
-asked-at stages.Normal kinds.Hub command = asked-hub command
-asked-at stages.Normal kinds.Broadcast command = asked-if stages.Normal (bytes_eq command (codes "INF")) (Ok requests.Update) _ refl (asked-users command)
-asked-at stages.Normal kinds.Direct command = asked-if stages.Normal (bytes_eq command (codes "INF")) (Err denials.Protocol) _ tt (asked-users command)
-asked-at stages.Normal kinds.Echo command = asked-if stages.Normal (bytes_eq command (codes "INF")) (Err denials.Protocol) _ tt (asked-users command)
-asked-at stages.Normal kinds.Feature command = asked-if stages.Normal (bytes_eq command (codes "INF")) (Err denials.Protocol) _ tt (asked-users command)
-asked-at stage kind command = tt
+asked-at stage kind command = grind arith
 
 asked-for : (stage : Stage) (r : Result Request Deny) → AskedIn stage r → Asked stage (result_unwrap_or r requests.Nothing)
-asked-for stage (Ok request) is = is
-asked-for stage (Err deny) is = tt
+asked-for stage r is = grind arith
 
 pub request-asks : (stage : Stage) (kind : Kind) (command : List ℕ) → Asked stage (request_of stage kind command)
 request-asks stage kind command = asked-for stage (request_at stage kind command) (asked-at stage kind command)
@@ -128,8 +96,7 @@ DoesIt users bans operator (Err deny) = Unit {0}
 
 if-present : (users : List Listed) (bans : List (List ℕ × Ban)) (operator : ℕ) (found : Option Listed) (command : Listed → Result Done Deny)
     → ((user : Listed) → found ≡ Some user → DoesIt users bans operator (command user)) → DoesIt users bans operator (if_present found command)
-if-present users bans operator None command each = tt
-if-present users bans operator (Some user) command each = each user refl
+if-present users bans operator found command each = grind arith
 
 if-room : (users : List Listed) (bans : List (List ℕ × Ban)) (operator : ℕ) (nick reason : List ℕ) (target : Listed) (banned : Banned) → user_called users nick ≡ Some target
     → banned.sid ≡ target.sid → (full : Bool) → is_full bans banned.cid ≡ full
@@ -187,8 +154,7 @@ pub data Outcome (hub : Sight) (own : Own) (line : PreparedLine) (now : ℕ) : O
 -- ---- every line has one
 
 pub later-none : (first later : Option Deny) → option_or first later ≡ None → later ≡ None
-later-none None later none = none
-later-none (Some deny) later none = absurd (some-none none)
+later-none first later none = grind arith
 
 module _ (hub : Sight) (own : Own) (line : PreparedLine) (now : ℕ) where
   abbrev Has : Option Reading → Request → Effect → Type 0
@@ -216,9 +182,7 @@ module _ (hub : Sight) (own : Own) (line : PreparedLine) (now : ℕ) where
 
   by-login : (reading : Reading) → own.stage ≡ stages.Identify → request_of own.stage reading.kind reading.command ≡ requests.Login → (r : Result (List Field) InfFault)
       → updates.reading reading.params ≡ r → login_denied hub own line.owner now r ≡ None → Has (Some reading) requests.Login (logs_in hub own line r)
-  by-login reading at asks (Ok u) words none =
-      by-account reading u (record { at = at; asks = asks; words = words; allowed = none }) (is_account hub (user_after own u).key) refl
-  by-login reading at asks (Err fault) words none = absurd (some-none none)
+  by-login reading at asks r words none = grind (arith, by-account, some-none)
 
   by-update : (reading : Reading) → own.stage ≡ stages.Normal → (r : Result (List Field) InfFault) → updates.reading reading.params ≡ r → update_denied hub own r ≡ None
       → Has (Some reading) requests.Update (updates_user own r)

@@ -22,7 +22,7 @@ use Rattle.hub_rules.specs.Effects.{is_over, line_effect}
 use Rattle.hub_rules.specs.Facts.{Facts, facts, effect_of_line, own_of, sight_of}
 use Rattle.hub_rules.specs.Identities.{listed_user}
 use Rattle.hub_rules.specs.Prepared.{prepared_line}
-use Rattle.hub_rules.specs.Said.{FeaturesAreLastAdded, InfoIsMerged, accepted_line, cleaned_update, inf_update, infs, listed_if, read_by, said_in, sup_words, sups, unless_refused, words_if}
+use Rattle.hub_invariants.specs.Said.{FeaturesAreLastAdded, InfoIsMerged, accepted_line, cleaned_update, inf_update, infs, listed_if, read_by, said_in, sup_words, sups, unless_refused, words_if}
 use Rattle.hub_rules.specs.Shares.{About, features_after, fields_after}
 use Rattle.hub_rules.specs.Sights.{Own, PreparedLine, Sight, user_after}
 use Rattle.hub_invariants.proofs.Becoming.{Becomes, becomes}
@@ -57,8 +57,7 @@ said_by read own None request = None
 said_by read own (Some reading) request = read own request reading
 
 pub said-read : {A : Type 0} (read : Own → Request → Reading → Option A) (own : Own) (mentions_in : Option Reading) → said_by read own mentions_in (request_in own mentions_in) ≡ read_by read own mentions_in
-said-read read own None = refl
-said-read read own (Some reading) = refl
+said-read read own mentions_in = grind arith
 
 says-words : (own : Own) (words features : List (List ℕ)) → support_after own.features words ≡ Ok features → features ≡ with_sup own.features (words_if (support_after own.features words) words)
 says-words own words features is = sym (applied-ok own.features words features is) ∙ ap (λ r. with_sup own.features (words_if r words)) (sym is)
@@ -92,12 +91,10 @@ merged-none = refl
 -- ---- a list that is one longer where something was said
 
 features-more : (sups : List (List (List ℕ))) (sup : Option (List (List ℕ))) → features_of (sups ++ listed_if true sup) ≡ with_sup (features_of sups) sup
-features-more sups None = ap features_of (append-nil sups)
-features-more sups (Some words) = features_of-push sups words
+features-more sups sup = grind (arith, append-nil, features_of-push)
 
 fields-more : (infs : List (List Field)) (inf : Option (List Field)) → merged_fields (infs ++ listed_if true inf) ≡ with_update (merged_fields infs) inf
-fields-more infs None = ap merged_fields (append-nil infs)
-fields-more infs (Some u) = merged-more infs u
+fields-more infs inf = grind (arith, append-nil, merged-more)
 
 -- what is known of a connection is what was said
 pub record Told (a : About) (sups : List (List (List ℕ))) (infs : List (List Field)) : Type 0 where
@@ -108,28 +105,16 @@ said-one : (f : Facts) (c d : ℕ) (effect : Effect) (sup : Option (List (List �
     → Says (own_of (f.about d)) effect sup inf → (sups : List (List (List ℕ))) (infs : List (List Field)) → Told (f.about c) sups infs
     → (cond same (features_after effect.change (f.about c).features) (f.about c).features ≡ features_of (sups ++ listed_if same sup))
     × (cond same (fields_after effect.change (f.about c).fields) (f.about c).fields ≡ merged_fields (infs ++ listed_if same inf))
-said-one f c d effect sup inf true is says sups infs told =
-    let e : c ≡ d = eqb-true c d is in (
-      (subst (λ x. features_after effect.change (f.about x).features ≡ with_sup (f.about x).features sup) (sym e) says.supports
-          ∙ ap (λ xs. with_sup xs sup) told.supports ∙ sym (features-more sups sup)),
-      (subst (λ x. fields_after effect.change (f.about x).fields ≡ with_update (f.about x).fields inf) (sym e) says.tells
-          ∙ ap (λ xs. with_update xs inf) told.tells ∙ sym (fields-more infs inf)),
-    )
-said-one f c d effect sup inf false is says sups infs told =
-    (told.supports ∙ sym (ap features_of (append-nil sups)), told.tells ∙ sym (ap merged_fields (append-nil infs)))
+said-one f c d effect sup inf same is says sups infs told = grind (arith, eqb-true, features-more, fields-more, append-nil)
 
 -- ---- every call
 
 pub same-chosen : {A : Type 0} (b : Bool) (x : A) → cond b x x ≡ x
-same-chosen true x = refl
-same-chosen false x = refl
+same-chosen b x = grind arith
 
 -- a call that says nothing of it
 told-still : (a b : About) (sups : List (List (List ℕ))) (infs : List (List Field)) → b.features ≡ a.features → b.fields ≡ a.fields → Told a sups infs → Told b (sups ++ []) (infs ++ [])
-told-still a b sups infs same_features same_fields told = record {
-  supports = same_features ∙ told.supports ∙ sym (ap features_of (append-nil sups));
-  tells = same_fields ∙ told.tells ∙ sym (ap merged_fields (append-nil infs));
-}
+told-still a b sups infs same_features same_fields told = grind (arith, append-nil)
 
 -- ---- a connection that has not joined yet
 

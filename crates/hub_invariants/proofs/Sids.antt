@@ -48,21 +48,18 @@ length-map g (x ∷ xs) = ap suc (length-map g xs)
 -- what a part has, the whole has
 none-kept : (g : ℕ → ℕ) (p : ℕ → Bool) (y x : ℕ) (xs : List ℕ) (keep : Bool) → (has y (map g xs) ≡ false → has y (map g (filter p xs)) ≡ false)
     → (eqb (g x) y || has y (map g xs)) ≡ false → has y (map g (cond keep (x ∷ filter p xs) (filter p xs))) ≡ false
-none-kept g p y x xs true rest none = ap₂ ◌||◌ (or-parts (eqb (g x) y) (has y (map g xs)) none).0 (rest (or-parts (eqb (g x) y) (has y (map g xs)) none).1)
-none-kept g p y x xs false rest none = rest (or-parts (eqb (g x) y) (has y (map g xs)) none).1
+none-kept g p y x xs keep rest none = grind arith
 
 none-filtered : (g : ℕ → ℕ) (p : ℕ → Bool) (y : ℕ) (xs : List ℕ) → has y (map g xs) ≡ false → has y (map g (filter p xs)) ≡ false
 none-filtered g p y [] none = refl
 none-filtered g p y (x ∷ xs) none = none-kept g p y x xs (p x) (none-filtered g p y xs) none
 
 pub not-true : (b : Bool) → not b ≡ true → b ≡ false
-not-true true e = absurd (false≢true e)
-not-true false e = refl
+not-true b e = grind arith
 
 apart-map-kept : (g : ℕ → ℕ) (p : ℕ → Bool) (x : ℕ) (xs : List ℕ) (keep : Bool) → has (g x) (map g xs) ≡ false → apart (map g (filter p xs)) ≡ true
     → apart (map g (cond keep (x ∷ filter p xs) (filter p xs))) ≡ true
-apart-map-kept g p x xs true none rest = ap₂ (λ a b. not a && b) (none-filtered g p (g x) xs none) rest
-apart-map-kept g p x xs false none rest = rest
+apart-map-kept g p x xs keep none rest = grind (arith, none-filtered)
 
 apart-map-filter : (g : ℕ → ℕ) (p : ℕ → Bool) (xs : List ℕ) → apart (map g xs) ≡ true → apart (map g (filter p xs)) ≡ true
 apart-map-filter g p [] e = refl
@@ -71,8 +68,7 @@ apart-map-filter g p (x ∷ xs) e =
     apart-map-kept g p x xs (p x) (not-true (has (g x) (map g xs)) tests.0) (apart-map-filter g p xs tests.1)
 
 fewer-kept : (p : ℕ → Bool) (x : ℕ) (xs : List ℕ) (keep : Bool) → length (filter p xs) ≤ length xs → length (cond keep (x ∷ filter p xs) (filter p xs)) ≤ suc (length xs)
-fewer-kept p x xs true few = omega (arith, few)
-fewer-kept p x xs false few = omega (arith, few)
+fewer-kept p x xs keep few = grind arith
 
 fewer : (p : ℕ → Bool) (xs : List ℕ) → length (filter p xs) ≤ length xs
 fewer p [] = omega arith
@@ -100,58 +96,32 @@ taken-numbered setup c count f n =
 -- ---- a join
 
 differs : (f : Facts) → Sound f → (d : ℕ) (same : Bool) → (d == (f.joins + 1)) ≡ same → has d f.opened ≡ true → same ≡ false
-differs f sound d true is there = absurd (false≢true (sym (not-open f sound) ∙ ap (λ x. has x f.opened) (sym (eqb-true d (f.joins + 1) is)) ∙ there))
-differs f sound d false is there = refl
+differs f sound d same is there = grind arith
 
 room-by : (most count : ℕ) → not (nat_le most count) ≡ true → count < most
-room-by most count has_room =
-    elim (leb_tells most count) [
-      | inl le ↦ absurd (false≢true (sym (ap not le.0) ∙ has_room))
-      | inr gt ↦ gt.1
-    ]
+room-by most count has_room = grind arith
 
 joined-sid : (f : Facts) (owner : ℕ) (peer challenge : List ℕ) → Sound f → (d : ℕ) → has d f.opened ≡ true
     → (with_one (f.joins + 1) (λ a. newcomer owner (next_sid f) peer challenge) f.about d).sid ≡ (f.about d).sid
-joined-sid f owner peer challenge sound d there =
-    ap (λ b. (cond b (newcomer owner (next_sid f) peer challenge) (f.about d)).sid) (differs f sound d (d == (f.joins + 1)) refl there)
+joined-sid f owner peer challenge sound d there = grind arith
 
 new-sid : (f : Facts) (owner : ℕ) (peer challenge : List ℕ)
     → (with_one (f.joins + 1) (λ a. newcomer owner (next_sid f) peer challenge) f.about (f.joins + 1)).sid ≡ next_sid f
 new-sid f owner peer challenge = ap (λ b. (cond b (newcomer owner (next_sid f) peer challenge) (f.about (f.joins + 1))).sid) (eq-eqb (f.joins + 1) (f.joins + 1) refl)
 
 fresh-sid : (setup : Configured) (f : Facts) → setup.max_users ≤ most_users → Numbered setup f → has_place setup f ≡ true → has (next_sid f) (sids f) ≡ false
-fresh-sid setup f few n place =
-    let room = room-by setup.max_users (length f.opened) place in
-    has-is_taken (next_sid f) (sids f)
-    ∙ next_free-free f.last (sids f) n.last_in (omega (arith, room, few, length-map (λ d. (f.about d).sid) f.opened))
+fresh-sid setup f few n place = grind (arith, room-by, has-is_taken, next_free-free, length-map)
 
 joined-given : (f : Facts) (owner : ℕ) (peer challenge : List ℕ) → Sound f → (setup : Configured) → Numbered setup f → (d : ℕ) (before : Bool)
     → has d f.opened ≡ before → (before || (eqb (f.joins + 1) d || false)) ≡ true
     → (0 < (with_one (f.joins + 1) (λ a. newcomer owner (next_sid f) peer challenge) f.about d).sid)
     × ((with_one (f.joins + 1) (λ a. newcomer owner (next_sid f) peer challenge) f.about d).sid < 1_048_576)
-joined-given f owner peer challenge sound setup n d true is there =
-    subst (λ sid. (0 < sid) × (sid < 1_048_576)) (sym (joined-sid f owner peer challenge sound d is)) (n.given_sids d is)
-joined-given f owner peer challenge sound setup n d false is there =
-    let same : f.joins + 1 ≡ d = eqb-true (f.joins + 1) d (sym (or-false (eqb (f.joins + 1) d)) ∙ there) in
-    subst (λ x. (0 < (with_one (f.joins + 1) (λ a. newcomer owner (next_sid f) peer challenge) f.about x).sid)
-    × ((with_one (f.joins + 1) (λ a. newcomer owner (next_sid f) peer challenge) f.about x).sid < 1_048_576)) same
-    (subst (λ sid. (0 < sid) × (sid < 1_048_576)) (sym (new-sid f owner peer challenge)) (next_free-range f.last (sids f)))
+joined-given f owner peer challenge sound setup n d before is there = grind (arith, joined-sid, eqb-true, or-false, new-sid, next_free-range)
 
 joined-numbered : (setup : Configured) (f : Facts) (owner : ℕ) (peer challenge : List ℕ) → setup.max_users ≤ most_users → has_place setup f ≡ true → Sound f
     → Numbered setup f → Numbered setup (with_connection f owner peer challenge)
 unfolding with_connection
-joined-numbered setup f owner peer challenge small place sound n = record {
-  apart_sids =
-      ap apart (map-end (λ d. (with_one (f.joins + 1) (λ a. newcomer owner (next_sid f) peer challenge) f.about d).sid) f.opened (f.joins + 1)
-      ∙ ap₂ (λ (xs : List ℕ) (x : ℕ). xs ++ x ∷ [])
-      (map-same_on (λ d. (with_one (f.joins + 1) (λ a. newcomer owner (next_sid f) peer challenge) f.about d).sid) (λ d. (f.about d).sid) f.opened
-      (joined-sid f owner peer challenge sound))
-      (new-sid f owner peer challenge))
-      ∙ apart-push (next_sid f) (sids f) (fresh-sid setup f small n place) n.apart_sids;
-  given_sids = λ d there. joined-given f owner peer challenge sound setup n d (has d f.opened) refl (sym (has-append d f.opened ((f.joins + 1) ∷ [])) ∙ there);
-  last_in = (next_free-range f.last (sids f)).1;
-  few = omega (arith, room-by setup.max_users (length f.opened) place, length-append f.opened ((f.joins + 1) ∷ []));
-}
+joined-numbered setup f owner peer challenge small place sound n = grind (arith, map-end, map-same_on, joined-sid, new-sid, apart-push, fresh-sid, joined-given, has-append, next_free-range, room-by, length-append)
 
 -- ---- every call
 

@@ -1,6 +1,6 @@
 -- A hub can carry out the effect of a line: its change suits the stage of the connection, with users as they are listed.
 use Rattle.std.specs.Prelude.{chars}
-use Rattle.std.proofs.Common.{◌≡◌, ◌∙◌, sym, ap, ap₂, refl, ℕ, Bool, true, false, ◌==◌, List, Option, Some, None, Ok, unwrap_or, cond}
+use Rattle.std.proofs.Common.{◌≡◌, ◌∙◌, sym, ap, ap₂, refl, ℕ, Bool, true, false, ◌==◌, List, Option, Some, None, Ok, unwrap_or, cond, arith}
 use Rattle.std.specs.Option.{option_map}
 use Rattle.adc_line.specs.declared.header.Kind.{Kind}
 use Rattle.adc_line.specs.declared.header.Kind.TheVariants as kinds
@@ -59,39 +59,21 @@ pub record Suits (own : Own) (effect : Effect) : Type 0 where
 
 -- ---- who hears
 
-routed-two : (same : Bool) (target own : ℕ) → Routed (Those (cond same (audiences.One target) (audiences.Two target own)))
-unfolding holds_words
-routed-two true target own sid su = refl
-routed-two false target own sid su = refl
-
-routed-both : (target own : Option ℕ) → Routed (Those (both target own))
-unfolding holds_words
-routed-both None own sid su = refl
-routed-both (Some target) None sid su = refl
-routed-both (Some target) (Some own) sid su = routed-two (target == own) target own sid su
-
 routed-direct : (here : Bool) (target : Option ℕ) → Routed (Those (direct_audience here target))
 unfolding holds_words
-routed-direct true None sid su = refl
-routed-direct true (Some target) sid su = refl
-routed-direct false target sid su = refl
+routed-direct here target sid su = grind arith
 
 routed-echoed : (here : Bool) (target own : Option ℕ) → Routed (Those (echo_audience here target own))
 unfolding holds_words
-routed-echoed true target own sid su = routed-both target own sid su
-routed-echoed false target own sid su = refl
+routed-echoed here target own sid su = grind arith
 
 routed-featured : (word : Option (List ℕ)) → Routed (Those (feature_audience word))
 unfolding holds_words
-routed-featured None sid su = refl
-routed-featured (Some word) sid su = meets-feature_set word su
+routed-featured word sid su = grind (arith, meets-feature_set)
 
 routed-kind : (kind : Kind) (line : Reading) (here : Bool) → Routed (Those (by_kind kind line here))
 unfolding holds_words
-routed-kind kinds.Direct line here sid su = routed-direct here line.target sid su
-routed-kind kinds.Echo line here sid su = routed-echoed here line.target line.from sid su
-routed-kind kinds.Feature line here sid su = routed-featured line.features sid su
-routed-kind _ line here sid su = refl
+routed-kind kind line here sid su = grind (arith, routed-direct, routed-echoed, routed-featured)
 
 routed-audience : (line : Reading) (here : Bool) → Routed (Those (audience line here))
 unfolding audience
@@ -109,27 +91,17 @@ listed-fields sid fields = refl
 
 -- the nick that is given is that of the user afterwards
 key-by : (fields : List Field) (nick : Option (List ℕ)) → key_of (meaning (unwrap_or nick (value_or_empty nick_name fields))) ≡ changed_key (given_key (option_map (λ (word : List ℕ). chars (meaning word)) nick)) (key_in fields)
-key-by fields None = refl
-key-by fields (Some nick) = refl
-
-abbrev with_names : ℕ → List Field → List ℕ → List ℕ → Listed
-with_names sid fields cid key = record { sid = sid; cid = cid; key = key; fields = fields }
+key-by fields nick = grind arith
 
 listed-same : (sid : ℕ) (before : List Field) (u : List Field) (key : Option (List ℕ)) → cid_in (merged_with before u) ≡ cid_in before
     → key_in (merged_with before u) ≡ changed_key key (key_in before) → listed_user sid (merged_with before u) ≡ updated_user u key (listed_user sid before)
 unfolding listed_user
-listed-same sid before u key cid nick =
-    ap₂ (with_names sid (merged_with before u)) cid nick
+listed-same sid before u key cid nick = grind arith
 
 suits-revised : (hub : Sight) (own : Own) (infs : List (List Field)) (u : List Field) → own.fields ≡ merged_fields infs → update_denied hub own (Ok u) ≡ None
     → listed_user own.sid (merged_with own.fields (clean u own.peer))
     ≡ updated_user (clean u own.peer) (given_key (option_map (λ (word : List ℕ). chars (meaning word)) (value_of nick_name (clean u own.peer)))) (listed_user own.sid own.fields)
-suits-revised hub own infs u known none =
-    let free = update-free hub own u (user_after own u) none in
-    listed-same own.sid own.fields (clean u own.peer) (given_key (option_map (λ (word : List ℕ). chars (meaning word)) (value_of nick_name (clean u own.peer))))
-    (same-cid own u infs known free.1)
-    (ap (λ (n : List ℕ). key_of (meaning n)) (given-after nick_name own.fields infs (clean u own.peer) known)
-    ∙ key-by own.fields (value_of nick_name (clean u own.peer)))
+suits-revised hub own infs u known none = grind (arith, update-free, listed-same, same-cid, given-after, key-by)
 
 module _ {hub : Sight} {own : Own} {line : PreparedLine} {now : ℕ} where
   suits-outcome : {said : Option Reading} {request : Request} {effect : Effect} → Outcome hub own line now said request effect → (infs : List (List Field)) → own.fields ≡ merged_fields infs → Suits own effect

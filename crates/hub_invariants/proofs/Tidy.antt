@@ -16,7 +16,7 @@ use Rattle.hub_rules.specs.Configured.{Configured}
 use Rattle.hub_rules.specs.Effects.{departure}
 use Rattle.hub_rules.specs.Facts.{Facts, facts, effect_of_line, with_lines_taken, newcomer, next_sid, nobody, own_of, sight_of}
 use Rattle.hub_rules.specs.Prepared.{prepared_line}
-use Rattle.hub_rules.specs.Said.{infs}
+use Rattle.hub_invariants.specs.Said.{infs}
 use Rattle.hub_rules.specs.Shares.{About, has_room_for, affected_connection, expected_after, fields_after, has_room, max_bytes, max_lines, owed_with, owes, removed_by, stage_after, waiting}
 use Rattle.hub_invariants.proofs.Becoming.{Becomes, becomes, taken_by}
 use Rattle.hub_invariants.proofs.Calls.{sound_of}
@@ -66,56 +66,26 @@ waiting-more a share few = drop-append-le a.taken a.owed share few
 
 lines-with : (room : Bool) (a : About) (share : List (List ℕ)) → has_room a share ≡ room → a.taken ≤ length a.owed → Tidy a
     → length (drop a.taken (cond room (a.owed ++ share) a.owed)) ≤ max_lines
-lines-with true a share is few tidy =
-    omega (arith, ap length (waiting-more a share few), length-append (waiting a) share, fits-lines (waiting a) share ((and_parts _ _ is).1))
-lines-with false a share is few tidy = tidy.lines
+lines-with room a share is few tidy = grind (arith, waiting-more, length-append, fits-lines)
 
 bytes-with : (room : Bool) (a : About) (share : List (List ℕ)) → has_room a share ≡ room → a.taken ≤ length a.owed → Tidy a
     → size_of (drop a.taken (cond room (a.owed ++ share) a.owed)) ≤ max_bytes
-bytes-with true a share is few tidy =
-    omega (arith, ap size_of (waiting-more a share few), size-append (waiting a) share, fits-bytes (waiting a) share ((and_parts _ _ is).1))
-bytes-with false a share is few tidy = tidy.bytes
+bytes-with room a share is few tidy = grind (arith, waiting-more, size-append, fits-bytes)
 
 -- ---- what becomes of a connection
 
-change-unnamed : (change : Change) (a : About) → Suited (own_of a) change → Tidy a → is_unnamed (stage_after change a.stage) ≡ true → fields_after change a.fields ≡ []
-change-unnamed (Sender (senders.Greets features)) a suits tidy is = tidy.unnamed (ap is_unnamed suits)
-change-unnamed (Sender (senders.Waits newcomer expected)) a suits tidy is = absurd (false≢true is)
-change-unnamed (Sender senders.Enters) a suits tidy is = absurd (false≢true is)
-change-unnamed (Sender (senders.EntersAs newcomer)) a suits tidy is = absurd (false≢true is)
-change-unnamed (Sender (senders.Updates revision)) a suits tidy is = absurd (false≢true (sym (ap is_unnamed suits.0) ∙ is))
-change-unnamed (Sender senders.Falls) a suits tidy is = absurd (false≢true is)
-change-unnamed change a suits tidy is = tidy.unnamed is
-
-change-unasked : (change : Change) (a : About) → Suited (own_of a) change → Tidy a → is_unasked (stage_after change a.stage) ≡ true → expected_after change a.expected ≡ []
-change-unasked (Sender (senders.Greets features)) a suits tidy is = tidy.unasked (ap is_unasked suits)
-change-unasked (Sender (senders.Waits newcomer expected)) a suits tidy is = absurd (false≢true is)
-change-unasked (Sender senders.Enters) a suits tidy is = refl
-change-unasked (Sender (senders.EntersAs newcomer)) a suits tidy is = tidy.unasked (ap is_unasked suits.0)
-change-unasked (Sender senders.Falls) a suits tidy is = absurd (false≢true is)
-change-unasked change a suits tidy is = tidy.unasked is
-
 next-unnamed : (removed is_caller : Bool) (change : Change) (a : About) → (is_caller ≡ true → Suited (own_of a) change) → Tidy a
     → is_unnamed (stage_next removed is_caller change a.stage) ≡ true → cond is_caller (fields_after change a.fields) a.fields ≡ []
-next-unnamed true is_caller change a suits tidy is = absurd (false≢true is)
-next-unnamed false true change a suits tidy is = change-unnamed change a (suits refl) tidy is
-next-unnamed false false change a suits tidy is = tidy.unnamed is
+next-unnamed removed is_caller change a suits tidy is = grind arith
 
 next-unasked : (removed is_caller : Bool) (change : Change) (a : About) → (is_caller ≡ true → Suited (own_of a) change) → Tidy a
     → is_unasked (stage_next removed is_caller change a.stage) ≡ true → cond is_caller (expected_after change a.expected) a.expected ≡ []
-next-unasked true is_caller change a suits tidy is = absurd (false≢true is)
-next-unasked false true change a suits tidy is = change-unasked change a (suits refl) tidy is
-next-unasked false false change a suits tidy is = tidy.unasked is
+next-unasked removed is_caller change a suits tidy is = grind arith
 
 pub tidy-affected : (is_caller : Bool) (effect : Effect) (a : About) → a.taken ≤ length a.owed → (is_caller ≡ true → Suited (own_of a) effect.change) → Tidy a
     → Tidy (affected_connection is_caller effect a)
 unfolding owed_with
-tidy-affected is_caller effect a few suits tidy = record {
-  unnamed = next-unnamed (removed_by effect a) is_caller effect.change a suits tidy;
-  unasked = next-unasked (removed_by effect a) is_caller effect.change a suits tidy;
-  lines = lines-with (has_room a (owes is_caller effect a)) a (owes is_caller effect a) refl few tidy;
-  bytes = bytes-with (has_room a (owes is_caller effect a)) a (owes is_caller effect a) refl few tidy;
-}
+tidy-affected is_caller effect a few suits tidy = grind (arith, next-unnamed, next-unasked, lines-with, bytes-with)
 
 -- ---- every call
 

@@ -1,9 +1,9 @@
 use crate::conversation::{play, play_each};
 
-#[test]
-fn what_is_no_line_is_refused(rt: HostRuntime) {
-    play(
-        &rt,
+/// Conversations of users who have entered.
+const TEXTS: &[(&str, &str)] = &[
+    (
+        "what is no line is refused",
         r"
         ana enters
         ana:
@@ -16,13 +16,9 @@ fn what_is_no_line_is_refused(rt: HostRuntime) {
         ana hears: ISTA 140 Protocol\serror
         ana hears nothing
     ",
-    );
-}
-
-#[test]
-fn who_writes_for_another_leaves(rt: HostRuntime) {
-    play(
-        &rt,
+    ),
+    (
+        "who writes for another leaves",
         r"
         ana enters
         bob enters
@@ -31,13 +27,9 @@ fn who_writes_for_another_leaves(rt: HostRuntime) {
         bob hears: IQUI AAAB
         bob hears nothing
     ",
-    );
-}
-
-#[test]
-fn chat_before_the_login_is_refused(rt: HostRuntime) {
-    play(
-        &rt,
+    ),
+    (
+        "chat before the login is refused",
         r"
         ana joins
         ana: HSUP ADBASE ADTIGR
@@ -46,13 +38,9 @@ fn chat_before_the_login_is_refused(rt: HostRuntime) {
         ana hears: ISTA 144 Invalid\sstate FCBMSG
         ana hears nothing
     ",
-    );
-}
-
-#[test]
-fn an_unknown_command_goes_to_all(rt: HostRuntime) {
-    play(
-        &rt,
+    ),
+    (
+        "an unknown command goes to all",
         r"
         ana enters
         bob enters
@@ -67,13 +55,63 @@ fn an_unknown_command_goes_to_all(rt: HostRuntime) {
         ana hears nothing
         bob hears nothing
     ",
-    );
+    ),
+    (
+        "unusual lines go out unchanged",
+        r"
+        ana enters
+        bob enters
+        ana: BMSG AAAB
+        ana hears: BMSG AAAB
+        bob hears: BMSG AAAB
+        ana: BM1G AAAB x
+        ana hears: BM1G AAAB x
+        bob hears: BM1G AAAB x
+        ana: BMSG AAAB hi<x0d>
+        ana hears: BMSG AAAB hi<x0d>
+        bob hears: BMSG AAAB hi<x0d>
+        ana hears nothing
+        bob hears nothing
+    ",
+    ),
+    (
+        "a needed feature cannot be given up",
+        r"
+        ana enters
+        bob enters
+        ana is ended by: HSUP RMTIGR
+        ana hears last: ISTA 247 No\scommon\shash
+        bob hears: IQUI AAAB
+        bob hears nothing
+    ",
+    ),
+    (
+        "words to the hub go nowhere",
+        r"
+        ana enters
+        bob enters
+        ana: HMSG hello
+        ana: HMSG
+        ana: HSTA 000 ok
+        ana: FMSG AAAB +SEGA-SEGA x
+        ana hears nothing
+        bob hears nothing
+    ",
+    ),
+];
+
+#[test]
+fn users_chat(rt: HostRuntime) {
+    for (name, text) in TEXTS {
+        play(&rt, name, text);
+    }
 }
 
 #[test]
 fn a_malformed_line_reaches_nobody(rt: HostRuntime) {
     play_each(
         &rt,
+        "a malformed line reaches nobody",
         r"
         ana enters
         bob enters
@@ -99,63 +137,10 @@ fn a_malformed_line_reaches_nobody(rt: HostRuntime) {
 }
 
 #[test]
-fn unusual_lines_go_out_unchanged(rt: HostRuntime) {
-    play(
-        &rt,
-        r"
-        ana enters
-        bob enters
-        ana: BMSG AAAB
-        ana hears: BMSG AAAB
-        bob hears: BMSG AAAB
-        ana: BM1G AAAB x
-        ana hears: BM1G AAAB x
-        bob hears: BM1G AAAB x
-        ana: BMSG AAAB hi<x0d>
-        ana hears: BMSG AAAB hi<x0d>
-        bob hears: BMSG AAAB hi<x0d>
-        ana hears nothing
-        bob hears nothing
-    ",
-    );
-}
-
-#[test]
-fn a_needed_feature_cannot_be_given_up(rt: HostRuntime) {
-    play(
-        &rt,
-        r"
-        ana enters
-        bob enters
-        ana is ended by: HSUP RMTIGR
-        ana hears last: ISTA 247 No\scommon\shash
-        bob hears: IQUI AAAB
-        bob hears nothing
-    ",
-    );
-}
-
-#[test]
-fn words_to_the_hub_go_nowhere(rt: HostRuntime) {
-    play(
-        &rt,
-        r"
-        ana enters
-        bob enters
-        ana: HMSG hello
-        ana: HMSG
-        ana: HSTA 000 ok
-        ana: FMSG AAAB +SEGA-SEGA x
-        ana hears nothing
-        bob hears nothing
-    ",
-    );
-}
-
-#[test]
 fn a_full_outbox_gets_no_more(rt: HostRuntime) {
     play(
         &rt,
+        "a full outbox gets no more",
         r"
         ana enters
         bob enters
@@ -180,6 +165,7 @@ fn a_full_outbox_gets_no_more(rt: HostRuntime) {
 fn an_outbox_holds_1_024_lines(rt: HostRuntime) {
     play(
         &rt,
+        "an outbox holds 1 024 lines",
         r"
         ana enters
         bob enters

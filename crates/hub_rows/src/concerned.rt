@@ -1,9 +1,9 @@
 use crate::conversation::play;
 
-#[test]
-fn whom_messages_concern(rt: HostRuntime) {
-    play(
-        &rt,
+/// Conversations about whom a call concerned.
+const TEXTS: &[(&str, &str)] = &[
+    (
+        "whom messages concern",
         r"
         ana enters
         bob enters
@@ -32,13 +32,9 @@ fn whom_messages_concern(rt: HostRuntime) {
         all take
         concerns nobody
     ",
-    );
-}
-
-#[test]
-fn whom_comings_and_goings_concern(rt: HostRuntime) {
-    play(
-        &rt,
+    ),
+    (
+        "whom comings and goings concern",
         r"
         ana joins
         concerns nobody
@@ -61,13 +57,9 @@ fn whom_comings_and_goings_concern(rt: HostRuntime) {
         ana quits
         concerns all
     ",
-    );
-}
-
-#[test]
-fn whom_acts_concern(rt: HostRuntime) {
-    play(
-        &rt,
+    ),
+    (
+        "whom acts concern",
         r"
         with account op secret operator
         op joins
@@ -84,5 +76,12 @@ fn whom_acts_concern(rt: HostRuntime) {
         op: HMSG !kick\sbob
         concerns all
     ",
-    );
+    ),
+];
+
+#[test]
+fn calls_concern_whom_they_reach(rt: HostRuntime) {
+    for (name, text) in TEXTS {
+        play(&rt, name, text);
+    }
 }

@@ -32,73 +32,116 @@
 //! `spell` tells what may stand for bytes in a line. A line that is `<line>` or `<answer>` alone stands for what
 //! `play_each` was given.
 
-use crate::hub::Hub;
-use crate::refusal::keep;
+use crate::hub::{Heard, Hub};
+use crate::refusal::{holds, keep};
 use crate::settings::open;
 use crate::spelling::spell;
 use adc_base32::Sid;
 use hub_core::{Conn, JoinRefused, SetupRefused, Touched, Verdict};
 use std::alloc::{AllocGlobal, Global};
+use std::fmt::Debug;
 use std::process::Abort;
 
+/// A conversation: its name, which is said where it goes otherwise than it is told, its text, and what `<line>` and
+/// `<answer>` stand for.
+#[derive(Clone, Copy)]
+struct Told<'t> {
+    name: &'t str,
+    text: &'t str,
+    line: &'t str,
+    answer: &'t str,
+}
+
 /// Plays a conversation with a new hub.
-pub(crate) fn play(rt: &(impl Abort + AllocGlobal), text: &str) {
-    play_with(rt, rt.alloc(), text, "", "");
+pub(crate) fn play(rt: &(impl Abort + AllocGlobal), name: &str, text: &str) {
+    play_with(
+        rt,
+        rt.alloc(),
+        Told {
+            name,
+            text,
+            line: "",
+            answer: "",
+        },
+    );
 }
 
 /// Plays a conversation with a new hub for each line, with what is answered to it.
-pub(crate) fn play_each(rt: &(impl Abort + AllocGlobal), text: &str, rows: &[(&str, &str)]) {
+pub(crate) fn play_each(
+    rt: &(impl Abort + AllocGlobal),
+    name: &str,
+    text: &str,
+    rows: &[(&str, &str)],
+) {
     for (line, answer) in rows {
-        play_with(rt, rt.alloc(), text, line, answer);
+        play_with(
+            rt,
+            rt.alloc(),
+            Told {
+                name,
+                text,
+                line,
+                answer,
+            },
+        );
     }
 }
 
-fn play_with(rt: &impl Abort, alloc: Global, text: &str, line: &str, answer: &str) {
-    match open(rt, alloc, text) {
+fn play_with(rt: &impl Abort, alloc: Global, told: Told<'_>) {
+    match open(rt, alloc, told.text) {
         Ok(hub) => {
             let mut played = Played {
                 alloc,
                 hub,
-                line,
-                answer,
+                told,
                 joined: Vec::new(alloc),
                 place: Place {
+                    name: told.name,
                     number: 0,
                     text: "",
                 },
                 round: 0,
             };
-            played.play(rt, text);
+            played.play(rt, told.text);
         }
-        Err(refused) => is_refused(rt, text, refused),
+        Err(refused) => is_refused(rt, told.name, told.text, refused),
     }
 }
 
 /// Tests that the only step is this refusal.
-fn is_refused(rt: &impl Abort, text: &str, refused: SetupRefused) {
+fn is_refused(rt: &impl Abort, name: &str, text: &str, refused: SetupRefused) {
     match refused {
-        SetupRefused::Limit => is_only_step(rt, text, "no hub: Limit"),
-        SetupRefused::Name => is_only_step(rt, text, "no hub: Name"),
-        _ => panic!(rt; "no hub: {refused:?}"),
+        SetupRefused::Limit => is_only_step(rt, name, text, "no hub: Limit"),
+        SetupRefused::Name => is_only_step(rt, name, text, "no hub: Name"),
+        _ => panic!(rt; "{name}: no hub: {refused:?}"),
     }
 }
 
-fn is_only_step(rt: &impl Abort, text: &str, told: &str) {
+fn is_only_step(rt: &impl Abort, name: &str, text: &str, told: &str) {
     let mut is_told = false;
     for line in text.lines() {
         let line = line.trim();
         if line.is_empty() || line.starts_with("with ") {
             continue;
         }
-        assert!(rt; line == told && !is_told, "{told}, not {line}");
+        if line != told || is_told {
+            is_another_step(rt, name, told, line);
+        }
         is_told = true;
     }
-    assert!(rt; is_told, "{told}");
+    if !is_told {
+        is_another_step(rt, name, told, "");
+    }
+}
+
+fn is_another_step(rt: &impl Abort, name: &str, told: &str, line: &str) -> ! {
+    panic!(rt; "{name}: {told}, not {line}")
 }
 
 /// A line of a conversation.
 #[derive(Clone, Copy)]
 struct Place<'t> {
+    name: &'t str,
     number: usize,
     text: &'t str,
 }
@@ -116,8 +159,7 @@ struct Rounds<'t> {
 struct Played<'t> {
     alloc: Global,
     hub: Hub,
-    line: &'t str,
-    answer: &'t str,
+    told: Told<'t>,
     joined: Vec<Joined<'t>>,
     place: Place<'t>,
     round: usize,
@@ -131,6 +173,7 @@ struct Joined<'t> {
 
 impl<'t> Played<'t> {
     fn play(&mut self, rt: &impl Abort, text: &'t str) {
+        let name = self.told.name;
         let mut begun = false;
         let mut rounds = None;
         for (number, line) in text.lines().enumerate() {
@@ -139,9 +182,11 @@ impl<'t> Played<'t> {
                 continue;
             }
             begun = true;
-            rounds = self.read(rt, rounds, Place { number, text });
+            rounds = self.read(rt, rounds, Place { name, number, text });
         }
-        assert!(rt; begun && rounds.is_none(), "there is more to come");
+        if !begun || rounds.is_some() {
+            panic!(rt; "{name}: there is more to come");
+        }
     }
 
     /// Plays a step, or keeps it where it belongs to rounds.
@@ -185,7 +230,7 @@ impl<'t> Played<'t> {
     }
 
     fn play_rounds(&mut self, rt: &impl Abort, rounds: &Rounds<'t>) {
-        assert!(rt; rounds.first <= rounds.last, "no rounds");
+        holds(rt, rounds.first <= rounds.last, "no rounds");
         for round in rounds.first..=rounds.last {
             self.round = round;
             for place in &rounds.steps {
@@ -198,7 +243,7 @@ impl<'t> Played<'t> {
     fn step(&mut self, rt: &impl Abort) {
         match self.place.text.split_once(": ") {
             Some((head, line)) => {
-                let line = stands_for(line, self.line, self.answer);
+                let line = stands_for(line, self.told.line, self.told.answer);
                 let line = spell(rt, self.alloc, line, self.round);
                 self.exchange(rt, head, &line);
             }
@@ -214,33 +259,53 @@ impl<'t> Played<'t> {
         if let Some(told) = head.strip_prefix("at ") {
             return self.says_at(rt, told, line);
         }
-        match head.split_once(' ') {
-            None => self.says(rt, head, line, 0, Verdict::Kept),
-            Some((who, "is ended by")) => self.says(rt, who, line, 0, Verdict::Ended),
-            Some((who, "enters")) => self.enters(rt, who, line),
-            Some((who, "hears")) => self.takes(rt, who, 1, 1, Some(line), false),
-            Some((who, "hears last")) => self.takes(rt, who, 256, 1, Some(line), true),
-            Some(("no", "join")) => self.refuses_to_join(rt, line),
-            Some((who, verb)) => self.takes_told(rt, who, verb, Some(line)),
+        let Some((who, verb)) = head.split_once(' ') else {
+            return self.says(rt, head, line, 0, Verdict::Kept);
+        };
+        match verb {
+            "is ended by" => self.says(rt, who, line, 0, Verdict::Ended),
+            "enters" => self.enters(rt, who, line),
+            "hears" => self.takes(rt, who, 1, 1, Some(line), false),
+            _ => self.gets(rt, who, verb, line),
+        }
+    }
+
+    /// Plays a step in which somebody gets a line.
+    fn gets(&mut self, rt: &impl Abort, who: &'t str, verb: &str, line: &[u8]) {
+        match verb {
+            "hears last" => self.takes(rt, who, 256, 1, Some(line), true),
+            "join" if who == "no" => self.refuses_to_join(rt, line),
+            _ => self.takes_told(rt, who, verb, Some(line)),
         }
     }
 
     /// Plays a step without a line.
     fn happen(&mut self, rt: &impl Abort) {
-        match self.place.text.split_once(' ') {
-            Some(("all", "take")) => self.all_take(rt),
-            Some((who, "joins")) => self.joins(rt, who),
-            Some((who, "enters")) => self.enters_as_usual(rt, who),
-            Some((who, "quits")) => self.quits(rt, who),
-            Some((who, "hears nothing")) => self.takes(rt, who, 256, 0, None, false),
-            Some((who, "hears no more")) => self.takes(rt, who, 256, 0, None, true),
-            Some(("concerns", whom)) => self.concerns(rt, whom),
-            Some((count, "come and go")) => {
-                let count = self.number(rt, count);
-                self.hub.pass(rt, count);
-            }
-            Some((who, verb)) => self.takes_told(rt, who, verb, None),
-            None => self.unknown(rt),
+        let Some((who, verb)) = self.place.text.split_once(' ') else {
+            self.unknown(rt)
+        };
+        match verb {
+            "joins" => self.joins(rt, who),
+            "enters" => self.enters_as_usual(rt, who),
+            "quits" => self.quits(rt, who),
+            "come and go" => self.come_and_go(rt, who),
+            _ => self.is_told(rt, who, verb),
+        }
+    }
+
+    fn come_and_go(&mut self, rt: &impl Abort, told: &str) {
+        let count = self.number(rt, told);
+        self.hub.pass(rt, count);
+    }
+
+    /// Plays a step in which all take, or that tells what somebody gets, or whom the last call concerned.
+    fn is_told(&mut self, rt: &impl Abort, who: &'t str, verb: &'t str) {
+        match (who, verb) {
+            ("all", "take") => self.all_take(rt),
+            (_, "hears nothing") => self.takes(rt, who, 256, 0, None, false),
+            (_, "hears no more") => self.takes(rt, who, 256, 0, None, true),
+            ("concerns", whom) => self.concerns(rt, whom),
+            _ => self.takes_told(rt, who, verb, None),
         }
     }
 
@@ -264,8 +329,7 @@ impl<'t> Played<'t> {
                 return joined.connection;
             }
         }
-        let Place { number, text } = self.place;
-        panic!(rt; "line {number}, {text}: nobody is called {who}")
+        is_called_nobody(rt, self.place, who)
     }
 
     /// Finds the connection that joined as this one, counted from 1 on.
@@ -280,18 +344,14 @@ impl<'t> Played<'t> {
     fn joins(&mut self, rt: &impl Abort, name: &'t str) {
         match self.hub.join(rt) {
             Ok(connection) => keep(rt, &mut self.joined, Joined { name, connection }),
-            Err(refused) => {
-                let Place { number, text } = self.place;
-                panic!(rt; "line {number}, {text}: {refused:?}")
-            }
+            Err(refused) => is_otherwise(rt, self.place, &refused),
         }
     }
 
     fn refuses_to_join(&mut self, rt: &impl Abort, why: &[u8]) {
-        let Place { number, text } = self.place;
         match self.hub.join(rt) {
             Err(JoinRefused::Full) if why == b"Full".as_slice() => {}
-            answer => panic!(rt; "line {number}, {text}: {answer:?}"),
+            answer => is_otherwise(rt, self.place, &answer),
         }
     }
 
@@ -332,8 +392,9 @@ impl<'t> Played<'t> {
     fn says(&mut self, rt: &impl Abort, who: &str, line: &[u8], now: u64, verdict: Verdict) {
         let connection = self.connection(rt, who);
         let said = self.hub.line(rt, connection, line, now);
-        let Place { number, text } = self.place;
-        assert!(rt; said == verdict, "line {number}, {text}: {said:?}");
+        if said != verdict {
+            is_otherwise(rt, self.place, &said);
+        }
     }
 
     fn all_take(&mut self, rt: &impl Abort) {
@@ -367,19 +428,16 @@ impl<'t> Played<'t> {
     ) {
         let connection = self.connection(rt, who);
         let heard = self.hub.take(rt, connection, asked);
-        let Place { number, text } = self.place;
-        let shown = std::str::from_utf8(&heard.bytes);
-        assert!(rt;
-            heard.lines == lines as u64 && heard.ended == ended,
-            "line {number}, {text}: {} lines, ended {}, {shown:?}",
-            heard.lines,
-            heard.ended
-        );
+        if heard.lines != lines as u64 || heard.ended != ended {
+            is_otherwise_counted(rt, self.place, &heard);
+        }
         let is_same = match line {
             Some(line) => is_repeated(&heard.bytes, line, lines),
             None => lines > 0 || heard.bytes.is_empty(),
         };
-        assert!(rt; is_same, "line {number}, {text}: {shown:?}");
+        if !is_same {
+            is_otherwise(rt, self.place, &std::str::from_utf8(&heard.bytes));
+        }
     }
 
     fn quits(&mut self, rt: &impl Abort, who: &str) {
@@ -395,8 +453,9 @@ impl<'t> Played<'t> {
             (one, None) => Touched::One(self.sid(rt, one)),
         };
         let touched = self.hub.touched();
-        let Place { number, text } = self.place;
-        assert!(rt; touched == whom, "line {number}, {text}: {touched:?}");
+        if touched != whom {
+            is_otherwise(rt, self.place, &touched);
+        }
     }
 
     fn sid(&self, rt: &impl Abort, who: &str) -> Sid {
@@ -404,9 +463,29 @@ impl<'t> Played<'t> {
     }
 }
 
+/// Stops the test, since a step went like this.
+fn is_otherwise<T: Debug>(rt: &impl Abort, place: Place<'_>, seen: &T) -> ! {
+    let Place { name, number, text } = place;
+    panic!(rt; "{name}: line {number}, {text}: {seen:?}")
+}
+
+fn is_otherwise_counted(rt: &impl Abort, place: Place<'_>, heard: &Heard) -> ! {
+    let Place { name, number, text } = place;
+    let shown = std::str::from_utf8(&heard.bytes);
+    panic!(rt;
+        "{name}: line {number}, {text}: {} lines, ended {}, {shown:?}",
+        heard.lines, heard.ended
+    )
+}
+
+fn is_called_nobody(rt: &impl Abort, place: Place<'_>, who: &str) -> ! {
+    let Place { name, number, text } = place;
+    panic!(rt; "{name}: line {number}, {text}: nobody is called {who}")
+}
+
 fn no_step(rt: &impl Abort, place: Place<'_>) -> ! {
-    let Place { number, text } = place;
-    panic!(rt; "line {number}, {text}: no step")
+    let Place { name, number, text } = place;
+    panic!(rt; "{name}: line {number}, {text}: no step")
 }
 
 /// Gives the line that a line of a conversation stands for.

@@ -4,6 +4,7 @@ use crate::conversation::play;
 fn an_outbox_holds_15_of_the_longest_lines(rt: HostRuntime) {
     play(
         &rt,
+        "an outbox holds 15 of the longest lines",
         r"
         ana enters: BINF AAAB ID<P0> PD<P0> NIana
         bob enters: BINF AAAC ID<P1> PD<P1> NIbob
@@ -20,6 +21,7 @@ fn an_outbox_holds_15_of_the_longest_lines(rt: HostRuntime) {
 fn an_outbox_holds_1_048_576_bytes(rt: HostRuntime) {
     play(
         &rt,
+        "an outbox holds 1 048 576 bytes",
         r"
         ana enters: BINF AAAB ID<P0> PD<P0> NIana
         bob enters: BINF AAAC ID<P1> PD<P1> NIbob
@@ -39,6 +41,7 @@ fn an_outbox_holds_1_048_576_bytes(rt: HostRuntime) {
 fn a_hub_of_900_connections_is_full(rt: HostRuntime) {
     play(
         &rt,
+        "a hub of 900 connections is full",
         r"
         with max_users 900
         for 1 to 900:
@@ -53,6 +56,7 @@ fn a_hub_of_900_connections_is_full(rt: HostRuntime) {
 fn no_more_than_1_024_are_banned(rt: HostRuntime) {
     play(
         &rt,
+        "no more than 1 024 are banned",
         r"
         with account op secret operator
         op enters: BINF AAAB ID<P0> PD<P0> NIop

@@ -1,9 +1,9 @@
 use crate::conversation::{play, play_each};
 
-#[test]
-fn a_client_is_greeted(rt: HostRuntime) {
-    play(
-        &rt,
+/// First words of clients, and what is answered.
+const TEXTS: &[(&str, &str)] = &[
+    (
+        "a client is greeted",
         r"
         ana joins
         ana hears nothing
@@ -17,25 +17,17 @@ fn a_client_is_greeted(rt: HostRuntime) {
         ana: HSTA 000 ok
         ana hears nothing
     ",
-    );
-}
-
-#[test]
-fn early_names_of_features_count(rt: HostRuntime) {
-    play(
-        &rt,
+    ),
+    (
+        "early names of features count",
         r"
         ana joins
         ana: HSUP RMBASE ADBAS0 ADUCM0 ADTIGR ADZLIF RMZLIF
         ana hears: ISUP ADBASE ADTIGR ADPING ADUCMD
     ",
-    );
-}
-
-#[test]
-fn name_and_topic_are_escaped(rt: HostRuntime) {
-    play(
-        &rt,
+    ),
+    (
+        "name and topic are escaped",
         r"
         with name A hub
         with topic one<x0a>two \
@@ -45,13 +37,45 @@ fn name_and_topic_are_escaped(rt: HostRuntime) {
         ana hears: ISID AAAB
         ana hears: IINF CT32 NIA\shub VEadc-hub\s1.0 DEone\ntwo\s\\
     ",
-    );
+    ),
+    (
+        "who writes for another is shut out",
+        r"
+        ana joins
+        ana is ended by: BMSG AAAC hi
+        ana hears last: ISTA 240 Wrong\sSID
+    ",
+    ),
+    (
+        "places are given again",
+        r"
+        with max_users 2
+        ana joins
+        bob joins
+        no join: Full
+        ana quits
+        cy joins
+        no join: Full
+        cy: HSUP ADBASE ADTIGR
+        cy hears: ISUP ADBASE ADTIGR ADPING ADUCMD
+        cy hears: ISID AAAD
+        bob hears nothing
+    ",
+    ),
+];
+
+#[test]
+fn first_words_are_answered(rt: HostRuntime) {
+    for (name, text) in TEXTS {
+        play(&rt, name, text);
+    }
 }
 
 #[test]
 fn who_lacks_a_feature_is_shut_out(rt: HostRuntime) {
     play_each(
         &rt,
+        "who lacks a feature is shut out",
         r"
         ana joins
         ana is ended by: <line>
@@ -73,6 +97,7 @@ fn who_lacks_a_feature_is_shut_out(rt: HostRuntime) {
 fn what_is_wrong_is_refused_and_loses_nothing(rt: HostRuntime) {
     play_each(
         &rt,
+        "what is wrong is refused and loses nothing",
         r"
         ana joins
         bob enters
@@ -95,37 +120,5 @@ fn what_is_wrong_is_refused_and_loses_nothing(rt: HostRuntime) {
             (r"HMSG hi", r"ISTA 144 Invalid\sstate FCHMSG"),
             (r"BMSG AAAB hi", r"ISTA 144 Invalid\sstate FCBMSG"),
         ],
-    );
-}
-
-#[test]
-fn who_writes_for_another_is_shut_out(rt: HostRuntime) {
-    play(
-        &rt,
-        r"
-        ana joins
-        ana is ended by: BMSG AAAC hi
-        ana hears last: ISTA 240 Wrong\sSID
-    ",
-    );
-}
-
-#[test]
-fn places_are_given_again(rt: HostRuntime) {
-    play(
-        &rt,
-        r"
-        with max_users 2
-        ana joins
-        bob joins
-        no join: Full
-        ana quits
-        cy joins
-        no join: Full
-        cy: HSUP ADBASE ADTIGR
-        cy hears: ISUP ADBASE ADTIGR ADPING ADUCMD
-        cy hears: ISID AAAD
-        bob hears nothing
-    ",
     );
 }

@@ -1,3 +1,4 @@
+use crate::refusal::holds;
 use adc_base32::Sid;
 use hub_core::{
     Conn, Core, JoinRefused, Options, Prepared, Setup, SetupRefused, Stage, Totals, Touched,
@@ -18,6 +19,8 @@ pub(crate) struct Hub {
     core: Core,
     /// The first who joined.
     first: Vec<Conn>,
+    /// The public call that was refused memory last.
+    refused: Option<&'static str>,
 }
 
 /// The sight of a hub: what can be seen of it.
@@ -56,13 +59,15 @@ impl Hub {
         options: &Options<'_>,
     ) -> Result<Hub, SetupRefused> {
         let setup = share(rt, alloc, set_up(rt, alloc, options)?);
-        let core = open_core(rt, alloc, &setup);
+        let mut refused = None;
+        let core = open_core(rt, alloc, &setup, &mut refused);
         let first = again!(rt; Vec::with_capacity(alloc, MOST_LOOKED_AT));
         Ok(Hub {
             alloc,
             setup,
             core,
             first,
+            refused,
         })
     }
 
@@ -70,7 +75,9 @@ impl Hub {
         let before = self.sight();
         for _ in 0..2 {
             match self.try_join() {
-                Err(JoinRefused::Memory) => self.has_not_changed(rt, &before),
+                Err(JoinRefused::Memory) => {
+                    self.has_not_changed(rt, "hub_core::Core::join", &before);
+                }
                 answer => return answer,
             }
         }
@@ -105,7 +112,7 @@ impl Hub {
         for _ in 0..2 {
             match self.try_line(rt, connection, &line, now) {
                 Some(verdict) => return verdict,
-                None => self.has_not_changed(rt, &before),
+                None => self.has_not_changed(rt, "hub_core::Core::line", &before),
             }
         }
         panic!(rt; "refused twice")
@@ -133,7 +140,18 @@ impl Hub {
 
     /// Takes `count` lines, 1 to 256.
     pub(crate) fn take(&mut self, rt: &impl Abort, connection: Conn, count: usize) -> Heard {
-        let mut bytes = Vec::new(self.alloc);
+        self.take_behind(rt, connection, count, b"")
+    }
+
+    /// Takes `count` lines, 1 to 256, behind bytes that stay.
+    pub(crate) fn take_behind(
+        &mut self,
+        rt: &impl Abort,
+        connection: Conn,
+        count: usize,
+        front: &[u8],
+    ) -> Heard {
+        let mut bytes = again!(rt; second_try::copy(self.alloc, front));
         let before = self.sight();
         for _ in 0..2 {
             if let Some((lines, ended)) = self.try_take(rt, connection, count, &mut bytes) {
@@ -143,8 +161,8 @@ impl Hub {
                     ended,
                 };
             }
-            self.has_not_changed(rt, &before);
-            assert!(rt; bytes.is_empty(), "a refused take gave bytes");
+            self.has_not_changed(rt, "hub_core::Core::take", &before);
+            holds(rt, bytes.len() == front.len(), "a refused take gave bytes");
         }
         panic!(rt; "refused twice")
     }
@@ -180,8 +198,21 @@ impl Hub {
         self.core.sid(connection)
     }
 
-    fn has_not_changed(&self, rt: &impl Abort, before: &Sight) {
-        assert!(rt; self.sight() == *before, "a refused call changed the hub");
+    /// Keeps the name of a call that was refused memory, and stops the test where that changed something.
+    fn has_not_changed(&mut self, rt: &impl Abort, call: &'static str, before: &Sight) {
+        self.refused = Some(call);
+        let same = self.sight() == *before;
+        holds(rt, same, "a refused call changed the hub");
+    }
+
+    /// Names the public call that was refused memory last.
+    pub(crate) fn refused(&self) -> Option<&'static str> {
+        self.refused
+    }
+
+    /// Gives what the users share together, and how many joined.
+    pub(crate) fn counts(&self) -> (Totals, u64) {
+        (self.core.totals(), self.core.joins())
     }
 
     fn sight(&self) -> Sight {
@@ -224,6 +255,14 @@ fn set_up(rt: &impl Abort, alloc: Global, options: &Options<'_>) -> Result<Setup
     panic!(rt; "refused twice")
 }
 
+/// Makes a setup of options that have no fault, and shares it.
+pub(crate) fn shared_setup(rt: &impl Abort, alloc: Global, options: &Options<'_>) -> Arc<Setup> {
+    match set_up(rt, alloc, options) {
+        Ok(setup) => share(rt, alloc, setup),
+        Err(_) => panic!(rt; "options"),
+    }
+}
+
 fn share(rt: &impl Abort, alloc: Global, setup: Setup) -> Arc<Setup> {
     match Arc::new(alloc, setup) {
         Ok(setup) => setup,
@@ -234,11 +273,17 @@ fn share(rt: &impl Abort, alloc: Global, setup: Setup) -> Arc<Setup> {
     }
 }
 
-fn open_core(rt: &impl Abort, alloc: Global, setup: &Arc<Setup>) -> Core {
+fn open_core(
+    rt: &impl Abort,
+    alloc: Global,
+    setup: &Arc<Setup>,
+    refused: &mut Option<&'static str>,
+) -> Core {
     for _ in 0..2 {
         if let Ok(core) = Core::open(alloc, again!(rt; setup.clone())) {
             return core;
         }
+        *refused = Some("hub_core::Core::open");
     }
     panic!(rt; "refused twice")
 }

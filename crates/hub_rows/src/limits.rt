@@ -4,6 +4,7 @@ use crate::conversation::{play, play_each};
 fn a_line_has_65_536_bytes_at_most(rt: HostRuntime) {
     play_each(
         &rt,
+        "a line has 65 536 bytes at most",
         r"
         ana joins
         ana: <line>
@@ -21,6 +22,7 @@ fn a_line_has_65_536_bytes_at_most(rt: HostRuntime) {
 fn a_client_has_64_features_at_most(rt: HostRuntime) {
     play_each(
         &rt,
+        "a client has 64 features at most",
         r"
         ana joins
         ana: <line>
@@ -57,6 +59,7 @@ fn a_client_has_64_features_at_most(rt: HostRuntime) {
 fn a_hub_without_a_place_or_a_name_is_refused(rt: HostRuntime) {
     play(
         &rt,
+        "a hub without a place or a name is refused",
         r"
         with max_users 0
         no hub: Limit
@@ -64,6 +67,7 @@ fn a_hub_without_a_place_or_a_name_is_refused(rt: HostRuntime) {
     );
     play(
         &rt,
+        "a hub without a place or a name is refused",
         r"
         with max_users 901
         no hub: Limit
@@ -71,6 +75,7 @@ fn a_hub_without_a_place_or_a_name_is_refused(rt: HostRuntime) {
     );
     play(
         &rt,
+        "a hub without a place or a name is refused",
         r"
         with max_users 901
         with name
@@ -79,6 +84,7 @@ fn a_hub_without_a_place_or_a_name_is_refused(rt: HostRuntime) {
     );
     play(
         &rt,
+        "a hub without a place or a name is refused",
         r"
         with max_users 900
         with name

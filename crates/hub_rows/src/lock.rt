@@ -1,12 +1,14 @@
 mod counter;
 mod worker;
 
-ghost use Rattle.std.specs.Prelude.{◌≡◌, ◌∷◌, [], IfOk};
+ghost use Rattle.std.specs.Prelude.{◌≡◌, ◌∷◌, []};
 
 use crate::lock::counter::{CountersSeat, add, open_counter};
 use crate::lock::worker::{Worker, both, disband, eight, hire, interrupt, is_one_run, leave, team};
+use crate::refusal::holds;
 use one_history::NotAlone;
-use std::alloc::{AllocError, AllocFailed, Global};
+use second_try::again;
+use std::alloc::Global;
 use std::process::Abort;
 use std::test::Fail;
 use std::time::{CpuClock, Duration};
@@ -22,18 +24,13 @@ fn processor_time<R: CpuClock + Abort>(rt: &R) -> Duration {
     }
 }
 
-// Puts one element in a new vector. Want of memory is met once more, and not twice.
-fn only<S: Drop>(alloc: Global, item: S) -> Result<Vec<S>, AllocError>
-    ensures { IfOk result (λ v. v.items ≡ item ∷ []) }
+// Puts one element in a new vector.
+fn only<S: Drop>(rt: &impl Abort, alloc: Global, item: S) -> Vec<S>
+    ensures { result.items ≡ item ∷ [] }
 {
-    let mut all = Vec::new(alloc);
-    match all.push(item) {
-        Ok(()) => Ok(all),
-        Err(AllocFailed { value }) => {
-            all.push(value)?;
-            Ok(all)
-        }
-    }
+    let mut all = again!(rt; Vec::with_capacity(alloc, 1));
+    all.push_reserved(item);
+    all
 }
 
 #[test]
@@ -41,19 +38,24 @@ fn answers_each_caller_in_turn(rt: HostRuntime) -> Result<(), Fail> {
     let (lock, mut host) = open_counter(rt.alloc(), 10)?;
     let mut first = host.admit(&lock);
     let mut second = host.admit(&lock);
-    assert!(rt; host.admitted() == 2 && host.gathered_seats() == 0);
-    assert!(rt; add(&rt, &lock, &mut first, 1, 5) == Some(15));
-    assert!(rt; add(&rt, &lock, &mut second, 2, 7) == Some(22));
+    holds(&rt, host.admitted() == 2, "two are admitted");
+    holds(&rt, host.gathered_seats() == 0, "no seat is back");
+    let sum = add(&rt, &lock, &mut first, 1, 5);
+    holds(&rt, sum == Some(15), "10 and 5");
+    let sum = add(&rt, &lock, &mut second, 2, 7);
+    holds(&rt, sum == Some(22), "15 and 7");
     // A sum that does not fit changes nothing.
-    assert!(rt; add(&rt, &lock, &mut second, 2, u64::MAX).is_none());
+    let sum = add(&rt, &lock, &mut second, 2, u64::MAX);
+    holds(&rt, sum.is_none(), "it does not fit");
     let (mut second, first) = lock.meet(second, first);
-    assert!(rt; add(&rt, &lock, &mut second, 2, 1) == Some(23));
+    let sum = add(&rt, &lock, &mut second, 2, 1);
+    holds(&rt, sum == Some(23), "22 and 1");
     host.gather(&lock, first);
-    let seats = only(rt.alloc(), second)?;
+    let seats = only(&rt, rt.alloc(), second);
     let Ok(counter) = lock.close(host, seats) else {
         panic!(rt; "all seats are back")
     };
-    assert!(rt; counter.sum == 23);
+    holds(&rt, counter.sum == 23, "the sum");
     Ok(())
 }
 
@@ -62,12 +64,15 @@ fn hands_all_back_while_a_caller_is_left(rt: HostRuntime) -> Result<(), Fail> {
     let (lock, mut host) = open_counter(rt.alloc(), 0)?;
     let mut first = host.admit(&lock);
     let second = host.admit(&lock);
-    let seats = only(rt.alloc(), second)?;
+    let seats = only(&rt, rt.alloc(), second);
     let Err(NotAlone { lock, host, seats }) = lock.close(host, seats) else {
         panic!(rt; "a caller has its seat")
     };
-    assert!(rt; host.admitted() == 2 && host.gathered_seats() == 0 && seats.len() == 1);
-    assert!(rt; add(&rt, &lock, &mut first, 1, 4) == Some(4));
+    holds(&rt, host.admitted() == 2, "two are admitted");
+    holds(&rt, host.gathered_seats() == 0, "no seat is back");
+    holds(&rt, seats.len() == 1, "one seat");
+    let sum = add(&rt, &lock, &mut first, 1, 4);
+    holds(&rt, sum == Some(4), "0 and 4");
     let mut host = host;
     host.gather(&lock, first);
     assert!(rt;
@@ -86,13 +91,13 @@ fn two_threads_have_one_history(rt: HostRuntime) -> Result<(), Fail> {
         leave(&lock, &mut host, first),
         leave(&lock, &mut host, second),
     ];
-    assert!(rt; is_one_run(100, &told));
+    holds(&rt, is_one_run(100, &told), "one run");
     let none: Vec<CountersSeat> = Vec::new(rt.alloc());
     let Ok(counter) = lock.close(host, none) else {
         panic!(rt; "all seats are back")
     };
     // 500 times 3 and 4.
-    assert!(rt; counter.sum == 3600);
+    holds(&rt, counter.sum == 3600, "the sum");
     Ok(())
 }
 
@@ -118,13 +123,13 @@ fn eight_threads_have_one_history(rt: HostRuntime) -> Result<(), Fail> {
     let (left, right) = eight(&rt, &lock, left, right);
     let [a, b, c, d] = disband(&lock, &mut host, left);
     let [e, f, g, h] = disband(&lock, &mut host, right);
-    assert!(rt; is_one_run(0, &[a, b, c, d, e, f, g, h]));
+    holds(&rt, is_one_run(0, &[a, b, c, d, e, f, g, h]), "one run");
     let none: Vec<CountersSeat> = Vec::new(rt.alloc());
     let Ok(counter) = lock.close(host, none) else {
         panic!(rt; "all seats are back")
     };
     // 500 times 1 to 8.
-    assert!(rt; counter.sum == 18_000);
+    holds(&rt, counter.sum == 18_000, "the sum");
     Ok(())
 }
 
@@ -132,7 +137,7 @@ fn eight_threads_have_one_history(rt: HostRuntime) -> Result<(), Fail> {
 fn closes_over_what_has_a_seat(rt: HostRuntime) -> Result<(), Fail> {
     let (lock, mut host) = open_counter(rt.alloc(), 1)?;
     let worker: Worker = hire(&lock, &mut host, 9);
-    let workers = only(rt.alloc(), worker)?;
+    let workers = only(&rt, rt.alloc(), worker);
     assert!(rt;
         lock.close(host, workers)
             .is_ok_and(|counter| counter.sum == 1)

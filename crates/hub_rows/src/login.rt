@@ -1,9 +1,9 @@
 use crate::conversation::{play, play_each};
 
-#[test]
-fn a_user_enters(rt: HostRuntime) {
-    play(
-        &rt,
+/// Conversations of those who log in.
+const TEXTS: &[(&str, &str)] = &[
+    (
+        "a user enters",
         r"
         ana joins
         ana: HSUP ADBASE ADTIGR
@@ -14,13 +14,9 @@ fn a_user_enters(rt: HostRuntime) {
         ana hears: BINF AAAB ID<P0> NIana SS10 SF2 I4127.0.0.1 SUTCP4,SEGA
         ana hears nothing
     ",
-    );
-}
-
-#[test]
-fn two_users_enter(rt: HostRuntime) {
-    play(
-        &rt,
+    ),
+    (
+        "two users enter",
         r"
         ana enters
         bob joins
@@ -35,13 +31,9 @@ fn two_users_enter(rt: HostRuntime) {
         ana hears: BINF AAAC ID<P1> NIbob SS5 SF1 SUTCP4
         ana hears nothing
     ",
-    );
-}
-
-#[test]
-fn a_usual_client_enters(rt: HostRuntime) {
-    play(
-        &rt,
+    ),
+    (
+        "a usual client enters",
         r"
         ana joins
         ana: HSUP ADBASE ADTIGR
@@ -50,13 +42,83 @@ fn a_usual_client_enters(rt: HostRuntime) {
         ana hears: BINF AAAB ID<P0> NIana SL3 SS0 SF0 HN1 HR0 HO0 VEx\s1 US65536 I4127.0.0.1 SUSEGA,ADC0,TCP4,UDP4 U41412
         ana hears nothing
     ",
-    );
+    ),
+    (
+        "nicks are compared in normal form",
+        r"
+        ana enters: BINF AAAB ID<P0> PD<P0> NI<xc3><xa9>
+        bob joins
+        bob: HSUP ADBASE ADTIGR
+        all take
+        bob is ended by: BINF AAAC ID<P1> PD<P1> NIe<xcc><x81>
+        bob hears last: ISTA 222 Nick\staken
+        ana hears nothing
+    ",
+    ),
+    (
+        "totals are told to who asks",
+        r"
+        ana enters
+        bob joins
+        at 90 bob: HSUP ADBASE ADTIGR ADPING
+        bob hears: ISUP ADBASE ADTIGR ADPING ADUCMD
+        bob hears: ISID AAAC
+        bob hears: IINF CT32 NIHub VEadc-hub\s1.0 UC1 SS10 SF2 MC512 UP90
+        bob hears nothing
+    ",
+    ),
+    (
+        "a text of the menu is sent",
+        r"
+        with menu Help 1 text HMSG !help<x0a>
+        ana joins
+        ana: HSUP ADBAS0 ADTIGR ADUCM0 ADZLIF
+        all take
+        ana: BINF AAAB ID<P0> PD<P0> NIana SS10 SF2 I40.0.0.0 SUTCP4,SEGA
+        ana hears: BINF AAAB ID<P0> NIana SS10 SF2 I4127.0.0.1 SUTCP4,SEGA
+        ana hears: ICMD Help CT1 TTHMSG\s!help\n
+        ana hears nothing
+    ",
+    ),
+    (
+        "a separator of the menu is sent",
+        r"
+        with menu Sep 2 separator
+        ana joins
+        ana: HSUP ADBAS0 ADTIGR ADUCM0 ADZLIF
+        all take
+        ana: BINF AAAB ID<P0> PD<P0> NIana SS10 SF2 I40.0.0.0 SUTCP4,SEGA
+        ana hears: BINF AAAB ID<P0> NIana SS10 SF2 I4127.0.0.1 SUTCP4,SEGA
+        ana hears: ICMD Sep CT2 SP1
+        ana hears nothing
+    ",
+    ),
+    (
+        "a cid that is taken is refused",
+        r"
+        ana enters
+        bob joins
+        bob: HSUP ADBASE ADTIGR
+        all take
+        bob is ended by: BINF AAAC ID<P0> PD<P0> NIbob
+        bob hears last: ISTA 224 CID\staken
+        ana hears nothing
+    ",
+    ),
+];
+
+#[test]
+fn users_log_in(rt: HostRuntime) {
+    for (name, text) in TEXTS {
+        play(&rt, name, text);
+    }
 }
 
 #[test]
 fn a_bad_login_is_refused(rt: HostRuntime) {
     play_each(
         &rt,
+        "a bad login is refused",
         r"
         ana joins
         ana: HSUP ADBASE ADTIGR
@@ -80,87 +142,5 @@ fn a_bad_login_is_refused(rt: HostRuntime) {
                 r"ISTA 246 Wrong\saddress I4127.0.0.1",
             ),
         ],
-    );
-}
-
-#[test]
-fn nicks_are_compared_in_normal_form(rt: HostRuntime) {
-    play(
-        &rt,
-        r"
-        ana enters: BINF AAAB ID<P0> PD<P0> NI<xc3><xa9>
-        bob joins
-        bob: HSUP ADBASE ADTIGR
-        all take
-        bob is ended by: BINF AAAC ID<P1> PD<P1> NIe<xcc><x81>
-        bob hears last: ISTA 222 Nick\staken
-        ana hears nothing
-    ",
-    );
-}
-
-#[test]
-fn totals_are_told_to_who_asks(rt: HostRuntime) {
-    play(
-        &rt,
-        r"
-        ana enters
-        bob joins
-        at 90 bob: HSUP ADBASE ADTIGR ADPING
-        bob hears: ISUP ADBASE ADTIGR ADPING ADUCMD
-        bob hears: ISID AAAC
-        bob hears: IINF CT32 NIHub VEadc-hub\s1.0 UC1 SS10 SF2 MC512 UP90
-        bob hears nothing
-    ",
-    );
-}
-
-#[test]
-fn a_text_of_the_menu_is_sent(rt: HostRuntime) {
-    play(
-        &rt,
-        r"
-        with menu Help 1 text HMSG !help<x0a>
-        ana joins
-        ana: HSUP ADBAS0 ADTIGR ADUCM0 ADZLIF
-        all take
-        ana: BINF AAAB ID<P0> PD<P0> NIana SS10 SF2 I40.0.0.0 SUTCP4,SEGA
-        ana hears: BINF AAAB ID<P0> NIana SS10 SF2 I4127.0.0.1 SUTCP4,SEGA
-        ana hears: ICMD Help CT1 TTHMSG\s!help\n
-        ana hears nothing
-    ",
-    );
-}
-
-#[test]
-fn a_separator_of_the_menu_is_sent(rt: HostRuntime) {
-    play(
-        &rt,
-        r"
-        with menu Sep 2 separator
-        ana joins
-        ana: HSUP ADBAS0 ADTIGR ADUCM0 ADZLIF
-        all take
-        ana: BINF AAAB ID<P0> PD<P0> NIana SS10 SF2 I40.0.0.0 SUTCP4,SEGA
-        ana hears: BINF AAAB ID<P0> NIana SS10 SF2 I4127.0.0.1 SUTCP4,SEGA
-        ana hears: ICMD Sep CT2 SP1
-        ana hears nothing
-    ",
-    );
-}
-
-#[test]
-fn a_cid_that_is_taken_is_refused(rt: HostRuntime) {
-    play(
-        &rt,
-        r"
-        ana enters
-        bob joins
-        bob: HSUP ADBASE ADTIGR
-        all take
-        bob is ended by: BINF AAAC ID<P0> PD<P0> NIbob
-        bob hears last: ISTA 224 CID\staken
-        ana hears nothing
-    ",
     );
 }

@@ -4,6 +4,7 @@ use crate::conversation::play;
 fn identifiers_begin_again_behind_the_last_one(rt: HostRuntime) {
     play(
         &rt,
+        "identifiers begin again behind the last one",
         r"
         ana joins
         1048574 come and go
@@ -19,6 +20,7 @@ fn identifiers_begin_again_behind_the_last_one(rt: HostRuntime) {
 fn identifiers_begin_again_where_all_have_left(rt: HostRuntime) {
     play(
         &rt,
+        "identifiers begin again where all have left",
         r"
         1048575 come and go
         ana joins
@@ -34,6 +36,7 @@ fn nine_hundred_users_enter(rt: HostRuntime) {
     // Each has heard three lines of the hub, and of each of the 900.
     play(
         &rt,
+        "nine hundred users enter",
         r"
         with max_users 900
         for 1 to 900:
@@ -67,6 +70,7 @@ fn a_list_of_users_that_does_not_fit_is_not_given(rt: HostRuntime) {
     // the others hear of it, and hear what it says.
     play(
         &rt,
+        "a list of users that does not fit is not given",
         r"
         for 1 to 16:
             user joins

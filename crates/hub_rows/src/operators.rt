@@ -1,9 +1,9 @@
 use crate::conversation::play;
 
-#[test]
-fn a_kick(rt: HostRuntime) {
-    play(
-        &rt,
+/// Conversations with operators.
+const TEXTS: &[(&str, &str)] = &[
+    (
+        "a kick",
         r"
         with account op secret operator
         op enters
@@ -25,13 +25,9 @@ fn a_kick(rt: HostRuntime) {
         bob quits
         op hears nothing
     ",
-    );
-}
-
-#[test]
-fn a_ban_runs_out(rt: HostRuntime) {
-    play(
-        &rt,
+    ),
+    (
+        "a ban runs out",
         r"
         with account op secret operator
         op enters
@@ -51,13 +47,9 @@ fn a_ban_runs_out(rt: HostRuntime) {
         op hears: BINF AAAE ID<P1> NIbob
         op hears nothing
     ",
-    );
-}
-
-#[test]
-fn a_ban_for_good(rt: HostRuntime) {
-    play(
-        &rt,
+    ),
+    (
+        "a ban for good",
         r"
         with account op secret operator
         op enters
@@ -71,26 +63,18 @@ fn a_ban_for_good(rt: HostRuntime) {
         at 160 bob2 is ended by: BINF AAAD ID<P1> PD<P1> NIbob
         bob2 hears last: ISTA 231 Banned
     ",
-    );
-}
-
-#[test]
-fn who_is_no_operator_has_no_command(rt: HostRuntime) {
-    play(
-        &rt,
+    ),
+    (
+        "who is no operator has no command",
         r"
         ana enters
         ana: HMSG !kick\sbob
         ana hears: ISTA 125 Access\sdenied FCHMSG
         ana hears nothing
     ",
-    );
-}
-
-#[test]
-fn a_command_that_cannot_be_done(rt: HostRuntime) {
-    play(
-        &rt,
+    ),
+    (
+        "a command that cannot be done",
         r"
         with account op secret operator
         op enters
@@ -106,13 +90,9 @@ fn a_command_that_cannot_be_done(rt: HostRuntime) {
         op hears: ISTA 100 Bad\scommand
         op hears nothing
     ",
-    );
-}
-
-#[test]
-fn a_new_topic(rt: HostRuntime) {
-    play(
-        &rt,
+    ),
+    (
+        "a new topic",
         r"
         with account op secret operator
         op enters
@@ -136,26 +116,18 @@ fn a_new_topic(rt: HostRuntime) {
         bob hears nothing
         cy hears nothing
     ",
-    );
-}
-
-#[test]
-fn an_operator_kicks_itself(rt: HostRuntime) {
-    play(
-        &rt,
+    ),
+    (
+        "an operator kicks itself",
         r"
         with account op secret operator
         op enters
         op is ended by: HMSG !kick\sop
         op takes last 2
     ",
-    );
-}
-
-#[test]
-fn the_lines_of_an_operator_that_kicks_itself(rt: HostRuntime) {
-    play(
-        &rt,
+    ),
+    (
+        "the lines of an operator that kicks itself",
         r"
         with account op secret operator
         op enters
@@ -163,13 +135,9 @@ fn the_lines_of_an_operator_that_kicks_itself(rt: HostRuntime) {
         op hears: IQUI AAAB IDAAAB
         op hears last: ISTA 000 Done
     ",
-    );
-}
-
-#[test]
-fn a_ban_holds_after_the_password(rt: HostRuntime) {
-    play(
-        &rt,
+    ),
+    (
+        "a ban holds after the password",
         r"
         with account op secret operator
         with account reg secret
@@ -183,5 +151,12 @@ fn a_ban_holds_after_the_password(rt: HostRuntime) {
         reg is ended by: HPAS <secret>
         reg hears last: ISTA 231 Banned
     ",
-    );
+    ),
+];
+
+#[test]
+fn operators_act(rt: HostRuntime) {
+    for (name, text) in TEXTS {
+        play(&rt, name, text);
+    }
 }

@@ -1,9 +1,9 @@
 use crate::conversation::play;
 
-#[test]
-fn an_operator_enters(rt: HostRuntime) {
-    play(
-        &rt,
+/// Conversations with those who have accounts.
+const TEXTS: &[(&str, &str)] = &[
+    (
+        "an operator enters",
         r"
         with account op secret operator
         op joins
@@ -16,13 +16,9 @@ fn an_operator_enters(rt: HostRuntime) {
         op hears: BINF AAAB ID<P0> NIop CT4
         op hears nothing
     ",
-    );
-}
-
-#[test]
-fn a_wrong_password_ends_it(rt: HostRuntime) {
-    play(
-        &rt,
+    ),
+    (
+        "a wrong password ends it",
         r"
         with account op secret operator
         op joins
@@ -32,13 +28,9 @@ fn a_wrong_password_ends_it(rt: HostRuntime) {
         op is ended by: HPAS <39*A>
         op hears last: ISTA 223 Invalid\spassword
     ",
-    );
-}
-
-#[test]
-fn the_first_right_password_takes_the_nick(rt: HostRuntime) {
-    play(
-        &rt,
+    ),
+    (
+        "the first right password takes the nick",
         r"
         with account op secret operator
         op joins
@@ -56,13 +48,9 @@ fn the_first_right_password_takes_the_nick(rt: HostRuntime) {
         op2 hears last: ISTA 222 Nick\staken
         op hears nothing
     ",
-    );
-}
-
-#[test]
-fn only_registered_users_are_admitted(rt: HostRuntime) {
-    play(
-        &rt,
+    ),
+    (
+        "only registered users are admitted",
         r"
         with account op secret operator
         with registered_only
@@ -72,13 +60,9 @@ fn only_registered_users_are_admitted(rt: HostRuntime) {
         ana is ended by: BINF AAAB ID<P0> PD<P0> NIana
         ana hears last: ISTA 226 Registered\susers\sonly
     ",
-    );
-}
-
-#[test]
-fn a_registered_user_enters(rt: HostRuntime) {
-    play(
-        &rt,
+    ),
+    (
+        "a registered user enters",
         r"
         with account reg secret
         reg joins
@@ -90,13 +74,9 @@ fn a_registered_user_enters(rt: HostRuntime) {
         reg hears: BINF AAAB ID<P0> NIreg CT2
         reg hears nothing
     ",
-    );
-}
-
-#[test]
-fn the_nick_of_an_account_is_not_to_be_had_later(rt: HostRuntime) {
-    play(
-        &rt,
+    ),
+    (
+        "the nick of an account is not to be had later",
         r"
         with account op secret operator
         ana enters
@@ -104,13 +84,9 @@ fn the_nick_of_an_account_is_not_to_be_had_later(rt: HostRuntime) {
         ana hears: ISTA 125 Access\sdenied FCBINF
         ana hears nothing
     ",
-    );
-}
-
-#[test]
-fn a_password_is_awaited_alone(rt: HostRuntime) {
-    play(
-        &rt,
+    ),
+    (
+        "a password is awaited alone",
         r"
         with account op secret operator
         op joins
@@ -121,13 +97,9 @@ fn a_password_is_awaited_alone(rt: HostRuntime) {
         op hears: ISTA 144 Invalid\sstate FCHSUP
         op hears nothing
     ",
-    );
-}
-
-#[test]
-fn a_cid_is_taken_before_the_password(rt: HostRuntime) {
-    play(
-        &rt,
+    ),
+    (
+        "a cid is taken before the password",
         r"
         with account reg secret
         reg joins
@@ -139,13 +111,9 @@ fn a_cid_is_taken_before_the_password(rt: HostRuntime) {
         reg hears last: ISTA 224 CID\staken
         bob hears nothing
     ",
-    );
-}
-
-#[test]
-fn a_nick_is_taken_before_the_password(rt: HostRuntime) {
-    play(
-        &rt,
+    ),
+    (
+        "a nick is taken before the password",
         r"
         with account reg secret
         ana joins
@@ -161,13 +129,9 @@ fn a_nick_is_taken_before_the_password(rt: HostRuntime) {
         ana hears last: ISTA 222 Nick\staken
         bob hears nothing
     ",
-    );
-}
-
-#[test]
-fn a_ban_for_a_time_holds_after_the_password(rt: HostRuntime) {
-    play(
-        &rt,
+    ),
+    (
+        "a ban for a time holds after the password",
         r"
         with account op secret operator
         with account reg secret
@@ -184,5 +148,12 @@ fn a_ban_for_a_time_holds_after_the_password(rt: HostRuntime) {
         reg hears last: ISTA 232 Banned TL30
         op hears nothing
     ",
-    );
+    ),
+];
+
+#[test]
+fn passwords_are_asked_for(rt: HostRuntime) {
+    for (name, text) in TEXTS {
+        play(&rt, name, text);
+    }
 }

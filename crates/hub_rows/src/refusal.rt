@@ -11,3 +11,8 @@ pub(crate) fn keep<T: Drop>(rt: &impl Abort, items: &mut Vec<T>, item: T) {
 pub(crate) fn unknown(rt: &impl Abort, kind: &str, what: &str) -> ! {
     panic!(rt; "unknown {kind} {what}")
 }
+
+/// Stops the test unless this is so. Comparisons stop a test by this call alone, since an assertion is dearer to prove.
+pub(crate) fn holds(rt: &impl Abort, is_so: bool, what: &str) {
+    assert!(rt; is_so, "{what}");
+}

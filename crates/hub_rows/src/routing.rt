@@ -1,9 +1,9 @@
 use crate::conversation::play;
 
-#[test]
-fn an_echo_reaches_both(rt: HostRuntime) {
-    play(
-        &rt,
+/// Conversations about who hears a line.
+const TEXTS: &[(&str, &str)] = &[
+    (
+        "an echo reaches both",
         r"
         ana enters
         bob enters
@@ -21,13 +21,9 @@ fn an_echo_reaches_both(rt: HostRuntime) {
         ana hears nothing
         bob hears nothing
     ",
-    );
-}
-
-#[test]
-fn a_direct_message_reaches_its_target(rt: HostRuntime) {
-    play(
-        &rt,
+    ),
+    (
+        "a direct message reaches its target",
         r"
         ana enters
         bob enters
@@ -36,13 +32,9 @@ fn a_direct_message_reaches_its_target(rt: HostRuntime) {
         ana hears nothing
         bob hears nothing
     ",
-    );
-}
-
-#[test]
-fn a_feature_search_reaches_who_has_it(rt: HostRuntime) {
-    play(
-        &rt,
+    ),
+    (
+        "a feature search reaches who has it",
         r"
         ana enters
         bob enters
@@ -59,13 +51,9 @@ fn a_feature_search_reaches_who_has_it(rt: HostRuntime) {
         bob hears nothing
         cy hears nothing
     ",
-    );
-}
-
-#[test]
-fn a_feature_search_passes_over_who_lacks_it(rt: HostRuntime) {
-    play(
-        &rt,
+    ),
+    (
+        "a feature search passes over who lacks it",
         r"
         ana enters
         bob enters
@@ -81,13 +69,9 @@ fn a_feature_search_passes_over_who_lacks_it(rt: HostRuntime) {
         bob hears nothing
         cy hears nothing
     ",
-    );
-}
-
-#[test]
-fn features_that_are_given_up_count_no_more(rt: HostRuntime) {
-    play(
-        &rt,
+    ),
+    (
+        "features that are given up count no more",
         r"
         ana enters
         bob enters
@@ -108,5 +92,12 @@ fn features_that_are_given_up_count_no_more(rt: HostRuntime) {
         dee hears: BINF AAAB ID<P0> NIana SS10 SF2 I4127.0.0.1 SUTCP4,SEGA
         dee hears: BINF AAAC ID<P1> NIbob SS5 SF1
     ",
-    );
+    ),
+];
+
+#[test]
+fn lines_reach_whom_they_are_for(rt: HostRuntime) {
+    for (name, text) in TEXTS {
+        play(&rt, name, text);
+    }
 }

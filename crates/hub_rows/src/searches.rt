@@ -1,9 +1,9 @@
 use crate::conversation::play;
 
-#[test]
-fn a_search_comes_too_soon(rt: HostRuntime) {
-    play(
-        &rt,
+/// Conversations about searches and shares.
+const TEXTS: &[(&str, &str)] = &[
+    (
+        "a search comes too soon",
         r"
         with interval 10
         ana enters
@@ -16,13 +16,9 @@ fn a_search_comes_too_soon(rt: HostRuntime) {
         ana hears: BSCH AAAB ANx TO1
         ana hears nothing
     ",
-    );
-}
-
-#[test]
-fn a_search_at_an_earlier_moment_comes_too_soon(rt: HostRuntime) {
-    play(
-        &rt,
+    ),
+    (
+        "a search at an earlier moment comes too soon",
         r"
         with interval 10
         ana enters
@@ -36,13 +32,9 @@ fn a_search_at_an_earlier_moment_comes_too_soon(rt: HostRuntime) {
         at 16 ana: HSCH AAx
         ana hears nothing
     ",
-    );
-}
-
-#[test]
-fn large_shares_add_up(rt: HostRuntime) {
-    play(
-        &rt,
+    ),
+    (
+        "large shares add up",
         r"
         ana enters: BINF AAAB ID<P0> PD<P0> NIana SS18446744073709551615
         bob enters: BINF AAAC ID<P1> PD<P1> NIbob SS18446744073709551615
@@ -52,5 +44,12 @@ fn large_shares_add_up(rt: HostRuntime) {
         cy hears: ISID AAAD
         cy hears: IINF CT32 NIHub VEadc-hub\s1.0 UC2 SS36893488147419103230 SF0 MC512 UP0
     ",
-    );
+    ),
+];
+
+#[test]
+fn searches_are_counted(rt: HostRuntime) {
+    for (name, text) in TEXTS {
+        play(&rt, name, text);
+    }
 }

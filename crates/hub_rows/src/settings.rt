@@ -8,23 +8,62 @@ use std::process::Abort;
 /// Opens the hub that the first lines of a conversation describe, or tells why it is refused.
 pub(crate) fn open(rt: &impl Abort, alloc: Global, text: &str) -> Result<Hub, SetupRefused> {
     let lines = setting_lines(rt, alloc, text);
+    let hub = open_as_told(rt, alloc, &lines);
+    drop(lines);
+    hub
+}
+
+fn open_as_told(rt: &impl Abort, alloc: Global, lines: &[String]) -> Result<Hub, SetupRefused> {
+    let accounts = accounts_of(rt, alloc, lines);
+    let commands = commands_of(rt, alloc, lines);
+    let options = options_of(rt, lines, &accounts, &commands);
+    let hub = Hub::open(rt, alloc, &options);
+    drop(commands);
+    drop(accounts);
+    hub
+}
+
+fn accounts_of<'a>(rt: &impl Abort, alloc: Global, lines: &'a [String]) -> Vec<Account<'a>> {
     let mut accounts = Vec::new(alloc);
-    let mut commands = Vec::new(alloc);
-    let mut options = Options::named("Hub");
-    for line in &lines {
-        match line.as_str().split_once(' ') {
-            Some(("account", rest)) => keep(rt, &mut accounts, account(rt, rest)),
-            Some(("menu", rest)) => keep(rt, &mut commands, menu_entry(rt, rest)),
-            Some((name, rest)) => options = set(rt, options, name, rest),
-            None => options = set(rt, options, line.as_str(), ""),
+    for line in lines {
+        if let Some(told) = line.as_str().strip_prefix("account ") {
+            keep(rt, &mut accounts, account(rt, told));
         }
     }
-    let options = Options {
-        accounts: accounts.as_slice(),
-        commands: commands.as_slice(),
+    accounts
+}
+
+fn commands_of<'a>(rt: &impl Abort, alloc: Global, lines: &'a [String]) -> Vec<MenuEntry<'a>> {
+    let mut commands = Vec::new(alloc);
+    for line in lines {
+        if let Some(told) = line.as_str().strip_prefix("menu ") {
+            keep(rt, &mut commands, menu_entry(rt, told));
+        }
+    }
+    commands
+}
+
+fn options_of<'a>(
+    rt: &impl Abort,
+    lines: &'a [String],
+    accounts: &'a [Account<'a>],
+    commands: &'a [MenuEntry<'a>],
+) -> Options<'a> {
+    let mut options = Options::named("Hub");
+    for line in lines {
+        let (name, rest) = match line.as_str().split_once(' ') {
+            Some(both) => both,
+            None => (line.as_str(), ""),
+        };
+        if name != "account" && name != "menu" {
+            options = set(rt, options, name, rest);
+        }
+    }
+    Options {
+        accounts,
+        commands,
         ..options
-    };
-    Hub::open(rt, alloc, &options)
+    }
 }
 
 /// Gives what stands behind `with` in the lines before the first step.
@@ -96,20 +135,23 @@ fn menu_entry<'a>(rt: &impl Abort, told: &'a str) -> MenuEntry<'a> {
     let Some((name, rest)) = told.split_once(' ') else {
         unknown(rt, "menu entry", told)
     };
-    let (context, item) = match rest.split_once(' ') {
-        Some((context, "separator")) => (context, MenuItem::Separator),
-        Some((context, item)) => match item.strip_prefix("text ") {
-            Some(text) => (context, MenuItem::Text(text)),
-            None => unknown(rt, "menu entry", told),
-        },
-        None => unknown(rt, "menu entry", told),
+    let Some((context, item)) = rest.split_once(' ') else {
+        unknown(rt, "menu entry", told)
     };
-    match context.parse::<u8>() {
-        Ok(context) => MenuEntry {
-            name,
-            context,
-            item,
-        },
-        Err(_) => unknown(rt, "menu entry", told),
+    let Ok(context) = context.parse::<u8>() else {
+        unknown(rt, "menu entry", told)
+    };
+    MenuEntry {
+        name,
+        context,
+        item: menu_item(rt, item),
+    }
+}
+
+fn menu_item<'a>(rt: &impl Abort, told: &'a str) -> MenuItem<'a> {
+    match (told, told.strip_prefix("text ")) {
+        ("separator", _) => MenuItem::Separator,
+        (_, Some(text)) => MenuItem::Text(text),
+        _ => unknown(rt, "menu entry", told),
     }
 }

@@ -1,9 +1,10 @@
 mod chatting;
 pub(crate) mod guests;
-mod refused;
+pub(crate) mod refused;
 
 ghost use Rattle.std.specs.Prelude.{◌≡◌};
 
+use crate::refusal::holds;
 use crate::shared::chatting::{chats_of_two, is_one_chat, speaks_apart};
 use crate::shared::guests::{
     Guest, Hall, both, compare, hears, join, join_and_login, leave, looks, only, open_hall, says,
@@ -89,7 +90,7 @@ fn who_finds_no_room_may_join_later(rt: HostRuntime) {
     let Err((why, third)) = join(&rt, rt.alloc(), &hall, third) else {
         panic!(rt; "a third connection")
     };
-    assert!(rt; why == JoinRefused::Full);
+    holds(&rt, why == JoinRefused::Full, "it is full");
     let first = leave(&rt, &hall, first);
     assert!(rt; matches!(first.touched(), Touched::Everybody));
     let Ok(mut third) = join(&rt, rt.alloc(), &hall, third) else {
@@ -121,7 +122,7 @@ fn closes_once_all_visitors_are_back(rt: HostRuntime) {
     let (hall, mut host) = open_hall(&rt, rt.alloc(), 512);
     let first = join_and_login(&rt, rt.alloc(), &hall, host.admit(&hall.hub), ANA);
     let second = join_and_login(&rt, rt.alloc(), &hall, host.admit(&hall.hub), BOB);
-    assert!(rt; host.admitted() == 2);
+    holds(&rt, host.admitted() == 2, "two are admitted");
     let first = leave(&rt, &hall, first);
     let second = leave(&rt, &hall, second);
     let Hall { setup: _, hub } = hall;
@@ -129,7 +130,9 @@ fn closes_once_all_visitors_are_back(rt: HostRuntime) {
     let Err((why, hub, host, mut one)) = hub.close(host, one) else {
         panic!(rt; "one visitor is left")
     };
-    assert!(rt; why == CloseRefused::NotAlone && host.admitted() == 2 && one.len() == 1);
+    holds(&rt, why == CloseRefused::NotAlone, "why");
+    holds(&rt, host.admitted() == 2, "two are admitted");
+    holds(&rt, one.len() == 1, "one visitor");
     let Some(first) = one.pop() else {
         panic!(rt; "the visitor came back")
     };
@@ -154,8 +157,8 @@ fn all_hear_one_conversation(rt: HostRuntime) {
     hears(&rt, rt.alloc(), &hall, &mut ana);
     hears(&rt, rt.alloc(), &hall, &mut bob);
     let ((ana, one), (bob, other)) = chats_of_two(&rt, rt.alloc(), &hall, ana, bob);
-    assert!(rt; is_one_chat(&one));
-    assert!(rt; one == other);
+    holds(&rt, is_one_chat(&one), "one chat");
+    holds(&rt, one == other, "both heard the same");
     both_leave(&rt, rt.alloc(), hall, host, ana, bob);
 }
 
@@ -178,7 +181,7 @@ fn a_line_is_heard_by_all_or_by_nobody(rt: HostRuntime) {
         is_told_nothing(&rt, &hall, &mut cy);
         is_told_nothing(&rt, &hall, &mut dan);
         let is_said = is_said(&rt, rt.alloc(), &hall, &mut ana);
-        assert!(rt; is_said, "refused twice");
+        holds(&rt, is_said, "refused twice");
     }
     hears_it_once(&rt, rt.alloc(), &hall, &mut ana);
     hears_it_once(&rt, rt.alloc(), &hall, &mut bob);

@@ -31,7 +31,7 @@ pub(crate) fn spell(rt: &impl Abort, alloc: Global, text: &str, round: usize) ->
     bytes
 }
 
-fn append(rt: &impl Abort, bytes: &mut Vec<u8>, more: &[u8]) {
+pub(crate) fn append(rt: &impl Abort, bytes: &mut Vec<u8>, more: &[u8]) {
     if second_try::append(bytes, more).is_err() {
         panic!(rt; "refused twice");
     }

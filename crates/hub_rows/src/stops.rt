@@ -7,6 +7,7 @@ use crate::conversation::play;
 fn another_line_is_heard(rt: HostRuntime) {
     play(
         &rt,
+        "another line is heard",
         r"
         ana enters
         ana: BMSG AAAB hi
@@ -20,6 +21,7 @@ fn another_line_is_heard(rt: HostRuntime) {
 fn no_line_waits(rt: HostRuntime) {
     play(
         &rt,
+        "no line waits",
         r"
         ana enters
         ana hears: BMSG AAAB hi
@@ -32,6 +34,7 @@ fn no_line_waits(rt: HostRuntime) {
 fn a_line_waits_that_is_not_told(rt: HostRuntime) {
     play(
         &rt,
+        "a line waits that is not told",
         r"
         ana enters
         ana: BMSG AAAB hi
@@ -45,6 +48,7 @@ fn a_line_waits_that_is_not_told(rt: HostRuntime) {
 fn more_may_come(rt: HostRuntime) {
     play(
         &rt,
+        "more may come",
         r"
         ana enters
         ana: BMSG AAAB hi
@@ -58,6 +62,7 @@ fn more_may_come(rt: HostRuntime) {
 fn nothing_will_follow(rt: HostRuntime) {
     play(
         &rt,
+        "nothing will follow",
         r"
         ana enters
         ana is ended by: BMSG AAAC hi
@@ -71,6 +76,7 @@ fn nothing_will_follow(rt: HostRuntime) {
 fn a_line_keeps_who_sends_it(rt: HostRuntime) {
     play(
         &rt,
+        "a line keeps who sends it",
         r"
         ana enters
         ana is ended by: BMSG AAAB hi
@@ -83,6 +89,7 @@ fn a_line_keeps_who_sends_it(rt: HostRuntime) {
 fn a_line_ends_who_sends_it(rt: HostRuntime) {
     play(
         &rt,
+        "a line ends who sends it",
         r"
         ana enters
         ana: BMSG AAAC hi
@@ -95,6 +102,7 @@ fn a_line_ends_who_sends_it(rt: HostRuntime) {
 fn a_call_concerns_others(rt: HostRuntime) {
     play(
         &rt,
+        "a call concerns others",
         r"
         ana enters
         ana: BMSG AAAB hi
@@ -108,6 +116,7 @@ fn a_call_concerns_others(rt: HostRuntime) {
 fn a_connection_is_admitted(rt: HostRuntime) {
     play(
         &rt,
+        "a connection is admitted",
         r"
         no join: Full
     ",
@@ -119,6 +128,7 @@ fn a_connection_is_admitted(rt: HostRuntime) {
 fn a_hub_is_opened(rt: HostRuntime) {
     play(
         &rt,
+        "a hub is opened",
         r"
         with max_users 900
         no hub: Limit
@@ -131,6 +141,7 @@ fn a_hub_is_opened(rt: HostRuntime) {
 fn a_hub_is_refused(rt: HostRuntime) {
     play(
         &rt,
+        "a hub is refused",
         r"
         with max_users 901
         ana joins
@@ -143,6 +154,7 @@ fn a_hub_is_refused(rt: HostRuntime) {
 fn a_word_is_unknown(rt: HostRuntime) {
     play(
         &rt,
+        "a word is unknown",
         r"
         ana enters
         ana dances
@@ -155,6 +167,7 @@ fn a_word_is_unknown(rt: HostRuntime) {
 fn a_setting_is_unknown(rt: HostRuntime) {
     play(
         &rt,
+        "a setting is unknown",
         r"
         with colour red
         ana joins
@@ -167,6 +180,7 @@ fn a_setting_is_unknown(rt: HostRuntime) {
 fn a_spelling_is_unknown(rt: HostRuntime) {
     play(
         &rt,
+        "a spelling is unknown",
         r"
         ana joins
         ana: HMSG <P4>
@@ -179,6 +193,7 @@ fn a_spelling_is_unknown(rt: HostRuntime) {
 fn nobody_has_the_name(rt: HostRuntime) {
     play(
         &rt,
+        "nobody has the name",
         r"
         ana: HSUP ADBASE
     ",
@@ -190,6 +205,7 @@ fn nobody_has_the_name(rt: HostRuntime) {
 fn rounds_have_no_end(rt: HostRuntime) {
     play(
         &rt,
+        "rounds have no end",
         r"
         for 1 to 2:
         ana joins

@@ -1,9 +1,9 @@
 use crate::conversation::play;
 
-#[test]
-fn an_update_goes_to_all(rt: HostRuntime) {
-    play(
-        &rt,
+/// Conversations of users who say something else of themselves.
+const TEXTS: &[(&str, &str)] = &[
+    (
+        "an update goes to all",
         r"
         ana enters
         bob enters
@@ -18,13 +18,9 @@ fn an_update_goes_to_all(rt: HostRuntime) {
         cy: BINF AAAD ID<P2> PD<P2> NIcy
         cy hears: BINF AAAB ID<P0> NIanna SS10 SF2 I4127.0.0.1 SUTCP4,SEGA DEhi
     ",
-    );
-}
-
-#[test]
-fn a_field_that_returns_stands_last(rt: HostRuntime) {
-    play(
-        &rt,
+    ),
+    (
+        "a field that returns stands last",
         r"
         ana enters
         ana: BINF AAAB DEhi NIanna
@@ -37,13 +33,9 @@ fn a_field_that_returns_stands_last(rt: HostRuntime) {
         bob: BINF AAAC ID<P1> PD<P1> NIbob SS5 SF1 SUTCP4
         bob hears: BINF AAAB ID<P0> NIanna SS10 I4127.0.0.1 SUTCP4,SEGA DEhi SF7
     ",
-    );
-}
-
-#[test]
-fn a_bad_update_is_refused(rt: HostRuntime) {
-    play(
-        &rt,
+    ),
+    (
+        "a bad update is refused",
         r"
         ana enters
         bob enters
@@ -57,13 +49,9 @@ fn a_bad_update_is_refused(rt: HostRuntime) {
         ana hears nothing
         bob hears nothing
     ",
-    );
-}
-
-#[test]
-fn a_bad_nick_or_address_is_refused(rt: HostRuntime) {
-    play(
-        &rt,
+    ),
+    (
+        "a bad nick or address is refused",
         r"
         ana enters
         bob enters
@@ -79,13 +67,9 @@ fn a_bad_nick_or_address_is_refused(rt: HostRuntime) {
         cy: BINF AAAD ID<P2> PD<P2> NIcy
         cy hears: BINF AAAB ID<P0> NIana SS10 SF2 I4127.0.0.1 SUTCP4,SEGA
     ",
-    );
-}
-
-#[test]
-fn newcomers_are_told_of_all_as_they_are(rt: HostRuntime) {
-    play(
-        &rt,
+    ),
+    (
+        "newcomers are told of all as they are",
         r"
         ana enters
         bob enters
@@ -114,5 +98,12 @@ fn newcomers_are_told_of_all_as_they_are(rt: HostRuntime) {
         ana hears: BINF AAAF ID<P0> NIana
         ana hears nothing
     ",
-    );
+    ),
+];
+
+#[test]
+fn users_change_what_they_say(rt: HostRuntime) {
+    for (name, text) in TEXTS {
+        play(&rt, name, text);
+    }
 }

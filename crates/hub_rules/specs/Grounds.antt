@@ -1,10 +1,10 @@
 -- The grounds on which a SUP, a login, a password or an update is denied, in the order in which they are looked at (ADC 1.0, "SUP", "INF", "PAS").
-use Rattle.std.specs.Prelude.{ℕ, ◌&&◌, ◌||◌, not, Bool, true, false, List, [], ◌∷◌, chars, codes, Option, Some, None, is_some}
+use Rattle.std.specs.Prelude.{ℕ, ◌&&◌, ◌||◌, not, Bool, true, false, List, [], ◌∷◌, ◌++◌, chars, codes, Option, Some, None, is_some}
 use Rattle.std.specs.Option.{unwrap_or, option_map_or}
 use Rattle.std.specs.Str.{bytes_eq}
 use Rattle.adc_base32.specs.Spelled.{spelled_bytes}
 use Rattle.adc_ids.specs.Nicks.{is_nick}
-use Rattle.inf_fields.specs.Amounts.{bad_number}
+use Rattle.inf_fields.specs.Amounts.{is_bad_number}
 use Rattle.inf_fields.specs.Cleaning.{any_address, clean, dotted_decimal}
 use Rattle.inf_fields.specs.Field.{Field, value_of}
 use Rattle.inf_fields.specs.FieldNames.{id_name, private_id_name, nick_name, address_name}
@@ -13,6 +13,9 @@ use Rattle.login_state.specs.declared.deny.Deny.{Deny}
 use Rattle.login_state.specs.declared.deny.Deny.TheVariants as denials
 use Rattle.login_state.specs.declared.deny.Severity.{Severity}
 use Rattle.login_state.specs.declared.deny.Severity.TheVariants.{Fatal, Recoverable}
+use Rattle.login_state.specs.declared.named_field.NamedField.{NamedField}
+use Rattle.login_state.specs.declared.named_field.NamedField.TheVariants as fields
+use Rattle.login_state.specs.NamedFields.{name_of}
 use Rattle.login_state.specs.Mentions.{base, tigr}
 use Rattle.login_state.specs.Support.{has_feature}
 use Rattle.operator_acts.specs.Bans.{left_of_bans}
@@ -44,9 +47,9 @@ is_empty (b ∷ more) = false
 abbrev pub differs : List ℕ → List ℕ → Bool
 differs value other = not (bytes_eq value other)
 
--- the fields that are numbers: the first whose value is none
-abbrev pub number_ground : Severity → List Field → Bool × Deny
-number_ground severity u = (is_some (bad_number u), denials.BadField severity (unwrap_or (bad_number u) []))
+-- a field that is to be a number
+abbrev pub number_ground : Severity → NamedField → List Field → Bool × Deny
+number_ground severity field u = (is_bad_number (value_or_empty (name_of field) u), denials.BadField severity field)
 
 -- an address that is neither left to the hub nor the one that it sees
 abbrev pub is_wrong_address : List ℕ → List ℕ → Bool
@@ -86,16 +89,22 @@ is_digest expected digest = option_map_or (λ (d : List ℕ). bytes_eq d expecte
 abbrev pub password_grounds : Sight → Own → ℕ → Option (List ℕ) → Listed → List (Bool × Deny)
 password_grounds hub own now digest user = (not (is_digest own.expected digest), denials.Password) ∷ entry_grounds hub now user
 
--- of a login: the digest of the private identifier, what the words say, the user that they make
-unfoldable pub login_grounds : Sight → Own → ℕ → Option (List ℕ) → List Field → Listed → List (Bool × Deny)
-login_grounds hub own now digest u user =
-    (is_empty (value_or_empty id_name u), denials.Missing id_name)
-    ∷ (is_empty (value_or_empty private_id_name u), denials.Missing private_id_name)
-    ∷ (is_empty (value_or_empty nick_name u), denials.Missing nick_name)
-    ∷ (not (is_some (spelled_bytes 24 (value_or_empty id_name u))), denials.BadField Fatal id_name)
-    ∷ (not (is_some digest), denials.BadField Fatal private_id_name)
-    ∷ number_ground Fatal u
-    ∷ (differs (unwrap_or (spelled_bytes 24 (value_or_empty id_name u)) []) (unwrap_or digest []), denials.BadPid)
+-- of a login: what is missing, and an identifier that is none
+abbrev pub identifier_grounds : List Field → List (Bool × Deny)
+identifier_grounds u =
+    (is_empty (value_or_empty id_name u), denials.Missing fields.Id)
+    ∷ (is_empty (value_or_empty private_id_name u), denials.Missing fields.PrivateId)
+    ∷ (is_empty (value_or_empty nick_name u), denials.Missing fields.Nick)
+    ∷ (not (is_some (spelled_bytes 24 (value_or_empty id_name u))), denials.BadField Fatal fields.Id)
+    ∷ []
+
+-- of a login with an identifier: the digest of the private one, what the words say, the user that they make
+abbrev pub entrant_grounds : Sight → Own → ℕ → Option (List ℕ) → List Field → Listed → List (Bool × Deny)
+entrant_grounds hub own now digest u user =
+    (not (is_some digest), denials.BadField Fatal fields.PrivateId)
+    ∷ number_ground Fatal fields.ShareSize u
+    ∷ number_ground Fatal fields.SharedFiles u
+    ∷ (not (is_digest user.cid digest), denials.BadPid)
     ∷ (not (is_nick (chars (nick_in u))), denials.BadNick Fatal)
     ∷ (is_ever (left_of_bans hub.bans user.cid now), denials.BannedEver)
     ∷ (is_timed (left_of_bans hub.bans user.cid now), denials.BannedFor (seconds_of (left_of_bans hub.bans user.cid now)))
@@ -104,6 +113,9 @@ login_grounds hub own now digest u user =
     ∷ (is_here (has_key user.key) hub, denials.NickTaken Fatal)
     ∷ (is_here (has_cid user.cid) hub, denials.CidTaken)
     ∷ []
+
+unfoldable pub login_grounds : Sight → Own → ℕ → Option (List ℕ) → List Field → Listed → List (Bool × Deny)
+login_grounds hub own now digest u user = identifier_grounds u ++ entrant_grounds hub own now digest u user
 
 -- ---- updates
 
@@ -114,8 +126,9 @@ touches_account hub before afterwards = differs afterwards before && (is_account
 -- of an update by a user who is present: what the words say, and the user that they make
 unfoldable pub update_grounds : Sight → Own → List Field → Listed → List (Bool × Deny)
 update_grounds hub own u user =
-    (differs (unwrap_or (value_of id_name u) (value_or_empty id_name own.fields)) (value_or_empty id_name own.fields), denials.BadField Recoverable id_name)
-    ∷ number_ground Recoverable u
+    (differs (unwrap_or (value_of id_name u) (value_or_empty id_name own.fields)) (value_or_empty id_name own.fields), denials.BadField Recoverable fields.Id)
+    ∷ number_ground Recoverable fields.ShareSize u
+    ∷ number_ground Recoverable fields.SharedFiles u
     ∷ (is_bad_nick (value_of nick_name u), denials.BadNick Recoverable)
     ∷ (touches_account hub (key_in own.fields) user.key, denials.Access (codes "BINF"))
     ∷ (is_wrong_address own.peer (value_or_empty address_name u), denials.Address Recoverable own.peer)

@@ -12,14 +12,5 @@ pub mod Effects
 pub mod Shares
 pub mod Facts
 pub mod Grounds
-pub mod Lagging
 pub mod Legal
 pub mod History
-pub mod Promises
-pub mod Entering
-pub mod Differing
-pub mod Opening
-pub mod Said
-pub mod Searched
-pub mod World
-pub mod Stepping

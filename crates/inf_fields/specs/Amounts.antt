@@ -1,10 +1,7 @@
 -- The amount that a user shares (ADC 1.0, "INF", fields SS and SF): a number in decimal digits.
 use Rattle.std.specs.Prelude.{ℕ, ◌&&◌, ◌^◌, not, Bool, false, nat_le, nat_lt, List, [], ◌∷◌, length, Option, Some, None, is_some, if◌then◌else◌}
-use Rattle.std.specs.Option.{unwrap_or}
 use Rattle.std.specs.Str.{all_ascii_digits}
 use Rattle.std.specs.Str.Parse.{digits_value}
-use Rattle.inf_fields.specs.Field.{Field, value_of}
-use Rattle.inf_fields.specs.FieldNames.{number_names}
 
 -- 1 to 20 digits
 abbrev pub is_short_number : List ℕ → Bool
@@ -14,17 +11,7 @@ is_short_number digits = nat_le 1 (length digits) && nat_le (length digits) 20 &
 unfoldable pub number_at : List ℕ → Option ℕ
 number_at value = if is_short_number value && nat_lt (digits_value 10 value) (2 ^ 64) then Some (digits_value 10 value) else None
 
--- ---- the fields that are numbers
-
--- the value of such a field is no number; it need not be there
+-- the value of a field that is to be a number is none; it need not be there
 abbrev pub is_bad_number : List ℕ → Bool
 is_bad_number [] = false
 is_bad_number (b ∷ more) = not (is_some (number_at (b ∷ more)))
-
-abbrev pub first_bad : List Field → List (List ℕ) → Option (List ℕ)
-first_bad fields [] = None
-first_bad fields (name ∷ more) = if is_bad_number (unwrap_or (value_of name fields) []) then Some name else first_bad fields more
-
--- the first of them whose value is none
-abbrev pub bad_number : List Field → Option (List ℕ)
-bad_number fields = first_bad fields number_names

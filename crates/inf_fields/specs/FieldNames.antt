@@ -26,10 +26,6 @@ share_size_name = 83 ∷ 83 ∷ []
 abbrev pub shared_files_name : List ℕ
 shared_files_name = 83 ∷ 70 ∷ []
 
--- the fields that are numbers, in the order in which they are looked at
-abbrev pub number_names : List (List ℕ)
-number_names = share_size_name ∷ shared_files_name ∷ []
-
 -- I4: the address in version 4 of the internet protocol
 abbrev pub address_name : List ℕ
 address_name = 73 ∷ 52 ∷ []

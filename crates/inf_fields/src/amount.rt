@@ -15,8 +15,8 @@ pub fn shared_amount(value: &str) -> Option<u64>
     value.parse().ok()
 }
 
-/// Tests whether the value of a field that is a number is none. It may be empty. Takes no memory.
-pub(crate) fn is_bad_number(value: &str) -> bool
+/// Tests whether the value of a field that is to be a number, SS or SF, is none. It may be empty. Takes no memory (ADC 1.0, "INF").
+pub fn is_bad_number(value: &str) -> bool
     ensures { result ≡ is_bad_number value.now }
 {
     match value.as_bytes() {

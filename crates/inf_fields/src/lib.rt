@@ -12,7 +12,7 @@ mod parameter;
 mod update;
 
 pub use address::dotted_decimal;
-pub use amount::shared_amount;
+pub use amount::{is_bad_number, shared_amount};
 pub use fault::InfFault;
 pub use fields::Fields;
 pub use laws::merging_laws;

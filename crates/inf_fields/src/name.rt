@@ -1,6 +1,6 @@
 ghost use Rattle.std.specs.Prelude.{◌≡◌, IsTrue, if◌then◌else◌};
 ghost use Rattle.adc_line.specs.Header.{is_letter};
-ghost use Rattle.inf_fields.specs.FieldNames.{is_field_name, id_name, private_id_name, nick_name, share_size_name, shared_files_name, address_name, address6_name, port6_name, client_type_name, number_names, support_name};
+ghost use Rattle.inf_fields.specs.FieldNames.{is_field_name, id_name, private_id_name, nick_name, share_size_name, shared_files_name, address_name, address6_name, port6_name, client_type_name, support_name};
 
 use std::marker::Model;
 
@@ -69,13 +69,6 @@ impl FieldName {
         ensures { result ≡ shared_files_name }
     {
         FieldName { bytes: *b"SF" }
-    }
-
-    /// Gives the names of the fields that are numbers, SS and SF, in the order in which they are looked at (ADC 1.0, "INF").
-    pub fn numbers() -> [FieldName; 2]
-        ensures { result ≡ number_names }
-    {
-        [FieldName::share_size(), FieldName::shared_files()]
     }
 
     /// Gives I4: the address in version 4 of the internet protocol (ADC 1.0, "INF").

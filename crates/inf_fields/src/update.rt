@@ -3,14 +3,12 @@ ghost use Rattle.std.specs.Map.Iter.{deref};
 ghost use Rattle.std.specs.Option.{option_copied};
 ghost use Rattle.std.specs.Str.{bytes_eq};
 ghost use Rattle.std.specs.String.{string_bytes};
-ghost use Rattle.inf_fields.specs.Amounts.{bad_number};
 ghost use Rattle.inf_fields.specs.Cleaning.{asks_for_address, clean, is_held_back};
 ghost use Rattle.inf_fields.specs.Field.{field, printed_fields, value_of};
 ghost use Rattle.inf_fields.specs.Gives.{Gives};
 ghost use Rattle.inf_fields.specs.Updates.{reading};
 
 use crate::address::dotted_decimal;
-use crate::amount::is_bad_number;
 use crate::entries::{Entries, MAX_FIELDS, print, put, value_of};
 use crate::fault::InfFault;
 use crate::name::FieldName;
@@ -94,19 +92,6 @@ impl Update {
         ensures { option_copied result ≡ value_of name self.now }
     {
         value_of(&self.entries, name)
-    }
-
-    /// Gives the first of the fields that are numbers ([`FieldName::numbers`]) whose value is none, if there is one. An
-    /// empty value need be none. Takes no memory (ADC 1.0, "INF").
-    pub fn bad_number(&self) -> Option<FieldName>
-        ensures { result ≡ bad_number self.now }
-    {
-        for name in FieldName::numbers() {
-            if is_bad_number(self.get(name).unwrap_or("")) {
-                return Some(name);
-            }
-        }
-        None
     }
 
     /// Writes its fields in order as they stand in a message, each with a blank before it, the empty ones too (ADC 1.0,

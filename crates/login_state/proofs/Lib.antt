@@ -3,4 +3,3 @@ pub mod Mentioned
 pub mod Sightings
 pub mod SignedWords
 pub mod LineByLine
-pub mod StatusParts

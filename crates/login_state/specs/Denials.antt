@@ -3,8 +3,11 @@ use Rattle.std.specs.Prelude.{ℕ, ◌==◌, Bool, slice_index, List, [], ◌∷
 use Rattle.std.specs.Fmt.{decimal}
 use Rattle.login_state.specs.declared.deny.Deny.{Deny}
 use Rattle.login_state.specs.declared.deny.Deny.TheVariants.{Protocol, WrongSid, BadStage, NoBase, NoHash, Missing, BadField, BadPid, BadNick, BannedEver, BannedFor, Address, Registered, NickTaken, CidTaken, Password, Access, SearchSoon, BadCommand, NoUser, NoBan, BansFull}
+use Rattle.login_state.specs.declared.deny.FlagValue.{FlagValue}
+use Rattle.login_state.specs.declared.deny.FlagValue.TheVariants as values
 use Rattle.login_state.specs.declared.deny.Severity.{Severity}
 use Rattle.login_state.specs.declared.deny.Severity.TheVariants.{Recoverable, Fatal}
+use Rattle.login_state.specs.NamedFields.{name_of}
 use Rattle.inf_fields.specs.Cleaning.{dotted_decimal}
 
 -- the message, without its line feed
@@ -14,9 +17,9 @@ denial_text WrongSid = codes "ISTA 240 Wrong\\sSID"
 denial_text (BadStage word) = codes "ISTA 144 Invalid\\sstate FC" ++ word
 denial_text NoBase = codes "ISTA 245 Feature\\smissing FCBASE"
 denial_text NoHash = codes "ISTA 247 No\\scommon\\shash"
-denial_text (Missing field) = codes "ISTA 243 INF\\sfield\\smissing FM" ++ field
-denial_text (BadField Recoverable field) = codes "ISTA 143 INF\\sfield\\sbad FB" ++ field
-denial_text (BadField Fatal field) = codes "ISTA 243 INF\\sfield\\sbad FB" ++ field
+denial_text (Missing field) = codes "ISTA 243 INF\\sfield\\smissing FM" ++ name_of field
+denial_text (BadField Recoverable field) = codes "ISTA 143 INF\\sfield\\sbad FB" ++ name_of field
+denial_text (BadField Fatal field) = codes "ISTA 243 INF\\sfield\\sbad FB" ++ name_of field
 denial_text BadPid = codes "ISTA 227 Invalid\\sPID"
 denial_text (BadNick Recoverable) = codes "ISTA 121 Invalid\\snick"
 denial_text (BadNick Fatal) = codes "ISTA 221 Invalid\\snick"
@@ -43,3 +46,11 @@ denial_line deny = denial_text deny ++ 10 ∷ []
 -- whether a denial shuts the connection out: the first digit of its number, behind `ISTA `, is a 2
 abbrev pub is_fatal : Deny → Bool
 is_fatal deny = slice_index (denial_text deny) 5 == 50
+
+-- what a flag says
+abbrev pub value_bytes : FlagValue → List ℕ
+value_bytes values.Nothing = []
+value_bytes (values.Word word) = word
+value_bytes (values.Name name) = name
+value_bytes (values.Seconds seconds) = decimal seconds
+value_bytes (values.Address address) = dotted_decimal address

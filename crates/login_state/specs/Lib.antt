@@ -5,7 +5,7 @@ pub mod Support
 pub mod Seen
 pub mod SupportAnswers
 pub mod Denials
-pub mod Statuses
 pub mod Rules
 pub mod Orders
 pub mod Checks
+pub mod NamedFields

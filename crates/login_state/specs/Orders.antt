@@ -1,9 +1,9 @@
 -- The checks of each command, in the order in which they are looked at (ADC 1.0, "SUP", "INF", "PAS").
 use Rattle.std.specs.Prelude.{ℕ, List, [], ◌∷◌, Option}
-use Rattle.inf_fields.specs.FieldNames.{id_name, nick_name, private_id_name}
 use Rattle.login_state.specs.declared.asks.EntryAsk.{EntryAsk}
 use Rattle.login_state.specs.declared.asks.InfAsk.{InfAsk}
 use Rattle.login_state.specs.declared.asks.UpdateAsk.{UpdateAsk}
+use Rattle.login_state.specs.declared.named_field.NamedField.TheVariants as fields
 use Rattle.login_state.specs.declared.deny.Deny.{Deny}
 use Rattle.login_state.specs.declared.deny.Deny.TheVariants.{NoBase, NoHash}
 use Rattle.login_state.specs.declared.deny.Severity.TheVariants.{Recoverable, Fatal}
@@ -18,12 +18,13 @@ sup_rules features = unless_supported features base NoBase ∷ unless_supported 
 abbrev pub inf_rules : InfAsk → List (Option Deny)
 inf_rules ask =
     wrong_words ask.words
-    ∷ missing ask.id id_name
-    ∷ missing ask.pid private_id_name
-    ∷ missing ask.nick nick_name
-    ∷ bad_required ask.id id_name
-    ∷ bad_required ask.pid private_id_name
-    ∷ bad_field Fatal ask.bad_number
+    ∷ missing ask.id fields.Id
+    ∷ missing ask.pid fields.PrivateId
+    ∷ missing ask.nick fields.Nick
+    ∷ bad_required ask.id fields.Id
+    ∷ bad_required ask.pid fields.PrivateId
+    ∷ bad_field Fatal ask.share_size fields.ShareSize
+    ∷ bad_field Fatal ask.shared_files fields.SharedFiles
     ∷ foreign_pid ask.identity
     ∷ bad_nick_of_login ask.nick
     ∷ ban_denial ask.entry.ban
@@ -38,7 +39,8 @@ abbrev pub update_rules : UpdateAsk → List (Option Deny)
 update_rules ask =
     wrong_words ask.words
     ∷ foreign_id ask.identity
-    ∷ bad_field Recoverable ask.bad_number
+    ∷ bad_field Recoverable ask.share_size fields.ShareSize
+    ∷ bad_field Recoverable ask.shared_files fields.SharedFiles
     ∷ bad_nick ask.nick
     ∷ account_touched ask.account
     ∷ wrong_address Recoverable ask.address

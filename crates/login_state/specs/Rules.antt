@@ -1,7 +1,8 @@
 -- Each check by itself: what is denied for what was found (ADC 1.0, "INF", "PAS", "SUP").
 use Rattle.std.specs.Prelude.{ℕ, Bool, true, false, List, codes, Option, Some, None}
 use Rattle.std.specs.Str.{bytes_eq}
-use Rattle.inf_fields.specs.FieldNames.{id_name}
+use Rattle.login_state.specs.declared.named_field.NamedField.{NamedField}
+use Rattle.login_state.specs.declared.named_field.NamedField.TheVariants as fields
 use Rattle.login_state.specs.declared.deny.Deny.{Deny}
 use Rattle.login_state.specs.declared.deny.Deny.TheVariants as denials
 use Rattle.login_state.specs.declared.deny.Severity.{Severity}
@@ -30,20 +31,20 @@ abbrev pub wrong_words : Validity → Option Deny
 wrong_words Bad = Some denials.Protocol
 wrong_words Good = None
 
-abbrev pub missing : Required → List ℕ → Option Deny
+abbrev pub missing : Required → NamedField → Option Deny
 missing required.Missing field = Some (denials.Missing field)
 missing required.Bad field = None
 missing required.Good field = None
 
-abbrev pub bad_required : Required → List ℕ → Option Deny
+abbrev pub bad_required : Required → NamedField → Option Deny
 bad_required required.Missing field = None
 bad_required required.Bad field = Some (denials.BadField Fatal field)
 bad_required required.Good field = None
 
--- the first of the fields that are numbers whose value is none
-abbrev pub bad_field : Severity → Option (List ℕ) → Option Deny
-bad_field severity None = None
-bad_field severity (Some field) = Some (denials.BadField severity field)
+-- a field that is to be a number
+abbrev pub bad_field : Severity → Validity → NamedField → Option Deny
+bad_field severity Bad field = Some (denials.BadField severity field)
+bad_field severity Good field = None
 
 -- the identifier of a login is not the hash of the private one
 abbrev pub foreign_pid : Identity → Option Deny
@@ -53,7 +54,7 @@ foreign_pid Foreign = Some denials.BadPid
 -- the identifier of an update is not the user's own
 abbrev pub foreign_id : Identity → Option Deny
 foreign_id Own = None
-foreign_id Foreign = Some (denials.BadField Recoverable id_name)
+foreign_id Foreign = Some (denials.BadField Recoverable fields.Id)
 
 abbrev pub bad_nick_of_login : Required → Option Deny
 bad_nick_of_login required.Missing = None

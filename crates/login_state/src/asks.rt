@@ -1,7 +1,6 @@
 use crate::findings::{
     Account, Address, Admission, Ban, Claim, Identity, Required, Size, Validity,
 };
-use inf_fields::FieldName;
 
 /// The findings of a login, one finding for each check (ADC 1.0, "INF").
 #[derive(Clone, Copy)]
@@ -14,9 +13,11 @@ pub struct InfAsk {
     pub pid: Required,
     /// NI, the nick. `Bad`: it is there, and no nick.
     pub nick: Required,
-    /// The fields that are numbers: the first whose value is none, if there is one. It may be empty or missing, and is else 1
-    /// to 20 decimal digits with a value below 2 to the 64th.
-    pub bad_number: Option<FieldName>,
+    /// SS, the number of bytes shared: good where it is missing, empty, or 1 to 20 decimal digits with a value below 2 to the
+    /// 64th.
+    pub share_size: Validity,
+    /// SF, the number of files shared, likewise.
+    pub shared_files: Validity,
     /// The identifier is the hash of the private one, or not.
     pub identity: Identity,
     /// I4: right where it is missing, empty, `0.0.0.0` or the peer's.
@@ -34,8 +35,10 @@ pub struct UpdateAsk {
     pub words: Validity,
     /// ID: foreign where it is given, were it empty, and is not the user's own.
     pub identity: Identity,
-    /// The fields that are numbers: the first whose value is none, if there is one, as in a login.
-    pub bad_number: Option<FieldName>,
+    /// SS, as in a login.
+    pub share_size: Validity,
+    /// SF, as in a login.
+    pub shared_files: Validity,
     /// NI: bad where it is given, and is empty or no nick.
     pub nick: Validity,
     /// The change of nick concerns an account, or not.

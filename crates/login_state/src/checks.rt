@@ -7,12 +7,12 @@ use crate::asks::{EntryAsk, InfAsk, UpdateAsk};
 use crate::deny::{Deny, Severity};
 use crate::feature::Feature;
 use crate::features::Features;
+use crate::named_field::NamedField;
 use crate::rules::{
     account_touched, bad_field, bad_nick, bad_nick_of_login, bad_required, ban_denial, cid_taken,
     foreign_id, foreign_pid, missing, nick_taken, registration_denial, too_many_fields,
     wrong_address, wrong_words,
 };
-use inf_fields::FieldName;
 
 /// The answer of a check.
 #[derive(Clone, Copy, Debug, PartialEq, Eq)]
@@ -36,7 +36,7 @@ pub fn check_sup(features: &Features) -> Check
 }
 
 /// Checks a login (ADC 1.0, "INF"). The first checks, in their order: the words (140); ID, PD and NI are there (243 FM);
-/// ID, PD and the fields that are numbers are valid (243 FB); ID is the hash of PD (227). The next: the nick is one (221); the identifier is not
+/// ID, PD, SS and SF are valid (243 FB); ID is the hash of PD (227). The next: the nick is one (221); the identifier is not
 /// shut out for good (231) or for a time (232); the address (246). The last: accounts alone are let in (226); the nick is
 /// free (222); the identifier is free (224). Takes no memory.
 pub fn check_inf(ask: &InfAsk) -> Check
@@ -45,12 +45,13 @@ pub fn check_inf(ask: &InfAsk) -> Check
 {
     first_denial(&[
         wrong_words(ask.words),
-        missing(ask.id, FieldName::id()),
-        missing(ask.pid, FieldName::private_id()),
-        missing(ask.nick, FieldName::nick()),
-        bad_required(ask.id, FieldName::id()),
-        bad_required(ask.pid, FieldName::private_id()),
-        bad_field(Severity::Fatal, ask.bad_number),
+        missing(ask.id, NamedField::Id),
+        missing(ask.pid, NamedField::PrivateId),
+        missing(ask.nick, NamedField::Nick),
+        bad_required(ask.id, NamedField::Id),
+        bad_required(ask.pid, NamedField::PrivateId),
+        bad_field(Severity::Fatal, ask.share_size, NamedField::ShareSize),
+        bad_field(Severity::Fatal, ask.shared_files, NamedField::SharedFiles),
         foreign_pid(ask.identity),
         bad_nick_of_login(ask.nick),
         ban_denial(ask.entry.ban),
@@ -62,7 +63,7 @@ pub fn check_inf(ask: &InfAsk) -> Check
 }
 
 /// Checks an update of a present user (ADC 1.0, "INF"). The checks are all of severity 1. The first, in their order: the
-/// words (140); ID (143 FBID); the fields that are numbers (143 FB); the nick is one (121). The last: the change of nick concerns no account
+/// words (140); ID (143 FBID); SS and SF (143 FB); the nick is one (121). The last: the change of nick concerns no account
 /// (125 FCBINF); the address (146); at most 40 fields once merged (140); the nick is free (122). Takes no memory.
 pub fn check_update(ask: &UpdateAsk) -> Check
     ensures exact { result ≡ first_denial (update_rules ask.now) }
@@ -71,7 +72,12 @@ pub fn check_update(ask: &UpdateAsk) -> Check
     first_denial(&[
         wrong_words(ask.words),
         foreign_id(ask.identity),
-        bad_field(Severity::Recoverable, ask.bad_number),
+        bad_field(Severity::Recoverable, ask.share_size, NamedField::ShareSize),
+        bad_field(
+            Severity::Recoverable,
+            ask.shared_files,
+            NamedField::SharedFiles,
+        ),
         bad_nick(ask.nick),
         account_touched(ask.account),
         wrong_address(Severity::Recoverable, ask.address),

@@ -1,7 +1,7 @@
-ghost use Rattle.std.specs.Prelude.{◌≡◌, ◌++◌, IfOk, OnOk};
-ghost use Rattle.login_state.specs.Denials.{denial_line, is_fatal};
-ghost use Rattle.login_state.specs.Statuses.{severity_digit, error_text, detail, severity_of};
+ghost use Rattle.std.specs.Prelude.{◌≡◌, ◌==◌, ◌<◌, ◌++◌, IfOk, OnOk, length, slice_index};
+ghost use Rattle.login_state.specs.Denials.{denial_line, denial_text, is_fatal, value_bytes};
 
+use crate::named_field::NamedField;
 use inf_fields::dotted_decimal;
 use std::alloc::{AllocError, Global};
 
@@ -28,9 +28,9 @@ pub enum Deny {
     /// 247: the client does not support TIGR.
     NoHash,
     /// 243 FM: a field, whose name stands here, is missing or empty.
-    Missing([u8; 2]),
+    Missing(NamedField),
     /// 143 or 243, FB: a field, whose name stands here, is no value of its kind.
-    BadField(Severity, [u8; 2]),
+    BadField(Severity, NamedField),
     /// 227: the identifier is not the hash of the private one.
     BadPid,
     /// 121 or 221: the nick is none.
@@ -64,45 +64,11 @@ pub enum Deny {
 }
 
 impl Deny {
-    /// Gives its severity.
-    pub fn severity(self) -> Severity
-        ensures { result ≡ severity_of self }
-    {
-        match self {
-            Deny::BadField(severity, _) => severity,
-            Deny::BadNick(severity) => severity,
-            Deny::Address(severity, _) => severity,
-            Deny::NickTaken(severity) => severity,
-            Deny::WrongSid
-            | Deny::NoBase
-            | Deny::NoHash
-            | Deny::Missing(_)
-            | Deny::BadPid
-            | Deny::BannedEver
-            | Deny::BannedFor(_)
-            | Deny::Registered
-            | Deny::CidTaken
-            | Deny::Password => Severity::Fatal,
-            Deny::Protocol
-            | Deny::BadStage(_)
-            | Deny::Access(_)
-            | Deny::SearchSoon
-            | Deny::BadCommand
-            | Deny::NoUser
-            | Deny::NoBan
-            | Deny::BansFull => Severity::Recoverable,
-        }
-    }
-
-    /// Tests whether it shuts the connection out.
-    #[tactic(auto, using(crate::proofs::StatusParts::fatal_by_severity))]
+    /// Tests whether it shuts the connection out: the first digit of its number, the severity, is a 2 (ADC 1.0, "STA").
     pub fn is_fatal(self) -> bool
         ensures { result ≡ is_fatal self }
     {
-        match self.severity() {
-            Severity::Fatal => true,
-            Severity::Recoverable => false,
-        }
+        self.parts().0[SEVERITY] == b'2'
     }
 
     /// Writes the status message that says so, with its line feed (ADC 1.0, "STA"). Refused only where memory runs out.
@@ -110,75 +76,98 @@ impl Deny {
         ensures { IfOk result (λ line. line.items ≡ denial_line self) }
     {
         let mut line = Vec::with_capacity(alloc, LONGEST)?;
-        line.extend_from_slice(b"ISTA ")?;
-        line.extend_from_slice(self.severity().digit())?;
-        line.extend_from_slice(self.error())?;
-        self.push_detail(alloc, &mut line)?;
+        let (text, value) = self.parts();
+        line.extend_from_slice(text)?;
+        value.push_to(alloc, &mut line)?;
         line.extend_from_slice(b"\n")?;
         Ok(line)
     }
 
-    /// Gives the number of the error without its severity, the text, escaped, and the name of the flag that follows.
-    fn error(self) -> &'static [u8]
-        ensures { result.now ≡ error_text self }
+    /// Gives the message up to the value of its flag, and that value. This is the table of all denials.
+    #[tactic(auto, unfolding(crate::specs::Denials::denial_text))]
+    fn parts(self) -> (&'static [u8], FlagValue)
+        ensures text { result.0.now ++ value_bytes result.1 ≡ denial_text self }
+        ensures severity { (slice_index result.0.now 5 == 50) ≡ is_fatal self }
+        ensures length { 5 < length result.0.now }
     {
+        use FlagValue::{Address, Name, Nothing, Seconds, Word};
+        use Severity::{Fatal, Recoverable};
         match self {
-            Deny::Protocol => b"40 Protocol\\serror",
-            Deny::WrongSid => b"40 Wrong\\sSID",
-            Deny::BadStage(_) => b"44 Invalid\\sstate FC",
-            Deny::NoBase => b"45 Feature\\smissing FCBASE",
-            Deny::NoHash => b"47 No\\scommon\\shash",
-            Deny::Missing(_) => b"43 INF\\sfield\\smissing FM",
-            Deny::BadField(_, _) => b"43 INF\\sfield\\sbad FB",
-            Deny::BadPid => b"27 Invalid\\sPID",
-            Deny::BadNick(_) => b"21 Invalid\\snick",
-            Deny::BannedEver => b"31 Banned",
-            Deny::BannedFor(_) => b"32 Banned TL",
-            Deny::Address(_, _) => b"46 Wrong\\saddress I4",
-            Deny::Registered => b"26 Registered\\susers\\sonly",
-            Deny::NickTaken(_) => b"22 Nick\\staken",
-            Deny::CidTaken => b"24 CID\\staken",
-            Deny::Password => b"23 Invalid\\spassword",
-            Deny::Access(_) => b"25 Access\\sdenied FC",
-            Deny::SearchSoon => b"00 Search\\stoo\\ssoon",
-            Deny::BadCommand => b"00 Bad\\scommand",
-            Deny::NoUser => b"00 No\\ssuch\\suser",
-            Deny::NoBan => b"00 No\\ssuch\\sban",
-            Deny::BansFull => b"00 Ban\\slist\\sfull",
-        }
-    }
-
-    /// Adds what the flag says.
-    fn push_detail(self, alloc: Global, line: &mut Vec<u8>) -> Result<(), AllocError>
-        ensures { OnOk result (line.new.items ≡ line.old.items ++ detail self) }
-    {
-        match self {
-            Deny::BadStage(word) => line.extend_from_slice(&word),
-            Deny::Access(word) => line.extend_from_slice(&word),
-            Deny::Missing(name) => line.extend_from_slice(&name),
-            Deny::BadField(_, name) => line.extend_from_slice(&name),
-            Deny::BannedFor(seconds) => {
-                line.extend_from_slice(format!(in alloc; "{seconds}")?.as_bytes())
-            }
-            Deny::Address(_, peer) => line.extend_from_slice(dotted_decimal(
-                alloc, peer,
-            )?.as_bytes()),
-            _ => Ok(()),
+            Deny::Protocol => (b"ISTA 140 Protocol\\serror", Nothing),
+            Deny::WrongSid => (b"ISTA 240 Wrong\\sSID", Nothing),
+            Deny::BadStage(word) => (b"ISTA 144 Invalid\\sstate FC", Word(word)),
+            Deny::NoBase => (b"ISTA 245 Feature\\smissing FCBASE", Nothing),
+            Deny::NoHash => (b"ISTA 247 No\\scommon\\shash", Nothing),
+            Deny::Missing(field) => (
+                b"ISTA 243 INF\\sfield\\smissing FM",
+                Name(field.name().bytes()),
+            ),
+            Deny::BadField(Recoverable, field) => (
+                b"ISTA 143 INF\\sfield\\sbad FB",
+                Name(field.name().bytes()),
+            ),
+            Deny::BadField(Fatal, field) => (
+                b"ISTA 243 INF\\sfield\\sbad FB",
+                Name(field.name().bytes()),
+            ),
+            Deny::BadPid => (b"ISTA 227 Invalid\\sPID", Nothing),
+            Deny::BadNick(Recoverable) => (b"ISTA 121 Invalid\\snick", Nothing),
+            Deny::BadNick(Fatal) => (b"ISTA 221 Invalid\\snick", Nothing),
+            Deny::BannedEver => (b"ISTA 231 Banned", Nothing),
+            Deny::BannedFor(seconds) => (b"ISTA 232 Banned TL", Seconds(seconds)),
+            Deny::Address(Recoverable, peer) => (b"ISTA 146 Wrong\\saddress I4", Address(peer)),
+            Deny::Address(Fatal, peer) => (b"ISTA 246 Wrong\\saddress I4", Address(peer)),
+            Deny::Registered => (b"ISTA 226 Registered\\susers\\sonly", Nothing),
+            Deny::NickTaken(Recoverable) => (b"ISTA 122 Nick\\staken", Nothing),
+            Deny::NickTaken(Fatal) => (b"ISTA 222 Nick\\staken", Nothing),
+            Deny::CidTaken => (b"ISTA 224 CID\\staken", Nothing),
+            Deny::Password => (b"ISTA 223 Invalid\\spassword", Nothing),
+            Deny::Access(word) => (b"ISTA 125 Access\\sdenied FC", Word(word)),
+            Deny::SearchSoon => (b"ISTA 100 Search\\stoo\\ssoon", Nothing),
+            Deny::BadCommand => (b"ISTA 100 Bad\\scommand", Nothing),
+            Deny::NoUser => (b"ISTA 100 No\\ssuch\\suser", Nothing),
+            Deny::NoBan => (b"ISTA 100 No\\ssuch\\sban", Nothing),
+            Deny::BansFull => (b"ISTA 100 Ban\\slist\\sfull", Nothing),
         }
     }
 }
 
+/// The place of the severity's digit in a status message.
+const SEVERITY: usize = 5;
+
 /// The bytes of the longest denial, `ISTA 246 Wrong\saddress I4255.255.255.255` and its line feed.
 const LONGEST: usize = 42;
 
-impl Severity {
-    /// Gives the digit that a status begins with.
-    fn digit(self) -> &'static [u8]
-        ensures { result.now ≡ severity_digit self }
+/// The value of a status message's flag.
+#[derive(Clone, Copy)]
+enum FlagValue {
+    /// There is no flag, or its value is in the text.
+    Nothing,
+    /// The first word of the line that is refused.
+    Word([u8; 4]),
+    /// The two characters of a field's name.
+    Name([u8; 2]),
+    /// A number of seconds.
+    Seconds(u64),
+    /// An address.
+    Address([u8; 4]),
+}
+
+impl FlagValue {
+    /// Adds it to a line. Refused only where memory runs out.
+    fn push_to(self, alloc: Global, line: &mut Vec<u8>) -> Result<(), AllocError>
+        ensures { OnOk result (line.new.items ≡ line.old.items ++ value_bytes self) }
     {
         match self {
-            Severity::Recoverable => b"1",
-            Severity::Fatal => b"2",
+            FlagValue::Nothing => Ok(()),
+            FlagValue::Word(word) => line.extend_from_slice(&word),
+            FlagValue::Name(name) => line.extend_from_slice(&name),
+            FlagValue::Seconds(seconds) => {
+                line.extend_from_slice(format!(in alloc; "{seconds}")?.as_bytes())
+            }
+            FlagValue::Address(address) => line.extend_from_slice(dotted_decimal(
+                alloc, address,
+            )?.as_bytes()),
         }
     }
 }

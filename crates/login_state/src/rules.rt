@@ -5,7 +5,7 @@ use crate::deny::{Deny, Severity};
 use crate::findings::{
     Account, Address, Admission, Ban, Claim, Identity, Required, Size, Validity,
 };
-use inf_fields::FieldName;
+use crate::named_field::NamedField;
 
 pub(crate) fn wrong_words(words: Validity) -> Option<Deny>
     ensures { result ≡ wrong_words words }
@@ -16,30 +16,31 @@ pub(crate) fn wrong_words(words: Validity) -> Option<Deny>
     }
 }
 
-pub(crate) fn missing(found: Required, field: FieldName) -> Option<Deny>
+pub(crate) fn missing(found: Required, field: NamedField) -> Option<Deny>
     ensures { result ≡ missing found field }
 {
     match found {
-        Required::Missing => Some(Deny::Missing(field.bytes())),
+        Required::Missing => Some(Deny::Missing(field)),
         Required::Bad | Required::Good => None,
     }
 }
 
-pub(crate) fn bad_required(found: Required, field: FieldName) -> Option<Deny>
+pub(crate) fn bad_required(found: Required, field: NamedField) -> Option<Deny>
     ensures { result ≡ bad_required found field }
 {
     match found {
-        Required::Bad => Some(Deny::BadField(Severity::Fatal, field.bytes())),
+        Required::Bad => Some(Deny::BadField(Severity::Fatal, field)),
         Required::Missing | Required::Good => None,
     }
 }
 
-pub(crate) fn bad_field(severity: Severity, bad: Option<FieldName>) -> Option<Deny>
-    ensures { result ≡ bad_field severity bad }
+/// Denies a login or an update with a field that is to be a number and is none.
+pub(crate) fn bad_field(severity: Severity, found: Validity, field: NamedField) -> Option<Deny>
+    ensures { result ≡ bad_field severity found field }
 {
-    match bad {
-        Some(field) => Some(Deny::BadField(severity, field.bytes())),
-        None => None,
+    match found {
+        Validity::Bad => Some(Deny::BadField(severity, field)),
+        Validity::Good => None,
     }
 }
 
@@ -58,7 +59,7 @@ pub(crate) fn foreign_id(identity: Identity) -> Option<Deny>
     ensures { result ≡ foreign_id identity }
 {
     match identity {
-        Identity::Foreign => Some(Deny::BadField(Severity::Recoverable, FieldName::id().bytes())),
+        Identity::Foreign => Some(Deny::BadField(Severity::Recoverable, NamedField::Id)),
         Identity::Own => None,
     }
 }

@@ -3,7 +3,7 @@ use crate::rows::{
     unknown,
 };
 use inf_fields::{
-    FieldName, Fields, InfFault, Update, dotted_decimal, merging_laws, shared_amount,
+    FieldName, Fields, InfFault, Update, dotted_decimal, is_bad_number, merging_laws, shared_amount,
 };
 use second_try::again;
 use std::alloc::{AllocError, AllocGlobal, Global};
@@ -73,10 +73,16 @@ fn say_of_update<R: Abort + AllocGlobal + Print>(
 fn say_told(rt: &(impl Abort + AllocGlobal + Print), name: &str, line: &str, said: &mut Vec<u8>) {
     let update = update(rt, line);
     match name {
-        "bad_number" => say_field(rt, said, update.bad_number()),
+        "bad_share_size" => say_bad(rt, said, update.get(FieldName::share_size())),
+        "bad_shared_files" => say_bad(rt, said, update.get(FieldName::shared_files())),
         _ => say_value(rt, said, update.get(field(rt, name))),
     }
     drop(update);
+}
+
+/// Says whether a field that is to be a number is there and is none.
+fn say_bad(rt: &impl Abort, said: &mut Vec<u8>, value: Option<&str>) {
+    say_whether(rt, said, is_bad_number(value.unwrap_or("")));
 }
 
 fn fits(rt: &(impl Abort + AllocGlobal + Print), fields: &Fields, line: &str) -> bool {
@@ -385,16 +391,22 @@ fn tells_what_was_said(rt: HostRuntime) {
 }
 
 #[test]
-fn finds_the_first_bad_number(rt: HostRuntime) {
+fn tells_bad_numbers(rt: HostRuntime) {
     play_user(
         &rt,
         "
-        bad_number NIana SS5 SF18446744073709551615 -> none
-        bad_number NIana SS SF -> none
-        bad_number NIana -> none
-        bad_number SS5x SF1 -> SS
-        bad_number SS5 SF18446744073709551616 -> SF
-        bad_number SF-1 SSx -> SS
+        bad_share_size NIana SS5 SF18446744073709551615 -> no
+        bad_shared_files NIana SS5 SF18446744073709551615 -> no
+        bad_share_size NIana SS SF -> no
+        bad_shared_files NIana SS SF -> no
+        bad_share_size NIana -> no
+        bad_shared_files NIana -> no
+        bad_share_size SS5x SF1 -> yes
+        bad_shared_files SS5x SF1 -> no
+        bad_share_size SS5 SF18446744073709551616 -> no
+        bad_shared_files SS5 SF18446744073709551616 -> yes
+        bad_share_size SF-1 SSx -> yes
+        bad_shared_files SF-1 SSx -> yes
     ",
     );
 }

@@ -4,7 +4,7 @@ pub(crate) mod supports;
 
 use crate::rows::{Part, play, say, say_bytes, say_next, twenty_four, twice, unknown};
 use adc_line::Kind;
-use login_state::{Check, Deny, Request, Severity, Stage, check_pass};
+use login_state::{Check, Deny, Request, Stage, check_pass};
 use std::alloc::{AllocError, AllocGlobal};
 use std::io::Print;
 use std::process::Abort;
@@ -27,7 +27,6 @@ fn say_denial(rt: &(impl Abort + AllocGlobal + Print), said: &mut Vec<u8>, deny:
     };
     let is_fatal = text.get(5) == Some(&b'2');
     assert!(rt; *last == b'\n' && deny.is_fatal() == is_fatal);
-    assert!(rt; (deny.severity() == Severity::Fatal) == is_fatal);
     say_bytes(rt, said, text);
 }
 

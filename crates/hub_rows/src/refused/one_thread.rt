@@ -1,146 +1,141 @@
+use crate::hub::{Hub, shared_setup};
+use crate::refusal::holds;
 use crate::refused::halls::LOGINS;
-use crate::shared::guests::setup_for;
-use hub_core::{
-    Answer, Ask, Asked, Conn, Core, JoinRefused, LineRefused, OpenRefused, Setup, Stage,
-    TakeRefused, Totals, Verdict, prepare, run_calls,
-};
-use second_try::{again, once, tell};
-use session_hash::First24;
+use hub_core::{Answer, Ask, Asked, Conn, Core, Options, Setup, Totals, Verdict, run_calls};
+use second_try::{again, tell};
 use std::alloc::Global;
 use std::io::Print;
 use std::process::Abort;
 use std::sync::Arc;
 
-/// A hub, and who joined it.
-#[derive(Drop)]
-struct Hall {
-    setup: Arc<Setup>,
-    core: Core,
-    joined: Vec<Conn>,
-}
-
-/// Gives what can be seen of one who joined.
-fn place(hall: &Hall, number: usize) -> Option<(Stage, u64, u64)> {
-    let connection = *hall.joined.get(number)?;
-    if !hall.core.is_open(connection) {
-        return None;
-    }
-    let look = hall.core.look(connection);
-    Some((look.stage, look.present, look.waiting))
-}
-
-/// Gives what can be seen of a hub.
-fn view_of(hall: &Hall) -> (Totals, u64, [Option<(Stage, u64, u64)>; 3]) {
-    (
-        hall.core.totals(),
-        hall.core.joins(),
-        [place(hall, 0), place(hall, 1), place(hall, 2)],
-    )
-}
-
-fn open_hall(rt: &(impl Abort + Print), alloc: Global) -> Hall {
-    let setup = setup_for(rt, alloc, 3);
-    let core =
-        once!(rt; "hub_core::Core::open", OpenRefused::Memory, Core::open(alloc, again!(rt; setup.clone())));
-    Hall {
-        setup,
-        core,
-        joined: again!(rt; Vec::with_capacity(alloc, 3)),
+fn options() -> Options<'static> {
+    Options {
+        max_users: 3,
+        ..Options::named("Hub")
     }
 }
 
-fn joins(rt: &(impl Abort + Print), alloc: Global, hall: &mut Hall) {
-    let call = "hub_core::Core::join";
-    let joined =
-        once!(rt; call, JoinRefused::Memory, view_of(hall), hall.core.join(alloc, [127, 0, 0, 1], [0; 24], 0));
-    again!(rt; hall.joined.push(joined));
+/// Opens a hub for three.
+fn open(rt: &impl Abort, alloc: Global) -> Hub {
+    match Hub::open(rt, alloc, &options()) {
+        Ok(hub) => hub,
+        Err(_) => panic!(rt; "options"),
+    }
 }
 
-fn says(rt: &(impl Abort + Print), alloc: Global, hall: &mut Hall, number: usize, line: &[u8]) {
-    let line = again!(rt; prepare(alloc, &hall.setup, &First24, [0; 24], line));
-    let Some(connection) = hall.joined.get(number).copied() else {
-        panic!(rt; "nobody")
+/// Joins, and logs in by this line.
+fn enters(rt: &impl Abort, hub: &mut Hub, login: &[u8]) -> Conn {
+    let Ok(connection) = hub.join(rt) else {
+        panic!(rt; "not admitted")
     };
-    assert!(rt; hall.core.is_open(connection), "nobody");
-    let call = "hub_core::Core::line";
-    let verdict =
-        once!(rt; call, LineRefused::Memory, view_of(hall), hall.core.line(alloc, connection, &line, 0));
-    assert!(rt; verdict == Verdict::Kept);
-    drop(line);
+    says(rt, hub, connection, b"HSUP ADBASE ADTIGR");
+    says(rt, hub, connection, login);
+    connection
 }
 
-/// Takes what waits for one, behind a byte that stays.
-fn hears(rt: &(impl Abort + Print), alloc: Global, hall: &mut Hall, number: usize) -> Vec<u8> {
-    let mut heard = again!(rt; Vec::from_slice(alloc, b"?"));
-    let Some(connection) = hall.joined.get(number).copied() else {
-        panic!(rt; "nobody")
-    };
-    assert!(rt; hall.core.is_open(connection), "nobody");
-    let call = "hub_core::Core::take";
-    once!(rt; call, TakeRefused::Memory, (view_of(hall), heard.len()), hall.core.take(connection, 256, &mut heard));
-    heard
+fn says(rt: &impl Abort, hub: &mut Hub, connection: Conn, line: &[u8]) {
+    let verdict = hub.line(rt, connection, line, 0);
+    holds(rt, verdict == Verdict::Kept, "it is not kept");
+}
+
+/// Takes what waits for one, behind a byte that stays; it begins like this.
+fn hears(rt: &impl Abort, hub: &mut Hub, connection: Conn, begin: &[u8]) {
+    let heard = hub.take_behind(rt, connection, 256, b"?");
+    holds(rt, heard.bytes.starts_with(begin), "it begins otherwise");
+}
+
+/// Takes what waits for one, behind a byte that stays; it is what is said to all.
+fn hears_hi(rt: &impl Abort, hub: &mut Hub, connection: Conn) {
+    let heard = hub.take_behind(rt, connection, 256, b"?");
+    let hi = b"?BMSG AAAB hi\n".as_slice();
+    holds(rt, heard.bytes.as_slice() == hi, "something else");
+}
+
+/// Tells of the call that was refused memory, if one was.
+fn tells(rt: &(impl Abort + Print), hub: &Hub) {
+    if let Some(call) = hub.refused() {
+        holds(rt, tell(rt, call), "not written");
+    }
 }
 
 #[test]
 fn a_line_to_three(rt: HostRuntime) {
-    let rt = &rt;
-    let alloc = rt.alloc();
-    let mut hall = open_hall(rt, alloc);
-    for (number, login) in LOGINS.iter().enumerate() {
-        joins(rt, alloc, &mut hall);
-        says(rt, alloc, &mut hall, number, b"HSUP ADBASE ADTIGR");
-        says(rt, alloc, &mut hall, number, login);
-    }
-    for number in 0..3 {
-        let heard = hears(rt, alloc, &mut hall, number);
-        assert!(rt; heard.starts_with(b"?ISUP ADBASE ADTIGR ADPING ADUCMD\nISID AAA"));
-    }
-    says(rt, alloc, &mut hall, 0, b"BMSG AAAB hi");
-    for number in 0..3 {
-        let heard = hears(rt, alloc, &mut hall, number);
-        assert!(rt;
-            heard.as_slice() == b"?BMSG AAAB hi\n".as_slice(),
-            "{heard:?}"
-        );
-    }
-    assert!(rt;
-        hall.core.totals()
-            == Totals {
-                users: 3,
-                ss: 60,
-                sf: 0
-            }
-            && hall.core.joins() == 3
-    );
-    drop(hall);
+    let mut hub = open(&rt, rt.alloc());
+    three_talk(&rt, &mut hub);
+    tells(&rt, &hub);
+    drop(hub);
+}
+
+fn three_talk(rt: &impl Abort, hub: &mut Hub) {
+    let ana = enters(rt, hub, LOGINS[0]);
+    let bob = enters(rt, hub, LOGINS[1]);
+    let cy = enters(rt, hub, LOGINS[2]);
+    let greeting = b"?ISUP ADBASE ADTIGR ADPING ADUCMD\nISID AAA".as_slice();
+    hears(rt, hub, ana, greeting);
+    hears(rt, hub, bob, greeting);
+    hears(rt, hub, cy, greeting);
+    says(rt, hub, ana, b"BMSG AAAB hi");
+    hears_hi(rt, hub, ana);
+    hears_hi(rt, hub, bob);
+    hears_hi(rt, hub, cy);
+    let totals = Totals {
+        users: 3,
+        ss: 60,
+        sf: 0,
+    };
+    holds(rt, hub.counts() == (totals, 3), "other counts");
 }
 
 fn asks<'a>(rt: &impl Abort, alloc: Global) -> Vec<Asked<'a>> {
     let mut asks = again!(rt; Vec::with_capacity(alloc, 2));
-    for ask in [Ask::Join([127, 0, 0, 1], [0; 24], 0), Ask::Take(1, 1)] {
-        assert!(rt; asks.push(Asked { caller: 1, ask }).is_ok());
-    }
+    asks_for(rt, &mut asks, Ask::Join([127, 0, 0, 1], [0; 24], 0));
+    asks_for(rt, &mut asks, Ask::Take(1, 1));
     asks
+}
+
+fn asks_for<'a>(rt: &impl Abort, asks: &mut Vec<Asked<'a>>, ask: Ask<'a>) {
+    holds(
+        rt,
+        asks.push(Asked { caller: 1, ask }).is_ok(),
+        "refused where there is room",
+    );
+}
+
+/// Makes the calls once; nothing where memory was refused before the first.
+fn run(rt: &impl Abort, alloc: Global, setup: &Arc<Setup>) -> Option<(Core, Vec<Answer>)> {
+    run_calls(alloc, again!(rt; setup.clone()), asks(rt, alloc)).ok()
 }
 
 /// Tests that a call is answered with `Memory`, and a take of nobody is not made, where memory is refused later than for
 /// the answers.
 #[test]
 fn calls(rt: HostRuntime) {
-    let rt = &rt;
-    let alloc = rt.alloc();
-    let setup = setup_for(rt, alloc, 3);
-    let call = "hub_core::run_calls";
-    let run =
-        once!(rt; call, OpenRefused::Memory, run_calls(alloc, again!(rt; setup.clone()), asks(rt, alloc)));
-    let (core, answers) = run;
-    if core.joins() == 1 {
-        assert!(rt; matches!(answers.as_slice(), [Answer::Joined(_), Answer::Took(..)]));
-    } else {
-        assert!(rt; tell(rt, call), "not written");
-        assert!(rt; matches!(answers.as_slice(), [Answer::Memory, Answer::Skipped]));
+    let setup = shared_setup(&rt, rt.alloc(), &options());
+    if !are_made(&rt, rt.alloc(), &setup) {
+        tells_of_calls(&rt);
+        holds(&rt, are_made(&rt, rt.alloc(), &setup), "refused twice");
     }
-    drop(core);
-    drop(answers);
     drop(setup);
+}
+
+fn tells_of_calls(rt: &(impl Abort + Print)) {
+    holds(rt, tell(rt, "hub_core::run_calls"), "not written");
+}
+
+/// Makes the calls, and stops the test unless they are answered as they should be. Tells whether they were made.
+fn are_made(rt: &(impl Abort + Print), alloc: Global, setup: &Arc<Setup>) -> bool {
+    let Some((core, answers)) = run(rt, alloc, setup) else {
+        return false;
+    };
+    if core.joins() == 1 {
+        let is_right = matches!(answers.as_slice(), [Answer::Joined(_), Answer::Took(..)]);
+        holds(rt, is_right, "joined, and took");
+    } else {
+        tells_of_calls(rt);
+        let is_right = matches!(answers.as_slice(), [Answer::Memory, Answer::Skipped]);
+        holds(rt, is_right, "no memory, and skipped");
+    }
+    drop(answers);
+    drop(core);
+    true
 }

@@ -1,5 +1,7 @@
+use crate::refusal::holds;
 use crate::refused::halls::LOGINS;
 use crate::shared::guests::{Guest, Hall, hears, join_and_login, looks, open_hall, says};
+use crate::shared::refused::hears_it_once;
 use hub_core::{Stage, Verdict};
 use std::alloc::AllocGlobal;
 
@@ -16,11 +18,12 @@ fn a_line_to_three(rt: HostRuntime) {
     hears(rt, alloc, &hall, &mut bob);
     hears(rt, alloc, &hall, &mut cy);
     says(rt, alloc, &hall, &mut ana, b"BMSG AAAB hi", Verdict::Kept);
-    assert!(rt; hears(rt, alloc, &hall, &mut ana).as_slice() == b"BMSG AAAB hi\n".as_slice());
-    assert!(rt; hears(rt, alloc, &hall, &mut bob).as_slice() == b"BMSG AAAB hi\n".as_slice());
-    assert!(rt; hears(rt, alloc, &hall, &mut cy).as_slice() == b"BMSG AAAB hi\n".as_slice());
+    hears_it_once(rt, alloc, &hall, &mut ana);
+    hears_it_once(rt, alloc, &hall, &mut bob);
+    hears_it_once(rt, alloc, &hall, &mut cy);
     let look = looks(rt, &hall, &mut cy);
-    assert!(rt; look.stage == Stage::Normal && look.present == 3 && look.waiting == 0);
+    let is_right = look.stage == Stage::Normal && look.present == 3 && look.waiting == 0;
+    holds(rt, is_right, "another look");
     drop(cy);
     drop(bob);
     drop(ana);

@@ -4,6 +4,7 @@ ghost use Rattle.std.specs.Arc.{arc_value};
 ghost use Rattle.hub_rules.specs.Prepared.{prepared_line};
 ghost use Rattle.session_hash.specs.First24.{first_24};
 
+use crate::hub::shared_setup;
 use hub_core::{
     JoinRefused, LineRefused, Look, Options, Prepared, Setup, Stage, TakeRefused, Taken, Verdict,
     prepare,
@@ -11,7 +12,7 @@ use hub_core::{
 use hub_shared::{Host, Hub, Pass, Visitor};
 use second_try::{again, once, tell};
 use session_hash::First24;
-use std::alloc::{AllocFailed, Global};
+use std::alloc::Global;
 use std::io::Print;
 use std::process::Abort;
 use std::sync::{Arc, Wait};
@@ -38,13 +39,7 @@ pub(crate) fn setup_for(rt: &impl Abort, alloc: Global, max_users: u32) -> Arc<S
         max_users,
         ..Options::named("Hub")
     };
-    match Arc::new(alloc, again!(rt; Setup::new(alloc, &options))) {
-        Ok(setup) => setup,
-        Err(AllocFailed { value }) => match Arc::new(alloc, value) {
-            Ok(setup) => setup,
-            Err(_) => panic!(rt; "refused twice"),
-        },
-    }
+    shared_setup(rt, alloc, &options)
 }
 
 pub(crate) fn open_hall(

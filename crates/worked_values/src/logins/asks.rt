@@ -1,6 +1,5 @@
 use super::say_check;
 use crate::rows::{Part, number, pair, play, unknown};
-use inf_fields::FieldName;
 use login_state::{
     Account, Address, Admission, Ban, Check, Claim, EntryAsk, Identity, InfAsk, Required, Size,
     UpdateAsk, Validity, check_entry, check_inf, check_update,
@@ -30,8 +29,8 @@ impl Part for Login {
             "id" => self.ask.id = required_of(rt, text),
             "pid" => self.ask.pid = required_of(rt, text),
             "nick" => self.ask.nick = required_of(rt, text),
-            "share_size" => self.ask.bad_number = Some(FieldName::shared_files()),
-            "shared_files" => self.ask.bad_number = None,
+            "share_size" => self.ask.share_size = Validity::Good,
+            "shared_files" => self.ask.shared_files = Validity::Good,
             "identity" => self.ask.identity = Identity::Own,
             "address" => self.ask.address = Address::Right,
             "admission" => self.ask.admission = Admission::Admitted,
@@ -73,7 +72,8 @@ fn checks_a_login_in_order(rt: HostRuntime) {
         id: Required::Missing,
         pid: Required::Missing,
         nick: Required::Missing,
-        bad_number: Some(FieldName::share_size()),
+        share_size: Validity::Bad,
+        shared_files: Validity::Bad,
         identity: Identity::Foreign,
         address: Address::Wrong([10, 0, 0, 1]),
         admission: Admission::RegisteredOnly,
@@ -123,8 +123,8 @@ impl Part for Renewal {
             "asks" => {}
             "words" => self.ask.words = Validity::Good,
             "identity" => self.ask.identity = Identity::Own,
-            "share_size" => self.ask.bad_number = Some(FieldName::shared_files()),
-            "shared_files" => self.ask.bad_number = None,
+            "share_size" => self.ask.share_size = Validity::Good,
+            "shared_files" => self.ask.shared_files = Validity::Good,
             "nick" => self.ask.nick = Validity::Good,
             "account" => self.ask.account = Account::Untouched,
             "address" => self.ask.address = Address::Right,
@@ -141,7 +141,8 @@ fn checks_an_update_in_order(rt: HostRuntime) {
     let ask = UpdateAsk {
         words: Validity::Bad,
         identity: Identity::Foreign,
-        bad_number: Some(FieldName::share_size()),
+        share_size: Validity::Bad,
+        shared_files: Validity::Bad,
         nick: Validity::Bad,
         account: Account::Touched,
         address: Address::Wrong([10, 0, 0, 1]),

@@ -1,7 +1,6 @@
 use super::say_denial;
 use crate::rows::{Part, number, pair, play, unknown};
-use inf_fields::FieldName;
-use login_state::{Deny, Severity};
+use login_state::{Deny, NamedField, Severity};
 use std::alloc::AllocGlobal;
 use std::io::Print;
 use std::process::Abort;
@@ -32,7 +31,7 @@ impl Part for Denials {
 /// Makes a denial of either severity.
 fn denial_of(rt: &impl Abort, severity: Severity, text: &str) -> Deny {
     match pair(text, ' ') {
-        ("BadField", name) => Deny::BadField(severity, field(rt, name).bytes()),
+        ("BadField", name) => Deny::BadField(severity, field(rt, name)),
         ("BadNick", _) => Deny::BadNick(severity),
         ("NickTaken", _) => Deny::NickTaken(severity),
         ("Address", "127.0.0.1") => Deny::Address(severity, [127, 0, 0, 1]),
@@ -41,13 +40,13 @@ fn denial_of(rt: &impl Abort, severity: Severity, text: &str) -> Deny {
     }
 }
 
-fn field(rt: &impl Abort, name: &str) -> FieldName {
+fn field(rt: &impl Abort, name: &str) -> NamedField {
     match name {
-        "Id" => FieldName::id(),
-        "Pid" => FieldName::private_id(),
-        "Nick" => FieldName::nick(),
-        "ShareSize" => FieldName::share_size(),
-        "SharedFiles" => FieldName::shared_files(),
+        "Id" => NamedField::Id,
+        "Pid" => NamedField::PrivateId,
+        "Nick" => NamedField::Nick,
+        "ShareSize" => NamedField::ShareSize,
+        "SharedFiles" => NamedField::SharedFiles,
         _ => unknown(rt, name),
     }
 }
@@ -57,7 +56,7 @@ fn login_denied(rt: &impl Abort, text: &str) -> Deny {
         ("WrongSid", _) => Deny::WrongSid,
         ("NoBase", _) => Deny::NoBase,
         ("NoHash", _) => Deny::NoHash,
-        ("Missing", name) => Deny::Missing(field(rt, name).bytes()),
+        ("Missing", name) => Deny::Missing(field(rt, name)),
         ("BadPid", _) => Deny::BadPid,
         ("BannedEver", _) => Deny::BannedEver,
         ("BannedFor", seconds) => Deny::BannedFor(number(rt, seconds)),

@@ -9,7 +9,7 @@ use Rattle.hub_rules.specs.declared.history.Reply.TheVariants as replies
 use Rattle.hub_rules.specs.Configured.{Configured}
 use Rattle.hub_rules.specs.History.{open_connections}
 use Rattle.hub_rules.specs.Legal.{Legal}
-use Rattle.hub_rules.specs.Promises.{is_in}
+use Rattle.hub_invariants.specs.Promises.{is_in}
 
 abbrev pub joins_as : ℕ → Reply → Bool
 joins_as c (replies.Joined n) = n == c

@@ -1,5 +1,4 @@
--- The checks deny what the rules deny: each rule as its ground does, where none before it holds.
-use Rattle.std.specs.Option.{option_or}
+-- The checks deny what the grounds deny: each check as its ground does, where none before it holds.
 use Rattle.std.proofs.Common.{◌≡◌, ◌∙◌, ap, refl, sym, ℕ, ◌==◌, Bool, true, false, not, ◌&&◌, ◌||◌, List, [], ◌∷◌, length, Option, Some, None, is_some, unwrap_or, arith}
 use Rattle.std.specs.Prelude.{chars, codes, if◌then◌else◌}
 use Rattle.std.specs.Str.{bytes_eq}
@@ -7,10 +6,10 @@ use Rattle.std.proofs.lemmas.Bool.{eqb-true, false≢true}
 use Rattle.std.proofs.lemmas.Slice.Eq.{bytes_eq-Decides}
 use Rattle.adc_base32.specs.Spelled.{spelled_bytes}
 use Rattle.adc_ids.specs.Nicks.{is_nick}
-use Rattle.inf_fields.specs.Amounts.{bad_number}
+use Rattle.inf_fields.specs.Amounts.{is_bad_number}
 use Rattle.inf_fields.specs.Cleaning.{any_address, clean, dotted_decimal}
 use Rattle.inf_fields.specs.Field.{Field, value_of}
-use Rattle.inf_fields.specs.FieldNames.{id_name, private_id_name, nick_name, address_name}
+use Rattle.inf_fields.specs.FieldNames.{id_name, private_id_name, nick_name, share_size_name, shared_files_name, address_name}
 use Rattle.inf_fields.specs.Merging.{fits}
 use Rattle.login_state.specs.declared.deny.Deny.{Deny}
 use Rattle.login_state.specs.declared.deny.Deny.TheVariants as denials
@@ -21,21 +20,23 @@ use Rattle.login_state.specs.declared.findings.Account.TheVariants.{Touched, Unt
 use Rattle.login_state.specs.declared.findings.Address.TheVariants.{Right, Wrong}
 use Rattle.login_state.specs.declared.findings.Identity.TheVariants.{Foreign, Own}
 use Rattle.login_state.specs.declared.findings.Size.TheVariants.{Fits, TooMany}
+use Rattle.login_state.specs.declared.named_field.NamedField.{NamedField}
+use Rattle.login_state.specs.declared.named_field.NamedField.TheVariants as fields
 use Rattle.login_state.specs.Checks.{first_denial}
 use Rattle.login_state.specs.Mentions.{base, tigr}
 use Rattle.login_state.specs.Orders.{entry_rules, inf_rules, pass_rules, sup_rules, update_rules}
-use Rattle.login_state.specs.Rules.{account_touched, bad_field, bad_nick, bad_nick_of_login, bad_required, ban_denial, cid_taken, foreign_id, foreign_pid, missing, nick_taken, too_many_fields, unless, registration_denial, wrong_address, wrong_password}
+use Rattle.login_state.specs.Rules.{account_touched, bad_field, bad_nick, bad_nick_of_login, bad_required, ban_denial, cid_taken, foreign_id, foreign_pid, missing, nick_taken, too_many_fields, unless, registration_denial, wrong_address}
 use Rattle.login_state.specs.Support.{has_feature}
 use Rattle.operator_acts.specs.Bans.{left_of_bans}
 use Rattle.operator_acts.specs.declared.left.Left.{Left}
 use Rattle.operator_acts.specs.declared.left.Left.TheVariants as lefts
 use Rattle.user_table.specs.Listed.{Listed}
 use Rattle.user_table.specs.Tables.{has_cid, has_key}
-use Rattle.hub_rules.specs.Grounds.{differs, entry_grounds, first_ground, is_bad_nick, is_digest, is_empty, is_ever, is_timed, is_wrong_address, login_grounds, password_grounds, seconds_of, sup_grounds, touches_account, update_grounds}
+use Rattle.hub_rules.specs.Grounds.{differs, entry_grounds, first_ground, is_bad_nick, is_digest, is_empty, is_ever, is_timed, is_wrong_address, login_grounds, seconds_of, sup_grounds, touches_account, update_grounds}
 use Rattle.hub_rules.specs.Identities.{value_or_empty, key_in, nick_in}
 use Rattle.hub_rules.specs.Sights as sights
 use Rattle.hub_rules.specs.Sights.{Sight, another_has_key, is_account, is_here}
-use Rattle.hub_decisions.specs.Asks.{address_found, ban_found, denial_of, entry_ask, good_if, identity_found, login_ask, nick_found, own_if_given, required_found, taken_if, update_ask}
+use Rattle.hub_decisions.specs.Asks.{address_found, ban_found, denial_of, entry_ask, good_if, login_ask, nick_found, own_if_given, required_found, taken_if, update_ask}
 
 -- what a rule answers whose ground this is
 abbrev deny_if : Bool → Deny → Option Deny
@@ -53,12 +54,12 @@ step false deny rule grounds rules is later = ap (λ r. denial_of (first_denial 
 
 -- ---- one rule
 
-missing-if : (valid : Bool) (value : List ℕ) (field : List ℕ) → missing (required_found valid value) field ≡ deny_if (is_empty value) (denials.Missing field)
+missing-if : (valid : Bool) (value : List ℕ) (field : NamedField) → missing (required_found valid value) field ≡ deny_if (is_empty value) (denials.Missing field)
 missing-if valid [] field = refl
 missing-if true (b ∷ more) field = refl
 missing-if false (b ∷ more) field = refl
 
-bad-if : (valid : Bool) (value : List ℕ) (field : List ℕ) → is_empty value ≡ false → bad_required (required_found valid value) field ≡ deny_if (not valid) (denials.BadField Fatal field)
+bad-if : (valid : Bool) (value : List ℕ) (field : NamedField) → is_empty value ≡ false → bad_required (required_found valid value) field ≡ deny_if (not valid) (denials.BadField Fatal field)
 bad-if valid [] field some = absurd (false≢true (sym some))
 bad-if true (b ∷ more) field some = refl
 bad-if false (b ∷ more) field some = refl
@@ -68,19 +69,13 @@ nick-if valid [] some = absurd (false≢true (sym some))
 nick-if true (b ∷ more) some = refl
 nick-if false (b ∷ more) some = refl
 
-number-if : (severity : Severity) (bad : Option (List ℕ)) → bad_field severity bad ≡ deny_if (is_some bad) (denials.BadField severity (unwrap_or bad []))
-number-if severity None = refl
-number-if severity (Some field) = refl
+number-if : (severity : Severity) (bad : Bool) (field : NamedField) → bad_field severity (good_if (not bad)) field ≡ deny_if bad (denials.BadField severity field)
+number-if severity true field = refl
+number-if severity false field = refl
 
 identity-if : (same : Bool) → foreign_pid (if same then Own else Foreign) ≡ deny_if (not same) denials.BadPid
 identity-if true = refl
 identity-if false = refl
-
-pid-if : (cid digest : Option (List ℕ)) → not (is_some cid) ≡ false → not (is_some digest) ≡ false
-    → foreign_pid (identity_found cid digest) ≡ deny_if (differs (unwrap_or cid []) (unwrap_or digest [])) denials.BadPid
-pid-if (Some cid) (Some digest) is_cid is_digest = identity-if (bytes_eq cid digest)
-pid-if (Some cid) None is_cid is_digest = absurd (false≢true (sym is_digest))
-pid-if None digest is_cid is_digest = absurd (false≢true (sym is_cid))
 
 length-if : (value : List ℕ) (zero : Bool) → (length value == 0) ≡ zero → is_empty value ≡ zero
 length-if [] zero is = is
@@ -133,20 +128,9 @@ entry-grounds hub now user =
     (step (is_here (has_key user.key) hub) (denials.NickTaken Fatal) _ _ _ (taken-nick Fatal (is_here (has_key user.key) hub))
     (λ nick. step (is_here (has_cid user.cid) hub) denials.CidTaken _ _ _ (taken-cid (is_here (has_cid user.cid) hub)) (λ cid. refl)))
 
-wrong-digest : (expected : List ℕ) (digest : Option (List ℕ)) → wrong_password expected digest ≡ deny_if (not (is_digest expected digest)) denials.Password
-wrong-digest expected None = refl
-wrong-digest expected (Some digest) = unless-if (bytes_eq digest expected) denials.Password
-
-by-digest : (test : Bool) (rule later : Option Deny) (grounds : List (Bool × Deny)) → rule ≡ deny_if test denials.Password → later ≡ first_ground grounds
-    → option_or (denial_of (first_denial (rule ∷ []))) later ≡ first_ground ((test, denials.Password) ∷ grounds)
-by-digest true rule later grounds is same = ap (λ r. option_or (denial_of (first_denial (r ∷ []))) later) is
-by-digest false rule later grounds is same = ap (λ r. option_or (denial_of (first_denial (r ∷ []))) later) is ∙ same
-
--- the digest first, and then what is asked of each entry
-pub password-grounds : (hub : Sight) (own : sights.Own) (now : ℕ) (digest : Option (List ℕ)) (user : Listed)
-    → option_or (denial_of (first_denial (pass_rules own.expected digest))) (denial_of (first_denial (entry_rules (entry_ask hub now user)))) ≡ first_ground (password_grounds hub own now digest user)
-password-grounds hub own now digest user =
-    by-digest (not (is_digest own.expected digest)) (wrong_password own.expected digest) _ (entry_grounds hub now user) (wrong-digest own.expected digest) (entry-grounds hub now user)
+pub password-grounds : (expected : List ℕ) (digest : Option (List ℕ)) → Agree (pass_rules expected digest) ((not (is_digest expected digest), denials.Password) ∷ [])
+password-grounds expected None = refl
+password-grounds expected (Some digest) = step (not (bytes_eq digest expected)) denials.Password _ _ _ (unless-if (bytes_eq digest expected) denials.Password) (λ right. refl)
 
 -- ---- logins
 
@@ -159,24 +143,26 @@ login-grounds hub own now digest u user =
     let nick = value_or_empty nick_name u in
     let cid = spelled_bytes 24 id in
     let is_nick_good = is_nick (chars (nick_in u)) in
+    let is_bad = λ (name : List ℕ). is_bad_number (value_or_empty name u) in
     let barred = hub.setup.registered_only && not (is_account hub user.key) in
-    step (is_empty id) (denials.Missing id_name) _ _ _ (missing-if (is_some cid) id id_name) (λ has_id.
-    step (is_empty pid) (denials.Missing private_id_name) _ _ _ (missing-if (is_some digest) pid private_id_name) (λ has_pid.
-    step (is_empty nick) (denials.Missing nick_name) _ _ _ (missing-if is_nick_good nick nick_name) (λ has_nick.
-    step (not (is_some cid)) (denials.BadField Fatal id_name) _ _ _ (bad-if (is_some cid) id id_name has_id) (λ is_cid.
-    step (not (is_some digest)) (denials.BadField Fatal private_id_name) _ _ _ (bad-if (is_some digest) pid private_id_name has_pid) (λ is_pid.
-    step (is_some (bad_number u)) (denials.BadField Fatal (unwrap_or (bad_number u) [])) _ _ _ (number-if Fatal (bad_number u)) (λ numbers.
-    step (differs (unwrap_or cid []) (unwrap_or digest [])) denials.BadPid _ _ _ (pid-if cid digest is_cid is_pid) (λ own_pid.
+    step (is_empty id) (denials.Missing fields.Id) _ _ _ (missing-if (is_some cid) id fields.Id) (λ has_id.
+    step (is_empty pid) (denials.Missing fields.PrivateId) _ _ _ (missing-if (is_some digest) pid fields.PrivateId) (λ has_pid.
+    step (is_empty nick) (denials.Missing fields.Nick) _ _ _ (missing-if is_nick_good nick fields.Nick) (λ has_nick.
+    step (not (is_some cid)) (denials.BadField Fatal fields.Id) _ _ _ (bad-if (is_some cid) id fields.Id has_id) (λ is_cid.
+    step (not (is_some digest)) (denials.BadField Fatal fields.PrivateId) _ _ _ (bad-if (is_some digest) pid fields.PrivateId has_pid) (λ is_pid.
+    step (is_bad share_size_name) (denials.BadField Fatal fields.ShareSize) _ _ _ (number-if Fatal (is_bad share_size_name) fields.ShareSize) (λ size.
+    step (is_bad shared_files_name) (denials.BadField Fatal fields.SharedFiles) _ _ _ (number-if Fatal (is_bad shared_files_name) fields.SharedFiles) (λ files.
+    step (not (is_digest user.cid digest)) denials.BadPid _ _ _ (identity-if (is_digest user.cid digest)) (λ own_pid.
     step (not is_nick_good) (denials.BadNick Fatal) _ _ _ (nick-if is_nick_good nick has_nick) (λ good_nick.
     ban-step (left_of_bans hub.bans user.cid now) _ _
     (step (is_wrong_address own.peer (value_or_empty address_name u)) (denials.Address Fatal own.peer) _ _ _ (address-if Fatal own.peer (value_or_empty address_name u)) (λ address.
     step barred denials.Registered _ _ _ (admission-if barred) (λ admitted.
     step (is_here (has_key user.key) hub) (denials.NickTaken Fatal) _ _ _ (taken-nick Fatal (is_here (has_key user.key) hub)) (λ free_nick.
-    step (is_here (has_cid user.cid) hub) denials.CidTaken _ _ _ (taken-cid (is_here (has_cid user.cid) hub)) (λ free_cid. refl)))))))))))))
+    step (is_here (has_cid user.cid) hub) denials.CidTaken _ _ _ (taken-cid (is_here (has_cid user.cid) hub)) (λ free_cid. refl))))))))))))))
 
 -- ---- updates
 
-own-if : (same : Bool) → foreign_id (if same then Own else Foreign) ≡ deny_if (not same) (denials.BadField Recoverable id_name)
+own-if : (same : Bool) → foreign_id (if same then Own else Foreign) ≡ deny_if (not same) (denials.BadField Recoverable fields.Id)
 own-if true = refl
 own-if false = refl
 
@@ -184,8 +170,8 @@ same-bytes : (value : List ℕ) → bytes_eq value value ≡ true
 same-bytes value = (bytes_eq-Decides value value).1 refl
 
 id-if : (known : List Field) (id : Option (List ℕ))
-    → foreign_id (own_if_given known id) ≡ deny_if (differs (unwrap_or id (value_or_empty id_name known)) (value_or_empty id_name known)) (denials.BadField Recoverable id_name)
-id-if known None = ap (λ b. deny_if (not b) (denials.BadField Recoverable id_name)) (sym (same-bytes (value_or_empty id_name known)))
+    → foreign_id (own_if_given known id) ≡ deny_if (differs (unwrap_or id (value_or_empty id_name known)) (value_or_empty id_name known)) (denials.BadField Recoverable fields.Id)
+id-if known None = ap (λ b. deny_if (not b) (denials.BadField Recoverable fields.Id)) (sym (same-bytes (value_or_empty id_name known)))
 id-if known (Some id) = own-if (bytes_eq id (value_or_empty id_name known))
 
 good-nick : (good : Bool) → bad_nick (good_if good) ≡ deny_if (not good) (denials.BadNick Recoverable)
@@ -209,10 +195,12 @@ unfolding update_ask update_grounds
 update-grounds hub own u user =
     let touched = touches_account hub (key_in own.fields) user.key in
     let few = fits own.fields (clean u own.peer) in
-    step (differs (unwrap_or (value_of id_name u) (value_or_empty id_name own.fields)) (value_or_empty id_name own.fields)) (denials.BadField Recoverable id_name) _ _ _ (id-if own.fields (value_of id_name u)) (λ own_id.
-    step (is_some (bad_number u)) (denials.BadField Recoverable (unwrap_or (bad_number u) [])) _ _ _ (number-if Recoverable (bad_number u)) (λ numbers.
+    let is_bad = λ (name : List ℕ). is_bad_number (value_or_empty name u) in
+    step (differs (unwrap_or (value_of id_name u) (value_or_empty id_name own.fields)) (value_or_empty id_name own.fields)) (denials.BadField Recoverable fields.Id) _ _ _ (id-if own.fields (value_of id_name u)) (λ own_id.
+    step (is_bad share_size_name) (denials.BadField Recoverable fields.ShareSize) _ _ _ (number-if Recoverable (is_bad share_size_name) fields.ShareSize) (λ size.
+    step (is_bad shared_files_name) (denials.BadField Recoverable fields.SharedFiles) _ _ _ (number-if Recoverable (is_bad shared_files_name) fields.SharedFiles) (λ files.
     step (is_bad_nick (value_of nick_name u)) (denials.BadNick Recoverable) _ _ _ (new-nick-if (value_of nick_name u)) (λ nick.
     step touched (denials.Access (codes "BINF")) _ _ _ (account-if touched) (λ account.
     step (is_wrong_address own.peer (value_or_empty address_name u)) (denials.Address Recoverable own.peer) _ _ _ (address-if Recoverable own.peer (value_or_empty address_name u)) (λ address.
     step (not few) denials.Protocol _ _ _ (size-if few) (λ fitting.
-    step (another_has_key hub own.sid user.key) (denials.NickTaken Recoverable) _ _ _ (taken-nick Recoverable (another_has_key hub own.sid user.key)) (λ free. refl)))))))
+    step (another_has_key hub own.sid user.key) (denials.NickTaken Recoverable) _ _ _ (taken-nick Recoverable (another_has_key hub own.sid user.key)) (λ free. refl))))))))

@@ -1,0 +1,93 @@
+//! The grounds on which a login, an update and a password are denied: a test each, and what is said where it holds (ADC 1.0, "INF", "PAS").
+
+ghost use Rattle.std.specs.Prelude.{◌≡◌, IfOk};
+ghost use Rattle.hub_rules.specs.Grounds.{first_ground, is_digest, is_empty, is_ever, is_timed, is_wrong_address, number_ground, seconds_of};
+
+use crate::given::value_in_update;
+use inf_fields::{Update, dotted_decimal, is_bad_number};
+use login_state::{Deny, NamedField, Severity};
+use operator_acts::Left;
+use std::alloc::{AllocError, Global};
+
+/// Gives the denial of the first ground that holds.
+pub(crate) fn first_ground(grounds: &[(bool, Deny)]) -> Option<Deny>
+    ensures { result ≡ first_ground grounds.now }
+{
+    for (holds, deny) in grounds {
+        if *holds {
+            return Some(*deny);
+        }
+    }
+    None
+}
+
+pub(crate) fn is_empty(text: &str) -> bool
+    ensures { result ≡ is_empty text.now }
+{
+    match text.as_bytes() {
+        [] => true,
+        [_, ..] => false,
+    }
+}
+
+/// Tells whether a digest is the expected one.
+pub(crate) fn is_digest(expected: &[u8; 24], digest: Option<[u8; 24]>) -> bool
+    ensures { result ≡ is_digest expected.now digest }
+{
+    match digest {
+        Some(digest) => digest == *expected,
+        None => false,
+    }
+}
+
+/// Makes the ground that a field which is to be a number is none.
+pub(crate) fn number_ground(severity: Severity, field: NamedField, update: &Update) -> (bool, Deny)
+    ensures { result ≡ number_ground severity field update.now }
+{
+    (
+        is_bad_number(value_in_update(update, field.name())),
+        Deny::BadField(severity, field),
+    )
+}
+
+/// Tells whether an address is wrong: it is neither empty, nor `0.0.0.0`, nor the peer's. Refused only where memory runs out.
+pub(crate) fn is_wrong_address(
+    alloc: Global,
+    peer: [u8; 4],
+    address: &str,
+) -> Result<bool, AllocError>
+    ensures { IfOk result (λ wrong. wrong ≡ is_wrong_address peer address.now) }
+{
+    let seen = dotted_decimal(alloc, peer)?;
+    Ok(!(is_empty(address) || address == "0.0.0.0" || address == seen.as_str()))
+}
+
+/// Tells whether a ban is for good.
+pub(crate) fn is_ever(left: Left) -> bool
+    ensures { result ≡ is_ever left }
+{
+    match left {
+        Left::Ever => true,
+        Left::Free | Left::For(_) => false,
+    }
+}
+
+/// Tells whether a ban is for a time.
+pub(crate) fn is_timed(left: Left) -> bool
+    ensures { result ≡ is_timed left }
+{
+    match left {
+        Left::For(_) => true,
+        Left::Free | Left::Ever => false,
+    }
+}
+
+/// Gives the seconds that are left of a ban for a time.
+pub(crate) fn seconds_of(left: Left) -> u64
+    ensures { result ≡ seconds_of left }
+{
+    match left {
+        Left::For(seconds) => seconds,
+        Left::Free | Left::Ever => 0,
+    }
+}

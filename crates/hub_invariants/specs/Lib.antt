@@ -1,0 +1,5 @@
+pub mod Lagging
+pub mod Opening
+pub mod Promises
+pub mod Said
+pub mod World
