@@ -1,38 +1,13 @@
 -- After every history, no two users who are present have the same nick or the same client identifier.
-use Rattle.std.proofs.Common.{◌≡◌, ◌∙◌, sym, ap, ap₂, refl, ℕ, ◌+◌, ◌≤◌, Bool, true, false, not, ◌&&◌, ◌||◌, ◌==◌, inl, inr, eqb, List, [], ◌∷◌, map, subst, cond}
-use Rattle.std.specs.List.{list_any}
-use Rattle.std.specs.Str.{bytes_eq}
-use Rattle.std.proofs.lemmas.Bool.{false≢true, eqb-true, eq-eqb}
-use Rattle.std.proofs.lemmas.Slice.Eq.{bytes_eq-Decides}
-use Rattle.inf_fields.specs.Field.{Field}
-use Rattle.login_state.specs.declared.stage.Stage.{Stage}
-use Rattle.user_table.specs.Listed.{Listed}
-use Rattle.user_table.specs.Tables.{has_cid, has_key, has_sid}
-use Rattle.hub_rules.specs.declared.effect.Change.{Change}
-use Rattle.hub_rules.specs.declared.effect.Effect.{Effect}
-use Rattle.hub_rules.specs.declared.history.Call.{Call}
-use Rattle.hub_rules.specs.declared.history.Call.TheVariants.{Join, Line, Quit, Take}
-use Rattle.hub_rules.specs.declared.history.Entry.{Entry}
-use Rattle.hub_rules.specs.Configured.{most_users, Configured}
-use Rattle.hub_rules.specs.Differing.{CidsDiffer, NicksDiffer}
-use Rattle.hub_rules.specs.Effects.{departure, is_present}
-use Rattle.hub_rules.specs.Facts.{Facts, facts, about_after, after, without_connection, effect_of_line, happens, has_joins, has_place, with_connection, newcomer, next_sid, own_of, sight_of, user_of}
-use Rattle.hub_rules.specs.Identities.{cid_in, key_in, listed_user}
-use Rattle.hub_rules.specs.Prepared.{prepared_line}
-use Rattle.hub_rules.specs.Said.{infs}
-use Rattle.hub_rules.specs.Shares.{fields_after, removed_by, stage_after}
-use Rattle.hub_invariants.proofs.Becoming.{take-facts}
-use Rattle.hub_invariants.proofs.Calls.{absent-newcomer, sound_of}
+use Rattle.std.proofs.Common.{◌≡◌, ◌∙◌, sym, ap, ap₂, refl, ℕ, ◌≤◌, Bool, true, false, not, ◌&&◌, ◌||◌, inl, inr, eqb, List, [], ◌∷◌, map, subst, cond, arith}
+use Rattle.hub_laws.specs.Differing.{CidsDiffer, NicksDiffer}
 use Rattle.hub_laws.proofs.Clearing.{IsClear, clear-line, listed-cid, listed-key}
 use Rattle.hub_laws.proofs.Distinct.{Clears, Differ, happens-differ}
-use Rattle.hub_invariants.proofs.Fits.{Fits, fits-departure}
-use Rattle.hub_invariants.proofs.Lines.{fits-line}
-use Rattle.hub_invariants.proofs.Kept.{differs-sid}
-use Rattle.hub_invariants.proofs.Members.{has, or-parts}
-use Rattle.hub_invariants.proofs.Saying.{told_of}
 use Rattle.hub_invariants.proofs.Sids.{Numbered, numbered_of}
-use Rattle.hub_invariants.proofs.Sound.{Sound, happens-open, happens-sound, not-over, stage_next}
-use Rattle.hub_invariants.proofs.Suits.{listed-sid}
+use Rattle.hub_laws.proofs.Words.{Call, Change, Configured, Effect, Entry, Facts, Field, Fits, Join, Line, Listed, Quit, Sound, Stage, Take, about_after, after, bytes_eq, bytes_eq-Decides, cid_in}
+use Rattle.hub_laws.proofs.Words.{departure, differs-sid, effect_of_line, eq-eqb, facts, false≢true, fields_after, fits-departure, fits-line, happens, happens-open, happens-sound, has, has_cid}
+use Rattle.hub_laws.proofs.Words.{has_joins, has_key, has_place, has_sid, infs, is_present, key_in, list_any, listed-sid, listed_user, most_users, not-over, or-parts, own_of, prepared_line}
+use Rattle.hub_laws.proofs.Words.{removed_by, sight_of, sound_of, stage_after, stage_next, take-facts, told_of, user_of, with_connection, without_connection}
 
 -- a user has what it is known by
 abbrev Knows : (List Field → List ℕ) → (List ℕ → Listed → Bool) → Type 0
@@ -45,8 +20,7 @@ knows-cid : Knows cid_in has_cid
 knows-cid sid fields = ap (λ k. bytes_eq k (cid_in fields)) (listed-cid sid fields) ∙ (bytes_eq-Decides (cid_in fields) (cid_in fields)).1 refl
 
 none-of : (p : Listed → Bool) (g : ℕ → Listed) (d x : ℕ) (xs : List ℕ) (same : Bool) → eqb x d ≡ same → (same ≡ false → p (g d) ≡ false) → p (g x) ≡ false → p (g d) ≡ false
-none-of p g d x xs true is later here = ap (λ y. p (g y)) (sym (eqb-true x d is)) ∙ here
-none-of p g d x xs false is later here = later refl
+none-of p g d x xs same is later here = grind arith
 
 -- where no user is so, this one is not
 none-at : (p : Listed → Bool) (g : ℕ → Listed) (d : ℕ) (xs : List ℕ) → list_any p (map g xs) ≡ false → has d xs ≡ true → p (g d) ≡ false
@@ -56,8 +30,7 @@ none-at p g d (x ∷ xs) none there =
     none-of p g d x xs (eqb x d) refl (λ other. none-at p g d xs parts.1 (sym (ap (λ b. b || has d xs) other) ∙ there)) parts.0
 
 after-present : (removed : Bool) (change : Change) (stage : Stage) → is_present (stage_next removed true change stage) ≡ true → is_present (stage_after change stage) ≡ true
-after-present true change stage here = absurd (false≢true here)
-after-present false change stage here = here
+after-present removed change stage here = grind arith
 
 clears-from : (of : List Field → List ℕ) (test : List ℕ → Listed → Bool) → Knows of test → (setup : Configured) (f : Facts) (c : ℕ) (effect : Effect)
     → Sound f → Numbered setup f → Fits (f.about c).stage effect → Differ of f → IsClear of test (sight_of setup f) (own_of (f.about c)) effect → Clears of f c effect
@@ -83,26 +56,11 @@ unfolding without_connection
 closed-differ of c f differ = differ
 
 falls-away : (c : ℕ) (f : Facts) (stage : Stage) (sid : ℕ) (of : List Field → List ℕ) → Clears of f c (departure stage sid)
-falls-away c f stage sid of here d there other same =
-    false≢true (after-present (removed_by (departure stage sid) (f.about c)) (departure stage sid).change (f.about c).stage
-    (ap (λ b. is_present (stage_next (removed_by (departure stage sid) (f.about c)) b (departure stage sid).change (f.about c).stage)) (sym (eq-eqb c c refl)) ∙ here))
-
-differ-same : (of : List Field → List ℕ) (f g : Facts) → g.present ≡ f.present → ((d : ℕ) → has d f.present ≡ true → (g.about d).fields ≡ (f.about d).fields) → Differ of f → Differ of g
-differ-same of f g present same differ c d there-c there-d equal =
-    let at-c = ap (has c) (sym present) ∙ there-c in
-    let at-d = ap (has d) (sym present) ∙ there-d in
-    differ c d at-c at-d (ap of (sym (same c at-c)) ∙ equal ∙ ap of (same d at-d))
-
-newcomer-away : (f : Facts) → Sound f → (d : ℕ) (same : Bool) → (d == (f.joins + 1)) ≡ same → has d f.present ≡ true → same ≡ false
-newcomer-away f sound d true is there =
-    absurd (false≢true (sym (absent-newcomer f sound) ∙ ap (λ x. is_present (f.about x).stage) (sym (eqb-true d (f.joins + 1) is)) ∙ sym (sound.entered d) ∙ there))
-newcomer-away f sound d false is there = refl
+falls-away c f stage sid of here d there other same = grind arith
 
 joined-differ : (of : List Field → List ℕ) (f : Facts) (owner : ℕ) (peer challenge : List ℕ) → Sound f → Differ of f → Differ of (with_connection f owner peer challenge)
 unfolding with_connection
-joined-differ of f owner peer challenge sound differ =
-    differ-same of f (with_connection f owner peer challenge) refl
-    (λ d there. ap (λ b. (cond b (newcomer owner (next_sid f) peer challenge) (f.about d)).fields) (newcomer-away f sound d (d == (f.joins + 1)) refl there)) differ
+joined-differ of f owner peer challenge sound differ = grind arith
 
 join-differ : (of : List Field → List ℕ) (f : Facts) (owner : ℕ) (peer challenge : List ℕ) (accepted : Bool) → Sound f → Differ of f
     → Differ of (cond accepted (with_connection f owner peer challenge) f)

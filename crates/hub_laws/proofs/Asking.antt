@@ -1,25 +1,10 @@
 -- The lines owed by a line after which the hub waits for a password.
-use Rattle.std.proofs.Common.{◌≡◌, ◌∙◌, sym, ap₂, refl, subst, ℕ, Bool, ◌⊎◌, inl, inr, ◌==◌, List, [], ◌∷◌, ◌++◌, Option, ap, cond}
-use Rattle.std.proofs.lemmas.Bool.{eqb-true}
-use Rattle.adc_line.specs.Lines.{Reading}
-use Rattle.login_state.specs.declared.stage.Stage.TheVariants as stages
-use Rattle.hub_rules.specs.declared.effect.Change.TheVariants.{Sender}
-use Rattle.hub_rules.specs.declared.effect.Effect.{Effect}
-use Rattle.hub_rules.specs.declared.effect.SenderChange.TheVariants as senders
-use Rattle.hub_rules.specs.declared.history.Call.{Call}
-use Rattle.hub_rules.specs.declared.history.Call.TheVariants.{Line}
-use Rattle.login_state.specs.declared.request.Request.{Request}
-use Rattle.hub_rules.specs.Configured.{Configured}
-use Rattle.hub_rules.specs.Effects.{departure}
-use Rattle.hub_rules.specs.Facts.{Facts, facts, effect_of_line, own_of}
-use Rattle.hub_rules.specs.Lagging.{share}
-use Rattle.hub_rules.specs.Shares.{About, hears, owes, removed_by, stage_after}
-use Rattle.hub_rules.specs.Sights.{Own, PreparedLine, Sight}
-use Rattle.hub_rules.specs.Texts.{challenge_line}
+use Rattle.std.proofs.Common.{◌≡◌, sym, refl, subst, ℕ, Bool, ◌⊎◌, inl, inr, ◌==◌, List, [], ◌∷◌, Option, cond, arith}
+use Rattle.hub_laws.proofs.Words.{About, Becomes, Call, Configured, Effect, Facts, Line, Outcome, Own, PreparedLine, Reading, Request, Sender, Sight, becomes, challenge_line, departure}
+use Rattle.hub_laws.proofs.Words.{effect_of_line, eqb-true, facts, greets, lets_in, line-outcome, owes, own_of, proves, removed_by, share, shuts_out, stage_after, waits}
+use Rattle.hub_laws.proofs.Words.senders
+use Rattle.hub_laws.proofs.Words.stages
 use Rattle.hub_laws.specs.Passwords.{ChallengesAreTold}
-use Rattle.hub_invariants.proofs.Becoming.{Becomes, becomes}
-use Rattle.hub_invariants.proofs.Outcomes.{Outcome, greets, lets_in, line-outcome, proves, shuts_out, waits}
-use Rattle.hub_laws.proofs.Lagging.{given-nothing}
 use Rattle.hub_laws.proofs.Moving.{moves-to, gone-verify, identify-verify, normal-verify, protocol-verify}
 
 -- ---- one line
@@ -43,13 +28,10 @@ module _ {hub : Sight} {own : Own} {line : PreparedLine} {now : ℕ} where
 -- ---- the call
 
 owes-own : (is_caller : Bool) (effect : Effect) (a : About) (own : List (List ℕ)) → effect.others ≡ [] → effect.own ≡ own → owes is_caller effect a ≡ cond is_caller own []
-owes-own is_caller effect a own none is =
-    ap₂ (λ (others : List (List ℕ)) ls. cond (hears is_caller effect.hearers a) others [] ++ cond is_caller ls []) none is
-    ∙ ap (λ ls. ls ++ cond is_caller own []) (given-nothing (hears is_caller effect.hearers a))
+owes-own is_caller effect a own none is = grind arith
 
 asked-now : (own : Own) (effect : Effect) → (own.stage ≡ stages.Verify → ⊥) → (own.stage ≡ stages.Verify) ⊎ Asks own effect → Asks own effect
-asked-now own effect before (inl is) = absurd (before is)
-asked-now own effect before (inr asks) = asks
+asked-now own effect before made = grind arith
 
 line-tells : (setup : Configured) (hash : List ℕ → List ℕ) (f : Facts) (c d : ℕ) (bytes : List ℕ) (now : ℕ) → ((f.about c).stage ≡ stages.Verify → ⊥)
     → stage_after (effect_of_line setup hash f c bytes now).change (f.about c).stage ≡ stages.Verify

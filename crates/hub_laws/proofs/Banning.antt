@@ -1,23 +1,9 @@
 -- After every history the bans are few, and on one client identifier each.
 use Rattle.std.proofs.Common.{◌≡◌, sym, subst, ℕ, false, ◌&&◌, List, [], ◌∷◌, Option}
-use Rattle.adc_line.specs.Lines.{Reading}
-use Rattle.operator_acts.specs.Bans.{is_full}
-use Rattle.operator_acts.specs.declared.ban.Ban.{Ban}
-use Rattle.user_table.specs.Listed.{Listed}
-use Rattle.hub_rules.specs.declared.effect.Change.{Change}
-use Rattle.hub_rules.specs.declared.effect.Change.TheVariants.{Hub}
-use Rattle.hub_rules.specs.declared.effect.Effect.{Effect}
-use Rattle.hub_rules.specs.declared.effect.HubChange.{HubChange}
-use Rattle.hub_rules.specs.declared.effect.HubChange.TheVariants as shared
-use Rattle.hub_rules.specs.declared.history.Call.{Call}
-use Rattle.hub_rules.specs.declared.history.Call.TheVariants.{Join, Line, Quit, Take}
-use Rattle.hub_rules.specs.declared.history.Entry.{Entry}
-use Rattle.login_state.specs.declared.request.Request.{Request}
-use Rattle.hub_rules.specs.Configured.{Configured}
-use Rattle.hub_rules.specs.Facts.{Facts, facts, after, bans_after, without_connection, effect_of_line, happens, has_joins, has_place}
-use Rattle.hub_rules.specs.Sights.{Own, PreparedLine, Sight}
+use Rattle.hub_laws.proofs.Words.{Ban, Call, Change, Configured, Does, Effect, Entry, Facts, Hub, HubChange, Join, Line, Listed, Outcome, Own, PreparedLine, Quit, Reading, Request, Sight, Take}
+use Rattle.hub_laws.proofs.Words.{acts, after, bans_after, bans_user, effect_of_line, facts, happens, has_joins, has_place, is_full, line-outcome, without_connection}
+use Rattle.hub_laws.proofs.Words.shared
 use Rattle.hub_laws.specs.Holding.{BansAreApart, BansAreFew}
-use Rattle.hub_invariants.proofs.Outcomes.{Does, Outcome, acts, bans_user, line-outcome}
 use Rattle.hub_laws.proofs.Holding.{AreHeld, held-none, held-with, held-without}
 use Rattle.hub_laws.proofs.Worlds.{join-bans}
 

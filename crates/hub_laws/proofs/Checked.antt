@@ -1,28 +1,12 @@
 -- The checks that were passed by a line that brings its user in, makes it wait for a password, or changes a nick.
-use Rattle.std.specs.Option.{option_or}
-use Rattle.std.proofs.Common.{◌≡◌, sym, ap, refl, ℕ, Bool, true, false, not, ◌&&◌, ◌||◌, ◌⊎◌, inl, inr, List, [], ◌∷◌, Option, Some, None}
-use Rattle.std.specs.Prelude.{if◌then◌else◌}
-use Rattle.std.specs.Str.{bytes_eq}
-use Rattle.std.proofs.lemmas.Bool.{false≢true}
-use Rattle.std.proofs.lemmas.Slice.Eq.{bytes_eq-Decides}
-use Rattle.inf_fields.specs.Field.{Field}
-use Rattle.login_state.specs.declared.deny.Deny.{Deny}
-use Rattle.login_state.specs.declared.deny.Deny.TheVariants as denials
-use Rattle.operator_acts.specs.Bans.{left_of_bans}
+use Rattle.std.proofs.Common.{◌≡◌, refl, ℕ, Bool, true, false, not, ◌&&◌, ◌||◌, ◌⊎◌, List, [], ◌∷◌, Option, Some, None, arith}
 use Rattle.operator_acts.specs.declared.left.Left.{Left}
-use Rattle.operator_acts.specs.declared.left.Left.TheVariants as lefts
-use Rattle.user_table.specs.Listed.{Listed}
-use Rattle.hub_rules.specs.Grounds.{entry_grounds, first_ground, is_digest, is_ever, is_timed, login_grounds, password_grounds, update_grounds}
-use Rattle.hub_rules.specs.Identities.{key_in}
-use Rattle.hub_rules.specs.Sights.{Own, Sight, is_account}
-use Rattle.hub_invariants.proofs.Claims.{AllFalse, grounds_of, none-of, some-none}
-use Rattle.hub_invariants.proofs.Members.{or-parts}
+use Rattle.hub_laws.proofs.Words.{AllFalse, Deny, Field, Listed, Own, Sight, bytes_eq, bytes_eq-Decides, entry_grounds, first_ground, grounds_of, if◌then◌else◌, is_account, is_digest, is_ever}
+use Rattle.hub_laws.proofs.Words.{is_timed, key_in, left_of_bans, login_grounds, none-of, option_or, or-parts, password_grounds, update_grounds}
+use Rattle.hub_laws.proofs.Words.denials
+use Rattle.hub_laws.proofs.Words.lefts
 
 -- ---- what the grounds say that deny nothing
-
-abbrev pub is_bad_nick : Deny → Bool
-is_bad_nick (denials.BadNick severity) = true
-is_bad_nick deny = false
 
 abbrev pub is_for_accounts : Deny → Bool
 is_for_accounts denials.Registered = true
@@ -47,9 +31,7 @@ with_test is_so test [] = []
 with_test is_so test ((old, deny) ∷ more) = (if is_so deny then test else old, deny) ∷ with_test is_so test more
 
 free-ban : (l : Left) → is_ever l ≡ false → is_timed l ≡ false → l ≡ lefts.Free
-free-ban lefts.Free ever timed = refl
-free-ban (lefts.For seconds) ever timed = absurd (false≢true (sym timed))
-free-ban lefts.Ever ever timed = absurd (false≢true (sym ever))
+free-ban l ever timed = grind arith
 
 -- only accounts are let in, and this nick is none
 abbrev pub is_barred : Sight → List ℕ → Bool
@@ -57,8 +39,7 @@ is_barred hub key = hub.setup.registered_only && not (is_account hub key)
 
 pub entry-unbanned : (hub : Sight) (now : ℕ) (user : Listed) → first_ground (entry_grounds hub now user) ≡ None → left_of_bans hub.bans user.cid now ≡ lefts.Free
 unfolding entry_grounds
-entry-unbanned hub now user none =
-    let bans : AllFalse (grounds_of is_ban (entry_grounds hub now user)) = none-of is_ban (entry_grounds hub now user) none in free-ban (left_of_bans hub.bans user.cid now) bans.0 bans.1.0
+entry-unbanned hub now user none = grind arith
 
 pub login-rules : (hub : Sight) (own : Own) (now : ℕ) (digest : Option (List ℕ)) (u : List Field) (user : Listed) → first_ground (login_grounds hub own now digest u user) ≡ None
     → (left_of_bans hub.bans user.cid now ≡ lefts.Free) × (is_barred hub user.key ≡ false)
@@ -74,9 +55,7 @@ KeepsNick hub before afterwards = (afterwards ≡ before) ⊎ ((is_account hub b
 
 untouched : (hub : Sight) (before afterwards : List ℕ) (same either : Bool) → bytes_eq afterwards before ≡ same → (is_account hub before || is_account hub afterwards) ≡ either
     → (not same && either) ≡ false → KeepsNick hub before afterwards
-untouched hub before afterwards true either is-same is-either none = inl ((bytes_eq-Decides afterwards before).0 is-same)
-untouched hub before afterwards false true is-same is-either none = absurd (false≢true (sym none))
-untouched hub before afterwards false false is-same is-either none = inr (or-parts (is_account hub before) (is_account hub afterwards) is-either)
+untouched hub before afterwards same either is-same is-either none = grind (arith, bytes_eq-Decides, or-parts)
 
 pub update-keeps : (hub : Sight) (own : Own) (u : List Field) (user : Listed) → first_ground (update_grounds hub own u user) ≡ None → KeepsNick hub (key_in own.fields) user.key
 unfolding update_grounds
@@ -86,20 +65,15 @@ update-keeps hub own u user none =
 
 -- the digest that is given is the one that is waited for
 right-digest : (expected digest : List ℕ) (same : Bool) → bytes_eq digest expected ≡ same → not same ≡ false → digest ≡ expected
-right-digest expected digest true is none = (bytes_eq-Decides digest expected).0 is
-right-digest expected digest false is none = absurd (false≢true (sym none))
+right-digest expected digest same is none = grind (arith, bytes_eq-Decides)
 
 right-password : (expected : List ℕ) (given : Option (List ℕ)) → not (is_digest expected given) ≡ false → given ≡ Some expected
-right-password expected None none = absurd (false≢true (sym none))
-right-password expected (Some digest) none = ap Some (right-digest expected digest (bytes_eq digest expected) refl none)
+right-password expected given none = grind (arith, right-digest)
 
 pub password-right : (hub : Sight) (own : Own) (now : ℕ) (given : Option (List ℕ)) (user : Listed) → first_ground (password_grounds hub own now given user) ≡ None
     → given ≡ Some own.expected
 unfolding entry_grounds
-password-right hub own now given user none =
-    let right : AllFalse (grounds_of is_password (password_grounds hub own now given user)) = none-of is_password (password_grounds hub own now given user) none in
-    right-password own.expected given right.0
+password-right hub own now given user none = grind (arith, none-of, right-password)
 
 pub first-none : (first later : Option Deny) → option_or first later ≡ None → first ≡ None
-first-none None later none = refl
-first-none (Some deny) later none = absurd (some-none none)
+first-none first later none = grind arith

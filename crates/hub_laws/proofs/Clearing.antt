@@ -1,23 +1,8 @@
 -- A line leaves its connection no nick and no identifier of another present user.
-use Rattle.std.proofs.Common.{◌≡◌, ◌∙◌, sym, ap, ap₂, refl, ℕ, Bool, true, false, not, ◌&&◌, ◌||◌, ◌⊎◌, inl, inr, List, [], ◌∷◌, Option, None, Ok}
-use Rattle.std.specs.List.{list_any}
-use Rattle.std.proofs.lemmas.Bool.{false≢true}
-use Rattle.adc_line.specs.Lines.{Reading}
-use Rattle.inf_fields.specs.Cleaning.{clean}
-use Rattle.inf_fields.specs.Field.{Field}
-use Rattle.inf_fields.specs.Merging.{merged_fields, merged_with}
-use Rattle.user_table.specs.Listed.{Listed}
-use Rattle.user_table.specs.Tables.{has_cid, has_key, has_sid}
-use Rattle.hub_rules.specs.declared.effect.Effect.{Effect}
-use Rattle.login_state.specs.declared.request.Request.{Request}
-use Rattle.hub_rules.specs.Denied.{digest_given, update_denied}
-use Rattle.hub_rules.specs.Effects.{is_present, line_effect, update_effect}
-use Rattle.hub_rules.specs.Identities.{cid_in, key_in, listed_user}
-use Rattle.hub_rules.specs.Shares.{fields_after, stage_after}
-use Rattle.hub_rules.specs.Sights.{Own, PreparedLine, Sight, is_here, user_after}
-use Rattle.hub_invariants.proofs.Claims.{login-free, password-free, same-cid, update-free}
-use Rattle.hub_invariants.proofs.Members.{or-parts}
-use Rattle.hub_invariants.proofs.Outcomes.{Outcome, greets, lets_in, outcome, proves, revises, shuts_out, waits}
+use Rattle.std.proofs.Common.{◌≡◌, ◌∙◌, sym, ap, ap₂, refl, ℕ, Bool, true, false, not, ◌&&◌, ◌||◌, ◌⊎◌, inl, inr, List, [], ◌∷◌, Option, None, Ok, arith}
+use Rattle.hub_laws.proofs.Words.{Effect, Field, Listed, Outcome, Own, PreparedLine, Reading, Request, Sight, cid_in, clean, digest_given, fields_after, greets, has_cid, has_key, has_sid, is_here}
+use Rattle.hub_laws.proofs.Words.{is_present, key_in, lets_in, line_effect, list_any, listed_user, login-free, merged_fields, merged_with, or-parts, outcome, password-free, proves, revises}
+use Rattle.hub_laws.proofs.Words.{same-cid, shuts_out, stage_after, update-free, update_denied, update_effect, user_after, waits}
 
 -- another user than the one with this session identifier passes the test
 abbrev pub another : (Listed → Bool) → Sight → ℕ → Bool
@@ -39,15 +24,11 @@ pub record Clear (hub : Sight) (own : Own) (effect : Effect) : Type 0 where
 kept-by : (of : List Field → List ℕ) (test : List ℕ → Listed → Bool) (hub : Sight) (own : Own) (effect : Effect) (here : Bool)
     → of (fields_after effect.change own.fields) ≡ of own.fields → is_present (stage_after effect.change own.stage) ≡ here → (here ≡ true → is_present own.stage ≡ true)
     → IsClear of test hub own effect
-kept-by of test hub own effect true same is before = inr (inl (same, before refl))
-kept-by of test hub own effect false same is before = inl is
+kept-by of test hub own effect here same is before = grind arith
 
 clear-kept : (hub : Sight) (own : Own) (effect : Effect) → fields_after effect.change own.fields ≡ own.fields
     → (is_present (stage_after effect.change own.stage) ≡ true → is_present own.stage ≡ true) → Clear hub own effect
-clear-kept hub own effect same before = record {
-  nick = kept-by key_in has_key hub own effect (is_present (stage_after effect.change own.stage)) (ap key_in same) refl (λ here. before here);
-  cid = kept-by cid_in has_cid hub own effect (is_present (stage_after effect.change own.stage)) (ap cid_in same) refl (λ here. before here);
-}
+clear-kept hub own effect same before = grind arith
 
 clear-absent : (hub : Sight) (own : Own) (effect : Effect) → is_present (stage_after effect.change own.stage) ≡ false → Clear hub own effect
 clear-absent hub own effect away = record { nick = inl away; cid = inl away }
@@ -55,8 +36,7 @@ clear-absent hub own effect away = record { nick = inl away; cid = inl away }
 -- ---- entering
 
 weaker : (test other : Bool) → test ≡ false → (test && other) ≡ false
-weaker true other e = absurd (false≢true (sym e))
-weaker false other e = refl
+weaker test other e = grind arith
 
 -- where nobody is so, nobody else is
 nobody-else : (test : Listed → Bool) (sid : ℕ) (users : List Listed) → list_any test users ≡ false → list_any (λ (user : Listed). test user && not (has_sid sid user)) users ≡ false
@@ -102,7 +82,8 @@ clear-update hub own infs u known none =
 -- ---- every line
 
 module _ {hub : Sight} {own : Own} {line : PreparedLine} {now : ℕ} where
-  clear : {said : Option Reading} {request : Request} {effect : Effect} → Outcome hub own line now said request effect → (infs : List (List Field)) → own.fields ≡ merged_fields infs → Clear hub own effect
+  clear : {said : Option Reading} {request : Request} {effect : Effect} → Outcome hub own line now said request effect → (infs : List (List Field)) → own.fields ≡ merged_fields infs
+      → Clear hub own effect
   clear (shuts_out deny) infs known = clear-absent hub own _ refl
   clear (greets reading features at applies) infs known = clear-absent hub own _ refl
   clear (waits reading u logs account) infs known = clear-absent hub own _ refl

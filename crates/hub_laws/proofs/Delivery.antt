@@ -1,21 +1,9 @@
 -- The lines that a take gives stand behind those of the takes before it.
-use Rattle.std.proofs.Common.{◌≡◌, ◌∙◌, sym, ap, ap₂, refl, ℕ, ◌<◌, ◌≤◌, Bool, true, false, ◌==◌, List, [], ◌∷◌, ◌++◌, length, take, append-nil, arith, cond}
-use Rattle.std.specs.List.{concat}
-use Rattle.std.proofs.lemmas.Bool.{eqb-true, false≢true}
-use Rattle.std.proofs.lemmas.List.{take-append-le}
-use Rattle.hub_rules.specs.declared.effect.Effect.{Effect}
-use Rattle.hub_rules.specs.declared.history.Call.{Call}
-use Rattle.hub_rules.specs.Configured.{Configured}
-use Rattle.hub_rules.specs.Effects.{departure}
-use Rattle.hub_rules.specs.Facts.{Facts, facts, about_after, effect_of_line}
-use Rattle.hub_rules.specs.Legal.{Legal, reply, take_reply}
-use Rattle.hub_rules.specs.Shares.{About, waiting}
+use Rattle.std.proofs.Common.{◌≡◌, ◌∙◌, sym, ap, ap₂, refl, ℕ, ◌<◌, ◌≤◌, Bool, ◌==◌, List, [], ◌∷◌, ◌++◌, length, take, append-nil, arith}
+use Rattle.hub_laws.proofs.Words.{About, Becomes, Call, Configured, Effect, Facts, Legal, about_after, becomes, concat, departure, effect_of_line, eqb-sym, eqb-true, facts, fresh-taken}
+use Rattle.hub_laws.proofs.Words.{given-bytes, reply, sound_of, take-append-le, take_reply, taken_by}
 use Rattle.hub_laws.specs.Delivery.{DeliveredAreTheFirst, bytes_of_take, bytes_taken, bytes_delivered}
-use Rattle.hub_invariants.proofs.Becoming.{Becomes, becomes, taken_by}
-use Rattle.hub_invariants.proofs.Calls.{sound_of}
-use Rattle.hub_invariants.proofs.Kept.{fresh-taken, given-bytes}
-use Rattle.hub_invariants.proofs.Sound.{eqb-sym}
-use Rattle.hub_laws.proofs.Lagging.{Unowed, about-owed, room_in, share_by, unowed_of}
+use Rattle.hub_laws.proofs.Lagging.{Unowed, about-owed, unowed_of}
 
 -- the bytes of the first lines that a connection was owed, of as many as it took
 abbrev front : About → List ℕ
@@ -25,17 +13,11 @@ front a = concat (take a.taken a.owed)
 
 -- an effect takes nothing, and adds to what is owed
 front-after : (c : ℕ) (effect : Effect) (f : Facts) (d : ℕ) → (f.about d).taken ≤ length (f.about d).owed → front (about_after c effect f.about d) ≡ front (f.about d)
-front-after c effect f d few =
-    ap (λ ls. concat (take (f.about d).taken ls)) (about-owed c effect f d)
-    ∙ ap concat (take-append-le (f.about d).taken (f.about d).owed (cond (room_in (f.about d) (share_by c effect f d)) (share_by c effect f d) []) few)
+front-after c effect f d few = grind (arith, about-owed, take-append-le)
 
 take-front : (f : Facts) (c count d : ℕ) (same other : Bool) → (d == c) ≡ same → same ≡ other
     → front (taken_by same count (f.about d)) ≡ front (f.about d) ++ bytes_of_take other (take_reply count (f.about c))
-take-front f c count d true true is alike =
-    given-bytes count (f.about d) ∙ ap (λ (x : ℕ). front (f.about d) ++ concat (take count (waiting (f.about x)))) (eqb-true d c is)
-take-front f c count d true false is alike = absurd (false≢true (sym alike))
-take-front f c count d false true is alike = absurd (false≢true alike)
-take-front f c count d false false is alike = sym (append-nil (front (f.about d)))
+take-front f c count d same other is alike = grind (arith, given-bytes, eqb-true, append-nil)
 
 module _ {setup : Configured} {hash : List ℕ → List ℕ} {f : Facts} {caller d : ℕ} where
   front-next : {call : Call} {a : About} → Becomes setup hash f caller d call a → (f.joins < d → (f.about d).taken ≡ 0) → (f.joins < d → Unowed (f.about d))

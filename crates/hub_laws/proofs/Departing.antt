@@ -1,32 +1,11 @@
 -- The lines that others are owed by a call by which a user leaves.
-use Rattle.std.proofs.Common.{◌≡◌, ◌∙◌, sym, ap, refl, subst, ℕ, Bool, true, false, ◌&&◌, ◌==◌, List, [], ◌∷◌, Option}
-use Rattle.std.proofs.lemmas.Bool.{false≢true, eqb-true}
-use Rattle.adc_line.specs.Lines.{Reading}
-use Rattle.login_state.specs.declared.stage.Stage.{Stage}
-use Rattle.login_state.specs.declared.stage.Stage.TheVariants as stages
-use Rattle.outboxes.specs.Quits.{quit_line}
-use Rattle.hub_rules.specs.declared.effect.Change.{Change}
-use Rattle.hub_rules.specs.declared.effect.Change.TheVariants.{Hub, Sender}
-use Rattle.hub_rules.specs.declared.effect.Effect.{Effect}
-use Rattle.hub_rules.specs.declared.effect.Hearers.TheVariants.{Others}
-use Rattle.hub_rules.specs.declared.effect.HubChange.{HubChange}
-use Rattle.hub_rules.specs.declared.effect.SenderChange.TheVariants as senders
-use Rattle.hub_rules.specs.declared.history.Call.{Call}
-use Rattle.hub_rules.specs.declared.history.Call.TheVariants.{Line, Quit}
-use Rattle.login_state.specs.declared.request.Request.{Request}
-use Rattle.hub_rules.specs.Configured.{Configured}
-use Rattle.hub_rules.specs.Effects.{departure, farewell, is_present}
-use Rattle.hub_rules.specs.Facts.{Facts, facts, effect_of_line}
-use Rattle.hub_rules.specs.Lagging.{share}
-use Rattle.hub_rules.specs.Shares.{About, removed_by, stage_after}
-use Rattle.hub_rules.specs.Sights.{Own, PreparedLine, Sight}
-use Rattle.hub_rules.specs.World.{change_of}
+use Rattle.std.proofs.Common.{◌≡◌, ◌∙◌, sym, ap, refl, subst, ℕ, Bool, true, false, ◌&&◌, ◌==◌, List, [], ◌∷◌, Option, arith}
+use Rattle.hub_laws.proofs.Words.{About, Becomes, Call, Change, Configured, Effect, Facts, Hub, HubChange, Line, Others, Outcome, Own, PreparedLine, Quit, Reading, Request, Sender, Sight, Sound}
+use Rattle.hub_laws.proofs.Words.{Stage, absent-newcomer, and-false, becomes, change_of, departure, effect_of_line, eqb-true, facts, false≢true, farewell, greets, is_present, lets_in}
+use Rattle.hub_laws.proofs.Words.{line-outcome, proves, quit_line, removed_by, share, shuts_out, sound_of, stage_after, stage_next, waits}
+use Rattle.hub_laws.proofs.Words.senders
+use Rattle.hub_laws.proofs.Words.stages
 use Rattle.hub_laws.specs.Departing.{DeparturesAreHeard}
-use Rattle.hub_invariants.proofs.Becoming.{Becomes, becomes}
-use Rattle.hub_invariants.proofs.Calls.{absent-newcomer, sound_of}
-use Rattle.hub_invariants.proofs.Members.{and-false}
-use Rattle.hub_invariants.proofs.Outcomes.{Outcome, greets, lets_in, line-outcome, proves, shuts_out, waits}
-use Rattle.hub_invariants.proofs.Sound.{Sound, stage_next}
 use Rattle.hub_laws.proofs.Moving.{identify-normal, protocol-normal}
 use Rattle.hub_laws.proofs.Welcoming.{hears-one}
 use Rattle.hub_laws.proofs.Worlds.{is_act, no-removal}
@@ -58,13 +37,10 @@ record Leaves (same : Bool) (change : Change) (stage : Stage) : Type 0 where
 
 leaves-by : (removed same : Bool) (change : Change) (stage : Stage) → removed ≡ false → stage ≡ stages.Normal → (stage_next removed same change stage ≡ stages.Normal → ⊥)
     → Leaves same change stage
-leaves-by true same change stage none here leaves = absurd (false≢true (sym none))
-leaves-by false true change stage none here leaves = record { is_caller = refl; leaves = leaves }
-leaves-by false false change stage none here leaves = absurd (leaves here)
+leaves-by removed same change stage none here leaves = grind arith
 
 not-act : (change : Change) → ((act : HubChange) → change ≡ Hub act → ⊥) → is_act change ≡ false
-not-act (Hub act) none = absurd (none act refl)
-not-act change none = refl
+not-act change none = grind arith
 
 nobody-removed : (effect : Effect) (a : About) → ((act : HubChange) → effect.change ≡ Hub act → ⊥) → removed_by effect a ≡ false
 nobody-removed effect a none = ap (λ r. is_present a.stage && r) (no-removal effect.change a.sid (not-act effect.change none)) ∙ and-false (is_present a.stage)
@@ -78,8 +54,7 @@ line-heard setup hash f c d bytes now here leaves there other =
 
 quit-heard : (setup : Configured) (hash : List ℕ → List ℕ) (f : Facts) (c d : ℕ) → (f.about c).stage ≡ stages.Normal → (f.about d).stage ≡ stages.Normal → (d == c) ≡ false
     → share setup hash f d (Quit c) ≡ quit_line (f.about c).sid ∷ []
-quit-heard setup hash f c d here there other =
-    hears-one (d == c) (departure (f.about c).stage (f.about c).sid) (f.about d) (quit_line (f.about c).sid) (ap (λ (s : Stage). farewell s (f.about c).sid) here) refl other there
+quit-heard setup hash f c d here there other = grind arith
 
 no-act : (act : HubChange) → Sender senders.Falls ≡ Hub act → ⊥
 no-act act is = cc is

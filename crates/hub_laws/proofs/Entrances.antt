@@ -1,30 +1,13 @@
 -- By which lines a user comes to be present, or comes to be waited for with a password.
-use Rattle.std.proofs.Common.{◌≡◌, ◌∙◌, sym, ap, refl, subst, ℕ, Bool, true, false, ◌⊎◌, inl, inr, List, [], ◌==◌, length, Option, Some, None, Result, Ok, Err, unwrap_or}
-use Rattle.std.specs.Prelude.{if◌then◌else◌}
-use Rattle.adc_line.specs.declared.fault.LineFault.{LineFault}
-use Rattle.adc_line.specs.Lines as lines
-use Rattle.adc_line.specs.Lines.{Reading}
-use Rattle.inf_fields.specs.Cleaning.{clean}
-use Rattle.inf_fields.specs.Field.{Field}
-use Rattle.inf_fields.specs.Merging.{merged_with}
-use Rattle.inf_fields.specs.Updates as updates
-use Rattle.login_state.specs.declared.deny.Deny.{Deny}
-use Rattle.login_state.specs.declared.stage.Stage.TheVariants as stages
-use Rattle.operator_acts.specs.Bans.{left_of_bans}
-use Rattle.operator_acts.specs.declared.left.Left.TheVariants as lefts
-use Rattle.user_table.specs.Listed.{Listed}
-use Rattle.hub_rules.specs.declared.effect.Effect.{Effect}
-use Rattle.login_state.specs.declared.request.Request.{Request}
-use Rattle.login_state.specs.declared.request.Request.TheVariants as requests
-use Rattle.hub_rules.specs.Denied.{denial_of, digest_given, password_denied, update_denied}
-use Rattle.hub_rules.specs.Effects.{is_over, line_effect}
-use Rattle.hub_rules.specs.Identities.{cid_in, key_in, listed_user}
-use Rattle.hub_rules.specs.Requests.{request_of}
-use Rattle.hub_rules.specs.Said.{accepted_line, kept_unless, unless_refused}
-use Rattle.hub_rules.specs.Shares.{expected_after, fields_after, stage_after}
-use Rattle.hub_rules.specs.Sights.{Own, PreparedLine, Sight, is_account, user_after}
-use Rattle.hub_invariants.proofs.Claims.{password-entry}
-use Rattle.hub_invariants.proofs.Outcomes.{Logs, Outcome, greets, lets_in, outcome, proves, revises, shuts_out, waits}
+use Rattle.std.proofs.Common.{◌≡◌, ◌∙◌, sym, refl, ℕ, Bool, true, false, ◌⊎◌, inl, inr, List, [], Option, Some, None, Ok, unwrap_or, arith}
+use Rattle.hub_laws.proofs.Words.{Effect, Field, Logs, Outcome, Own, PreparedLine, Reading, Request, Sight, accepted_line, cid_in, clean, digest_given, expected_after, fields_after, greets}
+use Rattle.hub_laws.proofs.Words.{is_account, key_in, left_of_bans, lets_in, line_effect, merged_with, outcome, password-entry, password_denied, proves, request_of, revises, shuts_out}
+use Rattle.hub_laws.proofs.Words.{stage_after, update_denied, user_after, waits}
+use Rattle.hub_laws.proofs.Words.lefts
+use Rattle.hub_laws.proofs.Words.lines
+use Rattle.hub_laws.proofs.Words.requests
+use Rattle.hub_laws.proofs.Words.stages
+use Rattle.hub_laws.proofs.Words.updates
 use Rattle.hub_laws.proofs.Checked.{KeepsNick, entry-unbanned, is_barred, login-rules, password-right, update-keeps}
 use Rattle.hub_laws.proofs.Clearing.{listed-cid, listed-key, listed-fields}
 use Rattle.hub_laws.proofs.Moving.{gone-normal, gone-verify, identify-normal, identify-verify, normal-verify, verify-normal}
@@ -82,10 +65,7 @@ pub record IsChecked (hub : Sight) (own : Own) (line : PreparedLine) (now : ℕ)
 
 checked-still : (hub : Sight) (own : Own) (line : PreparedLine) (now : ℕ) (said : Option Reading) (effect : Effect) → stage_after effect.change own.stage ≡ own.stage
     → fields_by own effect ≡ own.fields → expected_after effect.change own.expected ≡ own.expected → IsChecked hub own line now said effect
-checked-still hub own line now said effect same_stage same_fields same_expected = record {
-  waits = λ is. inl (record { at = sym same_stage ∙ is; fields = same_fields; expected = same_expected });
-  enters = λ is. inl (record { at = sym same_stage ∙ is; nick = inl (ap key_in same_fields) });
-}
+checked-still hub own line now said effect same_stage same_fields same_expected = grind arith
 
 checked-away : (hub : Sight) (own : Own) (line : PreparedLine) (now : ℕ) (said : Option Reading) (effect : Effect) → (stage_after effect.change own.stage ≡ stages.Verify → ⊥)
     → (stage_after effect.change own.stage ≡ stages.Normal → ⊥) → IsChecked hub own line now said effect
@@ -95,50 +75,22 @@ checked-away hub own line now said effect not_asked not_here = record { waits = 
 
 logs-in : (hub : Sight) (own : Own) (line : PreparedLine) (now : ℕ) (reading : Reading) (u : List Field) → Logs hub own line now reading u
     → LogsIn hub own now (Some reading) (user_after own u).fields
-logs-in hub own line now reading u logs =
-    let user = user_after own u in
-    let is : user.fields ≡ merged_with own.fields (clean u own.peer) = listed-fields own.sid (merged_with own.fields (clean u own.peer)) in
-    let known = login-rules hub own now line.owner u user logs.allowed in
-    record {
-      update = u;
-      reading = reading;
-      is_said = refl;
-      at = logs.at;
-      asks = logs.asks;
-      words = logs.words;
-      merges = is;
-      unbanned = ap (λ fs. left_of_bans hub.bans (cid_in fs) now) is ∙ ap (λ cid. left_of_bans hub.bans cid now) (sym (listed-cid own.sid (merged_with own.fields (clean u own.peer)))) ∙ known.0;
-      admitted = ap (λ fs. is_barred hub (key_in fs)) is ∙ ap (is_barred hub) (sym (listed-key own.sid (merged_with own.fields (clean u own.peer)))) ∙ known.1;
-    }
+logs-in hub own line now reading u logs = grind (arith, listed-fields, login-rules, listed-cid, listed-key)
 
 login-account : (hub : Sight) (own : Own) (u : List Field) (b : Bool) → is_account hub (user_after own u).key ≡ b → is_account hub (key_in (user_after own u).fields) ≡ b
-login-account hub own u b is =
-    ap (λ fs. is_account hub (key_in fs)) (listed-fields own.sid (merged_with own.fields (clean u own.peer)))
-    ∙ ap (is_account hub) (sym (listed-key own.sid (merged_with own.fields (clean u own.peer)))) ∙ is
+login-account hub own u b is = grind (arith, listed-fields, listed-key)
 
 -- ---- passwords
 
 gives-password : (hub : Sight) (own : Own) (now : ℕ) (reading : Reading) → own.stage ≡ stages.Verify → request_of own.stage reading.kind reading.command ≡ requests.Password
     → password_denied hub own now reading.params ≡ None → GivesPassword hub own now (Some reading) own.fields
-gives-password hub own now reading at asks none =
-    let user : Listed = listed_user own.sid own.fields in
-    record {
-      reading = reading;
-      is_said = refl;
-      at = at;
-      asks = asks;
-      spells = password-right hub own now (digest_given reading.params) user none;
-      stays = refl;
-      unbanned = ap (λ cid. left_of_bans hub.bans cid now) (sym (listed-cid own.sid own.fields)) ∙ entry-unbanned hub now user (password-entry hub own now (digest_given reading.params) user none);
-    }
+gives-password hub own now reading at asks none = grind (arith, password-right, listed-cid, entry-unbanned, password-entry)
 
 -- ---- updates
 
 keeps-nick : (hub : Sight) (own : Own) (u : List Field) → update_denied hub own (Ok u) ≡ None
     → KeepsNick hub (key_in own.fields) (key_in (merged_with own.fields (clean u own.peer)))
-keeps-nick hub own u none =
-    subst (λ key. KeepsNick hub (key_in own.fields) key) (listed-key own.sid (merged_with own.fields (clean u own.peer)))
-    (update-keeps hub own u (user_after own u) none)
+keeps-nick hub own u none = grind (arith, listed-key, update-keeps)
 
 -- ---- every line
 
@@ -169,20 +121,6 @@ checked-line hub own line now = checked (outcome hub own line now)
 
 -- ---- the message that was accepted is the one that the bytes are
 
-same-kept : (refusal : Option Deny) (line reading : Reading) → kept_unless refusal line ≡ Some reading → line ≡ reading
-same-kept (Some deny) line reading is = let none : ⊥ = cc is in absurd none
-same-kept None line reading is = cc is
-
-read-by : (hub : Sight) (own : Own) (line : PreparedLine) (now : ℕ) (r : Result Reading LineFault) (reading : Reading) → unless_refused hub own line now r ≡ Some reading → r ≡ Ok reading
-read-by hub own line now (Ok first) reading is = ap Ok (same-kept (denial_of hub own line now first) first reading is)
-read-by hub own line now (Err fault) reading is = let none : ⊥ = cc is in absurd none
-
-read-if : (over empty : Bool) (said : Option Reading) (reading : Reading) → (if over then None else if empty then None else said) ≡ Some reading → said ≡ Some reading
-read-if true empty said reading is = let none : ⊥ = cc is in absurd none
-read-if false true said reading is = let none : ⊥ = cc is in absurd none
-read-if false false said reading is = is
-
 pub read-accepted : (hub : Sight) (own : Own) (line : PreparedLine) (now : ℕ) (reading : Reading) → accepted_line hub own line now ≡ Some reading → lines.reading line.bytes ≡ Ok reading
 unfolding accepted_line
-read-accepted hub own line now reading is =
-    read-by hub own line now (lines.reading line.bytes) reading (read-if (is_over own.stage) (length line.bytes == 0) _ reading is)
+read-accepted hub own line now reading is = grind arith

@@ -1,26 +1,10 @@
 -- Those who are present stand in the order in which they entered.
 use Rattle.std.proofs.Common.{◌≡◌, ◌∙◌, sym, ap, ap₂, refl, subst, ℕ, ◌+◌, Bool, true, false, not, ◌&&◌, ◌||◌, ◌==◌, eqb, ◌≤◌, cond, List, [], ◌∷◌, ◌++◌, filter, append-nil, arith}
-use Rattle.std.proofs.lemmas.Bool.{false≢true, eqb-true, eq-eqb}
 use Rattle.std.proofs.lemmas.List.Elements.{filter-append}
-use Rattle.login_state.specs.declared.stage.Stage.{Stage}
-use Rattle.login_state.specs.declared.stage.Stage.TheVariants as stages
-use Rattle.hub_rules.specs.declared.effect.Change.{Change}
-use Rattle.hub_rules.specs.declared.effect.Effect.{Effect}
-use Rattle.hub_rules.specs.declared.history.Call.{Call}
-use Rattle.hub_rules.specs.declared.history.Call.TheVariants.{Join, Line, Quit, Take}
-use Rattle.hub_rules.specs.declared.history.Entry.{Entry}
-use Rattle.hub_rules.specs.Configured.{Configured}
-use Rattle.hub_rules.specs.Effects.{departure, is_over, is_present}
-use Rattle.hub_rules.specs.Entering.{PresentInOrder, brought_in, entrants}
-use Rattle.hub_rules.specs.Facts.{Facts, facts, after, about_after, without_connection, effect_of_line, enters, happens, has_joins, has_place, with_connection, newcomer, next_sid, own_of, sight_of}
-use Rattle.hub_rules.specs.Prepared.{prepared_line}
-use Rattle.hub_rules.specs.Shares.{removed_by, stage_after}
-use Rattle.hub_invariants.proofs.Becoming.{take-facts}
-use Rattle.hub_invariants.proofs.Calls.{sound_of}
-use Rattle.hub_invariants.proofs.Fits.{Fits, fits-departure}
-use Rattle.hub_invariants.proofs.Lines.{fits-line}
-use Rattle.hub_invariants.proofs.Members.{and-false, has, has-append}
-use Rattle.hub_invariants.proofs.Sound.{Sound, alone-at, happens-open, not-over, or-false, or-true, over-next, present-entered, present-next, stage_next}
+use Rattle.hub_laws.specs.Entering.{PresentInOrder, brought_in, entrants}
+use Rattle.hub_laws.proofs.Words.{Call, Configured, Effect, Entry, Facts, Fits, Join, Line, Quit, Sound, Stage, Take, about_after, after, departure, effect_of_line, enters, eq-eqb, facts}
+use Rattle.hub_laws.proofs.Words.{false≢true, fits-departure, fits-line, happens, happens-open, has, has-append, has_joins, has_place, is_present, newcomer, next_sid, not-over, or-true, sound_of}
+use Rattle.hub_laws.proofs.Words.{stage_after, take-facts, with_connection, without_connection}
 use Rattle.hub_laws.proofs.Turning.{is_settled, keeps-line, keeps-settled}
 
 -- ---- lists
@@ -28,10 +12,7 @@ use Rattle.hub_laws.proofs.Turning.{is_settled, keeps-line, keeps-settled}
 -- two filters one after the other are one, where the second lets through only what the first does
 narrower : (p q : ℕ → Bool) (x : ℕ) (xs : List ℕ) (first second : Bool) → p x ≡ first → q x ≡ second → (q x ≡ true → p x ≡ true)
     → filter q (filter p xs) ≡ filter q xs → filter q (cond first (x ∷ filter p xs) (filter p xs)) ≡ cond second (x ∷ filter q xs) (filter q xs)
-narrower p q x xs true true is-p is-q only rest = ap₂ (λ b (ys : List ℕ). cond b (x ∷ ys) ys) is-q rest
-narrower p q x xs true false is-p is-q only rest = ap₂ (λ b (ys : List ℕ). cond b (x ∷ ys) ys) is-q rest
-narrower p q x xs false true is-p is-q only rest = absurd (false≢true (sym is-p ∙ only is-q))
-narrower p q x xs false false is-p is-q only rest = rest
+narrower p q x xs first second is-p is-q only rest = grind arith
 
 filter-narrow : (p q : ℕ → Bool) (xs : List ℕ) → ((d : ℕ) → has d xs ≡ true → q d ≡ true → p d ≡ true) → filter q (filter p xs) ≡ filter q xs
 filter-narrow p q [] only = refl
@@ -41,20 +22,8 @@ filter-narrow p q (x ∷ xs) only =
 
 -- ---- stages
 
-present-settled : (s : Stage) → is_settled s ≡ true → is_over s ≡ false → is_present s ≡ true
-present-settled stages.Normal settled over = refl
-present-settled stages.Gone settled over = absurd (false≢true (sym over))
-present-settled _ settled over = absurd (false≢true settled)
-
 settled-present : (s : Stage) → is_present s ≡ true → is_settled s ≡ true
-settled-present stages.Normal here = refl
-settled-present _ here = absurd (false≢true here)
-
-next-settled : (removed is_caller : Bool) (change : Change) (stage : Stage) → (is_caller ≡ true → is_settled (stage_after change stage) ≡ true) → is_settled stage ≡ true
-    → is_settled (stage_next removed is_caller change stage) ≡ true
-next-settled true is_caller change stage own settled = refl
-next-settled false true change stage own settled = own refl
-next-settled false false change stage own settled = settled
+settled-present s here = grind arith
 
 -- ---- one effect
 
@@ -64,39 +33,18 @@ pub record Steady (stage : Stage) (effect : Effect) : Type 0 where
 
 about-settled : (c : ℕ) (effect : Effect) (f : Facts) → Steady (f.about c).stage effect → (d : ℕ) → is_settled (f.about d).stage ≡ true
     → is_settled (about_after c effect f.about d).stage ≡ true
-about-settled c effect f steady d settled =
-    next-settled (removed_by effect (f.about d)) (d == c) effect.change (f.about d).stage
-    (λ is. subst (λ x. is_settled (f.about x).stage ≡ true → is_settled (stage_after effect.change (f.about x).stage) ≡ true) (sym (eqb-true d c is)) steady.settled settled)
-    settled
+about-settled c effect f steady d settled = grind arith
 
 was-present : (c : ℕ) (effect : Effect) (f : Facts) → Fits (f.about c).stage effect → (d : ℕ) → is_settled (f.about d).stage ≡ true
     → is_present (about_after c effect f.about d).stage ≡ true → is_present (f.about d).stage ≡ true
-was-present c effect f suits d settled here =
-    present-settled (f.about d).stage settled
-    (over-next (removed_by effect (f.about d)) (d == c) effect.change (f.about d).stage
-    (λ is. subst (λ x. is_over (f.about x).stage ≡ true → is_over (stage_after effect.change (f.about x).stage) ≡ true) (sym (eqb-true d c is)) suits.stays_over)
-    (not-over (about_after c effect f.about d).stage here))
-
--- who enters is who comes to the stage of users
-brought-by : (enter before now : Bool) → (enter ≡ true → before ≡ false) → (enter ≡ true → now ≡ true) → (enter ≡ false → now ≡ true → before ≡ true)
-    → enter ≡ (not before && now)
-brought-by true true now once comes from = absurd (false≢true (sym (once refl)))
-brought-by true false now once comes from = sym (comes refl)
-brought-by false true now once comes from = refl
-brought-by false false true once comes from = absurd (false≢true (from refl refl))
-brought-by false false false once comes from = refl
+was-present c effect f suits d settled here = grind arith
 
 entered-here : (c : ℕ) (effect : Effect) (f : Facts) → Fits (f.about c).stage effect → enters effect.change ≡ true → is_present (about_after c effect f.about c).stage ≡ true
-entered-here c effect f suits enter =
-    ap₂ (λ r b. is_present (stage_next r b effect.change (f.about c).stage)) (alone-at c effect f suits c (ap₂ ◌&&◌ (eq-eqb c c refl) enter)) (eq-eqb c c refl)
-    ∙ present-entered effect.change (f.about c).stage enter
+entered-here c effect f suits enter = grind arith
 
 enters-is : (c : ℕ) (effect : Effect) (f : Facts) → Fits (f.about c).stage effect
     → enters effect.change ≡ (not (is_present (f.about c).stage) && is_present (about_after c effect f.about c).stage)
-enters-is c effect f suits =
-    brought-by (enters effect.change) (is_present (f.about c).stage) (is_present (about_after c effect f.about c).stage) suits.enters_once
-    (entered-here c effect f suits)
-    (λ quiet here. present-next (removed_by effect (f.about c)) (c == c) effect.change (f.about c).stage (ap (λ b. (c == c) && b) quiet ∙ and-false (c == c)) here)
+enters-is c effect f suits = grind arith
 
 -- ---- every call
 
@@ -106,20 +54,16 @@ pub record Ordered (f : Facts) (cs : List ℕ) : Type 0 where
   pub in_order : f.present ≡ filter (λ d. is_present (f.about d).stage) cs
 
 either : (a b : Bool) → (a || b) ≡ true → (a ≡ false → b ≡ true)
-either true b e other = absurd (false≢true (sym other))
-either false b e other = e
+either a b e other = grind arith
 
 in-newcomer : (enter : Bool) (c d : ℕ) → has d (cond enter (c ∷ []) []) ≡ true → (enter ≡ true) × (c ≡ d)
-in-newcomer true c d there = (refl, eqb-true c d (sym (or-false (eqb c d)) ∙ there))
-in-newcomer false c d there = absurd (false≢true there)
+in-newcomer enter c d there = grind arith
 
 grown : (P : ℕ → Type 0) (cs more : List ℕ) (d : ℕ) (first : Bool) → has d cs ≡ first → (has d cs ≡ true → P d) → (has d more ≡ true → P d) → has d (cs ++ more) ≡ true → P d
-grown P cs more d true is old new there = old is
-grown P cs more d false is old new there = new (either (has d cs) (has d more) (sym (has-append d cs more) ∙ there) is)
+grown P cs more d first is old new there = grind (arith, has-append)
 
 newcomer-stays : (p : ℕ → Bool) (enter : Bool) (c : ℕ) → (enter ≡ true → p c ≡ true) → filter p (cond enter (c ∷ []) []) ≡ cond enter (c ∷ []) []
-newcomer-stays p true c here = ap (λ b. cond b (c ∷ []) []) (here refl)
-newcomer-stays p false c here = refl
+newcomer-stays p enter c here = grind arith
 
 happens-ordered : (c : ℕ) (effect : Effect) (f : Facts) (cs : List ℕ) → Sound f → Fits (f.about c).stage effect → Steady (f.about c).stage effect → Ordered f cs
     → Ordered (happens c effect f) (cs ++ cond (enters effect.change) (c ∷ []) [])
@@ -156,22 +100,15 @@ filter-same p q (x ∷ xs) same =
 
 ordered-same : (f g : Facts) (cs : List ℕ) → f.joins ≤ g.joins → g.present ≡ f.present → ((d : ℕ) → d ≤ f.joins → (g.about d).stage ≡ (f.about d).stage)
     → Ordered f cs → Ordered g cs
-ordered-same f g cs more present same ordered = record {
-  all_settled = λ d there. ap is_settled (same d (ordered.all_joined d there)) ∙ ordered.all_settled d there;
-  all_joined = λ d there. omega (arith, ordered.all_joined d there, more);
-  in_order = present ∙ ordered.in_order
-      ∙ filter-same (λ d. is_present (f.about d).stage) (λ d. is_present (g.about d).stage) cs (λ d there. ap is_present (sym (same d (ordered.all_joined d there))));
-}
+ordered-same f g cs more present same ordered = grind (arith, filter-same)
 
 join-stage : (f : Facts) (owner : ℕ) (peer challenge : List ℕ) (d : ℕ) (same : Bool) → (d == (f.joins + 1)) ≡ same → d ≤ f.joins
     → (cond same (newcomer owner (next_sid f) peer challenge) (f.about d)).stage ≡ (f.about d).stage
-join-stage f owner peer challenge d true is below = let e : d ≡ f.joins + 1 = eqb-true d (f.joins + 1) is in absurd (omega (arith, e, below))
-join-stage f owner peer challenge d false is below = refl
+join-stage f owner peer challenge d same is below = grind arith
 
 joined-ordered : (f : Facts) (owner : ℕ) (peer challenge : List ℕ) (cs : List ℕ) → Ordered f cs → Ordered (with_connection f owner peer challenge) cs
 unfolding with_connection
-joined-ordered f owner peer challenge cs ordered =
-    ordered-same f _ cs (omega arith) refl (λ d below. join-stage f owner peer challenge d (d == (f.joins + 1)) refl below) ordered
+joined-ordered f owner peer challenge cs ordered = grind (arith, ordered-same, join-stage)
 
 join-ordered : (f : Facts) (owner : ℕ) (peer challenge : List ℕ) (cs : List ℕ) (accepted : Bool) → Ordered f cs → Ordered (cond accepted (with_connection f owner peer challenge) f) cs
 join-ordered f owner peer challenge cs true ordered = joined-ordered f owner peer challenge cs ordered
@@ -182,10 +119,7 @@ unfolding without_connection
 closed-ordered c f cs ordered = record { all_settled = ordered.all_settled; all_joined = ordered.all_joined; in_order = ordered.in_order }
 
 steady-line : (setup : Configured) (hash : List ℕ → List ℕ) (f : Facts) (c : ℕ) (bytes : List ℕ) (now : ℕ) → Steady (f.about c).stage (effect_of_line setup hash f c bytes now)
-steady-line setup hash f c bytes now = record {
-  settled = λ is. keeps-settled (effect_of_line setup hash f c bytes now).change (f.about c).stage
-      (keeps-line (sight_of setup f) (own_of (f.about c)) (prepared_line setup hash (f.about c).challenge bytes) now is) is;
-}
+steady-line setup hash f c bytes now = grind (arith, keeps-settled, keeps-line)
 
 -- a call that brings nobody in
 none-brought : (f : Facts) (cs : List ℕ) → Ordered f cs → Ordered f (cs ++ [])

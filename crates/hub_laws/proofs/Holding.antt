@@ -1,17 +1,14 @@
 -- A ban is held only where there is room for it, and stands at its place.
-use Rattle.std.proofs.Common.{◌≡◌, ◌∙◌, sym, ap, refl, ℕ, ◌+◌, ◌<◌, ◌≤◌, Bool, true, false, cond, not, ◌&&◌, List, [], ◌∷◌, length, nat_le, arith, Some, None, is_some}
+use Rattle.std.proofs.Common.{◌≡◌, ◌∙◌, ap, refl, ℕ, ◌+◌, ◌≤◌, Bool, true, false, cond, not, ◌&&◌, List, [], ◌∷◌, length, nat_le, arith, Some, None, is_some}
 use Rattle.std.specs.Ordering.{is_eq, match_ordering, ordering_reverse}
 use Rattle.std.specs.declared.cmp.Ordering.{Ordering}
 use Rattle.std.specs.declared.cmp.Ordering.TheVariants.{Less, Equal, Greater}
-use Rattle.std.specs.List.{AllByRecursion}
 use Rattle.std.specs.List.Sorted.{IsStrictlySortedBy}
 use Rattle.std.specs.Map.{keys_of}
 use Rattle.std.specs.BTreeMap.{is_at}
-use Rattle.std.proofs.lemmas.Bool.{false≢true, leb-false}
 use Rattle.std.proofs.lemmas.Cmp.{nat_list_cmp_total}
 use Rattle.std.proofs.lemmas.Map.Keys.{sorted_head, sorted_tail}
-use Rattle.operator_acts.specs.declared.ban.Ban.{Ban}
-use Rattle.operator_acts.specs.Bans.{ban_on, cid_cmp, is_full, max_bans, with_ban, without_ban}
+use Rattle.hub_laws.proofs.Words.{AllByRecursion, Ban, ban_on, cid_cmp, is_full, max_bans, with_ban, without_ban}
 
 -- ---- one more ban, and one less, at its place
 
@@ -120,15 +117,10 @@ pub record AreHeld (bans : List (List ℕ × Ban)) : Type 0 where
   pub apart : IsStrictlySortedBy cid_cmp (keys_of bans)
 
 few-with : (found full : Bool) (n m : ℕ) → m ≡ n + bans_added found → (not found && full) ≡ false → nat_le max_bans n ≡ full → n ≤ max_bans → m ≤ max_bans
-few-with true full n m is room tells few = omega (arith, is, few)
-few-with false true n m is room tells few = absurd (false≢true (sym room))
-few-with false false n m is room tells few = let more : n < max_bans = leb-false max_bans n tells in omega (arith, is, few, more)
+few-with found full n m is room tells few = grind arith
 
 pub held-with : (bans : List (List ℕ × Ban)) (cid : List ℕ) (ban : Ban) → is_full bans cid ≡ false → AreHeld bans → AreHeld (with_ban bans cid ban)
-held-with bans cid ban room held = record {
-  few = few-with (is_some (ban_on bans cid)) (nat_le max_bans (length bans)) (length bans) (length (with_ban bans cid ban)) (length-with bans cid ban held.apart) room refl held.few;
-  apart = sorted-with bans cid ban held.apart;
-}
+held-with bans cid ban room held = grind (arith, few-with, length-with, sorted-with)
 
 pub held-without : (bans : List (List ℕ × Ban)) (cid : List ℕ) → AreHeld bans → AreHeld (without_ban bans cid)
 held-without bans cid held = record { few = omega (arith, length-without bans cid, held.few); apart = sorted-without bans cid held.apart }

@@ -1,17 +1,9 @@
 -- No call changes what a connection joined with.
-use Rattle.std.proofs.Common.{◌≡◌, ◌∙◌, sym, ap, ap₂, refl, ℕ, ◌+◌, ◌≤◌, Bool, true, false, ◌&&◌, ◌==◌, List, [], ◌∷◌, ◌++◌, arith, cond}
-use Rattle.std.proofs.lemmas.Bool.{eq-eqb}
-use Rattle.hub_rules.specs.declared.history.Call.{Call}
-use Rattle.hub_rules.specs.declared.history.Call.TheVariants.{Join}
-use Rattle.hub_rules.specs.declared.history.Entry.{Entry}
+use Rattle.std.proofs.Common.{◌≡◌, ◌∙◌, sym, ap, ap₂, refl, ℕ, ◌+◌, ◌≤◌, Bool, true, false, ◌&&◌, List, [], ◌∷◌, ◌++◌, arith, cond}
 use Rattle.hub_rules.specs.declared.history.Reply.TheVariants.{Joined}
-use Rattle.hub_rules.specs.Configured.{Configured}
-use Rattle.hub_rules.specs.Facts.{Facts, facts, after, without_connection, happens, has_joins, has_place, with_connection, newcomer, next_sid}
-use Rattle.hub_rules.specs.Legal.{Legal, join_reply, reply}
-use Rattle.hub_rules.specs.Shares.{About}
+use Rattle.hub_laws.proofs.Words.{About, Becomes, Call, Configured, Entry, Facts, Join, Legal, after, becomes, facts, happens, has_joins, has_place, join_reply, joins-grow, reply, with_connection}
+use Rattle.hub_laws.proofs.Words.{without_connection}
 use Rattle.hub_laws.specs.Joining.{IsAsJoined, JoinsAreCounted, JoinsStay, joins_accepted, accepted_in}
-use Rattle.hub_invariants.proofs.Becoming.{Becomes, becomes}
-use Rattle.hub_invariants.proofs.Kept.{joins-grow}
 
 -- a connection has what it joined with
 pub record IsSame (a b : About) : Type 0 where
@@ -36,19 +28,7 @@ record HasJoined (before now : Facts) (caller : ℕ) (call : Call) (c : ℕ) : T
 
 newest : (f : Facts) (owner : ℕ) (peer challenge : List ℕ) (now c : ℕ) → c ≡ f.joins + 1 → HasJoined f (with_connection f owner peer challenge) owner (Join peer challenge now) c
 unfolding with_connection
-newest f owner peer challenge now c is =
-    let here : (c == (f.joins + 1)) ≡ true = eq-eqb c (f.joins + 1) is in
-    let same : cond (c == (f.joins + 1)) (newcomer owner (next_sid f) peer challenge) (f.about c) ≡ newcomer owner (next_sid f) peer challenge =
-    ap (λ b. cond b (newcomer owner (next_sid f) peer challenge) (f.about c)) here in
-    record {
-      old = omega (arith, is);
-      joined_as = (
-        ap (λ (a : About). a.owner) same,
-        ap (λ (a : About). a.peer) same,
-        ap (λ (a : About). a.challenge) same,
-        ap (λ (a : About). a.sid) same,
-      );
-    }
+newest f owner peer challenge now c is = grind arith
 
 join-made : (f : Facts) (owner : ℕ) (peer challenge : List ℕ) (now c : ℕ) (place counted : Bool) → join_reply place counted f.joins ≡ Joined c
     → HasJoined f (cond (place && counted) (with_connection f owner peer challenge) f) owner (Join peer challenge now) c
@@ -65,8 +45,7 @@ call-made setup hash f caller _ c is = let none : ⊥ = cc is in absurd none
 -- ---- every history
 
 as-kept : (before : Facts) (a b : About) (caller : ℕ) (call : Call) → IsSame a b → IsAsJoined before a caller call → IsAsJoined before b caller call
-as-kept before a b caller (Join peer challenge now) same is = (same.owner ∙ is.0, same.peer ∙ is.1, same.challenge ∙ is.2, same.sid ∙ is.3)
-as-kept before a b caller _ same is = is
+as-kept before a b caller call same is = grind arith
 
 stays : (setup : Configured) (hash : List ℕ → List ℕ) (later earlier : List Entry) (e : Entry) (c : ℕ) → Legal setup hash (later ++ e ∷ earlier)
     → e.reply ≡ Joined c → HasJoined (facts setup hash earlier) (facts setup hash (later ++ e ∷ earlier)) e.caller e.call c
@@ -86,15 +65,12 @@ joins_stay setup hash later earlier e c legal is = (stays setup hash later earli
 join-counts : (f : Facts) (owner : ℕ) (peer challenge : List ℕ) (place counted : Bool)
     → (cond (place && counted) (with_connection f owner peer challenge) f).joins ≡ f.joins + joins_accepted (join_reply place counted f.joins)
 unfolding with_connection
-join-counts f owner peer challenge true true = refl
-join-counts f owner peer challenge true false = omega arith
-join-counts f owner peer challenge false counted = omega arith
+join-counts f owner peer challenge place counted = grind arith
 
 after-counts : (setup : Configured) (hash : List ℕ → List ℕ) (f : Facts) (caller : ℕ) (call : Call)
     → (after setup hash f caller call).joins ≡ f.joins + joins_accepted (reply setup hash f caller call)
 unfolding after without_connection happens reply
-after-counts setup hash f caller (Join peer challenge now) = join-counts f caller peer challenge (has_place setup f) (has_joins f)
-after-counts setup hash f caller _ = omega arith
+after-counts setup hash f caller call = grind (arith, join-counts)
 
 pub joins_are_counted : JoinsAreCounted
 unfolding facts Legal accepted_in

@@ -1,28 +1,12 @@
 -- No call brings a connection back that was shut out.
-use Rattle.std.proofs.Common.{◌≡◌, ◌∙◌, sym, ap, ap₂, refl, subst, ℕ, ◌≤◌, Bool, true, false, ◌&&◌, ◌==◌, List, [], ◌∷◌, ◌++◌, arith, inl, inr}
-use Rattle.std.specs.Prelude.{◌⊎◌}
-use Rattle.std.proofs.lemmas.Bool.{eqb-true, eq-eqb}
-use Rattle.login_state.specs.declared.stage.Stage.{Stage}
-use Rattle.login_state.specs.declared.stage.Stage.TheVariants as stages
+use Rattle.std.proofs.Common.{◌≡◌, ap, refl, ℕ, ◌≤◌, Bool, true, ◌==◌, List, [], ◌∷◌, ◌++◌, arith}
 use Rattle.hub_rules.specs.declared.effect.Banned.{Banned}
-use Rattle.hub_rules.specs.declared.effect.Change.{Change}
-use Rattle.hub_rules.specs.declared.effect.Change.TheVariants.{Hub, Nothing, Sender}
-use Rattle.hub_rules.specs.declared.effect.Effect.{Effect}
-use Rattle.hub_rules.specs.declared.effect.HubChange.TheVariants as shared
-use Rattle.hub_rules.specs.declared.effect.SenderChange.TheVariants as senders
-use Rattle.hub_rules.specs.declared.history.Call.{Call}
-use Rattle.hub_rules.specs.declared.history.Call.TheVariants.{Line}
-use Rattle.hub_rules.specs.declared.history.Entry.{Entry}
-use Rattle.hub_rules.specs.Configured.{Configured}
-use Rattle.hub_rules.specs.Effects.{departure, is_over, is_present}
-use Rattle.hub_rules.specs.Facts.{Facts, facts, after, effect_of_line, happens, own_of, sight_of}
-use Rattle.hub_rules.specs.Prepared.{prepared_line}
-use Rattle.hub_rules.specs.Shares.{About, is_removed, removed_by, stage_after}
-use Rattle.hub_rules.specs.World.{change_of}
+use Rattle.hub_laws.proofs.Words.{About, Becomes, Call, Change, Configured, Effect, Entry, Facts, Hub, Line, Nothing, Sender, Stage, after, becomes, change_of, departure, effect_of_line, eqb-true}
+use Rattle.hub_laws.proofs.Words.{facts, happens, is_over, is_removed, joins-grow, removed_by, stage_after, stage_next, ◌⊎◌}
+use Rattle.hub_laws.proofs.Words.senders
+use Rattle.hub_laws.proofs.Words.shared
+use Rattle.hub_laws.proofs.Words.stages
 use Rattle.hub_laws.specs.Leaving.{KicksShutOut, OutIsForGood, WhoIsOutHearsNothing}
-use Rattle.hub_invariants.proofs.Becoming.{Becomes, becomes}
-use Rattle.hub_invariants.proofs.Kept.{joins-grow}
-use Rattle.hub_invariants.proofs.Sound.{stage_next}
 use Rattle.hub_laws.proofs.Lagging.{share-beyond}
 use Rattle.hub_laws.proofs.Routing.{silent-over}
 
@@ -31,18 +15,13 @@ use Rattle.hub_laws.proofs.Routing.{silent-over}
 -- who is out stays out, where the change is not its own, or leaves it out
 next-over : (removed is_caller : Bool) (change : Change) (stage : Stage) → stage ≡ stages.Gone → (is_caller ≡ true → stage_after change stages.Gone ≡ stages.Gone)
     → stage_next removed is_caller change stage ≡ stages.Gone
-next-over true is_caller change stage over keeps = refl
-next-over false true change stage over keeps = ap (stage_after change) over ∙ keeps refl
-next-over false false change stage over keeps = over
+next-over removed is_caller change stage over keeps = grind arith
 
 -- ---- every call
 
 line-over : (setup : Configured) (hash : List ℕ → List ℕ) (f : Facts) (c d : ℕ) (bytes : List ℕ) (now : ℕ) → (f.about d).stage ≡ stages.Gone → (d == c) ≡ true
     → stage_after (effect_of_line setup hash f c bytes now).change stages.Gone ≡ stages.Gone
-line-over setup hash f c d bytes now over is =
-    let same : d ≡ c = eqb-true d c is in
-    ap (λ (e : Effect). stage_after e.change stages.Gone)
-    (silent-over (sight_of setup f) (own_of (f.about c)) (prepared_line setup hash (f.about c).challenge bytes) now (subst (λ x. (f.about x).stage ≡ stages.Gone) same over))
+line-over setup hash f c d bytes now over is = grind (arith, eqb-true, silent-over)
 
 module _ {setup : Configured} {hash : List ℕ → List ℕ} {f : Facts} {caller d : ℕ} where
   over-after : {call : Call} {a : About} → Becomes setup hash f caller d call a → d ≤ f.joins → (f.about d).stage ≡ stages.Gone → a.stage ≡ stages.Gone
@@ -79,16 +58,13 @@ who_is_out_hears_nothing setup hash h d call over = share-beyond setup hash (fac
 kicked : (c : ℕ) (effect : Effect) (f : Facts) (d : ℕ) → (f.about d).stage ≡ stages.Normal → is_removed effect.change (f.about d).sid ≡ true
     → ((happens c effect f).about d).stage ≡ stages.Gone
 unfolding happens
-kicked c effect f d present is =
-    ap₂ (λ (s : Stage) n. stage_next (is_present s && n) (d == c) effect.change (f.about d).stage) present is
+kicked c effect f d present is = grind arith
 
 names : (change : Change) (sid : ℕ) (banned : Banned) → (change ≡ Hub (shared.Kick sid)) ⊎ ((change ≡ Hub (shared.Ban banned)) × (banned.sid ≡ sid)) → is_removed change sid ≡ true
-names change sid banned (inl is) = ap (λ w. is_removed w sid) is ∙ eq-eqb sid sid refl
-names change sid banned (inr is) = ap (λ w. is_removed w sid) is.0 ∙ eq-eqb sid banned.sid (sym is.1)
+names change sid banned named = grind arith
 
 not-same : (sid : ℕ) (banned : Banned) → (Nothing ≡ Hub (shared.Kick sid)) ⊎ ((Nothing ≡ Hub (shared.Ban banned)) × (banned.sid ≡ sid)) → ⊥
-not-same sid banned (inl is) = cc is
-not-same sid banned (inr is) = cc is.0
+not-same sid banned named = grind arith
 
 call-kicks : (setup : Configured) (hash : List ℕ → List ℕ) (f : Facts) (caller : ℕ) (call : Call) (d : ℕ) (banned : Banned) → (f.about d).stage ≡ stages.Normal
     → (change_of setup hash f call ≡ Hub (shared.Kick (f.about d).sid)) ⊎ ((change_of setup hash f call ≡ Hub (shared.Ban banned)) × (banned.sid ≡ (f.about d).sid))

@@ -1,10 +1,7 @@
 -- Stages that differ, and whose line brings a connection to one.
-use Rattle.std.proofs.Common.{◌≡◌, refl, Bool, true, false}
-use Rattle.login_state.specs.declared.stage.Stage.{Stage}
-use Rattle.login_state.specs.declared.stage.Stage.TheVariants as stages
-use Rattle.hub_rules.specs.declared.effect.Change.{Change}
-use Rattle.hub_rules.specs.Shares.{stage_after}
-use Rattle.hub_invariants.proofs.Sound.{stage_next}
+use Rattle.std.proofs.Common.{◌≡◌, Bool, true, arith}
+use Rattle.hub_laws.proofs.Words.{Change, Stage, stage_after, stage_next}
+use Rattle.hub_laws.proofs.Words.stages
 
 -- ---- stages that differ
 
@@ -41,6 +38,4 @@ pub record Moves (same : Bool) (change : Change) (stage to : Stage) : Type 0 whe
 
 -- where it was not there before, and is not shut out
 pub moves-to : (removed same : Bool) (change : Change) (stage to : Stage) → (stages.Gone ≡ to → ⊥) → (stage ≡ to → ⊥) → stage_next removed same change stage ≡ to → Moves same change stage to
-moves-to true same change stage to in_hub before is = absurd (in_hub is)
-moves-to false true change stage to in_hub before is = record { is_caller = refl; moves = is }
-moves-to false false change stage to in_hub before is = absurd (before is)
+moves-to removed same change stage to in_hub before is = grind arith

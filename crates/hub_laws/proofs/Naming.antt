@@ -1,18 +1,10 @@
 -- Each name stands once in what words update, and so each of its fields may be passed on where the address that it gives is right.
-use Rattle.std.proofs.Common.{◌≡◌, ◌∙◌, sym, ap, refl, subst, ℕ, Bool, true, false, cond, not, ◌&&◌, ◌⊎◌, List, [], ◌∷◌, map, filter, Some, None, is_some, Ok, Err, unwrap_or}
-use Rattle.std.specs.Prelude.{if◌then◌else◌}
-use Rattle.std.specs.List.{AllByRecursion, list_all}
-use Rattle.std.specs.Str.{bytes_eq}
-use Rattle.std.proofs.lemmas.Bool.{false≢true}
-use Rattle.std.proofs.lemmas.Slice.Eq.{bytes_eq-Decides}
-use Rattle.inf_fields.specs.Cleaning.{any_address, asks_for_address, clean, dotted_decimal, is_held_back, with_address}
-use Rattle.inf_fields.specs.Field.{Field, besides, field, has_name, is_called, value_of}
-use Rattle.inf_fields.specs.FieldNames.{address_name}
-use Rattle.inf_fields.specs.Updates as updates
+use Rattle.std.proofs.Common.{◌≡◌, ◌∙◌, sym, ap, refl, subst, ℕ, Bool, true, false, cond, not, ◌&&◌, ◌⊎◌, List, [], ◌∷◌, map, filter, Some, None, is_some, Ok, Err, unwrap_or, arith}
 use Rattle.inf_fields.specs.Updates.{reading, are_few, field_in, is_named, unless_too_many, update}
-use Rattle.inf_fields.specs.declared.fault.InfFault.TheVariants.{BadName, TooMany}
-use Rattle.hub_rules.specs.Grounds.{is_wrong_address}
-use Rattle.hub_rules.specs.Identities.{value_or_empty}
+use Rattle.inf_fields.specs.declared.fault.InfFault.TheVariants.{BadName}
+use Rattle.hub_laws.proofs.Words.{AllByRecursion, Field, address_name, any_address, asks_for_address, besides, bytes_eq, bytes_eq-Decides, clean, dotted_decimal, field, has_name, if◌then◌else◌}
+use Rattle.hub_laws.proofs.Words.{is_called, is_held_back, is_wrong_address, list_all, value_of, value_or_empty, with_address}
+use Rattle.hub_laws.proofs.Words.updates
 use Rattle.hub_laws.specs.Secrets.{IsPassed}
 use Rattle.hub_laws.proofs.Secrets.{filled_address, passed-address}
 
@@ -44,8 +36,7 @@ apart-filter test (f ∷ fields) apart =
     go (test f)
 
 lacks-one : (b : Bool) (value : List ℕ) → not (is_some (if b then Some value else None)) ≡ true → b ≡ false
-lacks-one true value is = absurd (false≢true is)
-lacks-one false value is = refl
+lacks-one b value is = grind arith
 
 others-differ : (f : Field) (fields : List Field) → AllByRecursion (λ (g : Field). bytes_eq g.name f.name ≡ false) (besides (f ∷ []) fields)
 others-differ f [] = tt
@@ -81,17 +72,13 @@ exact (f ∷ u) apart = (ap (λ b. if b then Some f.value else value_of f.name u
 
 with-filled : (peer : List ℕ) (f : Field) (called any : Bool) → is_called address_name f ≡ called → bytes_eq any_address f.value ≡ any → called ≡ true
     → (if called && any then field f.name (dotted_decimal peer) else f).value ≡ (if any then dotted_decimal peer else f.value)
-with-filled peer f true true is-called is-any here = refl
-with-filled peer f true false is-called is-any here = refl
-with-filled peer f false any is-called is-any here = absurd (false≢true here)
+with-filled peer f called any is-called is-any here = grind arith
 
 with-name : (peer : List ℕ) (f : Field) (asks : Bool) → (if asks then field f.name (dotted_decimal peer) else f).name ≡ f.name
-with-name peer f true = refl
-with-name peer f false = refl
+with-name peer f asks = grind arith
 
 with-held : (peer : List ℕ) (f : Field) (asks : Bool) → is_held_back f ≡ false → is_held_back (if asks then field f.name (dotted_decimal peer) else f) ≡ false
-with-held peer f true held = held
-with-held peer f false held = held
+with-held peer f asks held = grind arith
 
 passed-one : (peer : List ℕ) (u : List Field) (f : Field) → is_wrong_address peer (value_or_empty address_name u) ≡ false → IsExact u f → is_held_back f ≡ false → IsPassed peer (with_address peer f)
 passed-one peer u f right exactly held = (
@@ -119,13 +106,8 @@ passed-all peer u (f ∷ fields) right exactly =
 
 -- ---- what words say
 
-few-same : (few : Bool) (fields u : List Field) → (if few then Ok fields else Err TooMany) ≡ Ok u → u ≡ fields
-few-same true fields u is = cc is
-few-same false fields u is = let none : ⊥ = cc is in absurd none
-
 named-same : (named : Bool) (fields u : List Field) → (if named then unless_too_many fields else Err BadName) ≡ Ok u → u ≡ fields
-named-same true fields u is = few-same (are_few fields) fields u is
-named-same false fields u is = let none : ⊥ = cc is in absurd none
+named-same named fields u is = grind arith
 
 read-update : (words : List (List ℕ)) (u : List Field) → updates.reading words ≡ Ok u → u ≡ update words
 unfolding reading

@@ -1,39 +1,15 @@
 -- Which lines change something for all, and which bring a user in.
-use Rattle.std.proofs.Common.{◌≡◌, ◌∙◌, sym, ap, ap₂, refl, subst, ℕ, ◌+◌, Bool, false, ◌&&◌, ◌⊎◌, inl, inr, ◌==◌, List, Option, fold, eq-eqb, cond}
-use Rattle.std.proofs.lemmas.Bool.{false≢true, eqb-true}
-use Rattle.adc_line.specs.Lines.{Reading}
-use Rattle.login_state.specs.declared.stage.Stage.{Stage}
-use Rattle.login_state.specs.declared.stage.Stage.TheVariants as stages
-use Rattle.operator_acts.specs.BanHistory.{act_on}
-use Rattle.operator_acts.specs.Bans.{left_of_bans}
-use Rattle.operator_acts.specs.declared.ban.Ban.{Ban}
-use Rattle.operator_acts.specs.declared.left.Left.TheVariants as lefts
-use Rattle.hub_rules.specs.declared.effect.Change.TheVariants.{Sender}
-use Rattle.hub_rules.specs.declared.effect.Effect.{Effect}
-use Rattle.hub_rules.specs.declared.effect.SenderChange.TheVariants as senders
-use Rattle.hub_rules.specs.declared.history.Call.{Call}
-use Rattle.hub_rules.specs.declared.history.Call.TheVariants.{Line}
-use Rattle.hub_rules.specs.declared.history.Entry.{Entry}
-use Rattle.login_state.specs.declared.request.Request.{Request}
-use Rattle.hub_rules.specs.Acts.{is_operator}
-use Rattle.hub_rules.specs.Configured.{Configured}
-use Rattle.hub_rules.specs.Effects.{departure, is_present}
-use Rattle.hub_rules.specs.Facts.{Facts, facts, effect_of_line, own_of, sight_of}
-use Rattle.hub_rules.specs.Identities.{cid_in}
-use Rattle.hub_rules.specs.Prepared.{prepared_line}
-use Rattle.hub_rules.specs.Said.{accepted_line}
-use Rattle.hub_rules.specs.Shares.{About, fields_after, removed_by, stage_after}
-use Rattle.hub_rules.specs.Sights.{Own, PreparedLine, Sight}
-use Rattle.hub_rules.specs.World.{change_of}
+use Rattle.std.proofs.Common.{◌≡◌, ◌∙◌, sym, ap, ap₂, refl, subst, ℕ, ◌+◌, Bool, false, ◌&&◌, ◌⊎◌, inl, inr, ◌==◌, List, Option, eq-eqb, cond, arith}
+use Rattle.hub_laws.proofs.Words.{About, Becomes, Call, Configured, Effect, Entry, Facts, Field, Line, Outcome, Own, PreparedLine, Reading, Request, Sender, Sight, Stage, accepted_line, acts}
+use Rattle.hub_laws.proofs.Words.{and-false, becomes, change_of, cid_in, departure, effect_of_line, eqb-true, facts, false≢true, fields_after, is_operator, is_present, left_of_bans, line-outcome}
+use Rattle.hub_laws.proofs.Words.{own_of, prepared_line, removed_by, sight_of, stage_after, stage_next}
+use Rattle.hub_laws.proofs.Words.lefts
+use Rattle.hub_laws.proofs.Words.senders
+use Rattle.hub_laws.proofs.Words.stages
 use Rattle.hub_laws.specs.Operating.{NobodyBannedEnters, OnlyOperatorsBan, OnlyOperatorsSetTopics, OnlyOperatorsShutOut, is_of_operator, is_own}
-use Rattle.hub_invariants.proofs.Becoming.{Becomes, becomes}
-use Rattle.hub_invariants.proofs.Members.{and-false}
-use Rattle.hub_invariants.proofs.Outcomes.{Outcome, acts, line-outcome}
-use Rattle.hub_invariants.proofs.Sound.{stage_next}
 use Rattle.hub_laws.proofs.Entrances.{EntersUnasked, GivesPassword, IsHereStill, checked-line}
 use Rattle.hub_laws.proofs.Moving.{moves-to, gone-normal, protocol-normal}
 use Rattle.hub_laws.proofs.Worlds.{is_act, no-ban, no-removal, no-topic, step-bans, step-topic}
-use Rattle.inf_fields.specs.Field.{Field}
 
 -- ---- whose lines change something for all
 
@@ -54,15 +30,11 @@ same-call setup hash h _ none_of = refl
 
 pub only_operators_ban : OnlyOperatorsBan
 unfolding facts
-only_operators_ban setup hash h e cid now none_of =
-    ap (λ (bans : List (List ℕ × Ban)). left_of_bans bans cid now)
-    (step-bans setup hash (facts setup hash h) e.caller e.call ∙ ap (fold act_on (facts setup hash h).bans) (no-ban (change_of setup hash (facts setup hash h) e.call) (same-call setup hash h e.call none_of)))
+only_operators_ban setup hash h e cid now none_of = grind (arith, step-bans, no-ban, same-call)
 
 pub only_operators_set_topics : OnlyOperatorsSetTopics
 unfolding facts
-only_operators_set_topics setup hash h e none_of =
-    step-topic setup hash (facts setup hash h) e.caller e.call
-    ∙ no-topic (change_of setup hash (facts setup hash h) e.call) (facts setup hash h).topic (same-call setup hash h e.call none_of)
+only_operators_set_topics setup hash h e none_of = grind (arith, step-topic, no-topic, same-call)
 
 -- ---- whose stage changes
 
@@ -116,7 +88,8 @@ module _ {setup : Configured} {hash : List ℕ → List ℕ} {f : Facts} {caller
             (checked.enters (subst (λ x. stage_after effect.change (f.about x).stage ≡ stages.Normal) same moved.moves)),
       )
   enters-after (Becomes.quits c) absent here =
-      absurd (gone-normal (moves-to (removed_by (departure (f.about c).stage (f.about c).sid) (f.about d)) (d == c) (Sender senders.Falls) (f.about d).stage stages.Normal gone-normal absent here).moves)
+      absurd (gone-normal (moves-to (removed_by (departure (f.about c).stage (f.about c).sid) (f.about d)) (d == c) (Sender senders.Falls)
+      (f.about d).stage stages.Normal gone-normal absent here).moves)
   enters-after _ absent here = absurd (absent here)
 
 pub nobody_banned_enters : NobodyBannedEnters

@@ -1,30 +1,19 @@
 -- The part of an update that is passed on leaves the nick as it came.
-use Rattle.std.proofs.Common.{◌≡◌, ◌∙◌, sym, ap, ap₂, refl, ℕ, Bool, true, false, not, ◌&&◌, ◌||◌, cond, List, [], ◌∷◌, map, filter, Some, unwrap_or}
-use Rattle.std.specs.Prelude.{if◌then◌else◌}
-use Rattle.std.specs.Str.{bytes_eq}
-use Rattle.std.proofs.lemmas.Bool.{false≢true}
-use Rattle.std.proofs.lemmas.Slice.Eq.{bytes_eq-Decides}
-use Rattle.inf_fields.specs.Cleaning.{any_address, asks_for_address, clean, dotted_decimal, is_held_back, with_address}
-use Rattle.inf_fields.specs.Field.{Field, field, is_called, value_of}
-use Rattle.inf_fields.specs.FieldNames.{address6_name, address_name, client_type_name, nick_name, port6_name, private_id_name}
-use Rattle.inf_fields.specs.Merging.{merged_fields, merged_with}
-use Rattle.hub_rules.specs.Identities.{value_or_empty, key_in, key_of, meaning}
-use Rattle.hub_rules.proofs.Merges.{given-after}
+use Rattle.std.proofs.Common.{◌≡◌, ◌∙◌, sym, ap, refl, ℕ, Bool, true, false, not, ◌&&◌, cond, List, [], ◌∷◌, map, filter, Some, unwrap_or, arith}
+use Rattle.hub_laws.proofs.Words.{Field, address_name, any_address, asks_for_address, bytes_eq, clean, dotted_decimal, false≢true, field, given-after, if◌then◌else◌, is_called, is_held_back}
+use Rattle.hub_laws.proofs.Words.{key_in, key_of, meaning, merged_fields, merged_with, nick_name, value_of, value_or_empty, with_address}
 
 other-name : (other : List ℕ) (f : Field) (called : Bool) → bytes_eq nick_name other ≡ false → is_called other f ≡ called → is_called nick_name f ≡ true → called ≡ false
-other-name other f true apart is here = absurd (false≢true (sym apart ∙ ap (bytes_eq nick_name) ((bytes_eq-Decides other f.name).0 is) ∙ here))
-other-name other f false apart is here = refl
+other-name other f called apart is here = grind arith
 
 other-is : (other : List ℕ) (f : Field) → bytes_eq nick_name other ≡ false → is_called nick_name f ≡ true → is_called other f ≡ false
 other-is other f apart here = other-name other f (is_called other f) apart refl here
 
 passed-name : (asks : Bool) (f g : Field) → g.name ≡ f.name → (if asks then g else f).name ≡ f.name
-passed-name true f g same = same
-passed-name false f g same = refl
+passed-name asks f g same = grind arith
 
 nick-kept : (f : Field) → is_called nick_name f ≡ true → is_held_back f ≡ false
-nick-kept f here =
-    ap₂ ◌||◌ (ap₂ ◌||◌ (ap₂ ◌||◌ (other-is private_id_name f refl here) (other-is client_type_name f refl here)) (other-is address6_name f refl here)) (other-is port6_name f refl here)
+nick-kept f here = grind arith
 
 nick-value : (peer : List ℕ) (f : Field) → is_called nick_name f ≡ true → with_address peer f ≡ f
 nick-value peer f here = ap (λ b. if (b && bytes_eq any_address f.value) then field f.name (dotted_decimal peer) else f) (other-is address_name f refl here)

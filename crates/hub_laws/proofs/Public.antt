@@ -1,30 +1,11 @@
 -- After every history what is known of a user may be known.
-use Rattle.std.proofs.Common.{◌≡◌, sym, refl, subst, ℕ, Bool, true, false, ◌==◌, List, [], ◌∷◌, Option, None, Ok, cond}
-use Rattle.std.specs.List.{AllByRecursion}
-use Rattle.std.proofs.lemmas.Bool.{eqb-true}
-use Rattle.adc_line.specs.Lines.{Reading}
-use Rattle.inf_fields.specs.Cleaning.{clean}
-use Rattle.inf_fields.specs.Field.{Field}
-use Rattle.inf_fields.specs.FieldNames.{address_name}
-use Rattle.inf_fields.specs.Merging.{merged_with}
-use Rattle.login_state.specs.declared.deny.Deny.{Deny}
-use Rattle.login_state.specs.declared.deny.Deny.TheVariants as denials
-use Rattle.user_table.specs.Listed.{Listed}
-use Rattle.hub_rules.specs.declared.effect.Effect.{Effect}
-use Rattle.hub_rules.specs.declared.history.Call.{Call}
-use Rattle.login_state.specs.declared.request.Request.{Request}
-use Rattle.hub_rules.specs.Configured.{Configured}
-use Rattle.hub_rules.specs.Denied.{login_denied}
-use Rattle.hub_rules.specs.Facts.{Facts, facts, after, effect_of_line}
-use Rattle.hub_rules.specs.Grounds.{first_ground, is_wrong_address, login_grounds, update_grounds}
+use Rattle.std.proofs.Common.{◌≡◌, sym, subst, ℕ, Bool, true, false, ◌==◌, List, [], ◌∷◌, Option, None, Ok, cond, arith}
 use Rattle.hub_rules.specs.Identities as identities
-use Rattle.hub_rules.specs.Identities.{listed_user}
-use Rattle.hub_rules.specs.Shares.{About, fields_after}
-use Rattle.hub_rules.specs.Sights.{Own, PreparedLine, Sight, user_after}
+use Rattle.hub_laws.proofs.Words.{About, AllByRecursion, AllFalse, Becomes, Call, Configured, Deny, Effect, Facts, Field, Listed, Outcome, Own, PreparedLine, Reading, Request, Sight, address_name}
+use Rattle.hub_laws.proofs.Words.{after, becomes, clean, effect_of_line, eqb-true, facts, fields_after, first_ground, grounds_of, is_wrong_address, lets_in, line-outcome, listed_user}
+use Rattle.hub_laws.proofs.Words.{login_denied, login_grounds, merged_with, none-of, revises, update_grounds, user_after, waits}
+use Rattle.hub_laws.proofs.Words.denials
 use Rattle.hub_laws.specs.Secrets.{InfoIsPublic, IsPublic}
-use Rattle.hub_invariants.proofs.Becoming.{Becomes, becomes}
-use Rattle.hub_invariants.proofs.Claims.{AllFalse, grounds_of, none-of}
-use Rattle.hub_invariants.proofs.Outcomes.{Outcome, lets_in, line-outcome, revises, waits}
 use Rattle.hub_laws.proofs.Secrets.{clean-passed, merged-public}
 
 abbrev ArePublic : List ℕ → List Field → Type 0
@@ -66,8 +47,7 @@ listed-public sid peer fields all = all
 
 login-public : (hub : Sight) (own : Own) (line : PreparedLine) (now : ℕ) (u : List Field) → login_denied hub own line.owner now (Ok u) ≡ None → ArePublic own.peer own.fields
     → ArePublic own.peer (user_after own u).fields
-login-public hub own line now u none all =
-    listed-public own.sid own.peer _ (public-merged own u (login-right hub own now line.owner u (user_after own u) none) all)
+login-public hub own line now u none all = grind (arith, listed-public, public-merged, login-right)
 
 module _ {hub : Sight} {own : Own} {line : PreparedLine} {now : ℕ} where
   public : {said : Option Reading} {request : Request} {effect : Effect} → Outcome hub own line now said request effect → KeepsPublic own effect
@@ -83,8 +63,7 @@ abbrev AboutIsPublic : About → Type 0
 AboutIsPublic a = ArePublic a.peer a.fields
 
 chosen-public : (peer : List ℕ) (same : Bool) (after before : List Field) → (same ≡ true → ArePublic peer after) → ArePublic peer before → ArePublic peer (cond same after before)
-chosen-public peer true after before own all = own refl
-chosen-public peer false after before own all = all
+chosen-public peer same after before own all = grind arith
 
 module _ {setup : Configured} {hash : List ℕ → List ℕ} {f : Facts} {caller d : ℕ} where
   public-after : {call : Call} {a : About} → Becomes setup hash f caller d call a → AboutIsPublic (f.about d) → AboutIsPublic a

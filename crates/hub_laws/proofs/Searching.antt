@@ -1,36 +1,11 @@
 -- A connection's last search is the last of its accepted searches.
-use Rattle.std.proofs.Common.{◌≡◌, ◌∙◌, sym, ap, ap₂, refl, subst, ℕ, ◌+◌, ◌<◌, Bool, true, false, ◌&&◌, ◌==◌, List, [], ◌∷◌, length, map, Option, None, arith, Some, cond}
-use Rattle.std.specs.List.{sum_by}
-use Rattle.std.specs.Option.{option_or}
-use Rattle.std.proofs.lemmas.Bool.{eqb-true}
-use Rattle.std.proofs.lemmas.List.{length-map}
-use Rattle.std.proofs.lemmas.List.Sums.{sum_by-cons}
-use Rattle.adc_line.specs.Lines.{Reading}
-use Rattle.inf_fields.specs.Field.{Field}
-use Rattle.inf_fields.specs.FieldNames.{share_size_name, shared_files_name}
-use Rattle.user_table.specs.Listed.{Listed}
-use Rattle.user_table.specs.Tables.{amount}
+use Rattle.std.proofs.Common.{◌≡◌, ◌∙◌, sym, ap, ap₂, refl, subst, ℕ, ◌+◌, ◌<◌, Bool, true, false, ◌&&◌, ◌==◌, List, [], ◌∷◌, length, map, Option, None, arith, cond}
 use Rattle.user_table.specs.declared.totals.Totals.{Totals}
-use Rattle.hub_rules.specs.declared.effect.Effect.{Effect}
-use Rattle.hub_rules.specs.declared.history.Call.{Call}
-use Rattle.hub_rules.specs.declared.history.Call.TheVariants.{Line}
-use Rattle.hub_rules.specs.declared.history.Entry.{Entry}
-use Rattle.login_state.specs.declared.request.Request.{Request}
-use Rattle.hub_rules.specs.Configured.{Configured}
-use Rattle.hub_rules.specs.Effects.{is_over, line_effect}
-use Rattle.hub_rules.specs.Facts.{Facts, facts, about_after, after, effect_of_line, own_of, sight_of, user_of}
-use Rattle.hub_rules.specs.Identities.{listed_user}
-use Rattle.hub_rules.specs.Prepared.{prepared_line}
-use Rattle.hub_rules.specs.Said.{accepted_line}
-use Rattle.hub_rules.specs.Searched.{SearchIsTheLast, TotalsAreSums, is_search, last_search, moment_if, search_in, searches}
-use Rattle.hub_rules.specs.Shares.{About, searched_after}
-use Rattle.hub_rules.specs.Sights.{Own, PreparedLine, Sight}
-use Rattle.hub_invariants.proofs.Becoming.{Becomes, becomes}
-use Rattle.hub_invariants.proofs.Calls.{sound_of}
-use Rattle.hub_invariants.proofs.Kept.{joins-grow}
-use Rattle.hub_invariants.proofs.Outcomes.{Outcome, outcome, request_in}
-use Rattle.hub_invariants.proofs.Saying.{over-beyond, unheard, same-chosen}
-use Rattle.hub_invariants.proofs.Sound.{Sound}
+use Rattle.hub_laws.specs.Searched.{SearchIsTheLast, TotalsAreSums, is_search, last_search, moment_if, search_in, searches}
+use Rattle.hub_laws.proofs.Words.{About, Becomes, Call, Configured, Effect, Entry, Facts, Field, Line, Listed, Outcome, Own, PreparedLine, Reading, Request, Sight, Sound, about_after}
+use Rattle.hub_laws.proofs.Words.{accepted_line, after, amount, becomes, effect_of_line, eqb-true, facts, is_over, joins-grow, length-map, line_effect, listed_user, option_or, outcome}
+use Rattle.hub_laws.proofs.Words.{over-beyond, own_of, prepared_line, request_in, same-chosen, searched_after, share_size_name, shared_files_name, sight_of, sound_of, sum_by, sum_by-cons, unheard}
+use Rattle.hub_laws.proofs.Words.{user_of}
 
 -- ---- one line
 
@@ -44,8 +19,7 @@ module _ {hub : Sight} {own : Own} {line : PreparedLine} {now : ℕ} where
   finds _ before = refl
 
 asks-search : (own : Own) (said : Option Reading) → is_search (request_in own said) ≡ searches own said
-asks-search own None = refl
-asks-search own (Some reading) = refl
+asks-search own said = grind arith
 
 finds-line : (hub : Sight) (own : Own) (line : PreparedLine) (now : ℕ) → Finds (line_effect hub own line now) (moment_if (searches own (accepted_line hub own line now)) now)
 finds-line hub own line now before =
@@ -55,15 +29,12 @@ finds-line hub own line now before =
 
 search-one : (is_caller is_searching : Bool) (now : ℕ) (before after : Option ℕ) → after ≡ option_or (moment_if is_searching now) before
     → cond is_caller after before ≡ option_or (moment_if (is_caller && is_searching) now) before
-search-one true is_searching now before after is = is
-search-one false is_searching now before after is = refl
+search-one is_caller is_searching now before after is = grind arith
 
 -- a line of connection d
 line-searched : (setup : Configured) (hash : List ℕ → List ℕ) (f : Facts) (c d : ℕ) (bytes : List ℕ) (now : ℕ)
     → (about_after d (effect_of_line setup hash f d bytes now) f.about c).searched ≡ option_or (search_in setup hash f c (Line d bytes now)) (f.about c).searched
-line-searched setup hash f c d bytes now =
-    search-one (c == d) _ now (f.about c).searched _
-    (finds-line (sight_of setup f) (own_of (f.about d)) (prepared_line setup hash (f.about d).challenge bytes) now (f.about c).searched)
+line-searched setup hash f c d bytes now = grind (arith, search-one, finds-line)
 
 -- ---- a connection that has not joined yet never searched
 
@@ -86,8 +57,7 @@ module _ {setup : Configured} {hash : List ℕ → List ℕ} {f : Facts} {caller
   searched-after _ fresh = refl
 
 no-search : (setup : Configured) (hash : List ℕ → List ℕ) (f : Facts) (call : Call) (c : ℕ) → Sound f → f.joins < c → search_in setup hash f c call ≡ None
-no-search setup hash f (Line d bytes now) c sound beyond = quiet-one setup hash f c d bytes now (c == d) refl (over-beyond f sound c beyond)
-no-search setup hash f _ c sound beyond = refl
+no-search setup hash f call c sound beyond = grind (arith, quiet-one, over-beyond)
 
 never-searched : (setup : Configured) (hash : List ℕ → List ℕ) (h : List Entry) (c : ℕ) → (facts setup hash h).joins < c → ((facts setup hash h).about c).searched ≡ None
 unfolding facts
@@ -119,8 +89,7 @@ listed-amount name sid fields = refl
 
 sums : (name : List ℕ) (about : ℕ → About) (cs : List ℕ)
     → sum_by (λ (user : Listed). amount name user.fields) (map (user_of about) cs) ≡ sum_by (λ c. amount name (about c).fields) cs
-sums name about cs =
-    sum-same (λ (user : Listed). amount name user.fields) (λ c. amount name (about c).fields) (user_of about) cs (λ c. listed-amount name (about c).sid (about c).fields)
+sums name about cs = grind (arith, sum-same, listed-amount)
 
 abbrev totals_of : ℕ → ℕ → ℕ → Totals
 totals_of users ss sf = record { users = users; ss = ss; sf = sf }

@@ -1,17 +1,8 @@
 -- Fields of accepted updates that are passed on may be known, and so may what is merged of them.
-use Rattle.std.proofs.Common.{◌≡◌, ◌∙◌, sym, ap, refl, subst, ℕ, Bool, true, false, cond, not, ◌&&◌, ◌||◌, ◌⊎◌, inl, inr, List, [], ◌∷◌, ◌++◌, map, filter, Option, Some, None, is_some, unwrap_or}
-use Rattle.std.specs.Prelude.{if◌then◌else◌}
-use Rattle.std.specs.List.{AllByRecursion}
-use Rattle.std.specs.Option.{option_map}
-use Rattle.std.specs.Str.{bytes_eq}
-use Rattle.std.proofs.lemmas.Bool.{false≢true}
-use Rattle.std.proofs.lemmas.Slice.Eq.{bytes_eq-Decides}
-use Rattle.inf_fields.specs.Cleaning.{any_address, asks_for_address, clean, dotted_decimal, is_held_back, with_address}
-use Rattle.inf_fields.specs.Field.{Field, besides, field, has_name, is_called, value_of}
-use Rattle.inf_fields.specs.FieldNames.{address_name}
-use Rattle.inf_fields.specs.Merging.{followed_by, is_empty_value, latest, leave, merged_with, settled_fields}
-use Rattle.hub_rules.specs.Grounds.{is_empty, is_wrong_address}
-use Rattle.hub_rules.specs.Identities.{value_or_empty}
+use Rattle.std.proofs.Common.{◌≡◌, ◌∙◌, sym, ap, refl, subst, ℕ, Bool, true, false, cond, not, ◌||◌, ◌⊎◌, inl, inr, List, [], ◌∷◌, ◌++◌, map, filter, Option, Some, None, is_some, unwrap_or, arith}
+use Rattle.hub_laws.proofs.Words.{AllByRecursion, Field, address_name, any_address, besides, bytes_eq, bytes_eq-Decides, clean, dotted_decimal, false≢true, field, followed_by, has_name}
+use Rattle.hub_laws.proofs.Words.{if◌then◌else◌, is_called, is_empty, is_held_back, is_wrong_address, latest, leave, merged_with, option_map, settled_fields, value_of, value_or_empty}
+use Rattle.hub_laws.proofs.Words.{with_address}
 use Rattle.hub_laws.specs.Secrets.{IsPublic}
 
 -- ---- lists
@@ -21,8 +12,7 @@ all-append P [] ys first second = second
 all-append P (x ∷ xs) ys first second = (first.0, all-append P xs ys first.1 second)
 
 all-cond : {X : Type 0} (P : X → Type 0) (b : Bool) (x : X) (xs : List X) → P x → AllByRecursion P xs → AllByRecursion P (cond b (x ∷ xs) xs)
-all-cond P true x xs one rest = (one, rest)
-all-cond P false x xs one rest = rest
+all-cond P b x xs one rest = grind arith
 
 all-filter : {X : Type 0} (P : X → Type 0) (test : X → Bool) (xs : List X) → AllByRecursion P xs → AllByRecursion P (filter test xs)
 all-filter P test [] all = tt
@@ -38,8 +28,7 @@ is-called : (f : Field) → is_called f.name f ≡ true
 is-called f = (bytes_eq-Decides f.name f.name).1 refl
 
 some-if : (b : Bool) (x : List ℕ) (o : Option (List ℕ)) → is_some o ≡ true → is_some (if b then Some x else o) ≡ true
-some-if true x o some = refl
-some-if false x o some = some
+some-if b x o some = grind arith
 
 abbrev IsNamed : List Field → Field → Type 0
 IsNamed u f = is_some (value_of f.name u) ≡ true
@@ -58,18 +47,12 @@ pub record HasPassed (peer : List ℕ) (u : List Field) : Type 0 where
   pub kept : AllByRecursion (λ (f : Field). is_held_back f ≡ false) u
   pub address : (v : List ℕ) → value_of address_name u ≡ Some v → (v ≡ []) ⊎ (v ≡ dotted_decimal peer)
 
-not-held : (b : Bool) → not b ≡ true → b ≡ false
-not-held true is = absurd (false≢true is)
-not-held false is = refl
-
 addressed-held : (peer : List ℕ) (f : Field) (b : Bool) → is_held_back f ≡ false → is_held_back (if b then field f.name (dotted_decimal peer) else f) ≡ false
-addressed-held peer f true held = held
-addressed-held peer f false held = held
+addressed-held peer f b held = grind arith
 
 keep-if : (peer : List ℕ) (f : Field) (xs : List Field) (held : Bool) → is_held_back f ≡ held → AllByRecursion (λ (g : Field). is_held_back g ≡ false) (map (with_address peer) xs)
     → AllByRecursion (λ (g : Field). is_held_back g ≡ false) (map (with_address peer) (cond (not held) (f ∷ xs) xs))
-keep-if peer f xs true is rest = rest
-keep-if peer f xs false is rest = (addressed-held peer f (asks_for_address f) is, rest)
+keep-if peer f xs held is rest = grind (arith, addressed-held)
 
 clean-kept : (u : List Field) (peer : List ℕ) → AllByRecursion (λ (f : Field). is_held_back f ≡ false) (clean u peer)
 unfolding clean
@@ -82,32 +65,11 @@ clean-kept (f ∷ u) peer = keep-if peer f (filter (λ g. not (is_held_back g)) 
 abbrev pub filled_address : List ℕ → List ℕ → List ℕ
 filled_address peer v = if bytes_eq any_address v then dotted_decimal peer else v
 
-held-name : (name : List ℕ) → bytes_eq address_name name ≡ true → is_held_back (field name []) ≡ false
-held-name name is = ap (λ n. is_held_back (field n [])) (sym ((bytes_eq-Decides address_name name).0 is))
-
-address-here : (peer : List ℕ) (f : Field) (any : Bool) → bytes_eq any_address f.value ≡ any → (if any then field f.name (dotted_decimal peer) else f).value ≡ (if any then dotted_decimal peer else f.value)
-address-here peer f true is = refl
-address-here peer f false is = refl
-
-same-name : (b : Bool) (f g : Field) → g.name ≡ f.name → (if b then g else f).name ≡ f.name
-same-name true f g same = same
-same-name false f g same = refl
-
 address-cons : (peer : List ℕ) (f : Field) (u : List Field) (held called : Bool) → is_held_back f ≡ held → is_called address_name f ≡ called
     → value_of address_name (map (with_address peer) (filter (λ g. not (is_held_back g)) u)) ≡ option_map (filled_address peer) (value_of address_name u)
     → value_of address_name (map (with_address peer) (cond (not held) (f ∷ filter (λ g. not (is_held_back g)) u) (filter (λ g. not (is_held_back g)) u)))
     ≡ option_map (filled_address peer) (if called then Some f.value else value_of address_name u)
-address-cons peer f u true true is-held is-called rest = absurd (false≢true (sym (held-name f.name is-called) ∙ is-held))
-address-cons peer f u true false is-held is-called rest = rest
-address-cons peer f u false true is-held is-called rest =
-    ap (λ b. if b then Some (with_address peer f).value else value_of address_name (map (with_address peer) (filter (λ g. not (is_held_back g)) u)))
-    (ap (bytes_eq address_name) (same-name (asks_for_address f) f (field f.name (dotted_decimal peer)) refl) ∙ is-called)
-    ∙ ap Some (ap (λ b. (if (b && bytes_eq any_address f.value) then field f.name (dotted_decimal peer) else f).value) is-called
-    ∙ address-here peer f (bytes_eq any_address f.value) refl)
-address-cons peer f u false false is-held is-called rest =
-    ap (λ b. if b then Some (with_address peer f).value else value_of address_name (map (with_address peer) (filter (λ g. not (is_held_back g)) u)))
-    (ap (bytes_eq address_name) (same-name (asks_for_address f) f (field f.name (dotted_decimal peer)) refl) ∙ is-called)
-    ∙ rest
+address-cons peer f u held called is-held is-called rest = grind arith
 
 address-clean : (u : List Field) (peer : List ℕ) → value_of address_name (clean u peer) ≡ option_map (filled_address peer) (value_of address_name u)
 unfolding clean
@@ -116,21 +78,21 @@ address-clean (f ∷ u) peer = address-cons peer f u (is_held_back f) (is_called
 
 -- an address that is right is none, one to fill in, or the one that the hub sees
 empty-nil : (w : List ℕ) → is_empty w ≡ true → w ≡ []
-empty-nil [] is = refl
-empty-nil (b ∷ more) is = absurd (false≢true is)
+empty-nil w is = grind arith
 
 filled-own : (peer : List ℕ) (any : Bool) → (if any then dotted_decimal peer else dotted_decimal peer) ≡ dotted_decimal peer
-filled-own peer true = refl
-filled-own peer false = refl
+filled-own peer any = grind arith
 
 is-right : (peer w : List ℕ) (none any own : Bool) → is_empty w ≡ none → bytes_eq w any_address ≡ any → bytes_eq w (dotted_decimal peer) ≡ own
     → not (none || any || own) ≡ false → (filled_address peer w ≡ []) ⊎ (filled_address peer w ≡ dotted_decimal peer)
 is-right peer w true any own is-none is-any is-own right = inl (ap (filled_address peer) (empty-nil w is-none))
 is-right peer w false true own is-none is-any is-own right = inr (ap (filled_address peer) ((bytes_eq-Decides w any_address).0 is-any))
-is-right peer w false false true is-none is-any is-own right = inr (ap (filled_address peer) ((bytes_eq-Decides w (dotted_decimal peer)).0 is-own) ∙ filled-own peer (bytes_eq any_address (dotted_decimal peer)))
+is-right peer w false false true is-none is-any is-own right = inr (ap (filled_address peer) ((bytes_eq-Decides w (dotted_decimal peer)).0 is-own)
+    ∙ filled-own peer (bytes_eq any_address (dotted_decimal peer)))
 is-right peer w false false false is-none is-any is-own right = absurd (false≢true (sym right))
 
-pub passed-address : (peer : List ℕ) (o : Option (List ℕ)) (v : List ℕ) → is_wrong_address peer (unwrap_or o []) ≡ false → option_map (filled_address peer) o ≡ Some v → (v ≡ []) ⊎ (v ≡ dotted_decimal peer)
+pub passed-address : (peer : List ℕ) (o : Option (List ℕ)) (v : List ℕ) → is_wrong_address peer (unwrap_or o []) ≡ false → option_map (filled_address peer) o ≡ Some v → (v ≡ [])
+    ⊎ (v ≡ dotted_decimal peer)
 passed-address peer None v right is = let none : ⊥ = cc is in absurd none
 passed-address peer (Some w) v right is =
     let e : filled_address peer w ≡ v = cc is in
@@ -148,30 +110,16 @@ clean-passed u peer right = record {
 abbrev renewed_field : List Field → Field → Field
 renewed_field u f = field f.name (latest (u ∷ []) f.name f.value)
 
-by-value : (peer v : List ℕ) → (v ≡ []) ⊎ (v ≡ dotted_decimal peer) → (not (is_empty_value (Some v)) && true) ≡ true → v ≡ dotted_decimal peer
-by-value peer v (inl none) stays = absurd (false≢true (sym (ap (λ (x : List ℕ). not (is_empty_value (Some x)) && true) none) ∙ stays))
-by-value peer v (inr is) stays = is
-
-renewed-value : (peer : List ℕ) (name value : List ℕ) (o : Option (List ℕ)) → ((v : List ℕ) → o ≡ Some v → (v ≡ []) ⊎ (v ≡ dotted_decimal peer)) → (o ≡ None → value ≡ dotted_decimal peer)
-    → (not (is_empty_value o) && true) ≡ true → unwrap_or o value ≡ dotted_decimal peer
-renewed-value peer name value None address own stays = own refl
-renewed-value peer name value (Some v) address own stays = by-value peer v (address v refl) stays
-
 renewed-public : (peer : List ℕ) (u : List Field) (f : Field) → HasPassed peer u → is_held_back f ≡ false
     → (is_called address_name f ≡ true → value_of f.name u ≡ None → f.value ≡ dotted_decimal peer) → leave (u ∷ []) f.name ≡ true → IsPublic peer (renewed_field u f)
-renewed-public peer u f passed held own stays = (
-  held,
-  λ called. renewed-value peer f.name f.value (value_of f.name u)
-      (λ v is. passed.address v (ap (λ n. value_of n u) ((bytes_eq-Decides address_name f.name).0 called) ∙ is)) (own called) stays,
-)
+renewed-public peer u f passed held own stays = grind arith
 
 abbrev IsRenewed : List ℕ → List Field → Field → Type 0
 IsRenewed peer u f = leave (u ∷ []) f.name ≡ true → IsPublic peer (renewed_field u f)
 
 settle-if : (peer : List ℕ) (u : List Field) (f : Field) (xs : List Field) (stays : Bool) → leave (u ∷ []) f.name ≡ stays → IsRenewed peer u f
     → AllByRecursion (IsPublic peer) (map (renewed_field u) xs) → AllByRecursion (IsPublic peer) (map (renewed_field u) (cond stays (f ∷ xs) xs))
-settle-if peer u f xs true is one rest = (one is, rest)
-settle-if peer u f xs false is one rest = rest
+settle-if peer u f xs stays is one rest = grind arith
 
 settled-public : (peer : List ℕ) (u xs : List Field) → AllByRecursion (IsRenewed peer u) xs → AllByRecursion (IsPublic peer) (settled_fields (u ∷ []) xs)
 settled-public peer u [] all = tt
@@ -179,8 +127,7 @@ settled-public peer u (f ∷ xs) all =
     settle-if peer u f (filter (λ g. leave (u ∷ []) g.name) xs) (leave (u ∷ []) f.name) refl all.0 (settled-public peer u xs all.1)
 
 none-named : (o : Option (List ℕ)) → is_some o ≡ true → o ≡ None → ⊥
-none-named None some none = false≢true some
-none-named (Some v) some none = cc none
+none-named o some none = grind arith
 
 both-named : (peer : List ℕ) (u xs : List Field) → HasPassed peer u → AllByRecursion (λ (f : Field). is_held_back f ≡ false) xs → AllByRecursion (IsNamed u) xs
     → AllByRecursion (IsRenewed peer u) xs

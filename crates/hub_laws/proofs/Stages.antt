@@ -1,38 +1,15 @@
 -- The stage of a connection is what the last entry that changes it made it.
-use Rattle.std.proofs.Common.{◌≡◌, ◌∙◌, sym, ap, refl, subst, ℕ, Bool, true, false, ◌&&◌, ◌==◌, List, [], ◌∷◌, length, Option, Some, None, Result, Ok, Err, unwrap_or, cond}
-use Rattle.std.specs.Prelude.{if◌then◌else◌}
-use Rattle.std.specs.Option.{option_or}
-use Rattle.std.proofs.lemmas.Bool.{eqb-true}
-use Rattle.adc_line.specs.declared.fault.LineFault.{LineFault}
-use Rattle.adc_line.specs.Lines as lines
-use Rattle.adc_line.specs.Lines.{Reading}
-use Rattle.inf_fields.specs.Field.{Field}
-use Rattle.inf_fields.specs.Updates as updates
-use Rattle.login_state.specs.declared.deny.Deny.{Deny}
-use Rattle.login_state.specs.declared.stage.Stage.{Stage}
-use Rattle.login_state.specs.declared.stage.Stage.TheVariants as stages
+use Rattle.std.proofs.Common.{◌≡◌, ◌∙◌, sym, ap, refl, subst, ℕ, Bool, true, false, ◌&&◌, ◌==◌, List, [], ◌∷◌, Option, Some, None, Result, Ok, Err, unwrap_or, cond, arith}
 use Rattle.login_state.specs.Denials.{is_fatal}
-use Rattle.hub_rules.specs.declared.effect.Change.{Change}
-use Rattle.hub_rules.specs.declared.effect.Change.TheVariants.{Nothing, Sender}
-use Rattle.hub_rules.specs.declared.effect.Effect.{Effect}
-use Rattle.hub_rules.specs.declared.effect.SenderChange.TheVariants as senders
-use Rattle.hub_rules.specs.declared.history.Call.{Call}
-use Rattle.login_state.specs.declared.request.Request.{Request}
-use Rattle.hub_rules.specs.Configured.{Configured}
-use Rattle.hub_rules.specs.Denied.{denial_of}
-use Rattle.hub_rules.specs.Effects.{denial, effect_of_reading, tells_others, tells_sender, is_over, is_present, line_effect, unless_denied}
-use Rattle.hub_rules.specs.Facts.{Facts, facts, effect_of_line, own_of, sight_of}
-use Rattle.hub_rules.specs.Prepared.{prepared_line}
-use Rattle.hub_rules.specs.Quiet.{nothing}
-use Rattle.hub_rules.specs.Requests.{refusal_of}
-use Rattle.hub_rules.specs.Shares.{About, removed_by, stage_after}
-use Rattle.hub_rules.specs.Sights.{Own, PreparedLine, Sight, is_account, user_after}
-use Rattle.hub_rules.specs.Stepping as stepping
-use Rattle.hub_rules.specs.Stepping.{StageIsLastMade, entry_stage, accepted_stage, decided_stage, gone_if, heard_stage, last_made, line_stage, logged_in, only_if, stage_made}
-use Rattle.hub_invariants.proofs.Becoming.{Becomes, becomes}
-use Rattle.hub_invariants.proofs.Members.{and-false}
-use Rattle.hub_invariants.proofs.Outcomes.{Outcome, request-asks, by-request, denies, greets, later-none, lets_in, quiet, shuts_out, waits}
-use Rattle.hub_invariants.proofs.Sound.{stage_next}
+use Rattle.hub_laws.specs.Stepping as stepping
+use Rattle.hub_laws.specs.Stepping.{StageIsLastMade, entry_stage, accepted_stage, decided_stage, gone_if, heard_stage, last_made, line_stage, logged_in, only_if, stage_made}
+use Rattle.hub_laws.proofs.Words.{About, Becomes, Call, Change, Configured, Deny, Effect, Facts, Field, LineFault, Nothing, Outcome, Own, PreparedLine, Reading, Request, Sender, Sight, Stage}
+use Rattle.hub_laws.proofs.Words.{and-false, becomes, by-request, denial, denial_of, denies, effect_of_line, effect_of_reading, eqb-true, facts, greets, if◌then◌else◌, is_account, is_present}
+use Rattle.hub_laws.proofs.Words.{later-none, lets_in, line_effect, option_or, own_of, prepared_line, quiet, refusal_of, removed_by, request-asks, shuts_out, sight_of, stage_after, stage_next}
+use Rattle.hub_laws.proofs.Words.{tells_others, tells_sender, unless_denied, user_after, waits}
+use Rattle.hub_laws.proofs.Words.senders
+use Rattle.hub_laws.proofs.Words.stages
+use Rattle.hub_laws.proofs.Words.updates
 
 -- ---- one line
 
@@ -40,13 +17,11 @@ abbrev Makes : Own → Effect → Option Stage → Type 0
 Makes own effect made = stage_after effect.change own.stage ≡ unwrap_or made own.stage
 
 makes-if : (own : Own) (b : Bool) (x y : Effect) (first second : Option Stage) → Makes own x first → Makes own y second → Makes own (if b then x else y) (if b then first else second)
-makes-if own true x y first second here there = here
-makes-if own false x y first second here there = there
+makes-if own b x y first second here there = grind arith
 
 fall-stage : (b : Bool) (own others : List (List ℕ)) (stage : Stage)
     → stage_after (cond b (tells_others own others (Sender senders.Falls)) (tells_sender own Nothing)).change stage ≡ unwrap_or (gone_if b) stage
-fall-stage true own others stage = refl
-fall-stage false own others stage = refl
+fall-stage b own others stage = grind arith
 
 makes-denial : (own : Own) (deny : Deny) → Makes own (denial own deny) (gone_if (is_fatal deny))
 unfolding denial
@@ -73,8 +48,7 @@ module _ {hub : Sight} {own : Own} {line : PreparedLine} {now : ℕ} where
 
 makes-unless : (own : Own) (refusal : Option Deny) (effect : Effect) (made : Option Stage) → (refusal ≡ None → Makes own effect made)
     → Makes own (unless_denied own refusal effect) (decided_stage refusal made)
-makes-unless own (Some deny) effect made makes = makes-denial own deny
-makes-unless own None effect made makes = makes refl
+makes-unless own refusal effect made makes = grind (arith, makes-denial)
 
 makes-heard : (hub : Sight) (own : Own) (line : PreparedLine) (now : ℕ) (r : Result Reading LineFault) → Makes own (effect_of_reading hub own line now r) (heard_stage hub own line now r)
 makes-heard hub own line now (Ok reading) =
@@ -84,21 +58,16 @@ makes-heard hub own line now (Err fault) = makes-denial own _
 
 makes-line : (hub : Sight) (own : Own) (line : PreparedLine) (now : ℕ) → Makes own (line_effect hub own line now) (line_stage hub own line now)
 unfolding line_effect line_stage
-makes-line hub own line now =
-    makes-if own (is_over own.stage) nothing _ None _ refl
-    (makes-if own (length line.bytes == 0) nothing _ None _ refl (makes-heard hub own line now (lines.reading line.bytes)))
+makes-line hub own line now = grind (arith, makes-if, makes-heard)
 
 -- ---- one call
 
 next-made : (removed same : Bool) (change : Change) (stage : Stage) (made : Option Stage) → (same ≡ true → stage_after change stage ≡ unwrap_or made stage)
     → stage_next removed same change stage ≡ unwrap_or (option_or (gone_if removed) (only_if same made)) stage
-next-made true same change stage made makes = refl
-next-made false true change stage made makes = makes refl
-next-made false false change stage made makes = refl
+next-made removed same change stage made makes = grind arith
 
 quit-next : (same : Bool) (stage : Stage) → stage_next false same (Sender senders.Falls) stage ≡ unwrap_or (only_if same (Some stages.Gone)) stage
-quit-next true stage = refl
-quit-next false stage = refl
+quit-next same stage = grind arith
 
 -- a call that is no operator's act shuts nobody else out
 made-alone : (a : About) (made : Option Stage) → unwrap_or made a.stage ≡ unwrap_or (option_or (gone_if (is_present a.stage && false)) made) a.stage
@@ -122,8 +91,7 @@ module _ {setup : Configured} {hash : List ℕ → List ℕ} {f : Facts} {caller
 -- ---- every history
 
 or-made : (made before : Option Stage) → unwrap_or made (unwrap_or before stages.Gone) ≡ unwrap_or (option_or made before) stages.Gone
-or-made (Some stage) before = refl
-or-made None before = refl
+or-made made before = grind arith
 
 pub stage_is_last_made : StageIsLastMade
 unfolding facts last_made

@@ -1,31 +1,10 @@
 -- The lines owed by an operator's act.
-use Rattle.std.proofs.Common.{◌≡◌, ◌∙◌, sym, ap, ap₂, refl, ℕ, Bool, true, false, ◌&&◌, ◌⊎◌, inl, inr, ◌==◌, List, [], ◌∷◌, ◌++◌, Option, cond}
-use Rattle.std.proofs.lemmas.Bool.{false≢true}
-use Rattle.adc_line.specs.Lines.{Reading}
-use Rattle.feature_route.specs.Audiences.{holds_words}
-use Rattle.feature_route.specs.declared.hearers.Audience.TheVariants as audiences
-use Rattle.hub_rules.specs.declared.effect.Change.{Change}
-use Rattle.hub_rules.specs.declared.effect.Change.TheVariants.{Hub, Nothing}
-use Rattle.hub_rules.specs.declared.effect.Effect.{Effect}
-use Rattle.hub_rules.specs.declared.effect.Hearers.{Hearers}
-use Rattle.hub_rules.specs.declared.effect.Hearers.TheVariants.{Those}
-use Rattle.hub_rules.specs.declared.effect.HubChange.{HubChange}
-use Rattle.hub_rules.specs.declared.history.Call.{Call}
-use Rattle.hub_rules.specs.declared.history.Call.TheVariants.{Line}
-use Rattle.login_state.specs.declared.request.Request.{Request}
-use Rattle.operator_acts.specs.declared.ban.Ban.{Ban}
-use Rattle.user_table.specs.Listed.{Listed}
-use Rattle.hub_rules.specs.Acts.{Done, effect_for_all}
-use Rattle.hub_rules.specs.Configured.{Configured}
-use Rattle.hub_rules.specs.Effects.{is_present}
-use Rattle.hub_rules.specs.Facts.{Facts, facts, effect_of_line, own_of}
-use Rattle.hub_rules.specs.Lagging.{share}
-use Rattle.hub_rules.specs.Shares.{About, hears_those, owes}
-use Rattle.hub_rules.specs.Sights.{Own, PreparedLine, Sight}
-use Rattle.hub_rules.specs.Texts.{done_line}
-use Rattle.hub_rules.specs.World.{change_of}
+use Rattle.std.proofs.Common.{◌≡◌, ◌∙◌, ap, refl, ℕ, Bool, false, ◌⊎◌, inl, inr, ◌==◌, List, [], ◌∷◌, ◌++◌, Option, cond, arith}
+use Rattle.hub_laws.proofs.Words.{About, Ban, Call, Change, Configured, Does, Done, Effect, Facts, Hub, HubChange, Line, Listed, Nothing, Outcome, Own, PreparedLine, Reading, Request, Sight}
+use Rattle.hub_laws.proofs.Words.{Those, acts, bans_user, change_of, done_line, effect_for_all, effect_of_line, facts, holds_words, is_present, kicks, line-outcome, owes, own_of, sets_topic}
+use Rattle.hub_laws.proofs.Words.{share, unbans}
+use Rattle.hub_laws.proofs.Words.audiences
 use Rattle.hub_laws.specs.Telling.{ActsAreHeard, news_of}
-use Rattle.hub_invariants.proofs.Outcomes.{Does, Outcome, acts, bans_user, kicks, line-outcome, sets_topic, unbans}
 use Rattle.hub_laws.proofs.Worlds.{is_act}
 
 -- the line that tells of a change, where it is an operator's act
@@ -56,20 +35,12 @@ module _ {hub : Sight} {own : Own} {line : PreparedLine} {now : ℕ} where
 -- ---- the call
 
 told : (own : Own) (effect : Effect) (act : HubChange) → effect.change ≡ Hub act → Tells own effect → IsTold own effect
-told own effect act is (inl none) = absurd (false≢true (sym none ∙ ap is_act is))
-told own effect act is (inr is_told) = is_told
-
-and-all : (here is_caller : Bool) (ls own : List (List ℕ)) → cond (here && true) ls [] ++ cond is_caller own [] ≡ cond here ls [] ++ cond is_caller own []
-and-all true is_caller ls own = refl
-and-all false is_caller ls own = refl
+told own effect act is tells = grind arith
 
 owes-all : (is_caller : Bool) (effect : Effect) (a : About) (ls own : List (List ℕ)) → effect.others ≡ ls → effect.hearers ≡ Those audiences.All → effect.own ≡ own
     → owes is_caller effect a ≡ cond (is_present a.stage) ls [] ++ cond is_caller own []
 unfolding holds_words
-owes-all is_caller effect a ls own others hearers done =
-    ap₂ (λ (hs : Hearers) (xs : List (List ℕ)). cond (is_present a.stage && hears_those is_caller hs a) xs [] ++ cond is_caller effect.own []) hearers others
-    ∙ ap (λ xs. cond (is_present a.stage && true) ls [] ++ cond is_caller xs []) done
-    ∙ and-all (is_present a.stage) is_caller ls own
+owes-all is_caller effect a ls own others hearers done = grind arith
 
 abbrev IsHeard : Configured → (List ℕ → List ℕ) → Facts → Call → HubChange → Type 0
 IsHeard setup hash f call act =

@@ -1,18 +1,9 @@
 -- A connection that was at the stage of users is there still, or is shut out: it never enters again.
-use Rattle.std.proofs.Common.{◌≡◌, sym, refl, ℕ, Bool, true, false, Option, ap, ◌∙◌}
-use Rattle.std.proofs.lemmas.Bool.{false≢true}
-use Rattle.adc_line.specs.Lines.{Reading}
-use Rattle.login_state.specs.declared.stage.Stage.{Stage}
-use Rattle.login_state.specs.declared.stage.Stage.TheVariants as stages
-use Rattle.hub_rules.specs.declared.effect.Change.{Change}
-use Rattle.hub_rules.specs.declared.effect.Change.TheVariants.{Sender}
-use Rattle.hub_rules.specs.declared.effect.Effect.{Effect}
-use Rattle.hub_rules.specs.declared.effect.SenderChange.TheVariants as senders
-use Rattle.login_state.specs.declared.request.Request.{Request}
-use Rattle.hub_rules.specs.Effects.{line_effect}
-use Rattle.hub_rules.specs.Shares.{stage_after}
-use Rattle.hub_rules.specs.Sights.{Own, PreparedLine, Sight}
-use Rattle.hub_invariants.proofs.Outcomes.{Outcome, greets, lets_in, outcome, proves, shuts_out, waits}
+use Rattle.std.proofs.Common.{◌≡◌, sym, refl, ℕ, Bool, true, false, Option, ap, ◌∙◌, arith}
+use Rattle.hub_laws.proofs.Words.{Change, Effect, Outcome, Own, PreparedLine, Reading, Request, Sender, Sight, Stage, false≢true, greets, lets_in, line_effect, outcome, proves, shuts_out}
+use Rattle.hub_laws.proofs.Words.{stage_after, waits}
+use Rattle.hub_laws.proofs.Words.senders
+use Rattle.hub_laws.proofs.Words.stages
 
 -- it has entered, whether it is still there or not
 abbrev pub is_settled : Stage → Bool
@@ -29,12 +20,7 @@ keeps (Sender (senders.EntersAs entrant)) = false
 keeps change = true
 
 pub keeps-settled : (change : Change) (stage : Stage) → keeps change ≡ true → is_settled stage ≡ true → is_settled (stage_after change stage) ≡ true
-keeps-settled (Sender (senders.Greets features)) stage kept is = absurd (false≢true kept)
-keeps-settled (Sender (senders.Waits entrant expected)) stage kept is = absurd (false≢true kept)
-keeps-settled (Sender senders.Enters) stage kept is = absurd (false≢true kept)
-keeps-settled (Sender (senders.EntersAs entrant)) stage kept is = absurd (false≢true kept)
-keeps-settled (Sender senders.Falls) stage kept is = refl
-keeps-settled change stage kept is = is
+keeps-settled change stage kept is = grind arith
 
 module _ {hub : Sight} {own : Own} {line : PreparedLine} {now : ℕ} where
   keeps-outcome : {said : Option Reading} {request : Request} {effect : Effect} → Outcome hub own line now said request effect → is_settled own.stage ≡ true → keeps effect.change ≡ true

@@ -1,42 +1,16 @@
 -- After every history, whoever is present under the nick of an account gave its password, and whoever waits is waited for with its digest.
-use Rattle.std.specs.Result.{result_ok, result_unwrap_or}
-use Rattle.std.proofs.Common.{◌≡◌, ◌∙◌, sym, ap, ap₂, refl, subst, ℕ, Bool, true, false, not, ◌&&◌, ◌⊎◌, inl, inr, ◌==◌, List, [], ◌∷◌, ◌++◌, Option, Some, None, is_some, Ok, Err, unwrap_or}
-use Rattle.std.specs.Prelude.{codes, if◌then◌else◌, cond}
-use Rattle.std.specs.Str.{bytes_eq}
-use Rattle.std.proofs.lemmas.Bool.{false≢true, eqb-true}
-use Rattle.std.proofs.lemmas.Slice.Eq.{bytes_eq-Decides}
-use Rattle.adc_line.specs.declared.header.Kind.{Kind}
-use Rattle.adc_line.specs.declared.header.Kind.TheVariants as kinds
-use Rattle.adc_line.specs.Lines as lines
-use Rattle.adc_line.specs.Lines.{Reading}
-use Rattle.inf_fields.specs.Field.{Field}
-use Rattle.inf_fields.specs.Updates as updates
-use Rattle.login_state.specs.declared.stage.Stage.{Stage}
-use Rattle.login_state.specs.declared.stage.Stage.TheVariants as stages
-use Rattle.hub_rules.specs.declared.effect.Change.{Change}
-use Rattle.hub_rules.specs.declared.effect.Change.TheVariants.{Sender}
-use Rattle.hub_rules.specs.declared.effect.Effect.{Effect}
-use Rattle.hub_rules.specs.declared.effect.SenderChange.TheVariants as senders
-use Rattle.hub_rules.specs.declared.history.Call.{Call}
-use Rattle.hub_rules.specs.declared.history.Call.TheVariants.{Line}
-use Rattle.hub_rules.specs.declared.history.Entry.{Entry}
-use Rattle.login_state.specs.declared.deny.Deny.{Deny}
-use Rattle.login_state.specs.declared.request.Request.TheVariants as requests
-use Rattle.hub_rules.specs.Accounts.{account_with}
-use Rattle.hub_rules.specs.Configured.{Account, Configured}
-use Rattle.hub_rules.specs.Effects.{departure}
-use Rattle.hub_rules.specs.Facts.{Facts, facts, effect_of_line, own_of, sight_of}
-use Rattle.hub_rules.specs.Identities.{key_in}
-use Rattle.hub_rules.specs.Prepared.{is_broadcast, password_digest, password_of, prepared_line, update_of}
-use Rattle.login_state.specs.Requests.{request_at}
-use Rattle.hub_rules.specs.Requests.{request_of}
-use Rattle.hub_rules.specs.Shares.{About, expected_after, fields_after, removed_by, stage_after}
-use Rattle.hub_rules.specs.Said.{accepted_line}
-use Rattle.hub_rules.specs.Sights.{PreparedLine}
+use Rattle.std.proofs.Common.{◌≡◌, ◌∙◌, sym, ap, refl, subst, ℕ, Bool, true, ◌&&◌, ◌⊎◌, inl, inr, ◌==◌, List, [], ◌∷◌, ◌++◌, Option, Some, is_some, Ok, Err, unwrap_or, arith}
+use Rattle.hub_laws.proofs.Words.{About, Account, Becomes, Call, Change, Configured, Deny, Effect, Entry, Facts, Field, Kind, Line, PreparedLine, Reading, Sender, Stage, accepted_line}
+use Rattle.hub_laws.proofs.Words.{account_with, becomes, bytes_eq, bytes_eq-Decides, codes, cond, departure, effect_of_line, eqb-true, expected_after, facts, false≢true, fields_after}
+use Rattle.hub_laws.proofs.Words.{if◌then◌else◌, is_broadcast, is_unnamed, key_in, own_of, password_digest, password_of, prepared_line, removed_by, request_at, request_of, result_unwrap_or}
+use Rattle.hub_laws.proofs.Words.{sight_of, stage_after, stage_next, tidy_of, update_of}
+use Rattle.hub_laws.proofs.Words.kinds
+use Rattle.hub_laws.proofs.Words.lines
+use Rattle.hub_laws.proofs.Words.requests
+use Rattle.hub_laws.proofs.Words.senders
+use Rattle.hub_laws.proofs.Words.stages
+use Rattle.hub_laws.proofs.Words.updates
 use Rattle.hub_laws.specs.Registered.{HasGiven, NicksAreProved, OnlyAccountsEnter}
-use Rattle.hub_invariants.proofs.Becoming.{Becomes, becomes}
-use Rattle.hub_invariants.proofs.Sound.{stage_next}
-use Rattle.hub_invariants.proofs.Tidy.{is_unnamed, tidy_of}
 use Rattle.hub_laws.proofs.Checked.{KeepsNick}
 use Rattle.hub_laws.proofs.Entrances.{EntersUnasked, GivesPassword, IsAsked, IsChecked, IsHereStill, WaitsStill, checked-line, read-accepted}
 use Rattle.hub_laws.proofs.Passing.{key-merged}
@@ -49,6 +23,11 @@ record IsVouched (setup : Configured) (hash : List ℕ → List ℕ) (h : List E
 
 abbrev VouchedBy : Configured → (List ℕ → List ℕ) → List Entry → ℕ → About → Type 0
 VouchedBy setup hash h c a = IsVouched setup hash h c a.stage a.fields a.expected a.challenge
+
+-- the same after a change of its own
+abbrev VouchedAfter : Configured → (List ℕ → List ℕ) → List Entry → ℕ → Change → About → Type 0
+VouchedAfter setup hash h c change a =
+    IsVouched setup hash h c (stage_after change a.stage) (fields_after change a.fields) (expected_after change a.expected) a.challenge
 
 -- ---- the history grows
 
@@ -71,19 +50,11 @@ given-still setup hash h e c digest has = record {
 
 vouched-still : (setup : Configured) (hash : List ℕ → List ℕ) (h : List Entry) (e : Entry) (c : ℕ) (stage : Stage) (fields : List Field) (expected challenge : List ℕ)
     → IsVouched setup hash h c stage fields expected challenge → IsVouched setup hash (e ∷ h) c stage fields expected challenge
-vouched-still setup hash h e c stage fields expected challenge is = record {
-  waits = is.waits;
-  admitted = is.admitted;
-  proved = λ at account has. given-still setup hash h e c (hash (account.password ++ challenge)) (is.proved at account has);
-}
+vouched-still setup hash h e c stage fields expected challenge is = grind (arith, given-still)
 
 vouched-away : (setup : Configured) (hash : List ℕ → List ℕ) (h : List Entry) (c : ℕ) (stage : Stage) (fields : List Field) (expected challenge : List ℕ)
     → (stage ≡ stages.Verify → ⊥) → (stage ≡ stages.Normal → ⊥) → IsVouched setup hash h c stage fields expected challenge
-vouched-away setup hash h c stage fields expected challenge not_asked not_here = record {
-  waits = λ at. absurd (not_asked at);
-  admitted = λ at. absurd (not_here at);
-  proved = λ at. absurd (not_here at);
-}
+vouched-away setup hash h c stage fields expected challenge not_asked not_here = grind arith
 
 vouched-gone : (setup : Configured) (hash : List ℕ → List ℕ) (h : List Entry) (c : ℕ) (fields : List Field) (expected challenge : List ℕ)
     → IsVouched setup hash h c stages.Gone fields expected challenge
@@ -95,29 +66,17 @@ vouched-joined setup hash h c fields expected challenge = vouched-away setup has
 
 -- ---- the line by which a user logs in, or gives its password
 
-status-asks : (b : Bool) (deny : Deny) → result_unwrap_or (if b then Ok requests.Nothing else Err deny) requests.Nothing ≡ requests.Nothing
-status-asks true deny = refl
-status-asks false deny = refl
-
-login-if : (b : Bool) (deny : Deny) → result_unwrap_or (if b then Ok requests.Login else Err deny) requests.Nothing ≡ requests.Login → b ≡ true
-login-if true deny is = refl
-login-if false deny is = let none : ⊥ = cc is in absurd none
-
 password-if : (b is_status : Bool) (deny : Deny)
     → result_unwrap_or (if b then Ok requests.Password else (if is_status then Ok requests.Nothing else Err deny)) requests.Nothing ≡ requests.Password → b ≡ true
-password-if true is_status deny is = refl
-password-if false is_status deny is = let none : ⊥ = cc (sym (status-asks is_status deny) ∙ is) in absurd none
+password-if b is_status deny is = grind arith
 
 is-inf : (kind : Kind) (command : List ℕ) → request_of stages.Identify kind command ≡ requests.Login → (is_broadcast kind && bytes_eq command (codes "INF")) ≡ true
 unfolding request_at
-is-inf kinds.Broadcast command is = login-if (bytes_eq command (codes "INF")) _ is
-is-inf kinds.Hub command is = let none : ⊥ = cc (sym (status-asks (bytes_eq command (codes "STA")) _) ∙ is) in absurd none
-is-inf _ command is = let none : ⊥ = cc is in absurd none
+is-inf kind command is = grind arith
 
 is-pas : (kind : Kind) (command : List ℕ) → request_of stages.Verify kind command ≡ requests.Password → (kind ≡ kinds.Hub) × (command ≡ codes "PAS")
 unfolding request_at
-is-pas kinds.Hub command is = (refl, (bytes_eq-Decides command (codes "PAS")).0 (password-if (bytes_eq command (codes "PAS")) (bytes_eq command (codes "STA")) _ is))
-is-pas _ command is = let none : ⊥ = cc is in absurd none
+is-pas kind command is = grind (arith, bytes_eq-Decides, password-if)
 
 prepared-bytes : (setup : Configured) (hash : List ℕ → List ℕ) (challenge bytes : List ℕ) → (prepared_line setup hash challenge bytes).bytes ≡ bytes
 unfolding prepared_line
@@ -132,76 +91,59 @@ prepared-password setup hash challenge bytes = refl
 login-password : (setup : Configured) (hash : List ℕ → List ℕ) (challenge bytes : List ℕ) (reading : Reading) (u : List Field) → lines.reading bytes ≡ Ok reading
     → request_of stages.Identify reading.kind reading.command ≡ requests.Login → updates.reading reading.params ≡ Ok u
     → (prepared_line setup hash challenge bytes).password ≡ password_of hash challenge (account_with (key_in u) setup.accounts)
-login-password setup hash challenge bytes reading u is asks words =
-    prepared-password setup hash challenge bytes
-    ∙ ap (password_digest setup hash challenge)
-    (ap update_of is ∙ ap (λ b. cond b (result_ok (updates.reading reading.params)) None) (is-inf reading.kind reading.command asks) ∙ ap result_ok words)
+login-password setup hash challenge bytes reading u is asks words = grind (arith, prepared-password, is-inf)
 
 found-password : (hash : List ℕ → List ℕ) (challenge : List ℕ) (account : Option Account) → is_some account ≡ true
     → password_of hash challenge account ≡ Some (unwrap_or (password_of hash challenge account) [])
-found-password hash challenge None is = absurd (false≢true is)
-found-password hash challenge (Some account) is = refl
-
-password-found : (hash : List ℕ → List ℕ) (challenge expected : List ℕ) (account : Option Account) → password_of hash challenge account ≡ Some expected → is_some account ≡ true
-password-found hash challenge expected None is = let none : ⊥ = cc is in absurd none
-password-found hash challenge expected (Some account) is = refl
+found-password hash challenge account is = grind arith
 
 -- ---- one line of the connection itself
 
 abbrev accounts_of : Configured → List Field → Option Account
 accounts_of setup fields = account_with (key_in fields) setup.accounts
 
-asked-waits : (setup : Configured) (hash : List ℕ → List ℕ) (f : Facts) (c : ℕ) (bytes : List ℕ) (now : ℕ) (said : Option Reading) (effect : Effect)
-    → ((reading : Reading) → said ≡ Some reading → lines.reading bytes ≡ Ok reading) → ((f.about c).stage ≡ stages.Identify → (f.about c).fields ≡ [])
-    → IsAsked (sight_of setup f) (own_of (f.about c)) (prepared_line setup hash (f.about c).challenge bytes) now said effect
-    → password_of hash (f.about c).challenge (accounts_of setup (fields_after effect.change (f.about c).fields)) ≡ Some (expected_after effect.change (f.about c).expected)
-asked-waits setup hash f c bytes now said effect reads unnamed asked =
-    let a : About = f.about c in
-    let logs = asked.logs in
-    let key : key_in (fields_after effect.change a.fields) ≡ key_in logs.update =
-    ap key_in logs.merges ∙ key-merged a.fields logs.update a.peer (unnamed logs.at) in
-    let password : (prepared_line setup hash a.challenge bytes).password ≡ password_of hash a.challenge (accounts_of setup (fields_after effect.change a.fields)) =
-    login-password setup hash a.challenge bytes logs.reading logs.update (reads logs.reading logs.is_said)
-    (subst (λ stage. request_of stage logs.reading.kind logs.reading.command ≡ requests.Login) logs.at logs.asks) logs.words
-    ∙ ap (λ k. password_of hash a.challenge (account_with k setup.accounts)) (sym key) in
-    found-password hash a.challenge (accounts_of setup (fields_after effect.change a.fields)) asked.account
-    ∙ ap Some (ap (λ o. unwrap_or o []) (sym password) ∙ sym asked.expected)
+module _ (setup : Configured) (hash : List ℕ → List ℕ) where
+  asked-waits : (f : Facts) (c : ℕ) (bytes : List ℕ) (now : ℕ) (said : Option Reading) (effect : Effect)
+      → ((reading : Reading) → said ≡ Some reading → lines.reading bytes ≡ Ok reading) → ((f.about c).stage ≡ stages.Identify → (f.about c).fields ≡ [])
+      → IsAsked (sight_of setup f) (own_of (f.about c)) (prepared_line setup hash (f.about c).challenge bytes) now said effect
+      → password_of hash (f.about c).challenge (accounts_of setup (fields_after effect.change (f.about c).fields)) ≡ Some (expected_after effect.change (f.about c).expected)
+  asked-waits f c bytes now said effect reads unnamed asked = grind (arith, key-merged, login-password, found-password)
 
-gives-proof : (setup : Configured) (hash : List ℕ → List ℕ) (h : List Entry) (e : Entry) (c : ℕ) (bytes : List ℕ) (now : ℕ) (said : Option Reading) (fields : List Field)
-    (account : Account) → e.call ≡ Line c bytes now → ((reading : Reading) → said ≡ Some reading → lines.reading bytes ≡ Ok reading)
-    → GivesPassword (sight_of setup (facts setup hash h)) (own_of ((facts setup hash h).about c)) now said fields
-    → password_of hash ((facts setup hash h).about c).challenge (accounts_of setup ((facts setup hash h).about c).fields) ≡ Some ((facts setup hash h).about c).expected
-    → accounts_of setup fields ≡ Some account → HasGiven setup hash (e ∷ h) c (hash (account.password ++ ((facts setup hash h).about c).challenge))
-gives-proof setup hash h e c bytes now said fields account call reads gives waits has =
-    let a : About = (facts setup hash h).about c in
-    let digest : Some (hash (account.password ++ a.challenge)) ≡ Some a.expected =
-    ap (password_of hash a.challenge) (sym (ap (accounts_of setup) (sym gives.stays) ∙ has)) ∙ waits in
-    let pas = is-pas gives.reading.kind gives.reading.command
-    (subst (λ stage. request_of stage gives.reading.kind gives.reading.command ≡ requests.Password) gives.at gives.asks) in
-    record {
-      later = [];
-      entry = e;
-      earlier = h;
-      stands = refl;
-      waits = gives.at;
-      bytes = bytes;
-      now = now;
-      call = call;
-      line = gives.reading;
-      reading = reads gives.reading gives.is_said;
-      kind = pas.0;
-      command = pas.1;
-      spells = gives.spells ∙ sym digest;
-    }
+  gives-proof : (h : List Entry) (e : Entry) (c : ℕ) (bytes : List ℕ) (now : ℕ) (said : Option Reading) (fields : List Field) (account : Account) → e.call ≡ Line c bytes now
+      → ((reading : Reading) → said ≡ Some reading → lines.reading bytes ≡ Ok reading)
+      → GivesPassword (sight_of setup (facts setup hash h)) (own_of ((facts setup hash h).about c)) now said fields
+      → password_of hash ((facts setup hash h).about c).challenge (accounts_of setup ((facts setup hash h).about c).fields) ≡ Some ((facts setup hash h).about c).expected
+      → accounts_of setup fields ≡ Some account → HasGiven setup hash (e ∷ h) c (hash (account.password ++ ((facts setup hash h).about c).challenge))
+  gives-proof h e c bytes now said fields account call reads gives waits has =
+      let a : About = (facts setup hash h).about c in
+      let digest : Some (hash (account.password ++ a.challenge)) ≡ Some a.expected =
+      ap (password_of hash a.challenge) (sym (ap (accounts_of setup) (sym gives.stays) ∙ has)) ∙ waits in
+      let pas = is-pas gives.reading.kind gives.reading.command
+      (subst (λ stage. request_of stage gives.reading.kind gives.reading.command ≡ requests.Password) gives.at gives.asks) in
+      record {
+        later = [];
+        entry = e;
+        earlier = h;
+        stands = refl;
+        waits = gives.at;
+        bytes = bytes;
+        now = now;
+        call = call;
+        line = gives.reading;
+        reading = reads gives.reading gives.is_said;
+        kind = pas.0;
+        command = pas.1;
+        spells = gives.spells ∙ sym digest;
+      }
 
-waits-after : (setup : Configured) (hash : List ℕ → List ℕ) (f : Facts) (c : ℕ) (bytes : List ℕ) (now : ℕ) (said : Option Reading) (effect : Effect)
-    → ((reading : Reading) → said ≡ Some reading → lines.reading bytes ≡ Ok reading) → ((f.about c).stage ≡ stages.Identify → (f.about c).fields ≡ [])
-    → ((f.about c).stage ≡ stages.Verify → password_of hash (f.about c).challenge (accounts_of setup (f.about c).fields) ≡ Some (f.about c).expected)
-    → WaitsStill (own_of (f.about c)) effect ⊎ IsAsked (sight_of setup f) (own_of (f.about c)) (prepared_line setup hash (f.about c).challenge bytes) now said effect
-    → password_of hash (f.about c).challenge (accounts_of setup (fields_after effect.change (f.about c).fields)) ≡ Some (expected_after effect.change (f.about c).expected)
-waits-after setup hash f c bytes now said effect reads unnamed waits (inl still) =
-    ap (λ fs. password_of hash (f.about c).challenge (accounts_of setup fs)) still.fields ∙ waits still.at ∙ ap Some (sym still.expected)
-waits-after setup hash f c bytes now said effect reads unnamed waits (inr asked) = asked-waits setup hash f c bytes now said effect reads unnamed asked
+  waits-after : (f : Facts) (c : ℕ) (bytes : List ℕ) (now : ℕ) (said : Option Reading) (effect : Effect)
+      → ((reading : Reading) → said ≡ Some reading → lines.reading bytes ≡ Ok reading) → ((f.about c).stage ≡ stages.Identify → (f.about c).fields ≡ [])
+      → ((f.about c).stage ≡ stages.Verify → password_of hash (f.about c).challenge (accounts_of setup (f.about c).fields) ≡ Some (f.about c).expected)
+      → WaitsStill (own_of (f.about c)) effect ⊎ IsAsked (sight_of setup f) (own_of (f.about c)) (prepared_line setup hash (f.about c).challenge bytes) now said effect
+      → password_of hash (f.about c).challenge (accounts_of setup (fields_after effect.change (f.about c).fields)) ≡ Some (expected_after effect.change (f.about c).expected)
+  waits-after f c bytes now said effect reads unnamed waits (inl still) =
+      ap (λ fs. password_of hash (f.about c).challenge (accounts_of setup fs)) still.fields ∙ waits still.at ∙ ap Some (sym still.expected)
+  waits-after f c bytes now said effect reads unnamed waits (inr asked) = asked-waits f c bytes now said effect reads unnamed asked
 
 abbrev Enters : Configured → (List ℕ → List ℕ) → Facts → ℕ → ℕ → Option Reading → Effect → Type 0
 Enters setup hash f c now said effect =
@@ -209,72 +151,54 @@ Enters setup hash f c now said effect =
     ⊎ (EntersUnasked (sight_of setup f) (own_of (f.about c)) now said effect
     ⊎ GivesPassword (sight_of setup f) (own_of (f.about c)) now said (fields_after effect.change (f.about c).fields))
 
-keeps-account : (setup : Configured) (f : Facts) (before afterwards : List ℕ) → KeepsNick (sight_of setup f) before afterwards
-    → is_some (account_with before setup.accounts) ≡ true → is_some (account_with afterwards setup.accounts) ≡ true
-keeps-account setup f before afterwards (inl same) has = ap (λ k. is_some (account_with k setup.accounts)) same ∙ has
-keeps-account setup f before afterwards (inr neither) has = absurd (false≢true (sym neither.0 ∙ has))
+module _ (setup : Configured) (hash : List ℕ → List ℕ) where
+  admitted-after : (h : List Entry) (c now : ℕ) (said : Option Reading) (effect : Effect) → VouchedBy setup hash h c ((facts setup hash h).about c)
+      → Enters setup hash (facts setup hash h) c now said effect → setup.registered_only ≡ true
+      → is_some (accounts_of setup (fields_after effect.change ((facts setup hash h).about c).fields)) ≡ true
+  admitted-after h c now said effect vouched enters only = grind arith
 
-admitted-after : (setup : Configured) (hash : List ℕ → List ℕ) (h : List Entry) (c now : ℕ) (said : Option Reading) (effect : Effect)
-    → VouchedBy setup hash h c ((facts setup hash h).about c) → Enters setup hash (facts setup hash h) c now said effect → setup.registered_only ≡ true
-    → is_some (accounts_of setup (fields_after effect.change ((facts setup hash h).about c).fields)) ≡ true
-admitted-after setup hash h c now said effect vouched (inl here) only = keeps-account setup (facts setup hash h) _ _ here.nick (vouched.admitted here.at only)
-admitted-after setup hash h c now said effect vouched (inr (inl unasked)) only =
-    absurd (false≢true (sym unasked.logs.admitted ∙ ap₂ (λ r a. r && not a) only unasked.account))
-admitted-after setup hash h c now said effect vouched (inr (inr gives)) only =
-    ap (λ fs. is_some (accounts_of setup fs)) gives.stays ∙ password-found hash _ _ _ (vouched.waits gives.at)
+  keeps-proved : (h : List Entry) (e : Entry) (c : ℕ) (account : Account) (afterwards : List ℕ) → VouchedBy setup hash h c ((facts setup hash h).about c)
+      → ((facts setup hash h).about c).stage ≡ stages.Normal → KeepsNick (sight_of setup (facts setup hash h)) (key_in ((facts setup hash h).about c).fields) afterwards
+      → account_with afterwards setup.accounts ≡ Some account → HasGiven setup hash (e ∷ h) c (hash (account.password ++ ((facts setup hash h).about c).challenge))
+  keeps-proved h e c account afterwards vouched at keeps has = grind (arith, given-still)
 
-keeps-proved : (setup : Configured) (hash : List ℕ → List ℕ) (h : List Entry) (e : Entry) (c : ℕ) (account : Account) (afterwards : List ℕ)
-    → VouchedBy setup hash h c ((facts setup hash h).about c) → ((facts setup hash h).about c).stage ≡ stages.Normal
-    → KeepsNick (sight_of setup (facts setup hash h)) (key_in ((facts setup hash h).about c).fields) afterwards → account_with afterwards setup.accounts ≡ Some account
-    → HasGiven setup hash (e ∷ h) c (hash (account.password ++ ((facts setup hash h).about c).challenge))
-keeps-proved setup hash h e c account afterwards vouched at (inl same) has =
-    given-still setup hash h e c _ (vouched.proved at account (ap (λ k. account_with k setup.accounts) (sym same) ∙ has))
-keeps-proved setup hash h e c account afterwards vouched at (inr neither) has = absurd (false≢true (sym neither.1 ∙ ap is_some has))
+  proved-after : (h : List Entry) (e : Entry) (c : ℕ) (bytes : List ℕ) (now : ℕ) (said : Option Reading) (effect : Effect) → e.call ≡ Line c bytes now
+      → ((reading : Reading) → said ≡ Some reading → lines.reading bytes ≡ Ok reading) → VouchedBy setup hash h c ((facts setup hash h).about c)
+      → Enters setup hash (facts setup hash h) c now said effect → (account : Account)
+      → accounts_of setup (fields_after effect.change ((facts setup hash h).about c).fields) ≡ Some account
+      → HasGiven setup hash (e ∷ h) c (hash (account.password ++ ((facts setup hash h).about c).challenge))
+  proved-after h e c bytes now said effect call reads vouched (inl here) account has = keeps-proved h e c account _ vouched here.at here.nick has
+  proved-after h e c bytes now said effect call reads vouched (inr (inl unasked)) account has = absurd (false≢true (sym unasked.account ∙ ap is_some has))
+  proved-after h e c bytes now said effect call reads vouched (inr (inr gives)) account has =
+      gives-proof setup hash h e c bytes now said _ account call reads gives (vouched.waits gives.at) has
 
-proved-after : (setup : Configured) (hash : List ℕ → List ℕ) (h : List Entry) (e : Entry) (c : ℕ) (bytes : List ℕ) (now : ℕ) (said : Option Reading) (effect : Effect)
-    → e.call ≡ Line c bytes now → ((reading : Reading) → said ≡ Some reading → lines.reading bytes ≡ Ok reading)
-    → VouchedBy setup hash h c ((facts setup hash h).about c) → Enters setup hash (facts setup hash h) c now said effect
-    → (account : Account) → accounts_of setup (fields_after effect.change ((facts setup hash h).about c).fields) ≡ Some account
-    → HasGiven setup hash (e ∷ h) c (hash (account.password ++ ((facts setup hash h).about c).challenge))
-proved-after setup hash h e c bytes now said effect call reads vouched (inl here) account has = keeps-proved setup hash h e c account _ vouched here.at here.nick has
-proved-after setup hash h e c bytes now said effect call reads vouched (inr (inl unasked)) account has = absurd (false≢true (sym unasked.account ∙ ap is_some has))
-proved-after setup hash h e c bytes now said effect call reads vouched (inr (inr gives)) account has =
-    gives-proof setup hash h e c bytes now said _ account call reads gives (vouched.waits gives.at) has
+  change-vouched : (h : List Entry) (e : Entry) (c : ℕ) (bytes : List ℕ) (now : ℕ) (said : Option Reading) (effect : Effect) → e.call ≡ Line c bytes now
+      → ((reading : Reading) → said ≡ Some reading → lines.reading bytes ≡ Ok reading)
+      → IsChecked (sight_of setup (facts setup hash h)) (own_of ((facts setup hash h).about c)) (prepared_line setup hash ((facts setup hash h).about c).challenge bytes) now said effect
+      → VouchedBy setup hash h c ((facts setup hash h).about c) → VouchedAfter setup hash (e ∷ h) c effect.change ((facts setup hash h).about c)
+  change-vouched h e c bytes now said effect call reads checked vouched = record {
+    waits = λ at. waits-after setup hash (facts setup hash h) c bytes now said effect reads
+        (λ is. (tidy_of setup hash h c).unnamed (ap is_unnamed is)) vouched.waits (checked.waits at);
+    admitted = λ at. admitted-after h c now said effect vouched (checked.enters at);
+    proved = λ at. proved-after h e c bytes now said effect call reads vouched (checked.enters at);
+  }
 
-change-vouched : (setup : Configured) (hash : List ℕ → List ℕ) (h : List Entry) (e : Entry) (c : ℕ) (bytes : List ℕ) (now : ℕ) (said : Option Reading) (effect : Effect)
-    → e.call ≡ Line c bytes now → ((reading : Reading) → said ≡ Some reading → lines.reading bytes ≡ Ok reading)
-    → IsChecked (sight_of setup (facts setup hash h)) (own_of ((facts setup hash h).about c)) (prepared_line setup hash ((facts setup hash h).about c).challenge bytes) now said effect
-    → VouchedBy setup hash h c ((facts setup hash h).about c)
-    → IsVouched setup hash (e ∷ h) c (stage_after effect.change ((facts setup hash h).about c).stage) (fields_after effect.change ((facts setup hash h).about c).fields)
-    (expected_after effect.change ((facts setup hash h).about c).expected) ((facts setup hash h).about c).challenge
-change-vouched setup hash h e c bytes now said effect call reads checked vouched = record {
-  waits = λ at. waits-after setup hash (facts setup hash h) c bytes now said effect reads
-      (λ is. (tidy_of setup hash h c).unnamed (ap is_unnamed is)) vouched.waits (checked.waits at);
-  admitted = λ at. admitted-after setup hash h c now said effect vouched (checked.enters at);
-  proved = λ at. proved-after setup hash h e c bytes now said effect call reads vouched (checked.enters at);
-}
+  -- ---- one call
 
--- ---- one call
+  vouched-next : (h : List Entry) (e : Entry) (c : ℕ) (removed same : Bool) (change : Change) (a : About) → VouchedBy setup hash h c a
+      → (same ≡ true → VouchedAfter setup hash (e ∷ h) c change a)
+      → IsVouched setup hash (e ∷ h) c (stage_next removed same change a.stage) (cond same (fields_after change a.fields) a.fields)
+      (cond same (expected_after change a.expected) a.expected) a.challenge
+  vouched-next h e c removed same change a vouched own = grind (arith, vouched-gone, vouched-still)
 
-vouched-next : (setup : Configured) (hash : List ℕ → List ℕ) (h : List Entry) (e : Entry) (c : ℕ) (removed same : Bool) (change : Change) (a : About) → VouchedBy setup hash h c a
-    → (same ≡ true → IsVouched setup hash (e ∷ h) c (stage_after change a.stage) (fields_after change a.fields) (expected_after change a.expected) a.challenge)
-    → IsVouched setup hash (e ∷ h) c (stage_next removed same change a.stage) (cond same (fields_after change a.fields) a.fields) (cond same (expected_after change a.expected) a.expected)
-    a.challenge
-vouched-next setup hash h e c true same change a vouched own = vouched-gone setup hash (e ∷ h) c _ _ a.challenge
-vouched-next setup hash h e c false true change a vouched own = own refl
-vouched-next setup hash h e c false false change a vouched own = vouched-still setup hash h e c a.stage a.fields a.expected a.challenge vouched
-
-line-vouched : (setup : Configured) (hash : List ℕ → List ℕ) (h : List Entry) (e : Entry) (c : ℕ) (bytes : List ℕ) (now : ℕ) → e.call ≡ Line c bytes now
-    → VouchedBy setup hash h c ((facts setup hash h).about c)
-    → IsVouched setup hash (e ∷ h) c (stage_after (effect_of_line setup hash (facts setup hash h) c bytes now).change ((facts setup hash h).about c).stage)
-    (fields_after (effect_of_line setup hash (facts setup hash h) c bytes now).change ((facts setup hash h).about c).fields)
-    (expected_after (effect_of_line setup hash (facts setup hash h) c bytes now).change ((facts setup hash h).about c).expected) ((facts setup hash h).about c).challenge
-line-vouched setup hash h e c bytes now call vouched =
-    let f : Facts = facts setup hash h in
-    let line : PreparedLine = prepared_line setup hash (f.about c).challenge bytes in
-    change-vouched setup hash h e c bytes now (accepted_line (sight_of setup f) (own_of (f.about c)) line now) (effect_of_line setup hash f c bytes now) call
-    (λ reading said. ap lines.reading (sym (prepared-bytes setup hash (f.about c).challenge bytes)) ∙ read-accepted (sight_of setup f) (own_of (f.about c)) line now reading said)
-    (checked-line (sight_of setup f) (own_of (f.about c)) line now) vouched
+  line-vouched : (h : List Entry) (e : Entry) (c : ℕ) (bytes : List ℕ) (now : ℕ) → e.call ≡ Line c bytes now → VouchedBy setup hash h c ((facts setup hash h).about c)
+      → VouchedAfter setup hash (e ∷ h) c (effect_of_line setup hash (facts setup hash h) c bytes now).change ((facts setup hash h).about c)
+  line-vouched h e c bytes now call vouched =
+      let f : Facts = facts setup hash h in
+      let line : PreparedLine = prepared_line setup hash (f.about c).challenge bytes in
+      change-vouched h e c bytes now (accepted_line (sight_of setup f) (own_of (f.about c)) line now) (effect_of_line setup hash f c bytes now) call
+      (λ reading said. ap lines.reading (sym (prepared-bytes setup hash (f.about c).challenge bytes)) ∙ read-accepted (sight_of setup f) (own_of (f.about c)) line now reading said)
+      (checked-line (sight_of setup f) (own_of (f.about c)) line now) vouched
 
 module _ (setup : Configured) (hash : List ℕ → List ℕ) (h : List Entry) (e : Entry) (d : ℕ) where
   abbrev f : Facts

@@ -1,30 +1,10 @@
 -- The lines owed by a line that brings a user in.
-use Rattle.std.proofs.Common.{◌≡◌, ◌∙◌, sym, ap, ap₂, refl, subst, ℕ, Bool, true, false, ◌&&◌, ◌⊎◌, inl, inr, ◌==◌, List, [], ◌∷◌, ◌++◌, map, Option, cond}
-use Rattle.std.proofs.lemmas.Bool.{false≢true, eqb-true, eq-eqb}
-use Rattle.adc_line.specs.Lines.{Reading}
-use Rattle.inf_fields.specs.Field.{Field}
-use Rattle.login_state.specs.declared.stage.Stage.{Stage}
-use Rattle.login_state.specs.declared.stage.Stage.TheVariants as stages
-use Rattle.login_state.specs.Mentions.{ucmd}
-use Rattle.login_state.specs.Support.{has_feature}
-use Rattle.hub_rules.specs.declared.effect.Effect.{Effect}
-use Rattle.hub_rules.specs.declared.effect.Hearers.{Hearers}
-use Rattle.hub_rules.specs.declared.effect.Hearers.TheVariants.{Others}
-use Rattle.hub_rules.specs.declared.history.Call.TheVariants.{Line}
-use Rattle.hub_rules.specs.declared.history.Entry.{Entry}
-use Rattle.login_state.specs.declared.request.Request.{Request}
-use Rattle.hub_rules.specs.Accounts.{account_with}
-use Rattle.hub_rules.specs.Configured.{Configured}
-use Rattle.hub_rules.specs.Effects.{is_present, line_of}
-use Rattle.hub_rules.specs.Facts.{Facts, facts, about_after, after, effect_of_line, happens, own_of, sight_of, user_of}
-use Rattle.hub_rules.specs.Identities.{key_in, listed_user}
-use Rattle.hub_rules.specs.Lagging.{share}
-use Rattle.hub_rules.specs.Shares.{About, fields_after, hears_those, owes, removed_by, stage_after}
-use Rattle.hub_rules.specs.Sights.{Own, PreparedLine, Sight, account_of}
-use Rattle.hub_rules.specs.Texts.{menu_line, user_line}
+use Rattle.std.proofs.Common.{◌≡◌, ◌∙◌, sym, ap, ap₂, refl, subst, ℕ, Bool, true, false, ◌⊎◌, inl, inr, ◌==◌, List, [], ◌∷◌, ◌++◌, map, Option, cond, arith}
+use Rattle.hub_laws.proofs.Words.{About, Configured, Effect, Entry, Facts, Field, Line, Others, Outcome, Own, PreparedLine, Reading, Request, Sight, about_after, account_of, account_with, after}
+use Rattle.hub_laws.proofs.Words.{effect_of_line, eq-eqb, facts, fields_after, greets, happens, has_feature, key_in, lets_in, line-outcome, line_of, listed_user, menu_line, owes, own_of, proves}
+use Rattle.hub_laws.proofs.Words.{removed_by, share, shuts_out, sight_of, stage_after, ucmd, user_line, user_of, waits}
+use Rattle.hub_laws.proofs.Words.stages
 use Rattle.hub_laws.specs.Welcoming.{EntrantsAreWelcomed, EntriesAreHeard}
-use Rattle.hub_invariants.proofs.Members.{and-false}
-use Rattle.hub_invariants.proofs.Outcomes.{Outcome, greets, lets_in, line-outcome, proves, shuts_out, waits}
 use Rattle.hub_laws.proofs.Moving.{moves-to, gone-normal, identify-normal, verify-normal}
 use Rattle.hub_laws.proofs.Operating.{nobody_banned_enters}
 
@@ -56,15 +36,15 @@ module _ {hub : Sight} {own : Own} {line : PreparedLine} {now : ℕ} where
 
 entered : (hub : Sight) (own : Own) (effect : Effect) (fields : List Field) → (own.stage ≡ stages.Normal → ⊥) → (own.stage ≡ stages.Normal) ⊎ Welcomes hub own effect fields
     → Welcomes hub own effect fields
-entered hub own effect fields absent (inl here) = absurd (absent here)
-entered hub own effect fields absent (inr is) = is
+entered hub own effect fields absent either = grind arith
 
 -- what is so of the line that brought a user in
 record Brings (setup : Configured) (hash : List ℕ → List ℕ) (h : List Entry) (e : Entry) (c : ℕ) : Type 0 where
   bytes : List ℕ
   now : ℕ
   call : e.call ≡ Line c bytes now
-  welcomes : Welcomes (sight_of setup (facts setup hash h)) (own_of ((facts setup hash h).about c)) (effect_of_line setup hash (facts setup hash h) c bytes now) ((facts setup hash (e ∷ h)).about c).fields
+  welcomes : Welcomes (sight_of setup (facts setup hash h)) (own_of ((facts setup hash h).about c)) (effect_of_line setup hash (facts setup hash h) c bytes now) ((facts setup hash (e
+      ∷ h)).about c).fields
   same_sid : ((facts setup hash (e ∷ h)).about c).sid ≡ ((facts setup hash h).about c).sid
 
 record BringsBy (setup : Configured) (hash : List ℕ → List ℕ) (f g : Facts) (c : ℕ) (bytes : List ℕ) (now : ℕ) : Type 0 where
@@ -100,21 +80,14 @@ brings setup hash h e c absent here =
 -- ---- who is owed it
 
 other-caller : (f : Facts) (c d : ℕ) (same : Bool) → (d == c) ≡ same → ((f.about c).stage ≡ stages.Normal → ⊥) → (f.about d).stage ≡ stages.Normal → same ≡ false
-other-caller f c d true is absent here = absurd (absent (subst (λ x. (f.about x).stage ≡ stages.Normal) (eqb-true d c is) here))
-other-caller f c d false is absent here = refl
+other-caller f c d same is absent here = grind arith
 
 pub hears-one : (is_caller : Bool) (effect : Effect) (a : About) (line : List ℕ) → effect.others ≡ line ∷ [] → effect.hearers ≡ Others → is_caller ≡ false → a.stage ≡ stages.Normal
     → owes is_caller effect a ≡ line ∷ []
-hears-one true effect a line others hearers other here = absurd (false≢true (sym other))
-hears-one false effect a line others hearers other here =
-    ap₂ (λ (hs : Hearers) (ls : List (List ℕ)). cond (is_present a.stage && hears_those false hs a) ls [] ++ []) hearers others
-    ∙ ap (λ (s : Stage). cond (is_present s && true) (line ∷ []) [] ++ []) here
+hears-one is_caller effect a line others hearers other here = grind arith
 
 hears-own : (is_caller : Bool) (effect : Effect) (a : About) → effect.hearers ≡ Others → is_caller ≡ true → owes is_caller effect a ≡ effect.own
-hears-own true effect a hearers is =
-    ap (λ (hs : Hearers). cond (is_present a.stage && hears_those true hs a) effect.others [] ++ effect.own) hearers
-    ∙ ap (λ b. cond b effect.others [] ++ effect.own) (and-false (is_present a.stage))
-hears-own false effect a hearers is = absurd (false≢true is)
+hears-own is_caller effect a hearers is = grind arith
 
 pub entries_are_heard : EntriesAreHeard
 entries_are_heard setup hash h e c d absent here there =

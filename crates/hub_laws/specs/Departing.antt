@@ -8,8 +8,8 @@ use Rattle.hub_rules.specs.declared.history.Entry.{Entry}
 use Rattle.hub_rules.specs.Configured.{Configured}
 use Rattle.hub_rules.specs.Facts.{facts}
 use Rattle.hub_rules.specs.History.{sid, stage}
-use Rattle.hub_rules.specs.Lagging.{share}
-use Rattle.hub_rules.specs.World.{change_of}
+use Rattle.hub_invariants.specs.Lagging.{share}
+use Rattle.hub_invariants.specs.World.{change_of}
 
 -- where a user is present no more after a call that is no operator's act, each other who was present is owed that this one left, and nothing else
 abbrev pub DeparturesAreHeard : Type 0

@@ -9,8 +9,8 @@ use Rattle.hub_rules.specs.declared.history.Entry.{Entry}
 use Rattle.hub_rules.specs.Configured.{Configured}
 use Rattle.hub_rules.specs.Facts.{facts}
 use Rattle.hub_rules.specs.History.{sid, stage}
-use Rattle.hub_rules.specs.Lagging.{share}
-use Rattle.hub_rules.specs.World.{change_of}
+use Rattle.hub_invariants.specs.Lagging.{share}
+use Rattle.hub_invariants.specs.World.{change_of}
 
 -- a connection that is shut out is owed nothing by any call
 abbrev pub WhoIsOutHearsNothing : Type 0

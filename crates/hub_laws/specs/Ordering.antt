@@ -11,8 +11,8 @@ use Rattle.hub_rules.specs.Effects.{is_present, is_target_here}
 use Rattle.hub_rules.specs.Facts.{Facts, facts, sight_of}
 use Rattle.hub_rules.specs.History.{info, lags, lines_owed, sid, stage}
 use Rattle.hub_rules.specs.Identities.{su_in}
-use Rattle.hub_rules.specs.Lagging.{share}
-use Rattle.hub_rules.specs.Said.{said_in}
+use Rattle.hub_invariants.specs.Lagging.{share}
+use Rattle.hub_invariants.specs.Said.{said_in}
 use Rattle.hub_rules.specs.Sights.{Own}
 use Rattle.hub_rules.specs.Texts.{with_line_feed}
 use Rattle.hub_laws.specs.Routing.{is_for}

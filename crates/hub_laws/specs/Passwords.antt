@@ -15,7 +15,7 @@ use Rattle.hub_rules.specs.Denied.{digest_given}
 use Rattle.hub_rules.specs.Facts.{facts}
 use Rattle.hub_rules.specs.Grounds.{is_digest}
 use Rattle.hub_rules.specs.History.{about, lines_owed, stage}
-use Rattle.hub_rules.specs.Lagging.{share}
+use Rattle.hub_invariants.specs.Lagging.{share}
 use Rattle.hub_rules.specs.Texts.{challenge_line}
 
 -- ---- two hubs that differ in passwords alone

@@ -10,10 +10,10 @@ use Rattle.hub_rules.specs.Configured.{most_users, Configured}
 use Rattle.hub_rules.specs.Facts.{facts}
 use Rattle.hub_rules.specs.History.{info, lags, lines_owed, sid, stage}
 use Rattle.hub_rules.specs.Identities.{key_in}
-use Rattle.hub_rules.specs.Lagging.{share}
+use Rattle.hub_invariants.specs.Lagging.{share}
 use Rattle.hub_rules.specs.Shares.{is_removed}
 use Rattle.hub_rules.specs.Texts.{done_line, removal_line}
-use Rattle.hub_rules.specs.World.{change_of}
+use Rattle.hub_invariants.specs.World.{change_of}
 
 -- the entry is a kick or a ban of the user of connection c, who is present
 pub record Removes (setup : Configured) (hash : List ℕ → List ℕ) (h : List Entry) (e : Entry) (c : ℕ) : Type 0 where

@@ -15,7 +15,7 @@ use Rattle.hub_rules.specs.Effects.{is_present, is_target_here}
 use Rattle.hub_rules.specs.Facts.{facts, own_of, sight_of}
 use Rattle.hub_rules.specs.History.{about, info, sid, stage}
 use Rattle.hub_rules.specs.Identities.{su_in}
-use Rattle.hub_rules.specs.Lagging.{share}
+use Rattle.hub_invariants.specs.Lagging.{share}
 use Rattle.hub_rules.specs.Prepared.{prepared_line}
 use Rattle.hub_rules.specs.Requests.{request_of}
 use Rattle.hub_rules.specs.Texts.{with_line_feed}

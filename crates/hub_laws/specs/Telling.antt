@@ -9,9 +9,9 @@ use Rattle.hub_rules.specs.Configured.{Configured}
 use Rattle.hub_rules.specs.Effects.{is_present}
 use Rattle.hub_rules.specs.Facts.{facts}
 use Rattle.hub_rules.specs.History.{sid, stage}
-use Rattle.hub_rules.specs.Lagging.{share}
+use Rattle.hub_invariants.specs.Lagging.{share}
 use Rattle.hub_rules.specs.Texts.{done_line, removal_line, topic_line}
-use Rattle.hub_rules.specs.World.{change_of}
+use Rattle.hub_invariants.specs.World.{change_of}
 
 -- the line that tells of it: who was shut out, by which operator, for how long and why; or the new topic
 abbrev pub news_of : HubChange → ℕ → List ℕ → List (List ℕ)

@@ -7,7 +7,7 @@ use Rattle.hub_rules.specs.declared.history.Entry.{Entry}
 use Rattle.hub_rules.specs.Configured.{Configured}
 use Rattle.hub_rules.specs.Facts.{facts}
 use Rattle.hub_rules.specs.History.{features, info, present, sid, stage}
-use Rattle.hub_rules.specs.Lagging.{share}
+use Rattle.hub_invariants.specs.Lagging.{share}
 use Rattle.hub_rules.specs.Texts.{menu_line, user_line}
 use Rattle.hub_laws.specs.Registered.{account_at}
 

@@ -1,14 +1,14 @@
 //! The laws that every history keeps, in the words of the protocol. Each law is proved of the rules themselves.
 
-ghost use Rattle.hub_rules.specs.Promises.{FewAreOpen, OthersAreOut, PresentAreUsers, SidsAreGiven, SidsDiffer, TakenIsTheSum, UsersAreOpen};
-ghost use Rattle.hub_rules.specs.Differing.{CidsDiffer, NicksDiffer};
-ghost use Rattle.hub_rules.specs.Entering.{PresentInOrder};
-ghost use Rattle.hub_rules.specs.Lagging.{LagIsTheFirst, OwedAreShares};
-ghost use Rattle.hub_rules.specs.Opening.{OpenAreThoseThatStayed};
-ghost use Rattle.hub_rules.specs.Stepping.{StageIsLastMade};
-ghost use Rattle.hub_rules.specs.Said.{FeaturesAreLastAdded, InfoIsMerged};
-ghost use Rattle.hub_rules.specs.Searched.{SearchIsTheLast, TotalsAreSums};
-ghost use Rattle.hub_rules.specs.World.{BanIsTheLastAct, TopicIsTheLast};
+ghost use Rattle.hub_invariants.specs.Promises.{FewAreOpen, OthersAreOut, PresentAreUsers, SidsAreGiven, SidsDiffer, TakenIsTheSum, UsersAreOpen};
+ghost use Rattle.hub_laws.specs.Differing.{CidsDiffer, NicksDiffer};
+ghost use Rattle.hub_laws.specs.Entering.{PresentInOrder};
+ghost use Rattle.hub_invariants.specs.Lagging.{LagIsTheFirst, OwedAreShares};
+ghost use Rattle.hub_invariants.specs.Opening.{OpenAreThoseThatStayed};
+ghost use Rattle.hub_laws.specs.Stepping.{StageIsLastMade};
+ghost use Rattle.hub_invariants.specs.Said.{FeaturesAreLastAdded, InfoIsMerged};
+ghost use Rattle.hub_laws.specs.Searched.{SearchIsTheLast, TotalsAreSums};
+ghost use Rattle.hub_invariants.specs.World.{BanIsTheLastAct, TopicIsTheLast};
 ghost use Rattle.hub_laws.specs.Delivery.{DeliveredAreTheFirst};
 ghost use Rattle.hub_laws.specs.Departing.{DeparturesAreHeard};
 ghost use Rattle.hub_laws.specs.Holding.{BansAreApart, BansAreFew};

@@ -1,4 +1,4 @@
-use Rattle.hub_invariants.proofs.Kept.{sids_differ, sids_are_given, few_are_open}
+use Rattle.hub_laws.proofs.Words.{few_are_open, sids_are_given, sids_differ}
 use Rattle.hub_laws.proofs.Joining.{joins_are_counted, joins_stay}
 use Rattle.hub_laws.proofs.laws.identifier_laws.Goals as goal
 

@@ -1,5 +1,5 @@
+use Rattle.hub_laws.proofs.Words.{features_are_last_added, info_is_merged}
 use Rattle.hub_laws.proofs.Apart.{cids_differ, nicks_differ}
-use Rattle.hub_invariants.proofs.Saying.{features_are_last_added, info_is_merged}
 use Rattle.hub_laws.proofs.laws.knowledge_laws.Goals as goal
 
 pub returns-clause-features : goal.returns-clause-features

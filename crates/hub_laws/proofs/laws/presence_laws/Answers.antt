@@ -1,6 +1,6 @@
-use Rattle.hub_invariants.proofs.Kept.{present_are_users, users_are_open, others_are_out}
 use Rattle.hub_laws.proofs.Entries.{present_in_order}
 use Rattle.hub_invariants.proofs.Open.{open_are_those_that_stayed}
+use Rattle.hub_laws.proofs.Words.{others_are_out, present_are_users, users_are_open}
 use Rattle.hub_laws.proofs.Stages.{stage_is_last_made}
 use Rattle.hub_laws.proofs.laws.presence_laws.Goals as goal
 

@@ -1,4 +1,4 @@
-use Rattle.hub_invariants.proofs.Kept.{taken_is_the_sum}
+use Rattle.hub_laws.proofs.Words.{taken_is_the_sum}
 use Rattle.hub_laws.proofs.Delivery.{delivered_are_the_first}
 use Rattle.hub_laws.proofs.Lagging.{lag_is_the_first, owed_are_shares}
 use Rattle.hub_laws.proofs.laws.take_laws.Goals as goal

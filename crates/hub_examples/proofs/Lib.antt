@@ -1,0 +1,5 @@
+pub mod Computing
+pub mod Identifiers
+pub mod Known
+pub mod Lags
+pub mod Played

@@ -1,0 +1,12 @@
+pub mod Commands
+pub mod Conversations
+pub mod Departures
+pub mod Identifiers
+pub mod Lags
+pub mod Messages
+pub mod PasswordLogins
+pub mod Pings
+pub mod Removals
+pub mod Searches
+pub mod Talking
+pub mod Visitors
