@@ -14,13 +14,10 @@ pub const PATIENCE: u64 = 40;
 /// The number of bytes a tick that a client takes at least which reads: 16 KB a second.
 pub const PACE: u64 = 82;
 
-/// The number of bytes that count for later ticks at most: those of two seconds. The system says that there is room in a
-/// socket again once a third of its buffer is free, so that who reads slowly is seen to take 85 KB at a time.
-pub const MOST_CREDIT: u64 = 400 * PACE;
-
-/// The number of bytes of takes that count for later ticks at most: those of one second. The system may hold them, and its
-/// client read none.
-pub const TAKEN_CREDIT: u64 = 200 * PACE;
+/// The number of bytes that count for later ticks at most: those of six seconds. The system says that there is room in a
+/// socket again once a third of its buffer is free, so that who reads slowly is seen to take 85 KB at a time. Behind a link that
+/// many share, TCP may be silent for seconds.
+pub const MOST_CREDIT: u64 = 1_200 * PACE;
 
 /// What waits for a client, as far as is known, and whether it reads. It is counted, and put right by each take that finds no
 /// more.
@@ -29,6 +26,8 @@ pub struct Backlog {
     // So much waited when so much had been said to everybody.
     waiting: Amount,
     said: Amount,
+    // What was given to it alone since a take was counted last.
+    given: Amount,
     // The number of ticks that it was waited for since it last moved.
     waited_for: u64,
     // The number of bytes that it took and that no tick has used up.
@@ -41,39 +40,49 @@ impl Backlog {
         Backlog {
             waiting: Amount::NONE,
             said,
+            given: Amount::NONE,
             waited_for: 0,
             credit: 0,
         }
     }
 
+    /// Makes the backlog of a client that has just come. It counts as one that reads, since nothing is known of it yet.
+    pub fn of_newcomer(said: Amount) -> Backlog {
+        let mut backlog = Backlog::new(said);
+        backlog.credit = MOST_CREDIT;
+        backlog
+    }
+
     /// Counts a line of so many bytes for this client alone.
     pub fn give(&mut self, bytes: u64) {
         self.waiting = self.waiting.plus(Amount::of_line(bytes));
+        self.given = self.given.plus(Amount::of_line(bytes));
     }
 
-    /// Counts what was taken, after which more may be left or none is.
+    /// Counts what was taken, after which more may be left or none is. What was given to it alone between the take and this count
+    /// waits.
     pub fn count_taken(&mut self, said: Amount, taken: Amount, has_more: bool) {
-        self.waiting = if has_more {
-            self.waiting(said).minus(taken)
+        let waiting = if has_more {
+            self.waiting(said)
         } else {
-            Amount::NONE
+            self.given
         };
+        self.waiting = waiting.minus(taken);
+        self.given = Amount::NONE;
         self.said = said;
         if taken.lines != 0 {
             self.waited_for = 0;
         }
-        self.earn(taken.bytes, TAKEN_CREDIT);
+        self.earn(taken.bytes);
     }
 
     /// Counts bytes that its socket took which had been full: so its client has read about as many.
     pub fn count_written(&mut self, bytes: u64) {
-        self.earn(bytes, MOST_CREDIT);
+        self.earn(bytes);
     }
 
-    fn earn(&mut self, bytes: u64, most: u64) {
-        if self.credit < most {
-            self.credit = self.credit.saturating_add(bytes).min(most);
-        }
+    fn earn(&mut self, bytes: u64) {
+        self.credit = self.credit.saturating_add(bytes).min(MOST_CREDIT);
     }
 
     /// Counts a tick, for which as many were due; where the client is far behind, it was waited for.

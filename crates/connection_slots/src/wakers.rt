@@ -45,7 +45,7 @@ impl Wakers {
     /// Gives the slot to a session.
     pub fn occupy(&self, slot: usize) {
         if let Some(mut slots) = lock(&self.slots) {
-            slots.clear(slot, Some(Backlog::new(self.broadcasts())));
+            slots.clear(slot, Some(Backlog::of_newcomer(self.broadcasts())));
         }
     }
 

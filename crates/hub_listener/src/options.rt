@@ -7,6 +7,16 @@ use std::os::fd::RawFd;
 pub(crate) enum SocketOption {
     /// The number of bytes that the system holds which were written and not sent. It takes twice as many.
     SendBuffer,
+    /// Whether the system asks a peer that is silent whether it is still there: 1 if it does.
+    KeepAlive,
+    /// The number of seconds of silence after which the system asks for the first time.
+    KeepAliveIdle,
+    /// The number of seconds between two such questions.
+    KeepAliveInterval,
+    /// The number of questions without an answer after which the system gives the connection up.
+    KeepAliveCount,
+    /// The number of milliseconds after which the system gives up a connection whose peer does not take what was written.
+    UserTimeout,
 }
 
 /// Sets an option of the socket with this descriptor, and answers whether the system took the value.
@@ -17,6 +27,27 @@ pub(crate) fn set_option(descriptor: RawFd, option: SocketOption, value: u32) ->
     let status = match option {
         SocketOption::SendBuffer => unsafe {
             net::setsockopt(descriptor, net::SOL_SOCKET, net::SO_SNDBUF, &bytes, 4)
+        },
+        SocketOption::KeepAlive => unsafe {
+            net::setsockopt(descriptor, net::SOL_SOCKET, net::SO_KEEPALIVE, &bytes, 4)
+        },
+        SocketOption::KeepAliveIdle => unsafe {
+            net::setsockopt(descriptor, net::IPPROTO_TCP, net::TCP_KEEPIDLE, &bytes, 4)
+        },
+        SocketOption::KeepAliveInterval => unsafe {
+            net::setsockopt(descriptor, net::IPPROTO_TCP, net::TCP_KEEPINTVL, &bytes, 4)
+        },
+        SocketOption::KeepAliveCount => unsafe {
+            net::setsockopt(descriptor, net::IPPROTO_TCP, net::TCP_KEEPCNT, &bytes, 4)
+        },
+        SocketOption::UserTimeout => unsafe {
+            net::setsockopt(
+                descriptor,
+                net::IPPROTO_TCP,
+                net::TCP_USER_TIMEOUT,
+                &bytes,
+                4,
+            )
         },
     };
     status == 0

@@ -17,8 +17,8 @@ use Rattle.hub_rules.specs.Configured.{Configured}
 use Rattle.hub_rules.specs.Facts.{facts, user_of}
 use Rattle.hub_rules.specs.History.{open_connections, present}
 use Rattle.hub_rules.specs.Legal.{Legal}
-use Rattle.hub_rules.specs.Opening.{has_joined, has_quit, joins_as}
-use Rattle.hub_rules.specs.Promises.{is_in}
+use Rattle.hub_invariants.specs.Opening.{has_joined, has_quit, joins_as}
+use Rattle.hub_invariants.specs.Promises.{is_in}
 use Rattle.hub_invariants.proofs.Kept.{users_are_open}
 use Rattle.hub_invariants.proofs.Members.{both}
 use Rattle.hub_invariants.proofs.Open.{open_are_those_that_stayed}

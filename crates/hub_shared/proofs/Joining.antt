@@ -12,7 +12,7 @@ use Rattle.hub_rules.specs.declared.history.Reply.{Reply}
 use Rattle.hub_rules.specs.declared.history.Reply.TheVariants as replies
 use Rattle.hub_rules.specs.Configured.{Configured}
 use Rattle.hub_rules.specs.Legal.{Legal}
-use Rattle.hub_rules.specs.Opening.{has_joined, has_quit}
+use Rattle.hub_invariants.specs.Opening.{has_joined, has_quit}
 use Rattle.hub_shared.specs.declared.about.About.{About}
 use Rattle.hub_shared.specs.Callers.{IsPass, IsVisitor}
 use Rattle.hub_shared.specs.Connections.{has_stayed}

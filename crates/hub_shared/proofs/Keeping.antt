@@ -8,7 +8,7 @@ use Rattle.hub_rules.specs.Configured.{Configured}
 use Rattle.hub_rules.specs.Effects.{departure}
 use Rattle.hub_rules.specs.Facts.{Facts, after, with_connection, without_connection, happens, with_lines_taken, has_place, has_joins, newcomer, next_sid, effect_of_line}
 use Rattle.hub_rules.specs.Legal.{join_reply, reply}
-use Rattle.hub_rules.specs.Opening.{joins_as, quits}
+use Rattle.hub_invariants.specs.Opening.{joins_as, quits}
 use Rattle.hub_rules.specs.Shares.{About}
 use Rattle.hub_invariants.proofs.Members.{has, has-append}
 use Rattle.hub_invariants.proofs.Sound.{or-true}

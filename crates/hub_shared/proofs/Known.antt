@@ -7,7 +7,7 @@ use Rattle.hub_rules.specs.declared.history.Entry.{Entry}
 use Rattle.hub_rules.specs.Configured.{Configured}
 use Rattle.hub_rules.specs.Facts.{Facts, facts}
 use Rattle.hub_rules.specs.Legal.{IsOpenFor, Legal, MayCall}
-use Rattle.hub_rules.specs.Opening.{has_joined, has_quit, joins_as, quits}
+use Rattle.hub_invariants.specs.Opening.{has_joined, has_quit, joins_as, quits}
 use Rattle.hub_invariants.proofs.Kept.{joins-grow}
 use Rattle.hub_invariants.proofs.Members.{both, or-parts}
 use Rattle.hub_invariants.proofs.Open.{open_are_those_that_stayed}

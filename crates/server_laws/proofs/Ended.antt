@@ -14,9 +14,9 @@ use Rattle.hub_rules.specs.Configured.{Configured}
 use Rattle.hub_rules.specs.Effects.{is_over}
 use Rattle.hub_rules.specs.Facts.{Facts, facts, after, with_lines_taken, with_one}
 use Rattle.hub_rules.specs.History.{lines_owed, count_taken, lags, stage}
-use Rattle.hub_rules.specs.Lagging.{all_fit, share, shares_that_fit}
+use Rattle.hub_invariants.specs.Lagging.{all_fit, share, shares_that_fit}
 use Rattle.hub_rules.specs.Legal.{Legal, MayCall, reply, take_reply, has_ended}
-use Rattle.hub_rules.specs.Promises.{taken_in, lines_taken}
+use Rattle.hub_invariants.specs.Promises.{taken_in, lines_taken}
 use Rattle.hub_rules.specs.Shares.{About, waiting}
 use Rattle.hub_invariants.proofs.Calls.{sound_of}
 use Rattle.hub_invariants.proofs.Kept.{joins-grow, taken_is_the_sum}

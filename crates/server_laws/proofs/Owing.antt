@@ -20,7 +20,7 @@ use Rattle.hub_rules.specs.Configured.{Configured}
 use Rattle.hub_rules.specs.Facts.{Facts, facts, has_place, has_joins}
 use Rattle.hub_rules.specs.History.{lines_owed, count_taken}
 use Rattle.hub_rules.specs.Legal.{Legal, join_reply, reply}
-use Rattle.hub_rules.specs.Opening.{has_joined, joins_as}
+use Rattle.hub_invariants.specs.Opening.{has_joined, joins_as}
 use Rattle.hub_invariants.proofs.Members.{or-parts}
 use Rattle.hub_invariants.proofs.Sound.{or-true}
 use Rattle.hub_laws.specs.Delivery.{bytes_of_take, bytes_taken, bytes_delivered}

@@ -52,6 +52,21 @@ fn a_backlog_grows_and_shrinks(rt: HostRuntime) {
 }
 
 #[test]
+fn what_is_given_during_a_take_waits(rt: HostRuntime) {
+    let mut backlog = Backlog::new(Amount::NONE);
+    // Ten lines are taken, and 502 more are given before that is counted.
+    for _line in 0..512 {
+        backlog.give(LINE);
+    }
+    backlog.count_taken(Amount::NONE, lines(10), false);
+    has(&rt, &backlog, 0, 502);
+    // All of them are taken, and nothing is given meanwhile.
+    backlog.count_taken(Amount::NONE, lines(256), true);
+    backlog.count_taken(Amount::NONE, lines(246), false);
+    has(&rt, &backlog, 0, 0);
+}
+
+#[test]
 fn half_an_outbox_is_far_behind(rt: HostRuntime) {
     // By the rules of the hub an outbox holds 1,024 lines, and 1,048,576 bytes.
     let backlog = Backlog::new(lines(1_000));
@@ -95,26 +110,29 @@ fn who_reads_is_waited_for_at_its_pace(rt: HostRuntime) {
     let far = bytes(FAR_BEHIND.bytes + 1);
     let mut backlog = Backlog::new(Amount::NONE);
     assert!(&rt; !backlog.reads() && waited_for(&backlog, far) == 40);
-    // What was taken counts for a second at most, since the system may hold it.
+    // What was taken counts for six seconds at most.
     let mut taken = backlog;
     taken.count_taken(far, bytes(8_200), true);
     assert!(&rt; taken.reads() && waited_for(&taken, far.plus(far)) == 100);
     taken.count_taken(far, bytes(200_000), true);
-    assert!(&rt; waited_for(&taken, far.plus(far)) == 200);
-    // What a full socket took counts for a second where it is 16 KB, and for two at most.
+    assert!(&rt; waited_for(&taken, far.plus(far)) == 1_200);
+    // What a full socket took counts likewise: 16 KB for a second.
     backlog.count_written(16_400);
     assert!(&rt; backlog.reads() && waited_for(&backlog, far) == 200);
     backlog.count_written(1_000_000);
-    assert!(&rt; waited_for(&backlog, far) == 400 && MOST_CREDIT == 400 * PACE);
+    assert!(&rt; waited_for(&backlog, far) == 1_200 && MOST_CREDIT == 1_200 * PACE);
+    // Who has just come is waited for as one that reads.
+    let newcomer = Backlog::of_newcomer(Amount::NONE);
+    assert!(&rt; newcomer.reads() && waited_for(&newcomer, far) == 1_200);
     // Ticks that come late count as so many.
     let mut late = backlog;
-    late.tick(far, 399);
+    late.tick(far, 1_199);
     assert!(&rt; late.reads());
     late.tick(far, 1);
     assert!(&rt; !late.reads());
-    // 85 KB in less than two seconds are enough, for as long as it takes.
+    // 85 KB in five seconds are enough, for as long as it takes.
     for _turn in 0..20 {
-        for _tick in 0..390 {
+        for _tick in 0..1_030 {
             assert!(&rt; backlog.is_behind(far));
             backlog.tick(far, 1);
         }

@@ -17,6 +17,9 @@ const LINE: u64 = 60;
 /// The second in which all is said.
 const SECOND: u64 = 1_000;
 
+/// The number of ticks after which a client that has just come has read nothing for too long.
+const CREDIT: u64 = 1_200;
+
 fn sid(rt: &impl Abort, number: u32) -> Sid {
     match Sid::from_u32(number) {
         Some(sid) => sid,
@@ -237,6 +240,7 @@ fn who_gives_much_waits_for_who_reads(rt: HostRuntime) {
     let mut bell = SlotBell::new(&waiters.wakers, 0);
     gives(&rt, &waiters, 0, LITTLE + 1);
     says(&waiters, FAR_BEHIND.lines + BURST);
+    waiters.wakers.tick(SECOND, CREDIT);
     for _tick in 0..10 * PATIENCE {
         assert!(&rt; !bell.may_hand(60));
         // 20 KB a second, and no take.
@@ -256,6 +260,7 @@ fn who_gives_much_gives_way_for_a_while_to_who_hardly_moves(rt: HostRuntime) {
     let mut bell = SlotBell::new(&waiters.wakers, 0);
     gives(&rt, &waiters, 0, LITTLE + 1);
     says(&waiters, FAR_BEHIND.lines + 100);
+    waiters.wakers.tick(SECOND, CREDIT);
     for _tick in 0..PATIENCE {
         assert!(&rt; !bell.may_hand(60));
         // Some of them move, so that they are waited for.
@@ -276,6 +281,10 @@ fn who_never_moves_holds_up_nobody(rt: HostRuntime) {
     let mut bell = SlotBell::new(&waiters.wakers, 0);
     gives(&rt, &waiters, 0, LITTLE + 1);
     says(&waiters, 2 * FAR_BEHIND.lines);
+    waiters.wakers.tick(SECOND, CREDIT);
+    for slot in 0..COUNT {
+        moves(&waiters, slot);
+    }
     for _tick in 0..PATIENCE {
         assert!(&rt; !bell.may_hand(60));
         waiters.wakers.tick(SECOND, 1);
