@@ -2,6 +2,7 @@
 with them. Needs ncdc, eiskaltdcpp-qt, xvfb, openbox, xdotool, xclip, tmux; for pictures xterm, imagemagick and pngquant as well."""
 
 import glob
+import json
 import os
 import re
 import select
@@ -209,8 +210,8 @@ class Scene:
 
     def present(self):
         """Nicks and client identifiers, as the hub tells them to a guest."""
-        lines = self.tool("who", nick="guest")[1].splitlines()[1:]
-        return {line.split()[0]: line.split()[1] for line in lines}
+        status, text = self.tool("who", "--json", nick="guest")
+        return {it["nick"]: it["cid"] for it in json.loads(text)} if status == 0 else {}
 
     def picture(self, path, crop=None):
         raw = f"{self.folder}/raw.png"
@@ -285,19 +286,20 @@ class Ncdc(Client):
 
 
 class Eiskalt(Client):
-    """A window of EiskaltDC++. `wire` tells what it sends."""
+    """A window of EiskaltDC++. `wire` tells what it sends, where it is recorded; else the client has the hub's own port."""
 
-    def __init__(self, scene, nick, place=(0, 0), size=(640, 440), port=None, password=None):
+    def __init__(self, scene, nick, place=(0, 0), size=(640, 440), port=None, password=None, is_recorded=True):
         self.scene, self.nick, self.seen, self.home = scene, nick, [], f"{scene.folder}/window-{nick}-{len(scene.processes)}"
         self.width, self.height, self.place = *size, place
-        self.wire = Wire(port or scene.port)
+        port = port or scene.port
+        self.wire = Wire(port) if is_recorded else None
         folder = f"{self.home}/.config/eiskaltdc++"
         os.makedirs(folder)
         head = '<?xml version="1.0" encoding="utf-8" standalone="yes"?>\n'
         with open(f"{folder}/Favorites.xml", "w") as file:
             password = f'Password="{password}" ' if password else ""
             file.write(f'{head}<Favorites><Hubs><Hub Name="Hub" Connect="1" Nick="{nick}" {password}'
-                       f'Server="adc://127.0.0.1:{self.wire.port}" Encoding="UTF-8"/></Hubs></Favorites>\n')
+                       f'Server="adc://127.0.0.1:{self.wire.port if self.wire else port}" Encoding="UTF-8"/></Hubs></Favorites>\n')
         with open(f"{folder}/DCPlusPlus.xml", "w") as file:
             # Passive, without DHT: nothing outside of this machine is asked for.
             file.write(f'{head}<DCPlusPlus><Settings><Nick type="string">{nick}</Nick><UseDHT type="int">0</UseDHT>'

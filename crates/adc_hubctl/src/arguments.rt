@@ -1,19 +1,8 @@
-use crate::checking::check;
-use crate::ending::Ending;
-use crate::operating::{Deed, Hash, Login, operate};
-use crate::pinging::ping;
-use adc_ids::NickFault;
-use clap::{Arg, ArgAction, ArgMatches, Command, value_parser};
-use hub_client::{NickText, Request};
-use std::alloc::{AllocError, AllocGlobal, Global};
-use std::fs::Files;
-use std::net::Net;
-use std::random::RandomSource;
-use std::time::Clock;
-
-const STATUSES: &str =
-    "Statuses: 0 done, 1 arguments or settings are at fault, 2 no Tiger's tables, 3 the address cannot be reached, \
-4 memory ran out, 5 the connection failed, 6 wrong password, 7 banned, 8 refused by the hub, 9 no answer in time";
+use crate::helping::{
+    BAN, CHECK, KICK, PING, PING_JSON, SAY, STATUSES, TOPIC, UNBAN, WHO, WHO_JSON,
+};
+use clap::{Arg, ArgAction, Command, value_parser};
+use std::alloc::{AllocError, Global};
 
 /// A subcommand.
 #[derive(Clone, Copy)]
@@ -75,57 +64,75 @@ fn command_of<'a>(alloc: Global, verb: Verb) -> Result<Command<'a>, AllocError> 
 }
 
 fn check_command<'a>(alloc: Global) -> Result<Command<'a>, AllocError> {
-    subcommand(
+    let about = "Tells what a hub would read in a settings file";
+    let command = subcommand(alloc, "check", about, CHECK).arg(word(
         alloc,
-        "check",
-        "Tells what a hub would read in a settings file",
-    )
-    .arg(word(alloc, "SETTINGS", "The settings file"))
+        "SETTINGS",
+        "The settings file",
+    ));
+    with(command, listen(alloc))
 }
 
 fn kick_command<'a>(alloc: Global) -> Result<Command<'a>, AllocError> {
-    let command = login(alloc, "kick", "Sends a user away");
+    let command = login(alloc, "kick", "Sends a user away", KICK);
     let command = with(command, user(alloc));
     with(command, reason(alloc))
 }
 
 fn ban_command<'a>(alloc: Global) -> Result<Command<'a>, AllocError> {
-    let command = login(alloc, "ban", "Sends a user away and keeps its client out");
+    let about = "Sends a user away and keeps its client out";
+    let command = login(alloc, "ban", about, BAN);
     let command = with(command, user(alloc));
     let command = with(command, ban_seconds(alloc));
     with(command, reason(alloc))
 }
 
 fn ban_seconds<'a>(alloc: Global) -> Arg<'a> {
-    word(alloc, "SECONDS", "For how long; 0 is for good").value_parser(value_parser!(u32))
+    word(
+        alloc,
+        "SECONDS",
+        "For how many seconds: 3600 is an hour, 86400 a day, 604800 a week; 0 is for good",
+    )
+    .value_parser(value_parser!(u32))
 }
 
 fn unban_command<'a>(alloc: Global) -> Result<Command<'a>, AllocError> {
-    let command = login(alloc, "unban", "Takes a ban back");
+    let command = login(alloc, "unban", "Takes a ban back", UNBAN);
     with(
         command,
         word(alloc, "CID", "The client identifier that is banned"),
     )
 }
 
+/// The topic is shown without a login, so the nick may be missing.
 fn topic_command<'a>(alloc: Global) -> Result<Command<'a>, AllocError> {
-    let command = login(alloc, "topic", "Sets the topic, or none");
-    with(command, text(alloc, "TOPIC", "The topic"))
+    let about = "Shows the topic, sets it, or takes it away";
+    let mut command = subcommand(alloc, "topic", about, TOPIC);
+    command = command.arg(address(alloc))?;
+    command = command.arg(topic(alloc)?)?;
+    command = command.arg(clear(alloc)?)?;
+    command = command.arg(nick(alloc))?;
+    for arg in ACCESS_ARGS {
+        command = command.arg(login_arg(alloc, arg))?;
+    }
+    Ok(command)
 }
 
 fn who_command<'a>(alloc: Global) -> Result<Command<'a>, AllocError> {
-    let command = login(alloc, "who", "Lists who is present");
-    with(command, json(alloc))
+    let command = login(alloc, "who", "Lists who is present", WHO);
+    with(command, json(alloc, WHO_JSON))
 }
 
 fn say_command<'a>(alloc: Global) -> Result<Command<'a>, AllocError> {
-    let command = login(alloc, "say", "Says something to all");
+    let command = login(alloc, "say", "Says something to all", SAY);
     with(command, word(alloc, "TEXT", "What to say"))
 }
 
 fn ping_command<'a>(alloc: Global) -> Result<Command<'a>, AllocError> {
-    let command = subcommand(alloc, "ping", "Tells what a hub says of itself").arg(address(alloc));
-    let command = with(command, json(alloc));
+    let about = "Tells what a hub says of itself";
+    let command = subcommand(alloc, "ping", about, PING).arg(address(alloc));
+    let command = with(command, json(alloc, PING_JSON));
+    let command = with(command, prometheus(alloc)?);
     with(command, seconds(alloc))
 }
 
@@ -137,8 +144,17 @@ fn with<'a>(
     command?.arg(arg)
 }
 
-fn subcommand<'a>(alloc: Global, name: &'a str, about: &'a str) -> Command<'a> {
-    Command::new(alloc, name).about(about).after_help(STATUSES)
+/// A subcommand, with the text at the head of its help.
+fn subcommand<'a>(
+    alloc: Global,
+    name: &'a str,
+    about: &'a str,
+    long_about: &'a str,
+) -> Command<'a> {
+    Command::new(alloc, name)
+        .about(about)
+        .long_about(long_about)
+        .after_help(STATUSES)
 }
 
 /// An argument of each subcommand that logs in.
@@ -161,9 +177,22 @@ const LOGIN_ARGS: [LoginArg; 6] = [
     LoginArg::Seconds,
 ];
 
+/// Those among them that say how a login is proved, and how long it is waited for.
+const ACCESS_ARGS: [LoginArg; 4] = [
+    LoginArg::PasswordFile,
+    LoginArg::Hash,
+    LoginArg::Tables,
+    LoginArg::Seconds,
+];
+
 /// A subcommand that logs in. Each argument is made where it is added, so that few are held where memory runs out.
-fn login<'a>(alloc: Global, name: &'a str, about: &'a str) -> Result<Command<'a>, AllocError> {
-    let mut command = subcommand(alloc, name, about);
+fn login<'a>(
+    alloc: Global,
+    name: &'a str,
+    about: &'a str,
+    long_about: &'a str,
+) -> Result<Command<'a>, AllocError> {
+    let mut command = subcommand(alloc, name, about, long_about);
     for arg in LOGIN_ARGS {
         command = command.arg(login_arg(alloc, arg))?;
     }
@@ -173,7 +202,7 @@ fn login<'a>(alloc: Global, name: &'a str, about: &'a str) -> Result<Command<'a>
 fn login_arg<'a>(alloc: Global, arg: LoginArg) -> Arg<'a> {
     match arg {
         LoginArg::Address => address(alloc),
-        LoginArg::Nick => nick(alloc),
+        LoginArg::Nick => nick(alloc).required(true),
         LoginArg::PasswordFile => password_file(alloc),
         LoginArg::Hash => hash(alloc),
         LoginArg::Tables => tables(alloc),
@@ -190,7 +219,7 @@ fn option<'a>(alloc: Global, name: &'a str, value: &'a str, help: &'a str) -> Ar
 }
 
 fn nick<'a>(alloc: Global) -> Arg<'a> {
-    option(alloc, "nick", "NICK", "As whom to log in").required(true)
+    option(alloc, "nick", "NICK", "As whom to log in")
 }
 
 fn password_file<'a>(alloc: Global) -> Arg<'a> {
@@ -229,119 +258,70 @@ fn user<'a>(alloc: Global) -> Arg<'a> {
 }
 
 fn reason<'a>(alloc: Global) -> Arg<'a> {
-    text(alloc, "REASON", "What all are told")
-}
-
-fn text<'a>(alloc: Global, name: &'a str, help: &'a str) -> Arg<'a> {
-    Arg::new(alloc, name)
+    Arg::new(alloc, "REASON")
         .action(ArgAction::Set)
         .default_value("")
         .hide_default_value(true)
-        .help(help)
+        .help("What all are told")
+}
+
+fn topic<'a>(alloc: Global) -> Result<Arg<'a>, AllocError> {
+    Arg::new(alloc, "TOPIC")
+        .action(ArgAction::Set)
+        .help("The new topic; if it is left out, the topic is shown")
+        .requires_arg("nick")
+}
+
+fn clear<'a>(alloc: Global) -> Result<Arg<'a>, AllocError> {
+    flag(alloc, "clear", "Take the topic away")
+        .requires_arg("nick")?
+        .conflicts_with("TOPIC")
+}
+
+fn listen<'a>(alloc: Global) -> Arg<'a> {
+    flag(
+        alloc,
+        "listen",
+        "Also try whether a hub could listen at the address",
+    )
+}
+
+fn prometheus<'a>(alloc: Global) -> Result<Arg<'a>, AllocError> {
+    flag(
+        alloc,
+        "prometheus",
+        "Print the figures in the text format of Prometheus",
+    )
+    .conflicts_with("json")
 }
 
 fn address<'a>(alloc: Global) -> Arg<'a> {
-    word(alloc, "ADDRESS", "The hub: HOST:PORT or adc://HOST:PORT")
+    word(
+        alloc,
+        "ADDRESS",
+        "The hub: HOST:PORT, with adc:// before it or not",
+    )
 }
 
-fn json<'a>(alloc: Global) -> Arg<'a> {
-    Arg::new(alloc, "json")
-        .long("json")
+/// The flag for JSON, with the fields that are printed.
+fn json<'a>(alloc: Global, help: &'a str) -> Arg<'a> {
+    flag(alloc, "json", help)
+}
+
+fn flag<'a>(alloc: Global, name: &'a str, help: &'a str) -> Arg<'a> {
+    Arg::new(alloc, name)
+        .long(name)
         .action(ArgAction::SetTrue)
-        .help("Print JSON")
+        .help(help)
 }
 
 fn seconds<'a>(alloc: Global) -> Arg<'a> {
-    option(alloc, "seconds", "N", "How long to wait for each answer")
-        .value_parser(value_parser!(u32))
-        .default_value("10")
-}
-
-/// Does what a command line asks for.
-pub(crate) fn run_matches<R>(rt: &R, matches: &ArgMatches<'_>) -> Result<(), Ending>
-where
-    R: Net + Clock + Files + RandomSource + Input + Print + Eprint + AllocGlobal,
-{
-    match matches.subcommand() {
-        Some(("check", words)) => check(rt, text_of(words, "SETTINGS")),
-        Some(("ping", words)) => ping(
-            rt,
-            text_of(words, "ADDRESS"),
-            seconds_of(words),
-            words.get_flag("json"),
-        ),
-        Some((name, words)) => {
-            let deed = deed_of(rt.alloc(), name, words)?;
-            operate(rt, &login_of(rt.alloc(), words)?, &deed)
-        }
-        None => Err(Ending::Arguments("a subcommand is missing")),
-    }
-}
-
-/// The value of an argument that is required or has a default.
-fn text_of<'a>(words: &ArgMatches<'a>, name: &str) -> &'a str {
-    words.get_str(name).unwrap_or("")
-}
-
-fn seconds_of(words: &ArgMatches<'_>) -> u32 {
-    words.get_one::<u32>("seconds").unwrap_or(10)
-}
-
-fn deed_of<'a>(alloc: Global, name: &str, words: &ArgMatches<'a>) -> Result<Deed<'a>, Ending> {
-    match name {
-        "kick" => kick_of(alloc, words),
-        "ban" => ban_of(alloc, words),
-        "unban" => match Request::unban(text_of(words, "CID")) {
-            Some(request) => Ok(Deed::Ask(request)),
-            None => Err(Ending::Arguments("CID is no client identifier")),
-        },
-        "topic" => Ok(Deed::Ask(Request::topic(text_of(words, "TOPIC")))),
-        "say" => Ok(Deed::Say(text_of(words, "TEXT"))),
-        _ => Ok(Deed::ListUsers {
-            is_json: words.get_flag("json"),
-        }),
-    }
-}
-
-fn kick_of<'a>(alloc: Global, words: &ArgMatches<'a>) -> Result<Deed<'a>, Ending> {
-    match Request::kick(alloc, text_of(words, "USER"), text_of(words, "REASON")) {
-        Ok(request) => Ok(Deed::Ask(request)),
-        Err(fault) => Err(no_user(fault)),
-    }
-}
-
-fn ban_of<'a>(alloc: Global, words: &ArgMatches<'a>) -> Result<Deed<'a>, Ending> {
-    let Some(seconds) = words.get_one::<u32>("SECONDS") else {
-        return Err(Ending::Arguments("SECONDS is a number below 4294967296"));
-    };
-    let (user, reason) = (text_of(words, "USER"), text_of(words, "REASON"));
-    match Request::ban(alloc, user, seconds, reason) {
-        Ok(request) => Ok(Deed::Ask(request)),
-        Err(fault) => Err(no_user(fault)),
-    }
-}
-
-fn login_of<'a>(alloc: Global, words: &ArgMatches<'a>) -> Result<Login<'a>, Ending> {
-    let nick = match NickText::parse(alloc, text_of(words, "nick")) {
-        Ok(nick) => nick,
-        Err(NickFault::Memory) => return Err(Ending::Memory),
-        Err(NickFault::Invalid) => return Err(Ending::Arguments("NICK is no nick")),
-    };
-    Ok(Login {
-        address: text_of(words, "ADDRESS"),
-        nick,
-        password_file: words.get_str("password-file"),
-        hash: match text_of(words, "hash") {
-            "first24" => Hash::First24,
-            _ => Hash::Tiger(words.get_str("tables")),
-        },
-        seconds: seconds_of(words),
-    })
-}
-
-fn no_user(fault: NickFault) -> Ending {
-    match fault {
-        NickFault::Memory => Ending::Memory,
-        NickFault::Invalid => Ending::Arguments("USER is no nick"),
-    }
+    option(
+        alloc,
+        "seconds",
+        "N",
+        "How many seconds to wait for each answer, from 1",
+    )
+    .value_parser(value_parser!(u32).range(1..))
+    .default_value("10")
 }

@@ -1,25 +1,49 @@
 use crate::ending::{Ending, unread};
-use settings_report::{Report, Summary, report_file};
-use std::alloc::AllocGlobal;
+use settings_report::{Report, Summary, Warning, report_file};
+use std::alloc::{AllocGlobal, Global};
 use std::fs::{self, Files};
 use std::io;
+use std::net::{Net, SocketAddr, SocketAddrV4, TcpListener};
 
-/// Says what a hub would read in this settings file. Refused: `Told` where it is at fault, on standard error.
-pub(crate) fn check<R: Files + AllocGlobal + Print + Eprint>(
+/// Says what a hub would read in this settings file, and with `listen` whether it could listen at the address. Refused: `Told` where
+/// the file is at fault, on standard error.
+pub(crate) fn check<R: Net + Files + AllocGlobal + Print + Eprint>(
     rt: &R,
     path: &str,
+    listen: bool,
 ) -> Result<(), Ending> {
     let bytes = match fs::read(rt, path) {
         Ok(bytes) => bytes,
-        Err(error) => return Err(unread(&error, Ending::File("the settings file"))),
+        Err(error) => return Err(unread(rt.alloc(), path, &error)),
     };
     match report_file(rt.alloc(), &bytes)? {
-        Report::Well(summary) => Ok(print_summary(rt, path, &summary)?),
+        Report::Well(summary, warnings) => {
+            let told = tell(rt, path, &summary, &warnings);
+            drop(warnings);
+            told?;
+            if listen {
+                try_address(rt, summary.listen)?;
+            }
+            Ok(())
+        }
         Report::Faulty(fault) => {
-            eprintln!(rt; "{path}:{fault}")?;
+            // Nobody may be left to read it; the status says it too.
+            let _ = eprintln!(rt; "{path}:{fault}");
             Err(Ending::Told)
         }
     }
+}
+
+fn tell<R: Print + Eprint>(
+    rt: &R,
+    path: &str,
+    summary: &Summary,
+    warnings: &[Warning],
+) -> io::Result<()> {
+    for warning in warnings {
+        eprintln!(rt; "warning: {path}:{warning}")?;
+    }
+    print_summary(rt, path, summary)
 }
 
 fn print_summary(rt: &impl Print, path: &str, summary: &Summary) -> io::Result<()> {
@@ -35,4 +59,29 @@ fn print_summary(rt: &impl Print, path: &str, summary: &Summary) -> io::Result<(
     println!(rt; "accounts: {accounts}")?;
     println!(rt; "menu entries: {commands}")?;
     println!(rt; "descriptors: {descriptors}")
+}
+
+/// Listens at an address and stops at once. Refused: `Unreachable` where it cannot be had.
+fn try_address<R: Net + AllocGlobal>(rt: &R, address: SocketAddrV4) -> Result<(), Ending> {
+    match TcpListener::bind(rt, SocketAddr::V4(address)) {
+        Ok(listener) => {
+            drop(listener);
+            Ok(())
+        }
+        Err(error) => Err(unlistened(rt.alloc(), address, &error)),
+    }
+}
+
+fn unlistened(alloc: Global, address: SocketAddrV4, error: &io::Error) -> Ending {
+    let words = match error.kind() {
+        io::ErrorKind::OutOfMemory => return Ending::Memory,
+        io::ErrorKind::AddrInUse => "is in use: a hub may run there",
+        io::ErrorKind::AddrNotAvailable => "is no address of this machine",
+        io::ErrorKind::PermissionDenied => "is not permitted, as ports below 1024 often are not",
+        _ => "cannot be listened at",
+    };
+    match address.to_string(alloc) {
+        Ok(address) => Ending::Unreachable(address, words),
+        Err(_) => Ending::Memory,
+    }
 }

@@ -2,18 +2,26 @@
 #![tactic(auto)]
 
 mod arguments;
+mod asked;
 mod checking;
+mod descriptors;
 mod ending;
+mod figures;
+mod helping;
 mod operating;
 mod pinging;
 mod showing;
 mod stream;
+mod taking_back;
 
-use arguments::{commands, run_matches};
+use arguments::commands;
+use asked::run_matches;
 use clap::error::ErrorKind;
+use descriptors::fill_standard;
 use ending::Ending;
 use std::alloc::Global;
 use std::env;
+use std::io::IsTerminal;
 use std::process::ExitCode;
 
 fn main(rt: HostRuntime) -> ExitCode {
@@ -24,18 +32,19 @@ fn main(rt: HostRuntime) -> ExitCode {
 }
 
 fn run(rt: &HostRuntime) -> Result<(), Ending> {
+    fill_standard(rt)?;
     let words = words(rt, rt.alloc())?;
     match commands(rt.alloc())?.try_get_matches_from(words.as_slice()) {
-        Ok(matches) => run_matches(rt, &matches),
+        Ok(matches) => run_matches(rt, &matches, rt.stdin().is_terminal()),
         Err(error) => {
             if error.kind() == ErrorKind::OutOfMemory {
                 return Err(Ending::Memory);
             }
-            error.print(rt)?;
+            let printed = error.print(rt);
             if error.use_stderr() {
                 return Err(Ending::Told);
             }
-            Ok(())
+            Ok(printed?)
         }
     }
 }

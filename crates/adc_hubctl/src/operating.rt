@@ -1,27 +1,30 @@
-use crate::ending::{Ending, unread};
+use crate::ending::{Ending, file, unread};
 use crate::showing::{print_json, print_table, printable};
 use crate::stream::{TimedStream, connect};
+use crate::taking_back::taking_back;
 use adc_base32::Sid;
 use adc_line::{Line, LineFault};
 use hub_client::{
-    Client, ClientFault, Entry, Identity, NickText, Request, User, act_line, chat_line, login_line,
-    password_line,
+    Client, ClientFault, Entry, HubAddress, Identity, NickText, Request, User, act_line, chat_line,
+    login_line, password_line,
 };
 use session_hash::{First24, SessionHash, TableTiger, TablesFault};
 use std::alloc::{AllocGlobal, Global};
 use std::fs::{self, Files};
 use std::net::Net;
 use std::random::RandomSource;
-use std::str;
 use std::time::Clock;
+use std::{io, str};
 
 /// A login: the address, the nick, and the way to the password.
 #[derive(Clone, Copy)]
 pub(crate) struct Login<'a> {
-    pub(crate) address: &'a str,
+    pub(crate) address: HubAddress<'a>,
     pub(crate) nick: NickText<'a>,
     /// The file of the password; standard input where there is none.
     pub(crate) password_file: Option<&'a str>,
+    /// Whether standard input is a terminal.
+    pub(crate) is_typed: bool,
     pub(crate) hash: Hash<'a>,
     pub(crate) seconds: u32,
 }
@@ -44,6 +47,8 @@ const INSTALLED_TABLES: &str = "/usr/share/adc-hub/tiger.bin";
 #[derive(Clone, Copy)]
 pub(crate) enum Deed<'a> {
     Ask(Request<'a>),
+    /// The request of a ban, of which is said how it is taken back.
+    Ban(Request<'a>),
     Say(&'a str),
     ListUsers { is_json: bool },
 }
@@ -51,7 +56,7 @@ pub(crate) enum Deed<'a> {
 /// Logs in, does one thing, prints what the hub answered, and leaves.
 pub(crate) fn operate<R>(rt: &R, login: &Login<'_>, deed: &Deed<'_>) -> Result<(), Ending>
 where
-    R: Net + Clock + Files + RandomSource + Input + Print + AllocGlobal,
+    R: Net + Clock + Files + RandomSource + Input + Print + Eprint + AllocGlobal,
 {
     let path = match login.hash {
         Hash::First24 => return operate_by(rt, login, deed, &First24),
@@ -64,37 +69,51 @@ where
 }
 
 fn tiger<R: Files + AllocGlobal>(rt: &R, path: Option<&str>) -> Result<TableTiger, Ending> {
-    let bytes = tiger_bytes(rt, path)?;
-    match TableTiger::from_bytes(rt.alloc(), &bytes) {
+    let Some(path) = path else {
+        return found_tiger(rt);
+    };
+    match fs::read(rt, path) {
+        Ok(bytes) => tiger_of(rt.alloc(), path, &bytes),
+        Err(error) => Err(of_tables(unread(rt.alloc(), path, &error))),
+    }
+}
+
+/// Looks for the tables where they may be.
+fn found_tiger<R: Files + AllocGlobal>(rt: &R) -> Result<TableTiger, Ending> {
+    for path in [TABLES, INSTALLED_TABLES] {
+        match fs::read(rt, path) {
+            Ok(bytes) => return tiger_of(rt.alloc(), path, &bytes),
+            Err(error) if error.kind() == io::ErrorKind::OutOfMemory => {
+                return Err(Ending::Memory);
+            }
+            Err(_) => {}
+        }
+    }
+    Err(Ending::NoTables)
+}
+
+fn tiger_of(alloc: Global, path: &str, bytes: &[u8]) -> Result<TableTiger, Ending> {
+    match TableTiger::from_bytes(alloc, bytes) {
         Ok(tiger) => Ok(tiger),
-        Err(TablesFault::Length) => Err(Ending::Tables),
+        Err(TablesFault::Length) => Err(of_tables(file(alloc, path, "it has no tables of Tiger"))),
         Err(TablesFault::Memory) => Err(Ending::Memory),
     }
 }
 
-fn tiger_bytes<R: Files + AllocGlobal>(rt: &R, path: Option<&str>) -> Result<Vec<u8>, Ending> {
-    if let Some(path) = path {
-        return tables(rt, path);
-    }
-    match tables(rt, TABLES) {
-        Err(Ending::Tables) => tables(rt, INSTALLED_TABLES),
-        read => read,
-    }
-}
-
-fn tables<R: Files + AllocGlobal>(rt: &R, path: &str) -> Result<Vec<u8>, Ending> {
-    match fs::read(rt, path) {
-        Ok(bytes) => Ok(bytes),
-        Err(error) => Err(unread(&error, Ending::Tables)),
+/// Gives the fault of a file as one of Tiger's tables.
+fn of_tables(ending: Ending) -> Ending {
+    match ending {
+        Ending::File(path, words) => Ending::Tables(path, words),
+        other => other,
     }
 }
 
 fn operate_by<R, H>(rt: &R, login: &Login<'_>, deed: &Deed<'_>, hash: &H) -> Result<(), Ending>
 where
-    R: Net + Clock + Files + RandomSource + Input + Print + AllocGlobal,
+    R: Net + Clock + Files + RandomSource + Input + Print + Eprint + AllocGlobal,
     H: SessionHash,
 {
-    let mut client = Client::new(rt.alloc(), connect(rt, login.address, login.seconds)?);
+    let mut client = Client::new(rt.alloc(), connect(rt, &login.address, login.seconds)?);
     let done = operate_client(rt, &mut client, login, deed, hash);
     drop(client);
     done
@@ -110,14 +129,14 @@ fn operate_client<R, H>(
     hash: &H,
 ) -> Result<(), Ending>
 where
-    R: Net + Clock + Files + RandomSource + Input + Print + AllocGlobal,
+    R: Net + Clock + Files + RandomSource + Input + Print + Eprint + AllocGlobal,
     H: SessionHash,
 {
     let sid = greet(client)?;
     if let Entry::Challenged(challenge) = enter(rt, client, sid, login, hash)? {
         answer(rt, client, sid, login, hash, &challenge)?;
     }
-    act(rt, client, sid, deed)
+    act(rt, client, sid, login, deed)
 }
 
 fn greet<R: Net + Clock>(client: &mut Client<TimedStream<'_, R>>) -> Result<Sid, Ending> {
@@ -157,10 +176,10 @@ fn answer<R, H>(
     challenge: &[u8; 24],
 ) -> Result<(), Ending>
 where
-    R: Net + Clock + Files + Input + AllocGlobal,
+    R: Net + Clock + Files + Input + Eprint + AllocGlobal,
     H: SessionHash,
 {
-    let line = answer_line(rt, login.password_file, hash, challenge)?;
+    let line = answer_line(rt, login, hash, challenge)?;
     let entry = client.enter(sid, &line);
     drop(line);
     match entry? {
@@ -171,26 +190,33 @@ where
 
 fn answer_line<R, H>(
     rt: &R,
-    file: Option<&str>,
+    login: &Login<'_>,
     hash: &H,
     challenge: &[u8; 24],
 ) -> Result<Line, Ending>
 where
-    R: Files + Input + AllocGlobal,
+    R: Files + Input + Eprint + AllocGlobal,
     H: SessionHash,
 {
-    let password = password(rt, file)?;
+    let password = password(rt, login)?;
     Ok(password_line(rt.alloc(), hash, &password, challenge)?)
 }
 
-/// The first line of the file, or of standard input.
-fn password<R: Files + Input + AllocGlobal>(rt: &R, file: Option<&str>) -> Result<String, Ending> {
-    let text = match file {
-        None => typed(rt)?,
+/// The first line of the file, or of standard input. Refused: `NoPassword` or `File` where it is empty or missing.
+fn password<R>(rt: &R, login: &Login<'_>) -> Result<String, Ending>
+where
+    R: Files + Input + Eprint + AllocGlobal,
+{
+    let text = match login.password_file {
+        None => typed(rt, login)?,
         Some(path) => password_text(rt, path)?,
     };
     let first = first_line(&text);
-    Ok(String::from_str(rt.alloc(), first)?)
+    match login.password_file {
+        None if first.is_empty() => Err(Ending::NoPassword),
+        Some(path) if first.is_empty() => Err(file(rt.alloc(), path, "its first line is empty")),
+        _ => Ok(String::from_str(rt.alloc(), first)?),
+    }
 }
 
 fn first_line(text: &str) -> &str {
@@ -198,7 +224,15 @@ fn first_line(text: &str) -> &str {
     first.strip_suffix("\r").unwrap_or(first)
 }
 
-fn typed<R: Input + AllocGlobal>(rt: &R) -> Result<String, Ending> {
+/// The line that is typed at the terminal, after a question, or that standard input has. It is shown while it is typed.
+fn typed<R>(rt: &R, login: &Login<'_>) -> Result<String, Ending>
+where
+    R: Input + Eprint + AllocGlobal,
+{
+    if login.is_typed {
+        let nick = printable(rt.alloc(), login.nick.as_str())?;
+        eprint!(rt; "password for {nick} (it will be shown): ")?;
+    }
     let mut line = String::new(rt.alloc());
     rt.read_line(&mut line)?;
     Ok(line)
@@ -207,11 +241,11 @@ fn typed<R: Input + AllocGlobal>(rt: &R) -> Result<String, Ending> {
 fn password_text<R: Files + AllocGlobal>(rt: &R, path: &str) -> Result<String, Ending> {
     let bytes = match fs::read(rt, path) {
         Ok(bytes) => bytes,
-        Err(error) => return Err(unread(&error, Ending::File("the password file"))),
+        Err(error) => return Err(unread(rt.alloc(), path, &error)),
     };
     match str::from_utf8(&bytes) {
         Ok(text) => Ok(String::from_str(rt.alloc(), text)?),
-        Err(_) => Err(Ending::File("the password file")),
+        Err(_) => Err(file(rt.alloc(), path, "it is no text in UTF-8")),
     }
 }
 
@@ -219,10 +253,15 @@ fn act<R: Net + Clock + Print + AllocGlobal>(
     rt: &R,
     client: &mut Client<TimedStream<'_, R>>,
     sid: Sid,
+    login: &Login<'_>,
     deed: &Deed<'_>,
 ) -> Result<(), Ending> {
     match deed {
         Deed::Ask(request) => ask(rt, client, request),
+        Deed::Ban(request) => {
+            ask(rt, client, request)?;
+            tell_ban(rt, client, sid, login)
+        }
         Deed::Say(text) => say(rt.alloc(), client, sid, text),
         Deed::ListUsers { is_json } => list_users(rt, client.users(), *is_json),
     }
@@ -239,6 +278,20 @@ fn ask<R: Net + Clock + Print + AllocGlobal>(
     drop(text);
     let shown = shown?;
     Ok(println!(rt; "{shown}")?)
+}
+
+/// Prints who was banned, and the line that takes it back.
+fn tell_ban<R: Net + Clock + Print + AllocGlobal>(
+    rt: &R,
+    client: &Client<TimedStream<'_, R>>,
+    sid: Sid,
+    login: &Login<'_>,
+) -> Result<(), Ending> {
+    let who = client.sent_away(sid)?;
+    let text = taking_back(rt.alloc(), who.as_ref(), login);
+    drop(who);
+    let text = text?;
+    Ok(println!(rt; "{text}")?)
 }
 
 fn answer_text<R: Net + Clock>(

@@ -1,74 +1,113 @@
 use crate::ending::Ending;
+use crate::figures::{FIGURES, Figure};
 use crate::showing::{number_or_text, print_value, printable, text_value};
 use crate::stream::connect;
 use adc_line::Line;
-use hub_client::{Client, field, field_text};
+use hub_client::{Client, HubAddress, field, field_text};
 use serde_json::{Map, Value};
 use std::alloc::{AllocGlobal, Global};
 use std::net::Net;
 use std::time::Clock;
 
-/// The fields by which a hub tells pingers of itself, whether each is a number, and what it is called here.
-const FIELDS: [(&str, bool, &str); 8] = [
-    ("NI", false, "name"),
-    ("DE", false, "description"),
-    ("VE", false, "version"),
-    ("UC", true, "users"),
-    ("SS", true, "share"),
-    ("SF", true, "files"),
-    ("MC", true, "max_users"),
-    ("UP", true, "uptime"),
-];
+/// The form in which a hub's figures are printed.
+#[derive(Clone, Copy)]
+pub(crate) enum Form {
+    /// A line for each.
+    Lines,
+    /// An object of JSON.
+    Json,
+    /// The text exposition of Prometheus, of those that are numbers.
+    Prometheus,
+}
 
-/// Prints what the hub at an address tells pingers of itself, as lines or as JSON.
+/// Prints what the hub at an address tells pingers of itself.
 pub(crate) fn ping<R: Net + Clock + Print + AllocGlobal>(
     rt: &R,
-    address: &str,
+    address: &HubAddress<'_>,
     seconds: u32,
-    is_json: bool,
+    form: Form,
 ) -> Result<(), Ending> {
-    let hub = ask(rt, address, seconds)?;
-    let told = if is_json {
-        print_facts(rt, &hub)
-    } else {
-        print_fields(rt, &hub)
+    let hub = ask(rt, address, seconds, true)?;
+    let told = match form {
+        Form::Lines => print_fields(rt, &hub),
+        Form::Json => print_facts(rt, &hub),
+        Form::Prometheus => print_metrics(rt, &hub),
     };
     drop(hub);
     told
 }
 
+/// Prints the topic of the hub at an address, or says on standard error that there is none.
+pub(crate) fn show_topic<R: Net + Clock + Print + Eprint + AllocGlobal>(
+    rt: &R,
+    address: &HubAddress<'_>,
+    seconds: u32,
+) -> Result<(), Ending> {
+    let hub = ask(rt, address, seconds, false)?;
+    let topic = printable_field(rt.alloc(), &hub, "DE");
+    drop(hub);
+    let topic = topic?;
+    if topic.is_empty() {
+        return Ok(eprintln!(rt; "adc_hubctl: the hub has no topic")?);
+    }
+    Ok(println!(rt; "{topic}")?)
+}
+
 // What owns much lets it go by a call, in one place: a body that does so where each of its calls may fail is dear to prove.
 
-/// Asks the hub at an address what it tells pingers.
-fn ask<R: Net + Clock + AllocGlobal>(rt: &R, address: &str, seconds: u32) -> Result<Line, Ending> {
+/// Asks the hub at an address what it tells of itself, as a pinger or as any other client.
+fn ask<R: Net + Clock + AllocGlobal>(
+    rt: &R,
+    address: &HubAddress<'_>,
+    seconds: u32,
+    pinger: bool,
+) -> Result<Line, Ending> {
     let mut client = Client::new(rt.alloc(), connect(rt, address, seconds)?);
-    let told = client.hello(true);
+    let told = client.hello(pinger);
     drop(client);
     Ok(told?.hub)
 }
 
 fn print_fields<R: Print + AllocGlobal>(rt: &R, hub: &Line) -> Result<(), Ending> {
-    for (name, _, key) in FIELDS {
-        if field(hub, name).is_some() {
-            print_field(rt, hub, name, key)?;
+    for figure in FIGURES {
+        if field(hub, figure.name).is_some() {
+            print_field(rt, hub, figure)?;
         }
     }
     Ok(())
 }
 
-fn print_field<R: Print + AllocGlobal>(
-    rt: &R,
-    hub: &Line,
-    name: &str,
-    key: &str,
-) -> Result<(), Ending> {
-    let text = printable_field(rt.alloc(), hub, name)?;
+fn print_field<R: Print + AllocGlobal>(rt: &R, hub: &Line, figure: Figure) -> Result<(), Ending> {
+    let text = printable_field(rt.alloc(), hub, figure.name)?;
+    let key = figure.key;
     Ok(println!(rt; "{key}: {text}")?)
 }
 
 fn printable_field(alloc: Global, hub: &Line, name: &str) -> Result<String, Ending> {
     let text = field_text(alloc, hub, name)?;
     Ok(printable(alloc, &text)?)
+}
+
+fn print_metrics<R: Print + AllocGlobal>(rt: &R, hub: &Line) -> Result<(), Ending> {
+    for figure in FIGURES {
+        if let (Some((name, help)), Some(number)) = (figure.metric, number_of(hub, figure.name)) {
+            print_metric(rt, name, help, number)?;
+        }
+    }
+    Ok(())
+}
+
+fn number_of(hub: &Line, name: &str) -> Option<u64> {
+    match field(hub, name)?.parse::<u64>() {
+        Ok(number) => Some(number),
+        Err(_) => None,
+    }
+}
+
+fn print_metric<R: Print>(rt: &R, name: &str, help: &str, number: u64) -> Result<(), Ending> {
+    println!(rt; "# HELP {name} {help}")?;
+    println!(rt; "# TYPE {name} gauge")?;
+    Ok(println!(rt; "{name} {number}")?)
 }
 
 fn print_facts<R: Print + AllocGlobal>(rt: &R, hub: &Line) -> Result<(), Ending> {
@@ -83,17 +122,17 @@ fn print_facts<R: Print + AllocGlobal>(rt: &R, hub: &Line) -> Result<(), Ending>
 }
 
 fn add_facts(alloc: Global, hub: &Line, facts: &mut Map<String, Value>) -> Result<(), Ending> {
-    for (name, is_number, key) in FIELDS {
-        if field(hub, name).is_some() {
-            add_fact(alloc, facts, key, fact(alloc, hub, name, is_number)?)?;
+    for figure in FIGURES {
+        if field(hub, figure.name).is_some() {
+            add_fact(alloc, facts, figure.key, fact(alloc, hub, figure)?)?;
         }
     }
     Ok(())
 }
 
-fn fact(alloc: Global, hub: &Line, name: &str, is_number: bool) -> Result<Value, Ending> {
-    let text = field_text(alloc, hub, name)?;
-    let value = if is_number {
+fn fact(alloc: Global, hub: &Line, figure: Figure) -> Result<Value, Ending> {
+    let text = printable_field(alloc, hub, figure.name)?;
+    let value = if figure.metric.is_some() {
         number_or_text(alloc, &text)
     } else {
         text_value(alloc, &text)

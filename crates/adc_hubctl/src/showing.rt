@@ -2,12 +2,25 @@ use crate::ending::Ending;
 use hub_client::User;
 use serde_json::{Value, json};
 use std::alloc::{AllocError, AllocGlobal, Global};
+use ucd_category::GeneralCategory;
+use unicode_width::UnicodeWidthStr;
 
-/// A text from a hub without what may move a terminal's cursor: a dot stands for each control character.
+/// A text from a hub without what may move a terminal's cursor or turn round what stands beside it: a dot stands for each character of
+/// control, of format, or that separates lines.
 pub(crate) fn printable(alloc: Global, text: &str) -> Result<String, AllocError> {
     text.chars()
-        .map(|c| if c.is_control() { '.' } else { c })
+        .map(|c| if is_hidden(c) { '.' } else { c })
         .collect(alloc)
+}
+
+fn is_hidden(c: char) -> bool {
+    matches!(
+        GeneralCategory::for_char(c),
+        GeneralCategory::Control
+            | GeneralCategory::Format
+            | GeneralCategory::LineSeparator
+            | GeneralCategory::ParagraphSeparator
+    )
 }
 
 /// A number where the digits are one that JSON has, else a text.
@@ -30,52 +43,96 @@ pub(crate) fn print_value<R: Print + AllocGlobal>(rt: &R, value: Value) -> Resul
     Ok(println!(rt; "{text}")?)
 }
 
-/// Prints users as a table: nick, client identifier, share in bytes, description.
-pub(crate) fn print_table<R: Print + AllocGlobal>(rt: &R, users: &[User]) -> Result<(), Ending> {
-    let mut nick_width = 4;
-    let mut share_width = 5;
-    for user in users {
-        nick_width = nick_width.max(user.nick.chars().count());
-        share_width = share_width.max(user.share.chars().count());
+/// What is shown of a user: no text has a character that [`printable`] takes away.
+#[derive(Drop)]
+struct Shown {
+    nick: String,
+    role: String,
+    cid: String,
+    address: String,
+    share: String,
+    description: String,
+}
+
+impl Shown {
+    fn of(alloc: Global, user: &User) -> Result<Shown, AllocError> {
+        Ok(Shown {
+            nick: printable(alloc, &user.nick)?,
+            role: String::from_str(alloc, user.role.name())?,
+            cid: printable(alloc, &user.cid)?,
+            address: printable(alloc, &user.address)?,
+            share: printable(alloc, &user.share)?,
+            description: printable(alloc, &user.description)?,
+        })
     }
-    print_row(
-        rt,
-        [("NICK", nick_width), ("CID", 39), ("SHARE", share_width)],
-        "DESCRIPTION",
-    )?;
+
+    /// Its cells but for the last, which is the description.
+    fn cells(&self) -> [&str; 5] {
+        [
+            &self.nick,
+            &self.role,
+            &self.cid,
+            or_dash(&self.address),
+            or_dash(&self.share),
+        ]
+    }
+}
+
+/// A cell is never empty, so that each row has the same number of words up to the description.
+fn or_dash(cell: &str) -> &str {
+    if cell.is_empty() { "-" } else { cell }
+}
+
+const HEAD: [&str; 5] = ["NICK", "ROLE", "CID", "ADDRESS", "SHARE"];
+
+/// Prints users as a table: nick, role, client identifier, address, share in bytes, description.
+pub(crate) fn print_table<R: Print + AllocGlobal>(rt: &R, users: &[User]) -> Result<(), Ending> {
+    let mut shown = Vec::new(rt.alloc());
+    let done = match add_shown(rt.alloc(), users, &mut shown) {
+        Ok(()) => print_rows(rt, &shown),
+        Err(refused) => Err(refused.into()),
+    };
+    drop(shown);
+    done
+}
+
+fn add_shown(alloc: Global, users: &[User], shown: &mut Vec<Shown>) -> Result<(), AllocError> {
     for user in users {
-        print_user(rt, user, nick_width, share_width)?;
+        shown.push(Shown::of(alloc, user)?)?;
     }
     Ok(())
 }
 
-fn print_user<R: Print + AllocGlobal>(
-    rt: &R,
-    user: &User,
-    nick_width: usize,
-    share_width: usize,
-) -> Result<(), Ending> {
-    let alloc = rt.alloc();
-    let nick = printable(alloc, &user.nick)?;
-    let cid = printable(alloc, &user.cid)?;
-    let share = printable(alloc, &user.share)?;
-    let description = printable(alloc, &user.description)?;
-    print_row(
-        rt,
-        [(&nick, nick_width), (&cid, 39), (&share, share_width)],
-        &description,
-    )
+fn print_rows<R: Print + AllocGlobal>(rt: &R, rows: &[Shown]) -> Result<(), Ending> {
+    let mut widths = [0; 5];
+    widen(&mut widths, HEAD);
+    for row in rows {
+        widen(&mut widths, row.cells());
+    }
+    print_row(rt, HEAD, widths, "DESCRIPTION")?;
+    for row in rows {
+        print_row(rt, row.cells(), widths, &row.description)?;
+    }
+    Ok(())
+}
+
+/// Makes columns wide enough for these cells.
+fn widen(widths: &mut [usize; 5], cells: [&str; 5]) {
+    for (width, cell) in widths.iter_mut().zip(cells) {
+        *width = (*width).max(cell.width());
+    }
 }
 
 fn print_row<R: Print + AllocGlobal>(
     rt: &R,
-    cells: [(&str, usize); 3],
+    cells: [&str; 5],
+    widths: [usize; 5],
     last: &str,
 ) -> Result<(), Ending> {
     let mut row = String::new(rt.alloc());
-    for (cell, width) in cells {
+    for (cell, width) in cells.into_iter().zip(widths) {
         row.push_str(cell)?;
-        for _blank in cell.chars().count()..width {
+        for _blank in cell.width()..width {
             row.push(' ')?;
         }
         row.push_str("  ")?;
@@ -105,11 +162,20 @@ fn add_users(alloc: Global, users: &[User], list: &mut Vec<Value>) -> Result<(),
 }
 
 fn user_value(alloc: Global, user: &User) -> Result<Value, AllocError> {
-    let share = number_or_text(alloc, &user.share)?;
+    let shown = Shown::of(alloc, user)?;
+    let value = shown_value(alloc, &shown);
+    drop(shown);
+    value
+}
+
+fn shown_value(alloc: Global, shown: &Shown) -> Result<Value, AllocError> {
+    let share = number_or_text(alloc, &shown.share)?;
     json!(in alloc; {
-        "nick": &user.nick,
-        "cid": &user.cid,
+        "nick": &shown.nick,
+        "role": &shown.role,
+        "cid": &shown.cid,
+        "address": &shown.address,
         "share": share,
-        "description": &user.description
+        "description": &shown.description
     })
 }

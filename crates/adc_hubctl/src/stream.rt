@@ -1,4 +1,6 @@
 use crate::ending::Ending;
+use hub_client::HubAddress;
+use std::alloc::{AllocGlobal, Global};
 use std::io::{self, Read, Write};
 use std::net::{Net, OpenStream, TcpStream, ToSocketAddrs};
 use std::time::{Clock, Duration, Instant};
@@ -12,29 +14,58 @@ pub(crate) struct TimedStream<'a, R: Net> {
     asked: Instant,
 }
 
-/// Connects to `HOST:PORT`, which `adc://` may precede. The first of the host's addresses that answers in time is taken.
-pub(crate) fn connect<'a, R: Net + Clock>(
+/// Connects to a hub. The first of the host's addresses that answers in time is taken.
+pub(crate) fn connect<'a, R: Net + Clock + AllocGlobal>(
     rt: &'a R,
-    address: &str,
+    address: &HubAddress<'_>,
     seconds: u32,
 ) -> Result<TimedStream<'a, R>, Ending> {
     let limit = Duration::from_secs(u64::from(seconds));
-    let address = address.strip_prefix("adc://").unwrap_or(address);
-    let Ok(found) = address.to_socket_addrs(rt) else {
-        return Err(Ending::Unreachable);
+    let found = match (address.host(), address.port()).to_socket_addrs(rt) {
+        Ok(found) => found,
+        Err(error) => return Err(no_host(rt.alloc(), address.host(), &error)),
     };
+    let mut is_refused = false;
     for socket in found {
-        if let Ok(stream) = TcpStream::connect_timeout(rt, &socket, limit) {
-            let asked = Instant::now(rt)?;
-            return Ok(TimedStream {
-                rt,
-                stream,
-                limit,
-                asked,
-            });
+        match TcpStream::connect_timeout(rt, &socket, limit) {
+            Ok(stream) => {
+                let asked = Instant::now(rt)?;
+                return Ok(TimedStream {
+                    rt,
+                    stream,
+                    limit,
+                    asked,
+                });
+            }
+            Err(error) => {
+                is_refused = is_refused || error.kind() == io::ErrorKind::ConnectionRefused;
+            }
         }
     }
-    Err(Ending::Unreachable)
+    Err(unreachable(rt.alloc(), address, is_refused))
+}
+
+/// Gives that an address cannot be reached. That one of a host's addresses refused tells more than that others cannot be reached.
+fn unreachable(alloc: Global, address: &HubAddress<'_>, is_refused: bool) -> Ending {
+    let words = if is_refused {
+        "refused the connection: no hub runs there"
+    } else {
+        "cannot be reached"
+    };
+    match address.to_string(alloc) {
+        Ok(address) => Ending::Unreachable(address, words),
+        Err(_) => Ending::Memory,
+    }
+}
+
+fn no_host(alloc: Global, host: &str, error: &io::Error) -> Ending {
+    if error.kind() == io::ErrorKind::OutOfMemory {
+        return Ending::Memory;
+    }
+    match String::from_str(alloc, host) {
+        Ok(host) => Ending::NoHost(host),
+        Err(_) => Ending::Memory,
+    }
 }
 
 impl<R: Net + Clock> Read for TimedStream<'_, R> {

@@ -6,7 +6,7 @@ use hub_client::{
 };
 use second_try::again;
 use session_hash::First24;
-use std::alloc::{AllocGlobal, Global};
+use std::alloc::{AllocError, AllocGlobal, Global};
 use std::process::Abort;
 
 const HELLO: &str =
@@ -66,7 +66,14 @@ fn act(
             let Ok(line) = act_line(alloc, &request) else {
                 return Err(ClientFault::Memory);
             };
-            Ok(client.ask(&line)?.to_string(alloc)?)
+            let mut told = client.ask(&line)?.to_string(alloc)?;
+            if let Some(who) = client.sent_away(sid)? {
+                for part in [&who.nick, &who.cid] {
+                    told.push_str(" ")?;
+                    told.push_str(part)?;
+                }
+            }
+            Ok(told)
         }
         Deed::Say => {
             client.chat(&chat_line(alloc, sid, "hi all")?)?;
@@ -75,15 +82,22 @@ fn act(
         Deed::List => {
             let mut list = String::new(alloc);
             for line in client.users() {
-                let user = User::read(alloc, line)?;
-                for part in [&user.nick, &user.cid, &user.share, &user.description] {
-                    list.push_str(part)?;
-                    list.push_str("|")?;
-                }
+                push_user(&mut list, &User::read(alloc, line)?)?;
             }
             Ok(list)
         }
     }
+}
+
+fn push_user(list: &mut String, user: &User) -> Result<(), AllocError> {
+    list.push_str(&user.nick)?;
+    list.push_str("|")?;
+    list.push_str(user.role.name())?;
+    for part in [&user.cid, &user.address, &user.share, &user.description] {
+        list.push_str("|")?;
+        list.push_str(part)?;
+    }
+    list.push_str("|")
 }
 
 /// Tells the outcome in words. Refused only where memory runs out.
@@ -149,7 +163,7 @@ fn operators_act(rt: HostRuntime) {
         Rest::Waits,
         Deed::Kick,
         &[LOGIN, ANSWER, kick],
-        "Done",
+        "Done ana MFXGCAAAAAAAAAAAAAAAAAAAAAAAAAAAAAAAAAA",
     );
     plays(
         &rt,
@@ -178,7 +192,7 @@ fn operators_act(rt: HostRuntime) {
         Rest::Waits,
         Deed::List,
         &[LOGIN],
-        "ana|MFXGCAAAAAAAAAAAAAAAAAAAAAAAAAAAAAAAAAA|10|a b|",
+        "ana|user|MFXGCAAAAAAAAAAAAAAAAAAAAAAAAAAAAAAAAAA|127.0.0.1|10|a b|",
     );
     let chat = "BMSG AAAC hi\\sall\n";
     plays(
@@ -188,6 +202,42 @@ fn operators_act(rt: HostRuntime) {
         Deed::Say,
         &[LOGIN, chat],
         "said",
+    );
+}
+
+#[test]
+fn others_answer_otherwise(rt: HostRuntime) {
+    let kick = "HMSG !kick\\sana\\sbe\\skind\n";
+    // Whom others sent away, who left by itself, and a session identifier that begins like a field's name.
+    plays(
+        &rt,
+        &[
+            HELLO,
+            LIST,
+            "BINF IDAA IDGEZDGAAAAAAAAAAAAAAAAAAAAAAAAAAAAAAAAAA NIold CT5\n",
+            OWN,
+            "IQUI AAAB IDAAAD TL5\nIQUI AAAB\nBINF IDAA NInew\nIQUI IDAA IDAAAC TL5 MSa\nISTA 000 Done\n",
+        ],
+        Rest::Waits,
+        Deed::Kick,
+        &[LOGIN, kick],
+        "Done new GEZDGAAAAAAAAAAAAAAAAAAAAAAAAAAAAAAAAAA",
+    );
+    plays(
+        &rt,
+        &[HELLO, OWN, "IMSG no\\ssuch\\scommand\n"],
+        Rest::Waits,
+        Deed::Kick,
+        &[LOGIN, kick],
+        "this hub does not answer operators' commands; it may be another kind",
+    );
+    plays(
+        &rt,
+        &[HELLO, "ISTA 140 TLS\\srequired\n"],
+        Rest::Waits,
+        Deed::Kick,
+        &[LOGIN],
+        "Other: TLS required",
     );
 }
 

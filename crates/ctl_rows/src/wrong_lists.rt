@@ -134,7 +134,9 @@ fn entries(alloc: Global, count: usize, key: &str) -> Result<String, AllocError>
     for number in 0..count {
         let entry = match key {
             "account" => format!(in alloc; "[[account]];nick = \"n{number}\";password = \"p\";")?,
-            _ => format!(in alloc; "[[command]];name = \"n{number}\";context = 1;text = \"t\";")?,
+            _ => format!(in alloc;
+                "[[command]];name = \"n{number}\";context = 1;text = \"HMSG t\\n\";"
+            )?,
         };
         text.push_str(&entry)?;
     }

@@ -1,5 +1,5 @@
 use second_try::again;
-use settings_report::{Report, report_file};
+use settings_report::{Report, Summary, Warning, report_file};
 use std::alloc::{AllocError, AllocGlobal, Global};
 use std::process::Abort;
 
@@ -14,16 +14,26 @@ pub(crate) fn report_on(alloc: Global, text: &str) -> Result<String, AllocError>
 
 fn said_of_bytes(alloc: Global, bytes: &[u8]) -> Result<String, AllocError> {
     match report_file(alloc, bytes)? {
-        Report::Well(summary) => {
-            let (listen, hash) = (summary.listen, summary.hash_name());
-            let (accounts, commands) = (summary.accounts, summary.commands);
-            let descriptors = summary.descriptors;
-            format!(in alloc; "{listen} {hash} {accounts} {commands} {descriptors}").map_err(
-                |_| AllocError,
-            )
-        }
+        Report::Well(summary, warnings) => said_of_well(alloc, &summary, &warnings),
         Report::Faulty(fault) => fault.to_string(alloc).map_err(|_| AllocError),
     }
+}
+
+/// The summary, and behind it the warnings.
+fn said_of_well(
+    alloc: Global,
+    summary: &Summary,
+    warnings: &[Warning],
+) -> Result<String, AllocError> {
+    let (listen, hash) = (summary.listen, summary.hash_name());
+    let (accounts, commands) = (summary.accounts, summary.commands);
+    let descriptors = summary.descriptors;
+    let mut said = format!(in alloc; "{listen} {hash} {accounts} {commands} {descriptors}")?;
+    for warning in warnings {
+        said.push_str("|")?;
+        said.push_str(&warning.to_string(alloc)?)?;
+    }
+    Ok(said)
 }
 
 /// Compares what is said of each text with what is wanted.
@@ -45,11 +55,57 @@ fn nothing_is_wrong(rt: HostRuntime) {
                 "0.0.0.0:511 first24 0 0 932",
             ),
             (
-                "[[account]];nick = \"op\";password = \"p\";operator = true;[[command]];name = \"Topic\";context = 3;text = \"t\"",
+                "[[account]];nick = \"op\";password = \"p\";operator = true;[[command]];name = \"Topic\";context = 3;text = \"HMSG !topic\\n\"",
                 "127.0.0.1:4111 tiger 1 1 544",
             ),
         ],
     );
+}
+
+#[test]
+fn menu_texts_warn(rt: HostRuntime) {
+    for (written, flaws) in [
+        ("HMSG !kick\\\\s%[userNI]\\n", [false, false, false]),
+        (
+            "DMSG %[mySID] %[userSID] hi\\n\\nBMSG %[mySID] %[line:What to say]\\n",
+            [false, false, false],
+        ),
+        ("HMSG 100%[\\n", [false, false, false]),
+        ("%[line:A message]\\n", [false, false, false]),
+        ("HMSG !topic", [true, false, false]),
+        ("HMSG !topic\\r\\n", [false, true, false]),
+        ("!topic\\n", [false, false, true]),
+        ("ISTA 000 x\\n", [false, false, true]),
+        ("DMSG %[mySID] %[userNI] hi\\n", [false, false, true]),
+        ("HMSG a\\r\\nb", [true, true, true]),
+    ] {
+        let text = again!(&rt; menu_of(rt.alloc(), written));
+        let got = again!(&rt; report_on(rt.alloc(), &text));
+        let wanted = again!(&rt; warned(rt.alloc(), flaws));
+        assert_eq!(rt; got.as_str(), wanted.as_str(), "{text}");
+    }
+}
+
+/// A menu of one entry with this text.
+fn menu_of(alloc: Global, written: &str) -> Result<String, AllocError> {
+    format!(in alloc; "[[command]];name = \"n\";context = 1;text = \"{written}\"")
+}
+
+/// The summary of such a menu, with the warnings of these flaws of its text.
+fn warned(alloc: Global, flaws: [bool; 3]) -> Result<String, AllocError> {
+    let words = [
+        "it does not end with \\n, so it swallows what the client sends next",
+        "it has \\r\\n, and \\r becomes part of the message",
+        "it is no message that a client can send to a hub",
+    ];
+    let mut text = String::from_str(alloc, "127.0.0.1:4111 tiger 0 1 544")?;
+    for (has_flaw, words) in flaws.into_iter().zip(words) {
+        if has_flaw {
+            text.push_str("|4:1: command 1, text: ")?;
+            text.push_str(words)?;
+        }
+    }
+    Ok(text)
 }
 
 #[test]
@@ -152,6 +208,14 @@ fn keys_are_unknown_and_statements_long(rt: HostRuntime) {
             (
                 "# a comment;;topic = \"\"\";two lines;\"\"\";max_users = 901",
                 "6:1: max_users: found 901; allowed: a whole number from 1 to 900",
+            ),
+            (
+                "topic = \"\"\";# no comment, \"\" \\\"\"\" [[account]];\"\"\"\";tables = '''[\\;''' # ];name = '\\' # \"\"\";topic2 = 0",
+                "7:1: topic2: found an unknown key; allowed: name, topic, listen, hash, tables, registered_only, search_interval, max_users, threads, stop_after, seed_file, account, command",
+            ),
+            (
+                "command = [ # ];{ name = \"a]\", context = 1, text = \"\" }, ;];[[account]] # [;# ;  nick = '';password = \"#\"",
+                "6:3: account 1, nick: found \"\"; allowed: a text of 1 to 64 characters, none of them a blank",
             ),
             (
                 ";# é;stop_after = [;1,;2 ]",

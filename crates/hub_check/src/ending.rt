@@ -4,8 +4,8 @@ use std::io;
 /// A reason why nothing was said of a history.
 #[derive(Drop)]
 pub(crate) enum Ending {
-    /// The arguments are not two words, each of which is text.
-    Usage,
+    /// The arguments are at fault, and this was said.
+    Told,
     /// A file cannot be read.
     File,
     /// The settings are at fault.
@@ -43,7 +43,7 @@ impl Ending {
     /// Says on standard error why, in one line, and gives the exit status, 2 to 5.
     pub(crate) fn tell(self, rt: &impl Eprint) -> u8 {
         let (status, why) = match self {
-            Ending::Usage => (3, "usage: hub_check SETTINGS HISTORY"),
+            Ending::Told => return 3,
             Ending::File => (3, "a file cannot be read"),
             Ending::Settings => (3, "the settings are at fault; adc_hubctl check says where"),
             Ending::Tables => (2, "Tiger's tables cannot be had"),

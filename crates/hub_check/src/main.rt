@@ -4,15 +4,25 @@
 
 mod ending;
 
+use clap::error::ErrorKind;
+use clap::{Arg, ArgAction, ArgMatches, Command};
 use ending::Ending;
 use flushed_writes::write_and_flush;
 use history_check::report_history;
 use hub_settings::{HashName, Settings, SettingsFault, read_settings};
 use session_hash::{First24, TableTiger, TablesFault};
-use std::alloc::{AllocGlobal, Global};
+use std::alloc::{AllocError, AllocGlobal, Global};
 use std::fs::{self, Files};
 use std::process::ExitCode;
 use std::{env, io};
+
+const STATUSES: &str = "Statuses:
+  0  legal
+  1  not legal, or no history
+  2  the settings name tables of Tiger that cannot be had
+  3  the arguments or the settings are at fault, or a file cannot be read
+  4  memory ran out
+  5  standard output failed";
 
 fn main(rt: HostRuntime) -> ExitCode {
     match run(&rt, rt.alloc()) {
@@ -22,24 +32,62 @@ fn main(rt: HostRuntime) -> ExitCode {
     }
 }
 
-/// Answers whether the history is legal, after what is said of it was written.
+/// Answers whether the history is legal, after what is said of it was written; also that help was printed.
 fn run(rt: &HostRuntime, alloc: Global) -> Result<bool, Ending> {
-    let words = match env::args(rt) {
-        Ok(words) => words,
-        Err(error) if error.kind() == io::ErrorKind::OutOfMemory => return Err(Ending::Memory),
-        Err(_) => return Err(Ending::Usage),
-    };
-    let words: Vec<String> = words.skip(1).collect(alloc)?;
-    let [settings, history] = words.as_slice() else {
-        return Err(Ending::Usage);
-    };
-    let settings = settings_of(rt, alloc, settings)?;
-    let history = read(rt, history, Ending::File)?;
+    let words = words(rt, alloc)?;
+    match command(alloc)?.try_get_matches_from(words.as_slice()) {
+        Ok(matches) => run_matches(rt, alloc, &matches),
+        Err(error) => {
+            if error.kind() == ErrorKind::OutOfMemory {
+                return Err(Ending::Memory);
+            }
+            let printed = error.print(rt);
+            if error.use_stderr() {
+                return Err(Ending::Told);
+            }
+            printed?;
+            Ok(true)
+        }
+    }
+}
+
+fn command<'a>(alloc: Global) -> Result<Command<'a>, AllocError> {
+    Command::new(alloc, "hub_check")
+        .about("Says whether a written history of a hub is legal")
+        .after_help(STATUSES)
+        .arg(file(alloc, "SETTINGS", "The settings file of the hub"))?
+        .arg(file(alloc, "HISTORY", "The written history"))
+}
+
+fn file<'a>(alloc: Global, name: &'a str, help: &'a str) -> Arg<'a> {
+    Arg::new(alloc, name)
+        .required(true)
+        .action(ArgAction::Set)
+        .help(help)
+}
+
+/// The words of the command line. One that is no UTF-8 cannot be read.
+fn words(rt: &HostRuntime, alloc: Global) -> Result<Vec<String>, Ending> {
+    match env::args(rt) {
+        Ok(words) => Ok(words.collect(alloc)?),
+        Err(error) if error.kind() == io::ErrorKind::OutOfMemory => Err(Ending::Memory),
+        Err(_) => Err(Ending::File),
+    }
+}
+
+fn run_matches(rt: &HostRuntime, alloc: Global, matches: &ArgMatches<'_>) -> Result<bool, Ending> {
+    let settings = settings_of(rt, alloc, word_of(matches, "SETTINGS"))?;
+    let history = read(rt, word_of(matches, "HISTORY"), Ending::File)?;
     let mut report = report(rt, alloc, &settings, &history)?;
     let is_legal = report.as_slice() == b"legal".as_slice();
     report.push(b'\n')?;
     write_and_flush(&mut io::writer(rt), &report)?;
     Ok(is_legal)
+}
+
+/// The word of an argument that is required.
+fn word_of<'a>(matches: &ArgMatches<'a>, name: &str) -> &'a str {
+    matches.get_str(name).unwrap_or("")
 }
 
 fn settings_of<R: Files + AllocGlobal>(

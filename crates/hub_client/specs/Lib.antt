@@ -1,2 +1,4 @@
 pub mod Identities
 pub mod Requests
+pub mod Roles
+pub mod Unanswered

@@ -1,9 +1,11 @@
 ghost use Rattle.std.specs.Prelude.{◌++◌, ◌∷◌, [], OnOk};
 ghost use Rattle.std.specs.Io.KnownBytes.{Appends};
 
-use crate::fault::{ClientFault, not_adc};
+use crate::fault::{ClientFault, not_adc, unanswered};
+use crate::fields::field_after;
 use crate::login::support_line;
 use crate::status::Status;
+use crate::user::Who;
 use adc_base32::{Sid, decode24};
 use adc_line::{Framer, Kind, Line, Next};
 use flushed_writes::write_and_flush;
@@ -17,6 +19,7 @@ pub struct Client<S> {
     stream: S,
     framer: Framer,
     users: Vec<Line>,
+    gone: Vec<Line>,
 }
 
 /// The first words of a hub.
@@ -45,6 +48,7 @@ impl<S: Read + Write> Client<S> {
             stream,
             framer: Framer::new(alloc),
             users: Vec::new(alloc),
+            gone: Vec::new(alloc),
         }
     }
 
@@ -93,25 +97,42 @@ impl<S: Read + Write> Client<S> {
         Err(ClientFault::Closed)
     }
 
-    /// Gives what the hub said of those who were present when the client entered, each by a message of the type INF.
+    /// Gives what the hub said of other users since the client entered, by messages of the type INF: first of those who were present
+    /// then, one of each.
     pub fn users(&self) -> &[Line] {
         &self.users
     }
 
-    /// Asks something of the hub, and gives what it answers. Refused: `Refused` where it does not do it.
+    /// Asks something of the hub, and gives what it answers. Refused: `Refused` where it does not do it, `Unanswered` where no answer
+    /// comes in time.
     pub fn ask(&mut self, line: &Line) -> Result<Status, ClientFault> {
         say(self.alloc, &mut self.stream, line)?;
         for _line in 0..u64::MAX {
-            let line = self.hear()?;
-            if line.kind() == Kind::Info && line.command() == *b"STA" {
-                let status = Status::read(self.alloc, &line)?;
-                if status.is_success() {
-                    return Ok(status);
+            let line = self.hear().map_err(unanswered)?;
+            match (line.kind(), line.command()) {
+                (Kind::Info, [b'S', b'T', b'A']) => {
+                    let status = Status::read(self.alloc, &line)?;
+                    if status.is_success() {
+                        return Ok(status);
+                    }
+                    return Err(ClientFault::Refused(status));
                 }
-                return Err(ClientFault::Refused(status));
+                (Kind::Info, [b'Q', b'U', b'I']) => self.gone.push(line)?,
+                (Kind::Broadcast, [b'I', b'N', b'F']) => self.users.push(line)?,
+                _ => {}
             }
         }
         Err(ClientFault::Closed)
+    }
+
+    /// Gives the user whom the client of this session identifier sent away by what it asked; `None` where the hub told of none.
+    pub fn sent_away(&self, operator: Sid) -> Result<Option<Who>, ClientFault> {
+        for line in &self.gone {
+            if let Some(sid) = sent_away_by(line, operator) {
+                return Ok(Some(Who::in_lines(self.alloc, &self.users, sid)?));
+            }
+        }
+        Ok(None)
     }
 
     /// Says something to all, and waits until it comes back.
@@ -165,6 +186,15 @@ impl<S: Read + Write> Client<S> {
 
 fn sid_in(line: &Line) -> Option<Sid> {
     Sid::parse(line.params().next()?.as_bytes())
+}
+
+/// The session identifier of whom this operator sent away, where a message of the type QUI says so.
+fn sent_away_by(line: &Line, operator: Sid) -> Option<Sid> {
+    let by = Sid::parse(field_after(line, 1, "ID")?.as_bytes())?;
+    if by != operator {
+        return None;
+    }
+    sid_in(line)
 }
 
 fn challenge_in(line: &Line) -> Result<Entry, ClientFault> {

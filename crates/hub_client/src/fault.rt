@@ -1,3 +1,6 @@
+ghost use Rattle.std.specs.Prelude.{◌≡◌};
+ghost use Rattle.hub_client.specs.Unanswered.{unanswered};
+
 use crate::status::Status;
 use adc_line::{FrameFault, LineFault, UnescapeFault};
 use std::alloc::{AllocError, AllocFailed};
@@ -16,6 +19,9 @@ pub enum ClientFault {
     /// A wait took longer than the stream allows.
     #[error("the hub did not answer in time")]
     TimedOut,
+    /// The hub does not answer a request of an operator.
+    #[error("this hub does not answer operators' commands; it may be another kind")]
+    Unanswered,
     /// The hub closed the connection.
     #[error("the hub closed the connection")]
     Closed,
@@ -80,5 +86,15 @@ impl From<UnescapeFault> for ClientFault {
             UnescapeFault::Memory => ClientFault::Memory,
             UnescapeFault::Escape => ClientFault::NotAdc,
         }
+    }
+}
+
+/// Gives the fault of a request to which no answer came.
+pub(crate) fn unanswered(fault: ClientFault) -> ClientFault
+    ensures { result ≡ unanswered fault }
+{
+    match fault {
+        ClientFault::TimedOut => ClientFault::Unanswered,
+        other => other,
     }
 }

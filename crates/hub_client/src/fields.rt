@@ -8,7 +8,14 @@ use std::alloc::Global;
 pub fn field<'a>(line: &'a Line, name: &str) -> Option<&'a str>
     ensures { IfSome result (λ value. Contains line.now.params (name.now ++ value.now)) }
 {
-    for word in line.params() {
+    field_after(line, 0, name)
+}
+
+/// The same among the parameters behind the first `skipped`, which have no names.
+pub(crate) fn field_after<'a>(line: &'a Line, skipped: usize, name: &str) -> Option<&'a str>
+    ensures { IfSome result (λ value. Contains line.now.params (name.now ++ value.now)) }
+{
+    for word in line.params().skip(skipped) {
         if let Some(value) = word.strip_prefix(name) {
             return Some(value);
         }

@@ -1,6 +1,7 @@
 //! A client's conversation with a hub: its messages, and the meaning of the hub's answers, over any reader and writer.
 #![tactic(auto)]
 
+mod address;
 mod cid_text;
 mod client;
 mod fault;
@@ -9,9 +10,11 @@ mod login;
 mod nick_text;
 mod operator_line;
 mod request;
+mod role;
 mod status;
 mod user;
 
+pub use address::{AddressFault, HubAddress};
 pub use cid_text::CidText;
 pub use client::{Client, Entry, Welcome};
 pub use fault::ClientFault;
@@ -20,5 +23,6 @@ pub use login::{Identity, chat_line, login_line, password_line, support_line};
 pub use nick_text::NickText;
 pub use operator_line::act_line;
 pub use request::Request;
+pub use role::Role;
 pub use status::{Refusal, Status};
-pub use user::User;
+pub use user::{User, Who};

@@ -1,5 +1,5 @@
 use crate::fault::ClientFault;
-use crate::fields::{field, field_text};
+use crate::fields::field_after;
 use adc_line::{Line, unescape};
 use std::alloc::Global;
 use std::fmt;
@@ -26,6 +26,9 @@ pub enum Refusal {
     Other,
 }
 
+/// The parameters of a status without a name: its number and its text.
+const NAMELESS: usize = 2;
+
 impl Status {
     /// Reads what a message of the type STA says. Refused: `NotAdc` where it says no status.
     pub(crate) fn read(alloc: Global, line: &Line) -> Result<Status, ClientFault> {
@@ -36,15 +39,15 @@ impl Status {
         let text = unescape(alloc, words.next().unwrap_or(""))?;
         let mut about = String::new(alloc);
         for name in ["FC", "FM", "FB", "I4"] {
-            if field(line, name).is_some() {
-                about = field_text(alloc, line, name)?;
+            if let Some(value) = field_after(line, NAMELESS, name) {
+                about = unescape(alloc, value)?;
             }
         }
         Ok(Status {
             number: [*severity, *tens, *ones],
             text,
             about,
-            seconds: field_text(alloc, line, "TL")?,
+            seconds: unescape(alloc, field_after(line, NAMELESS, "TL").unwrap_or(""))?,
         })
     }
 

@@ -14,5 +14,5 @@ IsBlamed text (Some key) = IsRead text 0 (Err (faults.Key key))
 
 -- a hub that opens at moment 0 reads settings of this summary, or meets this fault
 abbrev pub Tells : List ℕ → Report → Type 0
-Tells text (Well summary) = (settings : ServerSettings) × IsRead text 0 (Ok settings) × Summarizes settings summary
+Tells text (Well summary warnings) = (settings : ServerSettings) × IsRead text 0 (Ok settings) × Summarizes settings summary
 Tells text (Faulty fault) = IsBlamed text fault.key

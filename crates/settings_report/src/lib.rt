@@ -5,11 +5,16 @@ mod allowed;
 mod entries;
 mod fault;
 mod findings;
+mod menu_texts;
 mod places;
 mod report;
+mod statements;
 mod summary;
+mod warnings;
 
 pub use fault::Fault;
+pub use menu_texts::TextFlaw;
 pub use places::Place;
 pub use report::{Report, report_file, report_settings};
 pub use summary::Summary;
+pub use warnings::Warning;

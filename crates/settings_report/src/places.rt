@@ -1,4 +1,5 @@
 use crate::findings::Finding;
+use crate::statements::{Statement, statements};
 use std::alloc::{AllocError, Global};
 
 /// A place in a text: line and column from 1, the column in characters.
@@ -26,36 +27,59 @@ impl Place {
     }
 }
 
-/// Finds where the statement of a document begins that makes what was found. A document is read line by line: the first lines that
-/// are a document with it end with that statement.
+/// Finds where the statement of a document begins that makes what was found: the first with which its beginning has it. Each statement
+/// adds to what those before it say, so half of them are left out at a time.
 pub(crate) fn place_of(
     alloc: Global,
     text: &str,
     finding: &Finding<'_>,
 ) -> Result<Place, AllocError> {
-    let mut read = String::with_capacity(alloc, text.len())?;
-    let mut number = 0usize;
-    let mut begins = Place { line: 1, column: 1 };
-    let mut is_complete = true;
-    for line in text.split_inclusive('\n') {
-        number = number.saturating_add(1);
-        read.push_str(line)?;
-        let statement = line.trim_start();
-        if is_complete {
-            begins = Place {
-                line: number,
-                column: (line.len() - statement.len()).saturating_add(1),
-            };
-            if statement.is_empty() || statement.starts_with('#') {
-                continue;
-            }
-        }
-        match toml::table_from_str(alloc, &read) {
-            Ok(table) if finding.is_in(&table) => return Ok(begins),
-            Ok(_) => is_complete = true,
-            Err(error) if error.is_memory() => return Err(AllocError),
-            Err(_) => is_complete = false,
+    let statements = statements(alloc, text)?;
+    let place = match first_with(alloc, text, &statements, finding)? {
+        Some(found) => Place {
+            line: found.line,
+            column: found.column,
+        },
+        None => Place { line: 1, column: 1 },
+    };
+    drop(statements);
+    Ok(place)
+}
+
+/// The first of these statements of a document up to which it has what was found, or else the last.
+fn first_with(
+    alloc: Global,
+    text: &str,
+    statements: &[Statement],
+    finding: &Finding<'_>,
+) -> Result<Option<Statement>, AllocError> {
+    let mut later = statements;
+    let mut found = statements.last().copied();
+    for _half in 0..usize::BITS {
+        let (before, rest) = later.split_at(later.len() / 2);
+        let Some((middle, behind)) = rest.split_first() else {
+            break;
+        };
+        if is_before(alloc, text, middle.end, finding)? {
+            found = Some(*middle);
+            later = before;
+        } else {
+            later = behind;
         }
     }
-    Ok(begins)
+    Ok(found)
+}
+
+/// Tests whether the beginning of a document with so many bytes has what was found.
+fn is_before(
+    alloc: Global,
+    text: &str,
+    end: usize,
+    finding: &Finding<'_>,
+) -> Result<bool, AllocError> {
+    match toml::table_from_str(alloc, text.get(..end).unwrap_or(text)) {
+        Ok(table) => Ok(finding.is_in(&table)),
+        Err(error) if error.is_memory() => Err(AllocError),
+        Err(_) => Ok(false),
+    }
 }

@@ -5,6 +5,7 @@ use crate::entries::finding_at;
 use crate::fault::Fault;
 use crate::places::{Place, place_of};
 use crate::summary::Summary;
+use crate::warnings::{Warning, warnings_of};
 use hub_settings::{KeyName, SettingsFault, read_settings};
 use std::alloc::{AllocError, Global};
 use std::str;
@@ -13,8 +14,8 @@ use toml::Value;
 /// A report on a settings file.
 #[derive(Drop)]
 pub enum Report {
-    /// All is well.
-    Well(Summary),
+    /// All is well. The warnings are of entries of the menu that a hub takes, and that do not what they are for.
+    Well(Summary, Vec<Warning>),
     /// This is the first fault, in the order in which a hub looks for them.
     Faulty(Fault),
 }
@@ -46,7 +47,9 @@ pub fn report_settings(alloc: Global, text: &str) -> Result<Report, AllocError>
                 count_of(table.get("account")),
                 count_of(table.get("command")),
             );
-            Ok(Report::Well(Summary::of(&settings, accounts, commands)))
+            let summary = Summary::of(&settings, accounts, commands);
+            let warnings = warnings_of(alloc, text, &table)?;
+            Ok(Report::Well(summary, warnings))
         }
         Err(SettingsFault::Memory) => Err(AllocError),
         Err(SettingsFault::Text) => Ok(Report::Faulty(text_fault(alloc, text)?)),
