@@ -14,6 +14,7 @@ pub use accounts::{Accounts, Registered};
 pub use menu::Menu;
 pub use options::{
     Account, DEFAULT_USERS, MOST_ACCOUNTS, MOST_COMMANDS, MOST_USERS, MenuEntry, MenuItem, Options,
+    PlainOptions,
 };
 pub use preparation::{Prepared, Says, prepare};
 pub use refused::{ListRefused, SetupRefused};

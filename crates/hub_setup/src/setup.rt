@@ -3,11 +3,11 @@ ghost use Rattle.std.specs.Option.{option_copied};
 ghost use Rattle.hub_rules.specs.Accounts.{account_with};
 ghost use Rattle.hub_rules.specs.Texts.{menu_line};
 ghost use Rattle.hub_rules.specs.Configured.{most_users};
-ghost use Rattle.hub_setup.specs.Settings.{configured_hub, hub_with, is_past_limit, IsConfigured, IsNamedWithinLimits};
+ghost use Rattle.hub_setup.specs.Settings.{configured_hub, hub_of, hub_with, is_past_limit, IsConfigured, IsNamedWithinLimits};
 
 use crate::accounts::{Accounts, Registered};
 use crate::menu::Menu;
-use crate::options::{MOST_ACCOUNTS, MOST_COMMANDS, MOST_USERS, Options};
+use crate::options::{MOST_ACCOUNTS, MOST_COMMANDS, MOST_USERS, Options, PlainOptions};
 use crate::refused::{ListRefused, SetupRefused};
 use outboxes::Batch;
 use std::alloc::{AllocError, Global};
@@ -19,10 +19,7 @@ pub struct Setup {
     topic: String,
     accounts: Accounts,
     menu: Menu,
-    registered_only: bool,
-    search_interval: u32,
-    max_users: u32,
-    opening: u64,
+    plain: PlainOptions,
 }
 
 impl Drop for Setup {
@@ -32,10 +29,7 @@ impl Drop for Setup {
             topic,
             accounts,
             menu,
-            registered_only: _,
-            search_interval: _,
-            max_users: _,
-            opening: _,
+            plain: _,
         } = self;
         drop(name);
         drop(topic);
@@ -49,21 +43,13 @@ impl Model for Setup {
     ghost use Rattle.std.specs.String.{string_bytes};
     ghost use Rattle.hub_rules.specs.Configured.{Configured};
     ghost use Rattle.hub_rules.specs.Configured.{most_users};
+    ghost use Rattle.hub_setup.specs.Settings.{hub_of};
 
     ghost Value = { Configured };
 
-    ghost view = { λ s. record {
-      name = string_bytes s.name;
-      topic = string_bytes s.topic;
-      accounts = s.accounts;
-      menu = s.menu;
-      registered_only = s.registered_only;
-      search_interval = s.search_interval;
-      max_users = s.max_users;
-      opening = s.opening;
-    } };
+    ghost view = { λ s. hub_of (string_bytes s.name) (string_bytes s.topic) s.accounts s.menu s.plain };
 
-    ghost invariant = { λ s. (1 ≤ s.max_users) × (s.max_users ≤ most_users) };
+    ghost invariant = { λ s. (1 ≤ s.plain.max_users) × (s.plain.max_users ≤ most_users) };
 }
 
 impl Setup {
@@ -118,10 +104,7 @@ impl Setup {
             topic: String::from_str(alloc, options.topic)?,
             accounts,
             menu,
-            registered_only: options.registered_only,
-            search_interval: options.search_interval,
-            max_users: options.max_users,
-            opening: options.opening,
+            plain: options.plain(),
         })
     }
 
@@ -139,25 +122,32 @@ impl Setup {
         self.topic.as_str()
     }
 
+    /// Gives what is set beside texts and lists.
+    pub fn plain(&self) -> PlainOptions
+        ensures { hub_of self.now.name self.now.topic self.now.accounts self.now.menu result ≡ self.now }
+    {
+        self.plain
+    }
+
     /// Answers whether only registered users are admitted.
     pub fn registered_only(&self) -> bool
         ensures { result ≡ self.now.registered_only }
     {
-        self.registered_only
+        self.plain.registered_only
     }
 
     /// Gives how many seconds lie between two searches of one user, at least.
     pub fn search_interval(&self) -> u64
         ensures { result ≡ self.now.search_interval }
     {
-        u64::from(self.search_interval)
+        u64::from(self.plain.search_interval)
     }
 
     /// Gives the moment at which the hub opens, in seconds.
     pub fn opening(&self) -> u64
         ensures { result ≡ self.now.opening }
     {
-        self.opening
+        self.plain.opening
     }
 
     /// Gives how many connections are admitted at once, from 1 to 900.
@@ -166,7 +156,7 @@ impl Setup {
         ensures some { 1 ≤ self.now.max_users }
         ensures few { self.now.max_users ≤ most_users }
     {
-        self.max_users
+        self.plain.max_users
     }
 
     /// Gives the registered user whose nick has this key, its normal form C. Takes no memory.
