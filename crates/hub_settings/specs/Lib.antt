@@ -1,4 +1,5 @@
-pub mod Keys
+pub mod Kinds
+pub mod Unknown
 pub mod Values
 pub mod Lists
 pub mod Settings

@@ -5,7 +5,7 @@ use Rattle.std.specs.Result.{result_ok}
 use Rattle.toml.specs.Data.{Data, Items, Members, as_array, as_integer, as_str, as_table, get_member, item, no_items}
 use Rattle.hub_rules.specs.Configured.{Account, MenuEntry}
 use Rattle.hub_setup.specs.Settings.{AccountText, accounts_of, menu_of}
-use Rattle.hub_settings.specs.Keys.{first_unknown}
+use Rattle.hub_settings.specs.Unknown.{first_unknown}
 use Rattle.hub_settings.specs.Values.{truth_of, within}
 
 abbrev pub account_keys : List (List ℕ)

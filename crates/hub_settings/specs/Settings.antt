@@ -1,20 +1,44 @@
 -- The settings that a file says.
-use Rattle.std.specs.Prelude.{◌≡◌, ℕ, ◌==◌, List, [], ◌∷◌, codes, length, Option, Some, None, Result, Ok, Err, if◌then◌else◌}
+use Rattle.std.specs.Prelude.{◌≡◌, ℕ, List, [], ◌∷◌, codes, Option, Some, None, Result, Ok, Err}
 use Rattle.std.specs.Option.{ok_or}
-use Rattle.std.specs.Str.{bytes_eq}
 use Rattle.std.specs.Net.Grammar.{IsSocketV4Text}
 use Rattle.std.specs.declared.net.socket_addr.SocketAddrV4.{SocketAddrV4}
-use Rattle.toml.specs.Data.{Members, get_member}
+use Rattle.toml.specs.Data.{Data, Members, get_member}
 use Rattle.hub_rules.specs.Configured as hub
 use Rattle.hub_rules.specs.Configured.{Configured}
 use Rattle.hub_rules.specs.Configured.{most_users}
 use Rattle.hub_setup.specs.Settings.{hub_with}
 use Rattle.hub_settings.specs.declared.hash_name.HashName.{HashName}
-use Rattle.hub_settings.specs.declared.hash_name.HashName.TheVariants.{Tiger, First24}
 use Rattle.hub_settings.specs.declared.plain_keys.PlainKeys.{PlainKeys}
-use Rattle.hub_settings.specs.Keys.{first_unknown}
+use Rattle.hub_settings.specs.Unknown.{first_unknown}
+use Rattle.hub_settings.specs.Kinds.{Key, Kind, key, kind_among, names, SomeText, Text, Address, Hash, Truth, Number, Accounts, Commands}
 use Rattle.hub_settings.specs.Lists.{accounts_at, menu_at}
-use Rattle.hub_settings.specs.Values.{number, text, text_or, truth}
+use Rattle.hub_settings.specs.Values.{address_for, hash_for, number_for, some_text_for, text_for, truth_for}
+
+-- the keys, in the order in which their faults are looked for
+abbrev pub keys : List Key
+keys =
+    key (codes "name") (SomeText (codes "Hub"))
+    ∷ key (codes "topic") (Text [])
+    ∷ key (codes "listen") (Address (codes "127.0.0.1:4111"))
+    ∷ key (codes "hash") (Hash (codes "tiger"))
+    ∷ key (codes "tables") (Text (codes "tiger.bin"))
+    ∷ key (codes "registered_only") Truth
+    ∷ key (codes "search_interval") (Number 0 4_294_967_295 0)
+    ∷ key (codes "max_users") (Number 1 most_users 512)
+    ∷ key (codes "threads") (Number 1 64 2)
+    ∷ key (codes "stop_after") (Number 0 65_536 0)
+    ∷ key (codes "seed_file") (Text (codes "/dev/urandom"))
+    ∷ key (codes "account") Accounts
+    ∷ key (codes "command") Commands
+    ∷ []
+
+unfoldable pub kind_of : List ℕ → Option Kind
+kind_of name = kind_among keys name
+
+-- what stands at this key, read by its kind, or the key is at fault
+abbrev pub read : {X : Type 0} → (Option Kind → Option Data → Option X) → List ℕ → Members → Result X (List ℕ)
+read value_of name ms = ok_or (value_of (kind_of name) (get_member name ms)) name
 
 -- the hub, and what a server needs beside it
 pub record ServerSettings : Type 0 where
@@ -31,10 +55,6 @@ abbrev pub and_then : {X Y : Type 0} → Result X (List ℕ) → (X → Result Y
 and_then (Ok x) next = next x
 and_then (Err key) next = Err key
 
--- a text that is not empty, or this key is at fault
-abbrev pub some_text : List ℕ → List ℕ → Result (List ℕ) (List ℕ)
-some_text key text = if length text == 0 then Err key else Ok text
-
 -- the address and port that a text spells, where it spells one
 abbrev pub IsSpelled : Option (List ℕ) → Option SocketAddrV4 → Type 0
 IsSpelled None address = address ≡ None
@@ -42,28 +62,22 @@ IsSpelled (Some text) (Some address) = IsSocketV4Text text address
 IsSpelled (Some text) None = (address : SocketAddrV4) → IsSocketV4Text text address → ⊥
 
 abbrev pub Listens : Members → Option SocketAddrV4 → Type 0
-Listens ms address = IsSpelled (text_or (codes "127.0.0.1:4111") (get_member (codes "listen") ms)) address
-
-abbrev pub hash_called : List ℕ → Result HashName (List ℕ)
-hash_called name =
-    if bytes_eq name (codes "tiger") then Ok Tiger
-    else if bytes_eq name (codes "first24") then Ok First24
-    else Err (codes "hash")
+Listens ms address = IsSpelled (address_for (kind_of (codes "listen")) (get_member (codes "listen") ms)) address
 
 -- the keys that are no lists, of a hub that opens at this moment and of a server that listens at this address
 unfoldable pub plain_keys : ℕ → Option SocketAddrV4 → Members → Result ServerSettings (List ℕ)
 plain_keys opening address ms =
-    and_then (and_then (text (codes "name") (codes "Hub") ms) (some_text (codes "name"))) (λ name.
-    and_then (text (codes "topic") [] ms) (λ topic.
+    and_then (read some_text_for (codes "name") ms) (λ name.
+    and_then (read text_for (codes "topic") ms) (λ topic.
     and_then (ok_or address (codes "listen")) (λ listen.
-    and_then (and_then (text (codes "hash") (codes "tiger") ms) hash_called) (λ hash.
-    and_then (text (codes "tables") (codes "tiger.bin") ms) (λ tables.
-    and_then (truth (codes "registered_only") ms) (λ registered_only.
-    and_then (number (codes "search_interval") 0 4_294_967_295 0 ms) (λ search_interval.
-    and_then (number (codes "max_users") 1 most_users 512 ms) (λ max_users.
-    and_then (number (codes "threads") 1 64 2 ms) (λ threads.
-    and_then (number (codes "stop_after") 0 65_536 0 ms) (λ stop_after.
-    and_then (text (codes "seed_file") (codes "/dev/urandom") ms) (λ seed_file.
+    and_then (read hash_for (codes "hash") ms) (λ hash.
+    and_then (read text_for (codes "tables") ms) (λ tables.
+    and_then (read truth_for (codes "registered_only") ms) (λ registered_only.
+    and_then (read number_for (codes "search_interval") ms) (λ search_interval.
+    and_then (read number_for (codes "max_users") ms) (λ max_users.
+    and_then (read number_for (codes "threads") ms) (λ threads.
+    and_then (read number_for (codes "stop_after") ms) (λ stop_after.
+    and_then (read text_for (codes "seed_file") ms) (λ seed_file.
     Ok (record {
       hub = record {
         name = name;
@@ -96,9 +110,7 @@ settings_of keys = record {
 }
 
 abbrev pub known_keys : List (List ℕ)
-known_keys =
-    codes "name" ∷ codes "topic" ∷ codes "listen" ∷ codes "hash" ∷ codes "tables" ∷ codes "registered_only" ∷ codes "search_interval"
-    ∷ codes "max_users" ∷ codes "threads" ∷ codes "stop_after" ∷ codes "seed_file" ∷ codes "account" ∷ codes "command" ∷ []
+known_keys = names keys
 
 abbrev pub with_lists : ServerSettings → List hub.Account → List hub.MenuEntry → ServerSettings
 with_lists plain accounts menu = record plain { hub = record plain.hub { accounts = accounts; menu = menu } }

@@ -1,7 +1,11 @@
--- The value at a key; a key that is not there has its default.
-use Rattle.std.specs.Prelude.{ℕ, ℤ, pos, nat_le, ◌&&◌, Bool, false, List, Option, Some, None, Result, if◌then◌else◌}
-use Rattle.std.specs.Option.{ok_or, option_and_then}
-use Rattle.toml.specs.Data.{Data, Members, as_str, as_bool, as_integer, get_member}
+-- The value at a key of a kind; a key that is not there has its default.
+use Rattle.std.specs.Prelude.{ℕ, ℤ, pos, nat_le, ◌==◌, ◌&&◌, Bool, false, List, codes, length, Option, Some, None, if◌then◌else◌}
+use Rattle.std.specs.Option.{option_and_then}
+use Rattle.std.specs.Str.{bytes_eq}
+use Rattle.toml.specs.Data.{Data, as_str, as_bool, as_integer}
+use Rattle.hub_settings.specs.declared.hash_name.HashName.{HashName}
+use Rattle.hub_settings.specs.declared.hash_name.HashName.TheVariants.{Tiger, First24}
+use Rattle.hub_settings.specs.Kinds.{Kind, Number, Truth, Text, SomeText, Hash, Address}
 
 abbrev pub text_or : List ℕ → Option Data → Option (List ℕ)
 text_or default None = Some default
@@ -20,14 +24,37 @@ abbrev pub number_or : ℕ → ℕ → ℕ → Option Data → Option ℕ
 number_or low high default None = Some default
 number_or low high default (Some value) = option_and_then (within low high) (as_integer value)
 
--- the text at this key, by default this one; or the key is at fault
-abbrev pub text : List ℕ → List ℕ → Members → Result (List ℕ) (List ℕ)
-text key default ms = ok_or (text_or default (get_member key ms)) key
+-- the number at a key of this kind
+abbrev pub number_for : Option Kind → Option Data → Option ℕ
+number_for (Some (Number low high default)) value = number_or low high default value
+number_for kind value = None
 
--- true or false, by default false
-abbrev pub truth : List ℕ → Members → Result Bool (List ℕ)
-truth key ms = ok_or (truth_of (get_member key ms)) key
+abbrev pub truth_for : Option Kind → Option Data → Option Bool
+truth_for (Some Truth) value = truth_of value
+truth_for kind value = None
 
--- a number from the first to the second, by default the third
-abbrev pub number : List ℕ → ℕ → ℕ → ℕ → Members → Result ℕ (List ℕ)
-number key low high default ms = ok_or (number_or low high default (get_member key ms)) key
+abbrev pub text_for : Option Kind → Option Data → Option (List ℕ)
+text_for (Some (Text default)) value = text_or default value
+text_for kind value = None
+
+abbrev pub not_empty : List ℕ → Option (List ℕ)
+not_empty text = if length text == 0 then None else Some text
+
+abbrev pub some_text_for : Option Kind → Option Data → Option (List ℕ)
+some_text_for (Some (SomeText default)) value = option_and_then not_empty (text_or default value)
+some_text_for kind value = None
+
+abbrev pub hash_called : List ℕ → Option HashName
+hash_called name =
+    if bytes_eq name (codes "tiger") then Some Tiger
+    else if bytes_eq name (codes "first24") then Some First24
+    else None
+
+abbrev pub hash_for : Option Kind → Option Data → Option HashName
+hash_for (Some (Hash default)) value = option_and_then hash_called (text_or default value)
+hash_for kind value = None
+
+-- the text at a key for an address
+abbrev pub address_for : Option Kind → Option Data → Option (List ℕ)
+address_for (Some (Address default)) value = text_or default value
+address_for kind value = None

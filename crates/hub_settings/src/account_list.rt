@@ -5,7 +5,7 @@ ghost use Rattle.toml.specs.View.{array_view, table_view, view};
 ghost use Rattle.hub_setup.specs.Settings.{account_text};
 ghost use Rattle.hub_settings.specs.Lists.{account_in, accounts_at, all_accounts, written_accounts};
 
-use crate::keys::first_unknown;
+use crate::unknown::first_unknown;
 use crate::values::{text_at, truth_of, value_at};
 use hub_setup::{Account, Accounts, ListRefused};
 use std::alloc::{AllocError, Global};

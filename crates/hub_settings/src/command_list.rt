@@ -5,7 +5,7 @@ ghost use Rattle.toml.specs.View.{array_view, table_view, view};
 ghost use Rattle.hub_setup.specs.Settings.{entry_of, text_of};
 ghost use Rattle.hub_settings.specs.Lists.{all_commands, command_in, context_from, item_in, menu_at, written_commands};
 
-use crate::keys::first_unknown;
+use crate::unknown::first_unknown;
 use crate::values::{text_at, truth_of, value_at, within};
 use hub_setup::{ListRefused, Menu, MenuEntry, MenuItem};
 use std::alloc::{AllocError, Global};

@@ -1,29 +1,114 @@
 ghost use Rattle.std.specs.Prelude.{◌≡◌, map};
 ghost use Rattle.std.specs.Option.{option_map};
 ghost use Rattle.toml.specs.View.{table_view};
-ghost use Rattle.hub_settings.specs.Keys.{first_unknown, is_among};
+ghost use Rattle.hub_settings.specs.Answers.{Reads};
+ghost use Rattle.hub_settings.specs.Kinds.{key_seen, kind_among, kind_seen, names};
+ghost use Rattle.hub_settings.specs.Settings.{kind_of, known_keys, plain_keys, settings_of};
+ghost use Rattle.hub_settings.specs.Unknown.{first_unknown, is_among};
 
+use crate::kinds::Kind;
+use crate::plain_keys::PlainKeys;
+use crate::values::{hash, number, some_text, text, truth};
+use hub_setup::{DEFAULT_USERS, MOST_USERS, Options};
+use std::net::SocketAddrV4;
 use toml::Table;
 
-/// Finds the first key of a table, by bytes, that is none of these.
-pub(crate) fn first_unknown<'a>(table: &'a Table, known: &[&str]) -> Option<&'a str>
-    ensures { option_map (λ s. s.now) result ≡ first_unknown (map (λ key. key.now) known.now) (table_view table.entry.now) }
+/// The keys of a settings file, each with what may stand there, in the order in which their faults are looked for.
+pub const KEYS: [(&str, Kind); 13] = [
+    ("name", Kind::SomeText("Hub")),
+    ("topic", Kind::Text("")),
+    ("listen", Kind::Address("127.0.0.1:4111")),
+    ("hash", Kind::Hash("tiger")),
+    ("tables", Kind::Text("tiger.bin")),
+    ("registered_only", Kind::Truth),
+    ("search_interval", Kind::Number(0, u32::MAX, 0)),
+    ("max_users", Kind::Number(1, MOST_USERS, DEFAULT_USERS)),
+    ("threads", Kind::Number(1, 64, 2)),
+    ("stop_after", Kind::Number(0, 65_536, 0)),
+    ("seed_file", Kind::Text("/dev/urandom")),
+    ("account", Kind::Accounts),
+    ("command", Kind::Commands),
+];
+
+/// Reads the keys that are no lists, or gives the first whose value is not one that it may have. The value of the key `listen`
+/// was read before.
+#[tactic(auto, unfolding(crate::specs::Settings::plain_keys, crate::specs::Settings::kind_of))]
+pub(crate) fn plain_keys(
+    table: &Table,
+    listen: Option<SocketAddrV4>,
+    opening: u64,
+) -> Result<PlainKeys<'_>, &'static str>
+    ensures { Reads settings_of result (plain_keys opening listen (table_view table.entry.now)) }
+{
+    let name = some_text(table, "name")?;
+    let topic = text(table, "topic")?;
+    let listen = listen.ok_or("listen")?;
+    let hash = hash(table, "hash")?;
+    let tables = text(table, "tables")?;
+    let registered_only = truth(table, "registered_only")?;
+    let search_interval = number(table, "search_interval")?;
+    let max_users = number(table, "max_users")?;
+    let threads = number(table, "threads")?;
+    let stop_after = number(table, "stop_after")?;
+    let seed_file = text(table, "seed_file")?;
+    Ok(PlainKeys {
+        options: Options {
+            topic,
+            registered_only,
+            search_interval,
+            max_users,
+            opening,
+            ..Options::named(name)
+        },
+        listen,
+        hash,
+        tables,
+        threads,
+        stop_after,
+        seed_file,
+    })
+}
+
+/// Gives what may stand at the key of this name; `None` where there is no such key.
+#[tactic(auto, unfolding(crate::specs::Settings::kind_of))]
+pub fn kind_of(name: &str) -> Option<Kind>
+    ensures { option_map kind_seen result ≡ kind_of name.now }
+{
+    kind_among(&KEYS, name)
+}
+
+fn kind_among(keys: &[(&str, Kind)], name: &str) -> Option<Kind>
+    ensures { option_map kind_seen result ≡ kind_among (map key_seen keys.now) name.now }
+{
+    'keys: for (key, kind) in keys {
+        if name == *key {
+            return Some(*kind);
+        }
+    }
+    None
+}
+
+/// Finds the first key of a table, by bytes, that is none of a settings file.
+pub(crate) fn unknown_key(table: &Table) -> Option<&str>
+    ensures { option_map (λ s. s.now) result ≡ first_unknown known_keys (table_view table.entry.now) }
+{
+    unknown_among(&KEYS, table)
+}
+
+fn unknown_among<'a>(keys: &[(&str, Kind)], table: &'a Table) -> Option<&'a str>
+    ensures { option_map (λ s. s.now) result ≡ first_unknown (names (map key_seen keys.now)) (table_view table.entry.now) }
 {
     for (key, _value) in table.iter() {
-        if !is_among(known, key.as_str()) {
+        if !is_among(keys, key.as_str()) {
             return Some(key.as_str());
         }
     }
     None
 }
 
-fn is_among(known: &[&str], key: &str) -> bool
-    ensures { result ≡ is_among (map (λ key. key.now) known.now) key.now }
+#[tactic(auto, using(crate::proofs::Known::known))]
+fn is_among(keys: &[(&str, Kind)], name: &str) -> bool
+    ensures { result ≡ is_among (names (map key_seen keys.now)) name.now }
 {
-    'words: for word in known {
-        if key == *word {
-            return true;
-        }
-    }
-    false
+    kind_among(keys, name).is_some()
 }

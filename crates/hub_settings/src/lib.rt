@@ -6,12 +6,16 @@ mod command_list;
 mod fault;
 mod hash_name;
 mod keys;
+mod kinds;
 mod plain_keys;
 mod reading;
 mod settings;
+mod unknown;
 mod values;
 
 pub use fault::{KeyName, SettingsFault};
 pub use hash_name::HashName;
+pub use keys::{KEYS, kind_of};
+pub use kinds::Kind;
 pub use reading::read_settings;
 pub use settings::Settings;

@@ -82,42 +82,42 @@ impl Settings {
         &self.setup
     }
 
-    /// Gives the address and port where the hub listens: by default 127.0.0.1, port 4111.
+    /// Gives the address and port where the hub listens.
     pub fn listen(&self) -> SocketAddrV4
         ensures { result ≡ self.now.listen }
     {
         self.listen
     }
 
-    /// Gives the session hash: by default Tiger.
+    /// Gives the session hash.
     pub fn hash(&self) -> HashName
         ensures { result ≡ self.now.hash }
     {
         self.hash
     }
 
-    /// Gives the file of Tiger's tables: by default `tiger.bin`.
+    /// Gives the file of Tiger's tables.
     pub fn tables(&self) -> &str
         ensures { result.now ≡ self.now.tables }
     {
         self.tables.as_str()
     }
 
-    /// Gives how many threads serve, 1 to 64: by default 2.
+    /// Gives how many threads serve.
     pub fn threads(&self) -> u32
         ensures { result ≡ self.now.threads }
     {
         self.threads
     }
 
-    /// Gives the number of accepted connections after which the hub closes, at most 65,536; by default 0, which is never.
+    /// Gives the number of accepted connections after which the hub closes; 0 is never.
     pub fn stop_after(&self) -> u32
         ensures { result ≡ self.now.stop_after }
     {
         self.stop_after
     }
 
-    /// Gives the file whose first 32 bytes seed the challenges: by default `/dev/urandom`.
+    /// Gives the file whose first 32 bytes seed the challenges.
     pub fn seed_file(&self) -> &str
         ensures { result.now ≡ self.now.seed_file }
     {

@@ -1,11 +1,16 @@
-ghost use Rattle.std.specs.Prelude.{◌≡◌, ◌≤◌, IfOk, IfSome};
-ghost use Rattle.std.specs.Option.{option_map};
+ghost use Rattle.std.specs.Prelude.{◌≡◌, ◌≤◌, length, IfOk, IfSome};
+ghost use Rattle.std.specs.Option.{option_and_then, option_map};
 ghost use Rattle.toml.specs.Data.{get_member};
 ghost use Rattle.toml.specs.View.{table_view, view};
 ghost use Rattle.hub_settings.specs.Lists.{text_at};
 ghost use Rattle.hub_settings.specs.Answers.{Reads};
-ghost use Rattle.hub_settings.specs.Values.{number, number_or, text, text_or, truth, truth_of, within};
+ghost use Rattle.hub_settings.specs.Kinds.{HasFitDefault, IsWithin};
+ghost use Rattle.hub_settings.specs.Settings.{kind_of, read};
+ghost use Rattle.hub_settings.specs.Values.{address_for, hash_called, hash_for, not_empty, number_for, number_or, some_text_for, text_for, text_or, truth_for, truth_of, within};
 
+use crate::hash_name::HashName;
+use crate::keys::kind_of;
+use crate::kinds::Kind;
 use toml::{Table, Value};
 
 /// Gives the value at a key.
@@ -45,45 +50,107 @@ pub(crate) fn truth_of(table: &Table, key: &str) -> Option<bool>
     }
 }
 
-/// Gives the text at a key, or the default where there is none.
+// A key that the table of keys gives another kind than the one asked for is at fault, here as in the definition.
+
+/// Gives the text at a key, which is not empty.
+///
+/// Refused with the key where what stands there is no such text.
+pub(crate) fn some_text<'a>(table: &'a Table, key: &'static str) -> Result<&'a str, &'static str>
+    ensures some { IfOk result (λ s. 1 ≤ length s.now) }
+    ensures exact { Reads (λ s. s.now) result (read some_text_for key.entry.now (table_view table.entry.now)) }
+{
+    match kind_of(key) {
+        Some(Kind::SomeText(default)) => not_empty(text_or(table, key, default)).ok_or(key),
+        _ => Err(key),
+    }
+}
+
+fn not_empty(text: Option<&str>) -> Option<&str>
+    ensures some { IfSome result (λ s. 1 ≤ length s.now) }
+    ensures exact { option_map (λ s. s.now) result ≡ option_and_then not_empty (option_map (λ s. s.now) text.entry) }
+{
+    match text {
+        Some(text) if !text.is_empty() => Some(text),
+        _ => None,
+    }
+}
+
+/// Gives the text at a key.
 ///
 /// Refused with the key where what stands there is no text.
-pub(crate) fn text<'a>(
-    table: &'a Table,
-    key: &'static str,
-    default: &'a str,
-) -> Result<&'a str, &'static str>
-    ensures { Reads (λ s. s.now) result (text key.entry.now default.entry.now (table_view table.entry.now)) }
+pub(crate) fn text<'a>(table: &'a Table, key: &'static str) -> Result<&'a str, &'static str>
+    ensures { Reads (λ s. s.now) result (read text_for key.entry.now (table_view table.entry.now)) }
 {
-    text_or(table, key, default).ok_or(key)
+    match kind_of(key) {
+        Some(Kind::Text(default)) => text_or(table, key, default).ok_or(key),
+        _ => Err(key),
+    }
 }
 
-/// Answers whether true stands at a key; false where there is none.
+/// Gives the text at the key of an address, whether it spells one or not; `None` where it is no text.
+pub(crate) fn address_text<'a>(table: &'a Table, key: &'static str) -> Option<&'a str>
+    ensures { option_map (λ s. s.now) result ≡ address_for (kind_of key.entry.now) (get_member key.entry.now (table_view table.entry.now)) }
+{
+    match kind_of(key) {
+        Some(Kind::Address(default)) => text_or(table, key, default),
+        _ => None,
+    }
+}
+
+/// Gives the hash that is named at a key.
 ///
-/// Refused with the key where what stands there is neither.
+/// Refused with the key where what stands there names none.
+pub(crate) fn hash(table: &Table, key: &'static str) -> Result<HashName, &'static str>
+    ensures { Reads (λ hash. hash) result (read hash_for key.entry.now (table_view table.now)) }
+{
+    match kind_of(key) {
+        Some(Kind::Hash(default)) => hash_or(table, key, default).ok_or(key),
+        _ => Err(key),
+    }
+}
+
+fn hash_or(table: &Table, key: &str, default: &str) -> Option<HashName>
+    ensures { result ≡ option_and_then hash_called (text_or default.now (get_member key.now (table_view table.now))) }
+{
+    hash_called(text_or(table, key, default)?)
+}
+
+fn hash_called(name: &str) -> Option<HashName>
+    ensures { result ≡ hash_called name.now }
+{
+    match name {
+        "tiger" => Some(HashName::Tiger),
+        "first24" => Some(HashName::First24),
+        _ => None,
+    }
+}
+
+/// Answers whether true stands at a key.
+///
+/// Refused with the key where what stands there is neither true nor false.
 pub(crate) fn truth(table: &Table, key: &'static str) -> Result<bool, &'static str>
-    ensures { Reads (λ b. b) result (truth key.entry.now (table_view table.now)) }
+    ensures { Reads (λ b. b) result (read truth_for key.entry.now (table_view table.now)) }
 {
-    truth_of(table, key).ok_or(key)
+    match kind_of(key) {
+        Some(Kind::Truth) => truth_of(table, key).ok_or(key),
+        _ => Err(key),
+    }
 }
 
-/// Gives the number at a key, or the default where there is none.
+/// Gives the number at a key.
 ///
-/// Refused with the key where what stands there is no whole number from `low` to `high`.
-pub(crate) fn number(
-    table: &Table,
-    key: &'static str,
-    low: u32,
-    high: u32,
-    default: u32,
-) -> Result<u32, &'static str>
-    requires from { low ≤ default }
-    requires to { default ≤ high }
-    ensures from { IfOk result (λ n. low ≤ n) }
-    ensures to { IfOk result (λ n. n ≤ high) }
-    ensures exact { Reads (λ n. n) result (number key.entry.now low high default (table_view table.now)) }
+/// Refused with the key where what stands there is no whole number in its range.
+pub(crate) fn number(table: &Table, key: &'static str) -> Result<u32, &'static str>
+    requires { HasFitDefault (kind_of key.now) }
+    ensures within { IfOk result (λ n. IsWithin (kind_of key.entry.now) n) }
+    ensures exact { Reads (λ n. n) result (read number_for key.entry.now (table_view table.now)) }
 {
-    number_or(table, key, low, high, default).ok_or(key)
+    match kind_of(key) {
+        Some(Kind::Number(low, high, default)) => {
+            number_or(table, key, low, high, default).ok_or(key)
+        }
+        _ => Err(key),
+    }
 }
 
 fn number_or(table: &Table, key: &str, low: u32, high: u32, default: u32) -> Option<u32>

@@ -1,6 +1,6 @@
 use Rattle.std.proofs.Common.{◌≡◌, map, drop}
-use Rattle.hub_settings.specs.Keys.{is_among}
-use Rattle.hub_settings.proofs.keys.is_among.Given as goal
+use Rattle.hub_settings.specs.Unknown.{is_among}
+use Rattle.hub_settings.proofs.unknown.is_among.Given as goal
 
 abbrev pub invariant-words : goal.invariant-words
 invariant-words l = is_among (map (λ word. word.now) l.known) l.key ≡ is_among (map (λ word. word.now) (drop l.word-index l.known)) l.key

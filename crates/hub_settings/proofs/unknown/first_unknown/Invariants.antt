@@ -1,7 +1,7 @@
 use Rattle.std.proofs.Common.{◌≡◌, map}
 use Rattle.toml.specs.View.{members_view}
-use Rattle.hub_settings.specs.Keys.{first_unknown}
-use Rattle.hub_settings.proofs.keys.first_unknown.Given as goal
+use Rattle.hub_settings.specs.Unknown.{first_unknown}
+use Rattle.hub_settings.proofs.unknown.first_unknown.Given as goal
 
 abbrev pub invariant-loop-key : goal.invariant-loop-key
 invariant-loop-key l =
