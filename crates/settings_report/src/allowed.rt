@@ -1,50 +1,86 @@
-pub(crate) const ACCOUNT_LIST: &str = "a list of tables, [[account]]";
+use hub_settings::{KEYS, Kind};
+use std::fmt;
 
-pub(crate) const COMMAND_LIST: &str = "a list of tables, [[command]]";
+/// What may stand at a place of the settings.
+#[derive(Clone, Copy, Debug)]
+pub enum Allowed {
+    /// What these words say.
+    Words(&'static str),
+    /// An IPv4 address and a port, as this one.
+    Address(&'static str),
+    /// A whole number from the first to the second.
+    Number(u32, u32),
+    /// One of the keys of the settings.
+    Keys,
+}
 
-pub(crate) const ACCOUNT_KEYS: &str = "nick, password, operator";
+impl fmt::Display for Allowed {
+    fn fmt<W: fmt::Write>(&self, f: &mut fmt::Formatter<W>) -> fmt::Result {
+        match *self {
+            Allowed::Words(words) => f.write_str(words),
+            Allowed::Address(example) => write!(f, "an IPv4 address and a port, as {example}"),
+            Allowed::Number(low, high) => write!(f, "a whole number from {low} to {high}"),
+            Allowed::Keys => write_keys(f),
+        }
+    }
+}
 
-pub(crate) const COMMAND_KEYS: &str = "name, context, text, separator";
+fn write_keys<W: fmt::Write>(f: &mut fmt::Formatter<W>) -> fmt::Result {
+    let mut is_first = true;
+    for (name, _) in KEYS {
+        if !is_first {
+            f.write_str(", ")?;
+        }
+        is_first = false;
+        f.write_str(name)?;
+    }
+    Ok(())
+}
 
-pub(crate) const ACCOUNTS: &str = "at most 32 accounts";
+pub(crate) const TOML: Allowed = Allowed::Words("TOML");
 
-pub(crate) const COMMANDS: &str = "at most 64 entries";
+pub(crate) const ACCOUNT_LIST: Allowed = Allowed::Words("a list of tables, [[account]]");
 
-pub(crate) const NICK: &str = "a text of 1 to 64 characters, none of them a blank";
+pub(crate) const COMMAND_LIST: Allowed = Allowed::Words("a list of tables, [[command]]");
 
-pub(crate) const OTHER_NICK: &str = "a nick that no other account has";
+pub(crate) const ACCOUNT_KEYS: Allowed = Allowed::Words("nick, password, operator");
 
-pub(crate) const TEXT: &str = "a text";
+pub(crate) const COMMAND_KEYS: Allowed = Allowed::Words("name, context, text, separator");
 
-pub(crate) const SOME_TEXT: &str = "a text that is not empty";
+pub(crate) const ACCOUNTS: Allowed = Allowed::Words("at most 32 accounts");
 
-pub(crate) const TRUTH: &str = "true or false";
+pub(crate) const COMMANDS: Allowed = Allowed::Words("at most 64 entries");
 
-pub(crate) const CONTEXT: &str = "a whole number from 1 to 15";
+pub(crate) const NICK: Allowed = Allowed::Words(
+    "a text of 1 to 64 characters, none of them a blank",
+);
 
-pub(crate) const CONTENT: &str = "a text, or separator = true";
+pub(crate) const OTHER_NICK: Allowed = Allowed::Words("a nick that no other account has");
 
-pub(crate) const NO_TEXT: &str = "no text beside separator = true";
+pub(crate) const TEXT: Allowed = Allowed::Words("a text");
 
-/// The keys of the settings.
-pub(crate) const KEYS: &str =
-    "name, topic, listen, hash, tables, registered_only, search_interval, max_users, threads, stop_after, seed_file, account, command";
+pub(crate) const SOME_TEXT: Allowed = Allowed::Words("a text that is not empty");
 
-/// Gives what may stand at a key of the settings; `None` of a key that is none of them.
-pub(crate) fn allowed_at(key: &str) -> Option<&'static str> {
-    let allowed = match key {
-        "name" => SOME_TEXT,
-        "topic" | "tables" | "seed_file" => TEXT,
-        "listen" => "an IPv4 address and a port, as 127.0.0.1:4111",
-        "hash" => "tiger or first24",
-        "registered_only" => TRUTH,
-        "search_interval" => "a whole number from 0 to 4294967295",
-        "max_users" => "a whole number from 1 to 900",
-        "threads" => "a whole number from 1 to 64",
-        "stop_after" => "a whole number from 0 to 65536",
-        "account" => ACCOUNT_LIST,
-        "command" => COMMAND_LIST,
-        _ => return None,
-    };
-    Some(allowed)
+pub(crate) const TRUTH: Allowed = Allowed::Words("true or false");
+
+pub(crate) const HASH: Allowed = Allowed::Words("tiger or first24");
+
+pub(crate) const CONTEXT: Allowed = Allowed::Number(1, 15);
+
+pub(crate) const CONTENT: Allowed = Allowed::Words("a text, or separator = true");
+
+pub(crate) const NO_TEXT: Allowed = Allowed::Words("no text beside separator = true");
+
+/// Gives what may stand at a key of this kind.
+pub(crate) fn allowed_for(kind: Kind) -> Allowed {
+    match kind {
+        Kind::SomeText(_) => SOME_TEXT,
+        Kind::Text(_) => TEXT,
+        Kind::Address(example) => Allowed::Address(example),
+        Kind::Hash(_) => HASH,
+        Kind::Truth => TRUTH,
+        Kind::Number(low, high, _) => Allowed::Number(low, high),
+        Kind::Accounts => ACCOUNT_LIST,
+        Kind::Commands => COMMAND_LIST,
+    }
 }

@@ -1,6 +1,7 @@
-use crate::allowed;
+use crate::allowed::{self, Allowed, allowed_for};
 use crate::findings::{Finding, Found};
 use adc_ids::{Nick, NickFault};
+use hub_settings::{Kind, kind_of};
 use hub_setup::{MOST_ACCOUNTS, MOST_COMMANDS};
 use std::alloc::{AllocError, Global};
 use toml::{Table, Value};
@@ -10,11 +11,11 @@ use toml::{Table, Value};
 struct Flaw<'a> {
     inner: Option<&'a str>,
     found: Found<'a>,
-    allowed: &'static str,
+    allowed: Allowed,
 }
 
 impl<'a> Flaw<'a> {
-    fn at(inner: &'a str, found: Found<'a>, allowed: &'static str) -> Flaw<'a> {
+    fn at(inner: &'a str, found: Found<'a>, allowed: Allowed) -> Flaw<'a> {
         Flaw {
             inner: Some(inner),
             found,
@@ -39,18 +40,17 @@ pub(crate) fn finding_at<'a>(
     table: &'a Table,
     key: &'a str,
 ) -> Result<Finding<'a>, AllocError> {
-    let value = table.get(key);
-    let allowed = allowed::allowed_at(key);
-    let found = match value {
-        Some(_) if allowed.is_none() => Found::Unknown,
-        Some(value) if key == "account" => Found::Secret(value),
-        Some(value) => Found::Value(value),
-        None => Found::Nothing,
+    let (value, kind) = (table.get(key), kind_of(key));
+    let found = match (value, kind) {
+        (Some(_), None) => Found::Unknown,
+        (Some(value), Some(Kind::Accounts)) => Found::Secret(value),
+        (Some(value), Some(_)) => Found::Value(value),
+        (None, _) => Found::Nothing,
     };
     if let Some(items) = value.and_then(Value::as_array) {
-        let in_list = match key {
-            "account" => account_finding(alloc, items)?,
-            "command" => command_finding(items),
+        let in_list = match kind {
+            Some(Kind::Accounts) => account_finding(alloc, items)?,
+            Some(Kind::Commands) => command_finding(items),
             _ => None,
         };
         if let Some(finding) = in_list {
@@ -62,7 +62,7 @@ pub(crate) fn finding_at<'a>(
         entry: None,
         inner: None,
         found,
-        allowed: allowed.unwrap_or(allowed::KEYS),
+        allowed: kind.map_or(Allowed::Keys, allowed_for),
     })
 }
 

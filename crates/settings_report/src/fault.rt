@@ -1,5 +1,6 @@
 ghost use Rattle.std.specs.Prelude.{◌≡◌, Some, None, IfOk};
 
+use crate::allowed::{Allowed, TOML};
 use crate::findings::Finding;
 use crate::places::Place;
 use hub_settings::KeyName;
@@ -19,8 +20,8 @@ pub struct Fault {
     pub place: Place,
     /// The words for what stands there. A password is not shown.
     pub found: String,
-    /// The words for what may stand there.
-    pub allowed: &'static str,
+    /// What may stand there.
+    pub allowed: Allowed,
 }
 
 impl Fault {
@@ -53,7 +54,7 @@ impl Fault {
             inner: String::new(alloc),
             place,
             found: String::from_str(alloc, found)?,
-            allowed: "TOML",
+            allowed: TOML,
         })
     }
 }

@@ -1,3 +1,4 @@
+use crate::allowed::Allowed;
 use std::alloc::{AllocError, Global};
 use toml::{Table, Value};
 
@@ -26,7 +27,7 @@ pub(crate) struct Finding<'a> {
     pub(crate) entry: Option<usize>,
     pub(crate) inner: Option<&'a str>,
     pub(crate) found: Found<'a>,
-    pub(crate) allowed: &'static str,
+    pub(crate) allowed: Allowed,
 }
 
 impl Finding<'_> {

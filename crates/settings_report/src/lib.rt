@@ -12,6 +12,7 @@ mod statements;
 mod summary;
 mod warnings;
 
+pub use allowed::Allowed;
 pub use fault::Fault;
 pub use menu_texts::TextFlaw;
 pub use places::Place;

@@ -1,3 +1,4 @@
+use crate::allowed::TEXT;
 use crate::findings::{Finding, Found};
 use crate::menu_texts::{TextFlaw, has_flaw};
 use crate::places::{Place, place_of};
@@ -65,7 +66,7 @@ fn warning_of(
         entry: Some(entry),
         inner: Some("text"),
         found: Found::Value(value),
-        allowed: "",
+        allowed: TEXT,
     };
     Ok(Warning {
         entry: entry.saturating_add(1),
