@@ -3,7 +3,6 @@ pub mod GroundLists
 pub mod CheckGrounds
 pub mod Found
 pub mod Told
-pub mod Held
 pub mod Keeping
 pub mod Knowing
 pub mod Logging

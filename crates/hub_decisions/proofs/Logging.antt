@@ -16,9 +16,9 @@ use Rattle.hub_rules.specs.declared.effect.Entrant.{Entrant}
 use Rattle.hub_decisions.specs.Admissions.{cid_of}
 use Rattle.hub_rules.specs.Denied.{login_denied}
 use Rattle.hub_rules.specs.Effects.{admits, denial, entrant, logs_in, unless_denied}
-use Rattle.hub_rules.specs.Identities.{cid_in, value_or_empty, key_in, listed_user, nick_in, su_in}
+use Rattle.hub_rules.specs.Identities.{cid_in, value_or_empty, key_in, key_of, listed_user, meaning, nick_in, su_in}
 use Rattle.hub_rules.specs.Sights.{Own, PreparedLine, Sight, is_account, is_here, user_after}
-use Rattle.hub_rules.proofs.Merges.{given-after, id-clean}
+use Rattle.hub_rules.proofs.Merges.{given-after, id-clean, nick-clean}
 use Rattle.hub_decisions.specs.Requested.{effect_of_login}
 
 -- ---- the user
@@ -33,6 +33,13 @@ id-known u peer = given-after id_name [] [] (clean u peer) (sym merged-none) ∙
 pub after-cid : (own : Own) (u : List Field) → own.fields ≡ [] → (user_after own u).cid ≡ cid_of u
 unfolding listed_user
 after-cid own u none = ap (λ fs. cid_in (merged_with fs (clean u own.peer))) none ∙ ap (λ v. unwrap_or (spelled_bytes 24 v) []) (id-known u own.peer)
+
+nick-known : (u : List Field) (peer : List ℕ) → value_or_empty nick_name (merged_with [] (clean u peer)) ≡ value_or_empty nick_name u
+nick-known u peer = given-after nick_name [] [] (clean u peer) (sym merged-none) ∙ ap (λ o. unwrap_or o []) (nick-clean u peer)
+
+pub known-key : (own : Own) (u : List Field) → own.fields ≡ [] → (user_after own u).key ≡ key_in u
+unfolding listed_user
+known-key own u none = ap (λ fs. key_in (merged_with fs (clean u own.peer))) none ∙ ap (λ w. key_of (meaning w)) (nick-known u own.peer)
 
 -- the identifier of one who may enter is that of the fields
 pub after-fields : (own : Own) (u : List Field) → (user_after own u).cid ≡ cid_in (merged_with own.fields (clean u own.peer))

@@ -42,8 +42,13 @@ given-renewed name fields u =
 pub key-renewed : (before : List ℕ) (fields u : List Field) → before ≡ key_in fields → value_of nick_name u ≡ None → before ≡ key_in (merged_with fields u)
 key-renewed before fields u is none = is ∙ ap (λ w. key_of (meaning w)) (sym (given-renewed nick_name fields u ∙ ap (λ o. unwrap_or o (value_or_empty nick_name fields)) none))
 
-pub key-new : (fields u : List Field) (word : List ℕ) → Some word ≡ value_of nick_name u → key_of (meaning word) ≡ key_in (merged_with fields u)
-key-new fields u word is = ap (λ w. key_of (meaning w)) (sym (given-renewed nick_name fields u ∙ ap (λ o. unwrap_or o (value_or_empty nick_name fields)) (sym is)))
+-- where the update that is passed on gives the nick that the whole one gives
+pub key-given : (fields u passed : List Field) (word : List ℕ) → Some word ≡ value_of nick_name u → value_of nick_name passed ≡ value_of nick_name u
+    → key_in u ≡ key_in (merged_with fields passed)
+key-given fields u passed word is same =
+    ap (λ w. key_of (meaning w))
+    (ap (λ o. unwrap_or o []) (sym is)
+    ∙ sym (given-renewed nick_name fields passed ∙ ap (λ o. unwrap_or o (value_or_empty nick_name fields)) (same ∙ sym is)))
 
 pub support-renewed : (fields u : List Field) (text : List ℕ) → text ≡ unwrap_or (value_of support_name u) (value_or_empty support_name fields)
     → feature_set text ≡ feature_set (su_in (merged_with fields u))

@@ -1,4 +1,4 @@
-ghost use Rattle.std.specs.Prelude.{◌≡◌, IfOk, Some, is_some};
+ghost use Rattle.std.specs.Prelude.{◌≡◌, IfOk, Some};
 ghost use Rattle.adc_line.specs.WordsLeft.{words_left};
 ghost use Rattle.hub_decisions.specs.Commands.{answer_for, effect_of_asked, effect_of_command};
 ghost use Rattle.hub_rules.specs.Acts.{effect_for_all, if_present, is_command, kick, topic, unban, user_called};
@@ -8,7 +8,6 @@ ghost use Rattle.hub_decisions.specs.Requested.{effect_of_act};
 ghost use Rattle.hub_rules.specs.Accounts.{operates};
 ghost use Rattle.hub_rules.specs.Sights.{account_of};
 ghost use Rattle.operator_acts.specs.Acts.{act_at};
-ghost use Rattle.operator_acts.specs.Bans.{ban_on, is_full};
 
 use crate::denial::denial;
 use crate::effect::{nothing, one};
@@ -21,13 +20,10 @@ use feature_route::Audience;
 use hub_rules::{Banned, Change, Effect, Hearers, HubChange, Topic};
 use hub_setup::{done_line, removal_line, topic_line};
 use login_state::Deny;
-use operator_acts::{Act, ActFault, Ban, Bans, FreeText, Left};
+use operator_acts::{Act, ActFault, Ban, FreeText};
 use outboxes::Batch;
 use std::alloc::{AllocError, Global};
 use user_table::{User, Users};
-
-/// The number of client identifiers that may have a ban.
-const MAX_BANS: usize = 1_024;
 
 /// Decides what a message of a user to the hub leads to (ADC 1.0, "MSG"). A text that begins with `!` is a command for
 /// operators; others are for nobody, and lead to nothing.
@@ -150,7 +146,7 @@ fn ban<'a>(
     let Some(target) = hub.users.by_nick(&key) else {
         return denial(alloc, own, Deny::NoUser);
     };
-    if is_full(hub.bans, target.cid()) {
+    if hub.bans.is_full(target.cid()) {
         return denial(alloc, own, Deny::BansFull);
     }
     let line = removal_line(alloc, target.sid(), own.sid, Some(seconds), reason.as_str())?;
@@ -173,7 +169,7 @@ fn unban<'a>(
 ) -> Result<Effect<'a>, AllocError>
     ensures { IfOk result (λ effect. effect ≡ answer_for own.now (unban hub.now.bans cid)) }
 {
-    if !is_banned(hub.bans, cid) {
+    if !hub.bans.holds(cid) {
         return denial(alloc, own, Deny::NoBan);
     }
     effect_for_all(alloc, Batch::new(alloc), HubChange::Unban(cid))
@@ -201,22 +197,4 @@ fn effect_for_all<'a>(
         hearers: Hearers::Those(Audience::All),
         change: Change::Hub(change),
     })
-}
-
-/// Answers whether there is no room for a ban on an identifier.
-fn is_full(bans: &Bans, cid: Cid) -> bool
-    ensures { result ≡ is_full bans.now cid }
-{
-    !is_banned(bans, cid) && bans.count() >= MAX_BANS
-}
-
-/// Answers whether a ban is held on an identifier. Of every ban something is left at the moment 0.
-#[tactic(auto, unfolding(operator_acts::specs::Bans::left_of_bans), using(crate::proofs::Held::held_at_first))]
-fn is_banned(bans: &Bans, cid: Cid) -> bool
-    ensures { result ≡ is_some (ban_on bans.now cid) }
-{
-    match bans.left(cid, 0) {
-        Left::Free => false,
-        Left::For(_) | Left::Ever => true,
-    }
 }

@@ -1,6 +1,5 @@
 ghost use Rattle.std.specs.Prelude.{◌≡◌, ◌&&◌, not, [], IfOk, Ok};
 ghost use Rattle.std.specs.String.{string_bytes};
-ghost use Rattle.adc_base32.specs.Spelled.{spelled_bytes};
 ghost use Rattle.hub_decisions.specs.Admissions.{IsAdmission, MayEnter, cid_of};
 ghost use Rattle.hub_decisions.specs.Requested.{effect_of_login, inf_in};
 ghost use Rattle.hub_rules.specs.Denied.{login_denied};
@@ -9,7 +8,6 @@ ghost use Rattle.hub_rules.specs.Grounds.{entrant_grounds, identifier_grounds, i
 ghost use Rattle.hub_rules.specs.Identities.{cid_in, key_in, listed_user, value_or_empty};
 ghost use Rattle.hub_rules.specs.Sights.{is_account, user_after};
 ghost use Rattle.inf_fields.specs.Cleaning.{clean};
-ghost use Rattle.inf_fields.specs.FieldNames.{id_name};
 ghost use Rattle.inf_fields.specs.Merging.{merged_with};
 ghost use Rattle.login_state.specs.NamedFields.{name_of};
 ghost use Rattle.user_table.specs.Listed.{Listed};
@@ -25,12 +23,11 @@ use crate::grounds::{
 use crate::own::Own;
 use crate::present::{has_cid, has_key, is_account};
 use crate::sight::Sight;
-use crate::words::{is_nick, key_of};
 use adc_base32::Sid;
 use adc_ids::Cid;
 use feature_route::FeatureSet;
 use hub_rules::{Change, Effect, Entrant, SenderChange};
-use hub_setup::{Prepared, challenge_line};
+use hub_setup::{Inf, Prepared, challenge_line};
 use inf_fields::{FieldName, Fields, Update};
 use login_state::{Deny, NamedField, Severity};
 use std::alloc::{AllocError, Global};
@@ -50,10 +47,10 @@ pub(crate) fn decide_login<'a>(
 ) -> Result<Effect<'a>, AllocError>
     ensures { IfOk result (λ effect. own.now.fields ≡ [] → effect ≡ effect_of_login hub.now own.now line.now now (inf_in line.now)) }
 {
-    let Some(update) = line.update() else {
+    let Some(inf) = line.inf() else {
         return denial(alloc, own, Deny::Protocol);
     };
-    match user_of_login(alloc, hub, own, line.owner(), update, now)? {
+    match user_of_login(alloc, hub, own, line.owner(), inf, now)? {
         Ok(entrant) => effect_of_entrant(alloc, hub, own, line, entrant),
         Err(deny) => denial(alloc, own, deny),
     }
@@ -88,15 +85,17 @@ fn user_of_login(
     hub: &Sight<'_>,
     own: &Own<'_>,
     owner: Option<[u8; 24]>,
-    update: &Update,
+    inf: &Inf,
     now: u64,
 ) -> Result<Result<Entrant, Deny>, AllocError>
-    ensures { IfOk result (λ answer. own.now.fields ≡ [] → IsAdmission answer (login_denied hub.now own.now owner now (Ok update.now)) (user_after own.now update.now)) }
+    ensures { IfOk result (λ answer. own.now.fields ≡ [] → IsAdmission answer (login_denied hub.now own.now owner now (Ok inf.now)) (user_after own.now inf.now)) }
 {
-    let fields = made_known(alloc, own, update)?;
-    let key = key_of(alloc, value_in_fields(&fields, FieldName::nick()))?;
-    match may_enter(alloc, hub, own, owner, update, &key, now)? {
-        Ok(cid) => Ok(Ok(entrant(alloc, own.sid, cid, key, fields)?)),
+    match may_enter(alloc, hub, own, owner, inf, now)? {
+        Ok(cid) => {
+            let fields = made_known(alloc, own, inf.update())?;
+            let key = String::from_str(alloc, inf.key())?;
+            Ok(Ok(entrant(alloc, own.sid, cid, key, fields)?))
+        }
         Err(deny) => Ok(Err(deny)),
     }
 }
@@ -119,17 +118,15 @@ fn may_enter(
     hub: &Sight<'_>,
     own: &Own<'_>,
     owner: Option<[u8; 24]>,
-    update: &Update,
-    key: &str,
+    inf: &Inf,
     now: u64,
 ) -> Result<Result<Cid, Deny>, AllocError>
-    ensures { IfOk result (λ answer. (user : Listed) → user.cid ≡ cid_of update.now → user.key ≡ key.now → MayEnter answer user.cid (login_grounds hub.now own.now now owner update.now user)) }
+    ensures { IfOk result (λ answer. (user : Listed) → user.cid ≡ cid_of inf.now → user.key ≡ key_in inf.now → MayEnter answer user.cid (login_grounds hub.now own.now now owner inf.now user)) }
 {
-    let cid = Cid::parse(value_in_update(update, FieldName::id()).as_bytes());
-    match first_ground(&identifier_grounds(update, cid)) {
+    match first_ground(&identifier_grounds(inf)) {
         Some(deny) => Ok(Err(deny)),
-        None => match &cid {
-            Some(cid) => may_enter_as(alloc, hub, own, owner, update, *cid, key, now),
+        None => match inf.cid() {
+            Some(cid) => may_enter_as(alloc, hub, own, owner, inf, cid, now),
             None => unreachable!(),
         },
     }
@@ -141,14 +138,13 @@ fn may_enter_as(
     hub: &Sight<'_>,
     own: &Own<'_>,
     owner: Option<[u8; 24]>,
-    update: &Update,
+    inf: &Inf,
     cid: Cid,
-    key: &str,
     now: u64,
 ) -> Result<Result<Cid, Deny>, AllocError>
-    ensures { IfOk result (λ answer. (user : Listed) → user.cid ≡ cid → user.key ≡ key.now → MayEnter answer user.cid (entrant_grounds hub.now own.now now owner update.now user)) }
+    ensures { IfOk result (λ answer. (user : Listed) → user.cid ≡ cid → user.key ≡ key_in inf.now → MayEnter answer user.cid (entrant_grounds hub.now own.now now owner inf.now user)) }
 {
-    let grounds = entrant_grounds(alloc, hub, own, owner, update, cid, key, now)?;
+    let grounds = entrant_grounds(alloc, hub, own, owner, inf, cid, now)?;
     match first_ground(&grounds) {
         Some(deny) => Ok(Err(deny)),
         None => Ok(Ok(cid)),
@@ -156,15 +152,16 @@ fn may_enter_as(
 }
 
 /// Makes the grounds that something is missing, or that the identifier is none.
-fn identifier_grounds(update: &Update, cid: Option<Cid>) -> [(bool, Deny); 4]
-    ensures { cid ≡ spelled_bytes 24 (value_or_empty id_name update.now) → result ≡ identifier_grounds update.now }
+fn identifier_grounds(inf: &Inf) -> [(bool, Deny); 4]
+    ensures { result ≡ identifier_grounds inf.now }
 {
+    let update = inf.update();
     [
         missing_ground(update, NamedField::Id),
         missing_ground(update, NamedField::PrivateId),
         missing_ground(update, NamedField::Nick),
         (
-            cid.is_none(),
+            inf.cid().is_none(),
             Deny::BadField(Severity::Fatal, NamedField::Id),
         ),
     ]
@@ -179,22 +176,21 @@ fn missing_ground(update: &Update, field: NamedField) -> (bool, Deny)
     )
 }
 
-/// Makes the other grounds of a login, of a client with this identifier and a nick of this key.
+/// Makes the other grounds of a login, of a client with this identifier.
 fn entrant_grounds(
     alloc: Global,
     hub: &Sight<'_>,
     own: &Own<'_>,
     owner: Option<[u8; 24]>,
-    update: &Update,
+    inf: &Inf,
     cid: Cid,
-    key: &str,
     now: u64,
 ) -> Result<[(bool, Deny); 11], AllocError>
-    ensures { IfOk result (λ grounds. (user : Listed) → user.cid ≡ cid → user.key ≡ key.now → grounds ≡ entrant_grounds hub.now own.now now owner update.now user) }
+    ensures { IfOk result (λ grounds. (user : Listed) → user.cid ≡ cid → user.key ≡ key_in inf.now → grounds ≡ entrant_grounds hub.now own.now now owner inf.now user) }
 {
     let severity = Severity::Fatal;
+    let (update, key) = (inf.update(), inf.key());
     let address = value_in_update(update, FieldName::address());
-    let is_nick = is_nick(alloc, value_in_update(update, FieldName::nick()))?;
     let is_wrong_address = is_wrong_address(alloc, own.peer, address)?;
     let has_owner = owner.is_some();
     let left = hub.bans.left(cid, now);
@@ -203,7 +199,7 @@ fn entrant_grounds(
         number_ground(severity, NamedField::ShareSize, update),
         number_ground(severity, NamedField::SharedFiles, update),
         (!is_digest(&cid.bytes(), owner), Deny::BadPid),
-        (!is_nick, Deny::BadNick(severity)),
+        (!inf.is_nick(), Deny::BadNick(severity)),
         (is_ever(left), Deny::BannedEver),
         (is_timed(left), Deny::BannedFor(seconds_of(left))),
         (is_wrong_address, Deny::Address(severity, own.peer)),

@@ -1,13 +1,12 @@
 ghost use Rattle.std.specs.Prelude.{◌≡◌, not, IfOk, Some, ℕ, List, chars};
-ghost use Rattle.std.specs.Option.{option_copied, option_map, unwrap_or};
-ghost use Rattle.std.specs.String.{string_bytes};
+ghost use Rattle.std.specs.Option.{option_map, unwrap_or};
 ghost use Rattle.feature_route.specs.Matching.{feature_set};
 ghost use Rattle.hub_decisions.specs.Known.{IsUser};
 ghost use Rattle.hub_decisions.specs.Requested.{effect_of_update, inf_in};
 ghost use Rattle.hub_rules.specs.Effects.{line_unless_empty, update_effect};
 ghost use Rattle.hub_rules.specs.Grounds.{differs, is_bad_nick, touches_account, update_grounds};
 ghost use Rattle.hub_rules.specs.Identities.{value_or_empty, key_in, meaning, su_in};
-ghost use Rattle.hub_rules.specs.Sights.{another_has_key};
+ghost use Rattle.hub_rules.specs.Sights.{Own as Sender, another_has_key, user_after};
 ghost use Rattle.inf_fields.specs.Cleaning.{clean};
 ghost use Rattle.inf_fields.specs.Field.{value_of};
 ghost use Rattle.inf_fields.specs.FieldNames.{id_name, nick_name, support_name};
@@ -22,12 +21,11 @@ use crate::grounds::{first_ground, is_wrong_address, number_ground};
 use crate::own::Own;
 use crate::present::is_account;
 use crate::sight::Sight;
-use crate::words::{is_nick, key_of, meaning};
 use adc_base32::Sid;
 use adc_ids::{Nick, NickFault};
 use feature_route::{Audience, FeatureSet};
 use hub_rules::{Change, Effect, Revision, SenderChange};
-use hub_setup::{Prepared, update_line};
+use hub_setup::{Inf, Prepared, update_line};
 use inf_fields::{FieldName, Fields, Update};
 use login_state::{Deny, NamedField, Severity};
 use outboxes::Batch;
@@ -48,10 +46,10 @@ pub(crate) fn decide_update<'a>(
 ) -> Result<Effect<'a>, AllocError>
     ensures { IfOk result (λ effect. IsUser own.now user.now → effect ≡ effect_of_update hub.now own.now (inf_in line.now)) }
 {
-    let Some(update) = line.update() else {
+    let Some(inf) = line.inf() else {
         return denial(alloc, own, Deny::Protocol);
     };
-    decide_change(alloc, hub, own, user, update)
+    decide_change(alloc, hub, own, user, inf)
 }
 
 /// Decides what an update leads to whose words say this.
@@ -61,35 +59,33 @@ fn decide_change<'a>(
     hub: &Sight<'_>,
     own: &Own<'_>,
     user: &User,
-    update: &Update,
+    inf: &Inf,
 ) -> Result<Effect<'a>, AllocError>
-    ensures { IfOk result (λ effect. IsUser own.now user.now → effect ≡ effect_of_update hub.now own.now (Some update.now)) }
+    ensures { IfOk result (λ effect. IsUser own.now user.now → effect ≡ effect_of_update hub.now own.now (Some inf.now)) }
 {
-    let cleaned = passed_on(alloc, own.peer, update)?;
-    let key = key_after(alloc, user, &cleaned)?;
-    let grounds = update_grounds(alloc, hub, own, user, update, &cleaned, &key)?;
+    let cleaned = passed_on(alloc, own.peer, inf.update())?;
+    let grounds = update_grounds(alloc, hub, own, user, inf, &cleaned)?;
     match first_ground(&grounds) {
         Some(deny) => denial(alloc, own, deny),
-        None => effect_of_update(alloc, own, user, cleaned),
+        None => effect_of_update(alloc, own, user, inf, cleaned),
     }
 }
 
-/// Makes the grounds of an update, after which the nick has this key.
+/// Makes the grounds of an update, of which this is passed on.
 fn update_grounds(
     alloc: Global,
     hub: &Sight<'_>,
     own: &Own<'_>,
     user: &User,
-    update: &Update,
+    inf: &Inf,
     cleaned: &Update,
-    key: &str,
 ) -> Result<[(bool, Deny); 8], AllocError>
-    requires { cleaned.now ≡ clean update.now own.now.peer }
-    ensures { IfOk result (λ grounds. (after : Listed) → IsUser own.now user.now → after.key ≡ key.now → grounds ≡ update_grounds hub.now own.now update.now after) }
+    requires { cleaned.now ≡ clean inf.now own.now.peer }
+    ensures { IfOk result (λ grounds. IsUser own.now user.now → grounds ≡ update_grounds hub.now own.now inf.now (user_after own.now inf.now)) }
 {
     let severity = Severity::Recoverable;
+    let (update, key) = (inf.update(), key_after(user, inf));
     let address = value_in_update(update, FieldName::address());
-    let is_bad_nick = is_bad_nick(alloc, update.get(FieldName::nick()))?;
     let is_wrong_address = is_wrong_address(alloc, own.peer, address)?;
     Ok([
         (
@@ -98,7 +94,7 @@ fn update_grounds(
         ),
         number_ground(severity, NamedField::ShareSize, update),
         number_ground(severity, NamedField::SharedFiles, update),
-        (is_bad_nick, Deny::BadNick(severity)),
+        (is_bad_nick(inf), Deny::BadNick(severity)),
         (
             touches_account(hub, user.key(), key),
             Deny::Access(*b"BINF"),
@@ -113,12 +109,12 @@ fn update_grounds(
 }
 
 /// Gives the key of the user's nick after an update: of the nick that it gives, and else the one before.
-fn key_after(alloc: Global, user: &User, update: &Update) -> Result<String, AllocError>
-    ensures { IfOk result (λ key. user.now.key ≡ key_in user.now.fields → string_bytes key ≡ key_in (merged_with user.now.fields update.now)) }
+fn key_after<'a>(user: &'a User, inf: &'a Inf) -> &'a str
+    ensures { (own : Sender) → IsUser own user.now → result.now ≡ (user_after own inf.now).key }
 {
-    match update.get(FieldName::nick()) {
-        Some(word) => key_of(alloc, word),
-        None => String::from_str(alloc, user.key()),
+    match inf.update().get(FieldName::nick()) {
+        Some(_) => inf.key(),
+        None => user.key(),
     }
 }
 
@@ -131,13 +127,10 @@ fn changes_id(fields: &Fields, update: &Update) -> bool
 }
 
 /// Tells whether a nick that is given is none.
-fn is_bad_nick(alloc: Global, nick: Option<&str>) -> Result<bool, AllocError>
-    ensures { IfOk result (λ bad. bad ≡ is_bad_nick (option_copied nick.entry)) }
+fn is_bad_nick(inf: &Inf) -> bool
+    ensures { result ≡ is_bad_nick (value_of nick_name inf.now) }
 {
-    match nick {
-        Some(word) => Ok(!is_nick(alloc, word)?),
-        None => Ok(false),
-    }
+    inf.update().get(FieldName::nick()).is_some() && !inf.is_nick()
 }
 
 /// Tells whether an update takes the nick of an account or leaves it, as nobody may.
@@ -169,12 +162,14 @@ fn effect_of_update<'a>(
     alloc: Global,
     own: &Own<'_>,
     user: &User,
+    inf: &Inf,
     cleaned: Update,
 ) -> Result<Effect<'a>, AllocError>
+    requires { value_of nick_name cleaned ≡ value_of nick_name inf.now }
     ensures { IfOk result (λ effect. IsUser own.now user.now → effect ≡ update_effect own.now cleaned) }
 {
     let others = line_unless_empty(alloc, own.sid, &cleaned)?;
-    let nick = nick_in(alloc, &cleaned)?;
+    let nick = nick_in(alloc, inf)?;
     let support = support_after(alloc, user.fields(), &cleaned)?;
     let revision = Revision {
         update: cleaned,
@@ -194,15 +189,14 @@ fn line_unless_empty(alloc: Global, sid: Sid, update: &Update) -> Result<Batch, 
     one(alloc, update_line(alloc, sid, update)?)
 }
 
-/// Reads the nick that an update gives. One that is none was denied, so it does not come here.
-fn nick_in(alloc: Global, update: &Update) -> Result<Option<Nick>, AllocError>
-    ensures { IfOk result (λ nick. nick ≡ option_map (λ (word : List ℕ). chars (meaning word)) (value_of nick_name update.now)) }
+/// Gives the nick that an update gives. One that is none was denied, so it does not come here.
+fn nick_in(alloc: Global, inf: &Inf) -> Result<Option<Nick>, AllocError>
+    ensures { IfOk result (λ nick. nick ≡ option_map (λ (word : List ℕ). chars (meaning word)) (value_of nick_name inf.now)) }
 {
-    let Some(word) = update.get(FieldName::nick()) else {
+    if inf.update().get(FieldName::nick()).is_none() {
         return Ok(None);
-    };
-    let text = meaning(alloc, word)?;
-    match Nick::parse(alloc, &text) {
+    }
+    match Nick::parse(alloc, inf.nick()) {
         Ok(nick) => Ok(Some(nick)),
         Err(NickFault::Memory | NickFault::Invalid) => Err(AllocError),
     }

@@ -7,7 +7,7 @@ use Rattle.std.proofs.lemmas.Bool.{false≢true}
 use Rattle.std.proofs.lemmas.Slice.Eq.{bytes_eq-Decides}
 use Rattle.inf_fields.specs.Cleaning.{any_address, asks_for_address, clean, dotted_decimal, is_held_back, with_address}
 use Rattle.inf_fields.specs.Field.{Field, field, is_called, value_of}
-use Rattle.inf_fields.specs.FieldNames.{address6_name, address_name, client_type_name, id_name, port6_name, private_id_name}
+use Rattle.inf_fields.specs.FieldNames.{address6_name, address_name, client_type_name, id_name, nick_name, port6_name, private_id_name}
 use Rattle.inf_fields.specs.Merging.{if_filled, last_value, merged_fields, merged_with}
 use Rattle.inf_fields.proofs.MergingLaws.{merged-more, value_of-merged}
 use Rattle.hub_rules.specs.Identities.{value_or_empty}
@@ -52,42 +52,55 @@ given-after name fields infs u is =
 
 -- ---- what is passed on
 
--- the client's identifier is passed on as it is
-other-name : (other : List ℕ) (f : Field) (called : Bool) → bytes_eq id_name other ≡ false → is_called other f ≡ called → is_called id_name f ≡ true → called ≡ false
-other-name other f true apart is here =
-    absurd (false≢true (sym apart ∙ ap (bytes_eq id_name) ((bytes_eq-Decides other f.name).0 is) ∙ here))
-other-name other f false apart is here = refl
+-- a name of fields that are passed on as they are
+record IsPassed (name : List ℕ) : Type 0 where
+  private_id : bytes_eq name private_id_name ≡ false
+  client_type : bytes_eq name client_type_name ≡ false
+  address6 : bytes_eq name address6_name ≡ false
+  port6 : bytes_eq name port6_name ≡ false
+  address : bytes_eq name address_name ≡ false
 
-other-is : (other : List ℕ) (f : Field) → bytes_eq id_name other ≡ false → is_called id_name f ≡ true → is_called other f ≡ false
-other-is other f apart here = other-name other f (is_called other f) apart refl here
+other-name : (name other : List ℕ) (f : Field) (called : Bool) → bytes_eq name other ≡ false → is_called other f ≡ called → is_called name f ≡ true → called ≡ false
+other-name name other f true apart is here =
+    absurd (false≢true (sym apart ∙ ap (bytes_eq name) ((bytes_eq-Decides other f.name).0 is) ∙ here))
+other-name name other f false apart is here = refl
+
+other-is : (name other : List ℕ) (f : Field) → bytes_eq name other ≡ false → is_called name f ≡ true → is_called other f ≡ false
+other-is name other f apart here = other-name name other f (is_called other f) apart refl here
 
 passed-name : (asks : Bool) (f g : Field) → g.name ≡ f.name → (if asks then g else f).name ≡ f.name
 passed-name true f g same = same
 passed-name false f g same = refl
 
--- a field that is the identifier is not held back, and keeps its value
-id-kept : (f : Field) → is_called id_name f ≡ true → is_held_back f ≡ false
-id-kept f here =
-    ap₂ ◌||◌ (ap₂ ◌||◌ (ap₂ ◌||◌ (other-is private_id_name f refl here) (other-is client_type_name f refl here)) (other-is address6_name f refl here)) (other-is port6_name f refl here)
+-- such a field is not held back, and keeps its value
+passed-kept : (name : List ℕ) (f : Field) → IsPassed name → is_called name f ≡ true → is_held_back f ≡ false
+passed-kept name f passed here =
+    ap₂ ◌||◌ (ap₂ ◌||◌ (ap₂ ◌||◌ (other-is name private_id_name f passed.private_id here) (other-is name client_type_name f passed.client_type here)) (other-is name address6_name f passed.address6 here)) (other-is name port6_name f passed.port6 here)
 
-id-value : (peer : List ℕ) (f : Field) → is_called id_name f ≡ true → with_address peer f ≡ f
-id-value peer f here = ap (λ b. if (b && bytes_eq any_address f.value) then field f.name (dotted_decimal peer) else f) (other-is address_name f refl here)
+passed-value : (name peer : List ℕ) (f : Field) → IsPassed name → is_called name f ≡ true → with_address peer f ≡ f
+passed-value name peer f passed here = ap (λ b. if (b && bytes_eq any_address f.value) then field f.name (dotted_decimal peer) else f) (other-is name address_name f passed.address here)
 
-clean-cons : (held called : Bool) (peer : List ℕ) (f : Field) (fields : List Field) → is_held_back f ≡ held → is_called id_name f ≡ called
-    → value_of id_name (map (with_address peer) (filter (λ g. not (is_held_back g)) fields)) ≡ value_of id_name fields
-    → value_of id_name (map (with_address peer) (cond (not held) (f ∷ filter (λ g. not (is_held_back g)) fields) (filter (λ g. not (is_held_back g)) fields)))
-    ≡ (if called then Some f.value else value_of id_name fields)
-clean-cons true true peer f fields held called rest = absurd (false≢true (sym (id-kept f called) ∙ held))
-clean-cons true false peer f fields held called rest = rest
-clean-cons false true peer f fields held called rest =
-    ap (λ g. if is_called id_name g then Some g.value else value_of id_name (map (with_address peer) (filter (λ g. not (is_held_back g)) fields))) (id-value peer f called)
-    ∙ ap (λ b. if b then Some f.value else value_of id_name (map (with_address peer) (filter (λ g. not (is_held_back g)) fields))) called
-clean-cons false false peer f fields held called rest =
-    ap (λ b. if b then Some (with_address peer f).value else value_of id_name (map (with_address peer) (filter (λ g. not (is_held_back g)) fields)))
-    (ap (bytes_eq id_name) (passed-name (asks_for_address f) f (field f.name (dotted_decimal peer)) refl) ∙ called)
+clean-cons : (name : List ℕ) (held called : Bool) (peer : List ℕ) (f : Field) (fields : List Field) → IsPassed name → is_held_back f ≡ held → is_called name f ≡ called
+    → value_of name (map (with_address peer) (filter (λ g. not (is_held_back g)) fields)) ≡ value_of name fields
+    → value_of name (map (with_address peer) (cond (not held) (f ∷ filter (λ g. not (is_held_back g)) fields) (filter (λ g. not (is_held_back g)) fields)))
+    ≡ (if called then Some f.value else value_of name fields)
+clean-cons name true true peer f fields passed held called rest = absurd (false≢true (sym (passed-kept name f passed called) ∙ held))
+clean-cons name true false peer f fields passed held called rest = rest
+clean-cons name false true peer f fields passed held called rest =
+    ap (λ g. if is_called name g then Some g.value else value_of name (map (with_address peer) (filter (λ g. not (is_held_back g)) fields))) (passed-value name peer f passed called)
+    ∙ ap (λ b. if b then Some f.value else value_of name (map (with_address peer) (filter (λ g. not (is_held_back g)) fields))) called
+clean-cons name false false peer f fields passed held called rest =
+    ap (λ b. if b then Some (with_address peer f).value else value_of name (map (with_address peer) (filter (λ g. not (is_held_back g)) fields)))
+    (ap (bytes_eq name) (passed-name (asks_for_address f) f (field f.name (dotted_decimal peer)) refl) ∙ called)
     ∙ rest
 
-pub id-clean : (fields : List Field) (peer : List ℕ) → value_of id_name (clean fields peer) ≡ value_of id_name fields
+passed-clean : (name : List ℕ) (fields : List Field) (peer : List ℕ) → IsPassed name → value_of name (clean fields peer) ≡ value_of name fields
 unfolding clean
-id-clean [] peer = refl
-id-clean (f ∷ fields) peer = clean-cons (is_held_back f) (is_called id_name f) peer f fields refl refl (id-clean fields peer)
+passed-clean name [] peer passed = refl
+passed-clean name (f ∷ fields) peer passed = clean-cons name (is_held_back f) (is_called name f) peer f fields passed refl refl (passed-clean name fields peer passed)
+
+pub id-clean : (fields : List Field) (peer : List ℕ) → value_of id_name (clean fields peer) ≡ value_of id_name fields
+id-clean fields peer = passed-clean id_name fields peer (record { private_id = refl; client_type = refl; address6 = refl; port6 = refl; address = refl })
+
+pub nick-clean : (fields : List Field) (peer : List ℕ) → value_of nick_name (clean fields peer) ≡ value_of nick_name fields
+nick-clean fields peer = passed-clean nick_name fields peer (record { private_id = refl; client_type = refl; address6 = refl; port6 = refl; address = refl })

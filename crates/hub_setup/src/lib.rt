@@ -2,6 +2,7 @@
 #![tactic(auto)]
 
 mod accounts;
+mod inf;
 mod menu;
 mod options;
 mod preparation;
@@ -11,6 +12,7 @@ mod texts;
 mod user_texts;
 
 pub use accounts::{Accounts, Registered};
+pub use inf::Inf;
 pub use menu::Menu;
 pub use options::{
     Account, DEFAULT_USERS, MOST_ACCOUNTS, MOST_COMMANDS, MOST_USERS, MenuEntry, MenuItem, Options,

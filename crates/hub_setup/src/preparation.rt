@@ -1,29 +1,24 @@
-ghost use Rattle.std.specs.Prelude.{◌≡◌, Ok, IfOk, map};
-ghost use Rattle.std.specs.Map.Iter.{deref};
+ghost use Rattle.std.specs.Prelude.{◌≡◌, IfOk};
 ghost use Rattle.std.specs.Option.{option_copied};
-ghost use Rattle.std.specs.Result.{result_ok};
-ghost use Rattle.std.specs.String.{string_bytes};
 ghost use Rattle.adc_line.specs.Lines as lines;
-ghost use Rattle.inf_fields.specs.Updates as updates;
-ghost use Rattle.hub_rules.specs.Identities.{key_in, nick_in};
 ghost use Rattle.hub_rules.specs.Prepared.{owner_digest, password_digest, password_of, prepared_line, update_of};
 ghost use Rattle.hub_setup.specs.PreparedReading.{IsSaid};
 
 use crate::accounts::Registered;
+use crate::inf::{Inf, inf_of};
 use crate::setup::Setup;
 use adc_ids::Pid;
-use adc_line::{Kind, Line, LineFault, UnescapeFault, unescape};
+use adc_line::{Line, LineFault};
 use hub_rules::LineRefused;
-use inf_fields::{FieldName, InfFault, Update};
+use inf_fields::FieldName;
 use session_hash::SessionHash;
 use std::alloc::{AllocError, Global};
 use std::marker::Model;
-use unicode_normalization::to_nfc;
 
 /// A line that was read and is ready for the hub: all that can be done before the hub's turn.
 pub struct Prepared {
     content: Content,
-    update: Option<Update>,
+    inf: Option<Inf>,
     owner: Option<[u8; 24]>,
     password: Option<[u8; 24]>,
 }
@@ -32,12 +27,12 @@ impl Drop for Prepared {
     fn drop(self) {
         let Prepared {
             content,
-            update,
+            inf,
             owner: _,
             password: _,
         } = self;
         drop(content);
-        drop(update);
+        drop(inf);
     }
 }
 
@@ -74,9 +69,9 @@ impl Model for Prepared {
 }
 
 /// Reads the bytes of a line, without its line feed, for a connection that was given this challenge. Where they are an INF
-/// for all whose words make an update, its fields are read, and the digest is made of the private identifier in them (ADC
-/// 1.0, "INF"). Where, besides, the nick is a registered user's, the digest is made of the password followed by the
-/// challenge (ADC 1.0, "GPA"). Takes no lock.
+/// for all whose words make an update, its fields are read, with nick, key and client identifier, and the digest is made of
+/// the private identifier in them (ADC 1.0, "INF"). Where, besides, the nick is a registered user's, the digest is made of
+/// the password followed by the challenge (ADC 1.0, "GPA"). Takes no lock.
 ///
 /// Refused only where memory runs out (`Memory`).
 #[tactic(auto, unfolding(hub_rules::specs::Prepared::prepared_line))]
@@ -95,59 +90,28 @@ pub fn prepare<H: SessionHash>(
         Err(_) => {
             return Ok(Prepared {
                 content: Content::Other(Vec::from_slice(alloc, bytes)?),
-                update: None,
+                inf: None,
                 owner: None,
                 password: None,
             });
         }
     };
-    let update = update_of(alloc, &line)?;
+    let inf = inf_of(alloc, &line)?;
     Ok(Prepared {
-        owner: owner_digest(hash, &update),
-        password: password_digest(alloc, setup, hash, challenge, &update)?,
+        owner: owner_digest(hash, &inf),
+        password: password_digest(alloc, setup, hash, challenge, &inf)?,
         content: Content::Message(line),
-        update,
+        inf,
     })
 }
 
-/// Reads the update that a message makes, where it is an INF for all.
-fn update_of(alloc: Global, line: &Line) -> Result<Option<Update>, AllocError>
-    ensures { IfOk result (λ update. update ≡ update_of (Ok line.now)) }
-{
-    if line.kind() != Kind::Broadcast || line.command() != *b"INF" {
-        return Ok(None);
-    }
-    let words = words_of(alloc, line)?;
-    update_in(alloc, &words)
-}
-
-/// Gives the parameters of a message.
-fn words_of(alloc: Global, line: &Line) -> Result<Vec<&str>, AllocError>
-    ensures { IfOk result (λ words. map deref words.items ≡ line.now.params) }
-{
-    let mut words = Vec::new(alloc);
-    for word in line.params() {
-        words.push(word).map_err(|_| AllocError)?;
-    }
-    Ok(words)
-}
-
-fn update_in(alloc: Global, words: &[&str]) -> Result<Option<Update>, AllocError>
-    ensures { IfOk result (λ update. update ≡ result_ok (updates.reading (map deref words.now))) }
-{
-    match Update::read(alloc, words) {
-        Ok(update) => Ok(Some(update)),
-        Err(InfFault::Memory) => Err(AllocError),
-        Err(_) => Ok(None),
-    }
-}
-
 /// Makes the digest of the private identifier, where there is one.
-fn owner_digest<H: SessionHash>(hash: &H, update: &Option<Update>) -> Option<[u8; 24]>
-    ensures { result ≡ owner_digest (H.digest_of hash.now) update.now }
+fn owner_digest<H: SessionHash>(hash: &H, inf: &Option<Inf>) -> Option<[u8; 24]>
+    ensures { result ≡ owner_digest (H.digest_of hash.now) inf.now }
 {
-    match update {
-        Some(update) => {
+    match inf {
+        Some(inf) => {
+            let update = inf.update();
             let word = update.get(FieldName::private_id()).unwrap_or("");
             let pid = Pid::parse(word.as_bytes())?;
             Some(hash.digest(&pid.bytes()))
@@ -162,15 +126,12 @@ fn password_digest<H: SessionHash>(
     setup: &Setup,
     hash: &H,
     challenge: [u8; 24],
-    update: &Option<Update>,
+    inf: &Option<Inf>,
 ) -> Result<Option<[u8; 24]>, AllocError>
-    ensures { IfOk result (λ digest. digest ≡ password_digest setup.now (H.digest_of hash.now) challenge update.now) }
+    ensures { IfOk result (λ digest. digest ≡ password_digest setup.now (H.digest_of hash.now) challenge inf.now) }
 {
-    match update {
-        Some(update) => {
-            let key = key_in(alloc, update)?;
-            password_of(alloc, hash, challenge, setup.account(&key))
-        }
+    match inf {
+        Some(inf) => password_of(alloc, hash, challenge, setup.account(inf.key())),
         None => Ok(None),
     }
 }
@@ -193,26 +154,6 @@ fn password_of<H: SessionHash>(
     }
 }
 
-/// Gives the key by which the nick of an update is found. The nick need not be a valid one.
-fn key_in(alloc: Global, update: &Update) -> Result<String, AllocError>
-    ensures { IfOk result (λ key. string_bytes key ≡ key_in update.now) }
-{
-    let nick = nick_in(alloc, update)?;
-    to_nfc(alloc, &nick)
-}
-
-/// Gives what the word of the nick means; the empty text where there is none.
-fn nick_in(alloc: Global, update: &Update) -> Result<String, AllocError>
-    ensures { IfOk result (λ nick. string_bytes nick ≡ nick_in update.now) }
-{
-    let word = update.get(FieldName::nick()).unwrap_or("");
-    match unescape(alloc, word) {
-        Ok(nick) => Ok(nick),
-        Err(UnescapeFault::Memory) => Err(AllocError),
-        Err(UnescapeFault::Escape) => Ok(String::new(alloc)),
-    }
-}
-
 impl Prepared {
     /// Gives what it says.
     pub fn says(&self) -> Says<'_>
@@ -230,11 +171,11 @@ impl Prepared {
         }
     }
 
-    /// Gives the fields that it updates, where it is an INF for all whose words make an update (ADC 1.0, "INF").
-    pub fn update(&self) -> Option<&Update>
+    /// Gives what it updates, where it is an INF for all whose words make an update (ADC 1.0, "INF").
+    pub fn inf(&self) -> Option<&Inf>
         ensures { option_copied result ≡ update_of (lines.reading self.now.bytes) }
     {
-        self.update.as_ref()
+        self.inf.as_ref()
     }
 
     /// Gives the digest of the private identifier of the update, where there is one.

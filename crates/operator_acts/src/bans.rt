@@ -98,6 +98,20 @@ impl Bans {
         }
     }
 
+    /// Answers whether a ban is held on a client identifier.
+    pub fn holds(&self, cid: Cid) -> bool
+        ensures { result ≡ is_some (ban_on self.now cid) }
+    {
+        self.held.contains_key(&cid)
+    }
+
+    /// Answers whether there is no room for a ban on a client identifier: none is held on it, and 1,024 others have one.
+    pub fn is_full(&self, cid: Cid) -> bool
+        ensures { result ≡ is_full self.now cid }
+    {
+        !self.holds(cid) && self.held.len() >= MAX_BANS
+    }
+
     /// Counts the client identifiers that have a ban.
     pub fn count(&self) -> usize
         ensures count { result ≡ length self.now }

@@ -58,10 +58,10 @@ fn say_command(rt: &impl Abort, said: &mut Vec<u8>, line: &Prepared) {
 }
 
 fn say_nick(rt: &impl Abort, said: &mut Vec<u8>, line: &Prepared) {
-    match line.update() {
-        Some(update) => {
+    match line.inf() {
+        Some(inf) => {
             say(rt, said, "update ");
-            say(rt, said, update.get(FieldName::nick()).unwrap_or(""));
+            say(rt, said, inf.update().get(FieldName::nick()).unwrap_or(""));
         }
         None => say(rt, said, "no update"),
     }

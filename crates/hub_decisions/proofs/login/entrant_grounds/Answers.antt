@@ -1,13 +1,12 @@
 use Rattle.std.proofs.Common.{◌≡◌, ◌∙◌, refl, sym, ap, ap₂, ◌&&◌, not, List}
-use Rattle.std.specs.Prelude.{chars}
-use Rattle.adc_ids.specs.Nicks.{is_nick}
 use Rattle.inf_fields.specs.Field.{Field}
 use Rattle.login_state.specs.declared.deny.Deny.TheVariants as denials
 use Rattle.login_state.specs.declared.deny.Severity.TheVariants.{Fatal}
+use Rattle.login_state.specs.declared.named_field.NamedField.TheVariants.{ShareSize, SharedFiles}
 use Rattle.operator_acts.specs.Bans.{left_of_bans}
 use Rattle.user_table.specs.Tables.{has_cid, has_key}
-use Rattle.hub_rules.specs.Grounds.{is_digest, is_ever, is_timed, is_wrong_address, seconds_of}
-use Rattle.hub_rules.specs.Identities.{meaning, value_or_empty}
+use Rattle.hub_rules.specs.Grounds.{is_digest, is_ever, is_timed, is_wrong_address, number_ground, seconds_of}
+use Rattle.hub_rules.specs.Identities.{value_or_empty}
 use Rattle.hub_rules.specs.Sights.{Own, Sight, is_account, is_here}
 use Rattle.hub_decisions.proofs.GroundLists.{before, by-test}
 use Rattle.hub_decisions.proofs.login.entrant_grounds.Goals as goal
@@ -16,19 +15,20 @@ pub returns : goal.returns
 returns c =
     λ user same_cid same_key.
     let hub : Sight = c.args.hub.now in
-    let u : List Field = c.args.update.now in
+    let u : List Field = c.args.inf.now in
+    let keyed = c.key-key.ensures ∙ sym same_key in
     let left : c.left-left.result ≡ left_of_bans hub.bans user.cid c.args.now =
     c.left-left.ensures ∙ ap₂ (λ (h : Sight) i. left_of_bans h.bans i c.args.now) c.hub.view_is (sym same_cid) in
     let peer = ap (λ (o : Own). o.peer) c.own.view_is in
     before (by-test _ (ap not c.is_some-has_owner.ensures))
-    (before c.number_ground.ensures
-    (before c.number_ground-2.ensures
+    (before (c.number_ground.ensures ∙ ap (number_ground Fatal ShareSize) c.update-update.ensures)
+    (before (c.number_ground-2.ensures ∙ ap (number_ground Fatal SharedFiles) c.update-update.ensures)
     (before (by-test _ (ap not (c.is_digest.ensures ∙ ap (λ e. is_digest e c.args.owner) (c.bytes.ensures ∙ sym same_cid))))
-    (before (by-test _ (ap not (c.in_ok-is_nick.ensures ∙ ap (λ w. is_nick (chars (meaning w))) (c.value_in_update.ensures ∙ ap (λ n. value_or_empty n u) c.nick.ensures))))
+    (before (by-test _ (ap not c.is_nick.ensures))
     (before (by-test _ (c.is_ever.ensures ∙ ap is_ever left))
     (before (ap₂ (λ t s. (t, denials.BannedFor s)) (c.is_timed.ensures ∙ ap is_timed left) (c.seconds_of.ensures ∙ ap seconds_of left))
-    (before (ap₂ (λ w p. (w, denials.Address Fatal p)) (c.in_ok-is_wrong_address.ensures ∙ ap₂ is_wrong_address peer (c.value_in_update-address.ensures ∙ ap (λ n. value_or_empty n u) c.address.ensures)) peer)
-    (before (by-test _ (c.is_barred.ensures ∙ ap (λ k. hub.setup.registered_only && not (is_account hub k)) (sym same_key)))
-    (before (by-test _ (c.has_key.ensures ∙ ap (λ k. is_here (has_key k) hub) (sym same_key)))
+    (before (ap₂ (λ w p. (w, denials.Address Fatal p)) (c.in_ok-is_wrong_address.ensures ∙ ap₂ is_wrong_address peer (c.value_in_update-address.ensures ∙ ap₂ value_or_empty c.address.ensures c.update-update.ensures)) peer)
+    (before (by-test _ (c.is_barred.ensures ∙ ap (λ k. hub.setup.registered_only && not (is_account hub k)) keyed))
+    (before (by-test _ (c.has_key.ensures ∙ ap (λ k. is_here (has_key k) hub) keyed))
     (before (by-test _ (c.has_cid.ensures ∙ ap (λ i. is_here (has_cid i) hub) (sym same_cid)))
     refl))))))))))

@@ -1,18 +1,21 @@
-use Rattle.std.proofs.Common.{◌∙◌, sym, ap}
+use Rattle.std.proofs.Common.{◌∙◌, sym, ap₂, refl}
+use Rattle.inf_fields.specs.Cleaning.{clean}
 use Rattle.inf_fields.specs.Field.{value_of}
-use Rattle.hub_decisions.proofs.Knowing.{when-ok}
-use Rattle.hub_decisions.proofs.Updating.{key-new, key-renewed}
+use Rattle.hub_rules.proofs.Merges.{nick-clean}
+use Rattle.hub_decisions.proofs.Knowing.{after-key, user-key}
+use Rattle.hub_decisions.proofs.Updating.{key-given, key-renewed}
 use Rattle.hub_decisions.proofs.update.key_after.Goals as goal
 
 pub returns-in-Some : goal.returns-in-Some
 returns-in-Some c =
-    when-ok c.key_of.result c.key_of.ensures
-    (λ key is known.
-    is ∙ key-new c.args.user.now.fields c.args.update.now c.in-Some.word.now (c.in-Some.ensures ∙ ap (λ n. value_of n c.args.update.now) c.nick.ensures))
+    λ own known.
+    c.key.ensures
+    ∙ key-given own.fields c.args.inf.now (clean c.args.inf.now own.peer) c.in-Some.field-0.now (c.in-Some.ensures ∙ ap₂ value_of c.nick.ensures c.update.ensures) (nick-clean c.args.inf.now own.peer)
+    ∙ after-key own c.args.inf.now
 
 pub returns-in-None : goal.returns-in-None
 returns-in-None c =
-    when-ok c.from_str.result c.from_str.ensures.ok
-    (λ key is known.
-    is ∙ c.key.ensures
-    ∙ key-renewed c.args.user.now.key c.args.user.now.fields c.args.update.now known (sym (c.in-None.ensures ∙ ap (λ n. value_of n c.args.update.now) c.nick.ensures)))
+    λ own known.
+    c.key-in-None.ensures ∙ user-key own c.args.user.now known
+    ∙ key-renewed _ own.fields (clean c.args.inf.now own.peer) refl (nick-clean c.args.inf.now own.peer ∙ sym (c.in-None.ensures ∙ ap₂ value_of c.nick.ensures c.update.ensures))
+    ∙ after-key own c.args.inf.now
