@@ -57,7 +57,7 @@ unfolding after
 after-zero setup hash f caller (Join peer challenge now) none = joined-zero f caller peer challenge (has_place setup f && has_joins f) none
 after-zero setup hash f caller (Line c bytes now) none = happens-zero c (effect_of_line setup hash f c bytes now) f none
 after-zero setup hash f caller (Quit c) none =
-    closed-zero c (happens c (departure (f.about c).stage (f.about c).sid) f) (happens-zero c (departure (f.about c).stage (f.about c).sid) f none)
+    closed-zero c (happens c (departure (f.about c).stage (f.about c).sender.sid) f) (happens-zero c (departure (f.about c).stage (f.about c).sender.sid) f none)
 after-zero setup hash f caller (Take c count) none = none
 
 zero-closed : (setup : Configured) (hash : List ℕ → List ℕ) (h : List Entry) → is_open 0 (facts setup hash h) ≡ false
@@ -82,10 +82,6 @@ pub at-place : (setup : Configured) (hash : List ℕ → List ℕ) (h : List Ent
 at-place setup hash h core with_connection c j follows some within is =
     let same : (c - 1) + 1 ≡ c = omega (arith, some) in
     subst (λ n. IsJoined (facts setup hash h) n j) same (follows.known (c - 1) j within is)
-
-pub none-of-others : (setup : Configured) (hash : List ℕ → List ℕ) (h : List Entry) (caller c : ℕ) (j : Joined) → IsJoined (facts setup hash h) c j
-    → (j.caller ≡ caller → ⊥) → IsOpenFor (facts setup hash h) caller c → ⊥
-none-of-others setup hash h caller c j at other may = other (sym at.owner ∙ may.1)
 
 pub none-closed : (setup : Configured) (hash : List ℕ → List ℕ) (h : List Entry) (core : CoreState) (caller c : ℕ) (j : Joined) → StandsAt setup hash h core
     → IsJoined (facts setup hash h) c j → (IsSeated j.connection core → ⊥) → IsOpenFor (facts setup hash h) caller c → ⊥

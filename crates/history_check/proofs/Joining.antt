@@ -79,7 +79,7 @@ known-before f caller peer challenge i j less is =
     record {
       number = is.number;
       owner = ap (λ (a : About). a.owner) same ∙ is.owner;
-      challenge = ap (λ (a : About). a.challenge) same ∙ is.challenge;
+      challenge = ap (λ (a : About). a.sender.challenge) same ∙ is.challenge;
     }
 
 -- and so is it
@@ -90,7 +90,7 @@ known-new f caller peer challenge i j is number owner given =
     (record {
       number = number;
       owner = ap (λ (a : About). a.owner) (about-new f caller peer challenge) ∙ sym owner;
-      challenge = ap (λ (a : About). a.challenge) (about-new f caller peer challenge) ∙ sym given;
+      challenge = ap (λ (a : About). a.sender.challenge) (about-new f caller peer challenge) ∙ sym given;
     })
 
 known-all : (f : Facts) (caller : ℕ) (peer challenge : List ℕ) (js : List Joined) (j : Joined) → length js ≡ f.joins

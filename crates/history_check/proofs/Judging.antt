@@ -1,5 +1,5 @@
 -- Entry by entry: as far as a history was looked at, a hub follows it.
-use Rattle.std.proofs.Common.{◌≡◌, ◌∙◌, ap, refl, sym, subst, ℕ, zero, suc, ◌+◌, ◌<◌, ◌≤◌, List, [], ◌∷◌, ◌++◌, get_or, length, take, arith}
+use Rattle.std.proofs.Common.{◌≡◌, ◌∙◌, ap, refl, sym, subst, ℕ, zero, suc, ◌+◌, ◌<◌, List, [], ◌∷◌, ◌++◌, get_or, length, take, arith}
 use Rattle.std.proofs.Math.Seq.{take-suc}
 use Rattle.history_check.specs.declared.check.Demand.{Demand}
 use Rattle.history_check.specs.declared.check.Joined.{Joined}
@@ -12,7 +12,6 @@ use Rattle.hub_core.specs.Moves.{StandsAt}
 use Rattle.hub_rules.specs.declared.history.Entry.{Entry}
 use Rattle.hub_rules.specs.Configured.{Configured}
 use Rattle.hub_rules.specs.Facts.{facts}
-use Rattle.hub_rules.specs.Legal.{Legal}
 
 -- ---- before the first entry
 
@@ -70,16 +69,3 @@ faults setup hash entries place e core joined demand within is follows demands =
   follows.stands.legal,
   (λ x at. subst (λ (y : written.Entry). Demands setup hash (history_of (take place entries) []) y demand) (is ∙ same-at entries place e x within ∙ sym at) demands),
 )
-
--- ---- behind the last entry
-
-all-taken : (xs : List written.Entry) (n : ℕ) → length xs ≤ n → take n xs ≡ xs
-all-taken [] zero past = refl
-all-taken [] (suc n) past = refl
-all-taken (x ∷ xs) zero past = absurd (omega (arith, past))
-all-taken (x ∷ xs) (suc n) past = ap (λ ys. x ∷ ys) (all-taken xs n (omega (arith, past)))
-
-pub legal-all : (setup : Configured) (hash : List ℕ → List ℕ) (entries : List written.Entry) (place : ℕ) (core : CoreState) (joined : List Joined) → length entries ≤ place
-    → Follows setup hash (history_of (take place entries) []) core joined → Legal setup hash (history_of entries [])
-legal-all setup hash entries place core joined past follows =
-    subst (λ (es : List written.Entry). Legal setup hash (history_of es [])) (all-taken entries place past) follows.stands.legal

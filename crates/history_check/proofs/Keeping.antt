@@ -15,7 +15,7 @@ use Rattle.hub_rules.specs.Shares.{About}
 -- who joined a connection, and with which challenge
 pub record Alike (a b : About) : Type 0 where
   pub owner : a.owner ≡ b.owner
-  pub challenge : a.challenge ≡ b.challenge
+  pub challenge : a.sender.challenge ≡ b.sender.challenge
 
 taken-alike : (count : ℕ) (a : About) (same : Bool) → Alike (cond same (with_lines_taken count a) a) a
 taken-alike count a true = record { owner = refl; challenge = refl }

@@ -29,7 +29,7 @@ prepared-bytes setup hash challenge bytes = refl
 
 pub line-said : (setup : Configured) (hash : List ℕ → List ℕ) (old new : CoreState) (c : ℕ) (line : PreparedLine) (challenge bytes : List ℕ) (now : ℕ) (verdict : Verdict)
     → LineMoves old c line now verdict new → line ≡ prepared_line setup hash challenge bytes → (h : List Entry) (caller : ℕ) → StandsAt setup hash h old
-    → MayCall (facts setup hash h) caller (Line c bytes now) → challenge ≡ ((facts setup hash h).about c).challenge
+    → MayCall (facts setup hash h) caller (Line c bytes now) → challenge ≡ ((facts setup hash h).about c).sender.challenge
     → StandsAt setup hash (entry caller (Line c bytes now) (Said verdict) ∷ h) new
 line-said setup hash old new c line challenge bytes now verdict moves is h caller at may given =
     let same : line.bytes ≡ bytes = ap (λ (l : PreparedLine). l.bytes) is ∙ prepared-bytes setup hash challenge bytes in
@@ -42,7 +42,7 @@ pub made-line : (setup : Configured) (hash : List ℕ → List ℕ) (h : List En
 made-line setup hash h old new joined caller c bytes now found said follows at is =
     let stands : StandsAt setup hash (entry caller (Line found.connection bytes now) (reply_of said) ∷ h) new =
     is h caller follows.stands (subst (λ n. IsOpenFor (facts setup hash h) caller n) (sym at.1) at.0)
-    (at.2 ∙ ap (λ n. ((facts setup hash h).about n).challenge) (sym at.1)) in (
+    (at.2 ∙ ap (λ n. ((facts setup hash h).about n).sender.challenge) (sym at.1)) in (
       at.0,
       follows-on setup hash h old new joined caller (Line c bytes now) (reply_of said) (line-kept setup hash (facts setup hash h) caller c bytes now) follows
           (subst (λ n. StandsAt setup hash (entry caller (Line n bytes now) (reply_of said) ∷ h) new) at.1 stands),

@@ -19,7 +19,7 @@ use Rattle.hub_rules.specs.Legal.{IsOpenFor, MayCall}
 pub record IsJoined (f : Facts) (c : ℕ) (j : Joined) : Type 0 where
   pub number : j.connection ≡ c
   pub owner : (f.about c).owner ≡ j.caller
-  pub challenge : (f.about c).challenge ≡ j.challenge
+  pub challenge : (f.about c).sender.challenge ≡ j.challenge
 
 pub record Follows (setup : Configured) (hash : List ℕ → List ℕ) (h : List Entry) (core : CoreState) (joined : List Joined) : Type 0 where
   pub stands : StandsAt setup hash h core
@@ -29,7 +29,7 @@ pub record Follows (setup : Configured) (hash : List ℕ → List ℕ) (h : List
 -- the connection that was found for a caller, where it is open and that caller joined it
 abbrev pub FoundAs : Facts → ℕ → ℕ → Option Joined → Type 0
 FoundAs f caller c None = IsOpenFor f caller c → ⊥
-FoundAs f caller c (Some j) = IsOpenFor f caller c × (j.connection ≡ c) × (j.challenge ≡ (f.about c).challenge)
+FoundAs f caller c (Some j) = IsOpenFor f caller c × (j.connection ≡ c) × (j.challenge ≡ (f.about c).sender.challenge)
 
 abbrev pub Finds : ℕ → ℕ → CoreState → List Joined → Option Joined → Type 0
 Finds caller c core joined found =
@@ -39,7 +39,7 @@ Finds caller c core joined found =
 abbrev pub IsSaid : Configured → (List ℕ → List ℕ) → ℕ → List ℕ → List ℕ → ℕ → written_reply.Reply → CoreState → CoreState → Type 0
 IsSaid setup hash c challenge bytes now reply old new =
     (h : List Entry) (caller : ℕ) → StandsAt setup hash h old → MayCall (facts setup hash h) caller (Line c bytes now)
-    → challenge ≡ ((facts setup hash h).about c).challenge → StandsAt setup hash (entry caller (Line c bytes now) (reply_of reply) ∷ h) new
+    → challenge ≡ ((facts setup hash h).about c).sender.challenge → StandsAt setup hash (entry caller (Line c bytes now) (reply_of reply) ∷ h) new
 
 -- a call was made where it may be, and this was answered
 abbrev pub MadeAs : Configured → (List ℕ → List ℕ) → List Entry → ℕ → Call → Option written_reply.Reply → CoreState → List Joined → Type 0

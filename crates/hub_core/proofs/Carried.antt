@@ -60,14 +60,14 @@ unfolding carried_out happens
 carried-out setup c effect f sound n tidy open_c suits =
     same-core setup f.joins f.last (seats-carried setup c effect f sound tidy suits)
     (ap₂ (λ sid phase. users_after effect.change sid phase (map (user_of f.about) f.present))
-    (in-open c (λ seat. seat.sid) 0 f.about f.opened open_c) (in-open c (λ seat. seat.phase) phases.Gone f.about f.opened open_c)
+    (in-open c (λ seat. seat.sender.sid) 0 f.about f.opened open_c) (in-open c (λ seat. seat.phase) phases.Gone f.about f.opened open_c)
     ∙ users-carried setup f c effect sound n open_c suits)
 
 -- ---- the decision
 
 abbrev own_with : About → Stage → List Field → List ℕ → Own
 own_with a stage fields expected =
-    record { sid = a.sid; peer = a.peer; challenge = a.challenge; stage = stage; features = a.features; fields = fields; expected = expected; searched = a.searched }
+    record { sender = a.sender; stage = stage; fields = fields; expected = expected }
 
 own-is : (a : About) (stage : Stage) (fields : List Field) (expected : List ℕ) → a.stage ≡ stage → a.fields ≡ fields → a.expected ≡ expected → own_with a stage fields expected ≡ own_of a
 own-is a stage fields expected s fs e =
@@ -94,40 +94,40 @@ unfolding listed_user
 itself-listed sid fields = refl
 
 -- the user of a connection is found by its session identifier
-found-one : (f : Facts) (c d : ℕ) (xs : List ℕ) (same : Bool) → (d == c) ≡ same → has_sid (f.about c).sid (user_of f.about d) ≡ same
-    → (same ≡ false → find (has_sid (f.about c).sid) (map (user_of f.about) xs) ≡ Some (user_of f.about c))
-    → (if has_sid (f.about c).sid (user_of f.about d) then Some (user_of f.about d) else find (has_sid (f.about c).sid) (map (user_of f.about) xs)) ≡ Some (user_of f.about c)
+found-one : (f : Facts) (c d : ℕ) (xs : List ℕ) (same : Bool) → (d == c) ≡ same → has_sid (f.about c).sender.sid (user_of f.about d) ≡ same
+    → (same ≡ false → find (has_sid (f.about c).sender.sid) (map (user_of f.about) xs) ≡ Some (user_of f.about c))
+    → (if has_sid (f.about c).sender.sid (user_of f.about d) then Some (user_of f.about d) else find (has_sid (f.about c).sender.sid) (map (user_of f.about) xs)) ≡ Some (user_of f.about c)
 found-one f c d xs true is tell rest =
-    ap (λ b. if b then Some (user_of f.about d) else find (has_sid (f.about c).sid) (map (user_of f.about) xs)) tell ∙ ap (λ x. Some (user_of f.about x)) (eqb-true d c is)
+    ap (λ b. if b then Some (user_of f.about d) else find (has_sid (f.about c).sender.sid) (map (user_of f.about) xs)) tell ∙ ap (λ x. Some (user_of f.about x)) (eqb-true d c is)
 found-one f c d xs false is tell rest =
-    ap (λ b. if b then Some (user_of f.about d) else find (has_sid (f.about c).sid) (map (user_of f.about) xs)) tell ∙ rest refl
+    ap (λ b. if b then Some (user_of f.about d) else find (has_sid (f.about c).sender.sid) (map (user_of f.about) xs)) tell ∙ rest refl
 
 rest-has : (c d : ℕ) (xs : List ℕ) → (d == c) ≡ false → ((d == c) || has c xs) ≡ true → has c xs ≡ true
 rest-has c d xs other there = sym (ap (λ b. b || has c xs) other) ∙ there
 
-found-by : (f : Facts) (c : ℕ) (xs : List ℕ) → ((d : ℕ) → has d xs ≡ true → has_sid (f.about c).sid (user_of f.about d) ≡ (d == c)) → has c xs ≡ true
-    → find (has_sid (f.about c).sid) (map (user_of f.about) xs) ≡ Some (user_of f.about c)
+found-by : (f : Facts) (c : ℕ) (xs : List ℕ) → ((d : ℕ) → has d xs ≡ true → has_sid (f.about c).sender.sid (user_of f.about d) ≡ (d == c)) → has c xs ≡ true
+    → find (has_sid (f.about c).sender.sid) (map (user_of f.about) xs) ≡ Some (user_of f.about c)
 found-by f c [] tells there = absurd (false≢true there)
 found-by f c (d ∷ xs) tells there =
     found-one f c d xs (d == c) refl (tells d (ap (λ b. b || has d xs) (eq-eqb d d refl)))
     (λ other. found-by f c xs (λ x here. tells x (ap (λ b. (d == x) || b) here ∙ or-true (d == x))) (rest-has c d xs other there))
 
 tells-sid : (setup : Configured) (f : Facts) (c : ℕ) → Sound f → Numbered setup f → has c f.opened ≡ true → (d : ℕ) → has d f.opened ≡ true → (same : Bool) → (d == c) ≡ same
-    → eqb (f.about d).sid (f.about c).sid ≡ same
-tells-sid setup f c sound n open_c d open_d true is = eq-eqb (f.about d).sid (f.about c).sid (ap (λ x. (f.about x).sid) (eqb-true d c is))
-tells-sid setup f c sound n open_c d open_d false is = differs-sid setup f sound n c d open_c open_d (not-self d c is) (eqb (f.about d).sid (f.about c).sid) refl
+    → eqb (f.about d).sender.sid (f.about c).sender.sid ≡ same
+tells-sid setup f c sound n open_c d open_d true is = eq-eqb (f.about d).sender.sid (f.about c).sender.sid (ap (λ x. (f.about x).sender.sid) (eqb-true d c is))
+tells-sid setup f c sound n open_c d open_d false is = differs-sid setup f sound n c d open_c open_d (not-self d c is) (eqb (f.about d).sender.sid (f.about c).sender.sid) refl
 
 pub found-user : (setup : Configured) (f : Facts) (c : ℕ) → Sound f → Numbered setup f → has c f.opened ≡ true → is_present (f.about c).stage ≡ true
-    → user_by_sid (f.about c).sid (map (user_of f.about) f.present) ≡ Some (user_of f.about c)
+    → user_by_sid (f.about c).sender.sid (map (user_of f.about) f.present) ≡ Some (user_of f.about c)
 found-user setup f c sound n open_c here =
     found-by f c f.present
-    (λ d there. ap (λ s. eqb s (f.about c).sid) (listed-sid (f.about d).sid (f.about d).fields)
+    (λ d there. ap (λ s. eqb s (f.about c).sender.sid) (listed-sid (f.about d).sender.sid (f.about d).fields)
     ∙ tells-sid setup f c sound n open_c d (sound.are_open d (not-over (f.about d).stage (sym (sound.entered d) ∙ there))) (d == c) refl)
     (sound.entered c ∙ here)
 
 decided-by : (setup : Configured) (f : Facts) (c : ℕ) (line : PreparedLine) (now : ℕ) (effect : Effect) (stage : Stage) → (f.about c).stage ≡ stage
     → Sound f → Numbered setup f → Tidy (f.about c) → has c f.opened ≡ true
-    → DecidedFor (user_at (phase_at stage (f.about c)) (f.about c).sid (map (user_of f.about) f.present)) (sight_of setup f) (record (seat_of f.about c) { phase = phase_at stage (f.about c) }) line now effect
+    → DecidedFor (user_at (phase_at stage (f.about c)) (f.about c).sender.sid (map (user_of f.about) f.present)) (sight_of setup f) (record (seat_of f.about c) { phase = phase_at stage (f.about c) }) line now effect
     → effect ≡ line_effect (sight_of setup f) (own_of (f.about c)) line now
 decided-by setup f c line now effect stages.Protocol is sound n tidy open_c decided =
     decided tt ∙ ap (λ o. line_effect (sight_of setup f) o line now)
@@ -136,14 +136,14 @@ decided-by setup f c line now effect stages.Identify is sound n tidy open_c deci
     decided refl ∙ ap (λ o. line_effect (sight_of setup f) o line now)
     (own-is (f.about c) stages.Identify [] [] is (tidy.unnamed (ap is_unnamed is)) (tidy.unasked (ap is_unasked is)))
 decided-by setup f c line now effect stages.Verify is sound n tidy open_c decided =
-    decided (ap Some (entrant-user (f.about c).sid (f.about c).fields))
+    decided (ap Some (entrant-user (f.about c).sender.sid (f.about c).fields))
     ∙ ap (λ o. line_effect (sight_of setup f) o line now)
-    (own-is (f.about c) stages.Verify _ (f.about c).expected is (sym (entrant-fields (f.about c).sid (f.about c).fields)) refl)
+    (own-is (f.about c) stages.Verify _ (f.about c).expected is (sym (entrant-fields (f.about c).sender.sid (f.about c).fields)) refl)
 decided-by setup f c line now effect stages.Normal is sound n tidy open_c decided =
     subst (λ (u : Option Listed). DecidedFor u (sight_of setup f) (record (seat_of f.about c) { phase = phase_at stages.Normal (f.about c) }) line now effect)
-    (found-user setup f c sound n open_c (ap is_present is)) decided (ap Some (itself-listed (f.about c).sid (f.about c).fields))
+    (found-user setup f c sound n open_c (ap is_present is)) decided (ap Some (itself-listed (f.about c).sender.sid (f.about c).fields))
     ∙ ap (λ o. line_effect (sight_of setup f) o line now)
-    (own-is (f.about c) stages.Normal _ [] is (sym (fields-listed (f.about c).sid (f.about c).fields)) (tidy.unasked (ap is_unasked is)))
+    (own-is (f.about c) stages.Normal _ [] is (sym (fields-listed (f.about c).sender.sid (f.about c).fields)) (tidy.unasked (ap is_unasked is)))
 decided-by setup f c line now effect stages.Gone is sound n tidy open_c decided =
     decided tt ∙ quiet-by (sight_of setup f) _ line now refl ∙ sym (quiet-by (sight_of setup f) (own_of (f.about c)) line now (ap is_over is))
 
@@ -156,7 +156,7 @@ decided-is setup f c line now effect sound n tidy open_c decided = decided-by se
 pub carried-as : (core : CoreState) (c : ℕ) (effect : Effect) (i : ℕ) (seat now : Seat) (seats : List Seat) (users : List Listed) (bans : List (List ℕ × Ban)) (topic : List ℕ)
     → StandsFirst c core.seats i → seat ≡ get_or core.seats i seat → now ≡ changed_seat effect.change seat
     → seats ≡ delivered_all (removed_of effect.change) (slice_set core.seats i now) (map (seat_share c effect) core.seats)
-    → users ≡ users_after effect.change seat.sid seat.phase core.users
+    → users ≡ users_after effect.change seat.sender.sid seat.phase core.users
     → bans ≡ bans_after effect.change core.bans → topic ≡ topic_after effect.change core.topic
     → record core { seats = seats; users = users; bans = bans; topic = topic } ≡ carried_out c effect core
 unfolding carried_out

@@ -44,12 +44,12 @@ same-named touched a = record {
 }
 
 -- more lines wait for a connection only where it is owed some
-told-by : (touched : Touched) (a : About) (share : List (List ℕ)) → Tidy a → (share ≢ [] → names touched a.sid ≡ true)
-    → length (waiting a) < length (waiting (record a { owed = owed_with a share })) → names touched a.sid ≡ true
+told-by : (touched : Touched) (a : About) (share : List (List ℕ)) → Tidy a → (share ≢ [] → names touched a.sender.sid ≡ true)
+    → length (waiting a) < length (waiting (record a { owed = owed_with a share })) → names touched a.sender.sid ≡ true
 told-by touched a [] tidy some more = absurd (omega (arith, more, ap (λ (o : Backlog). length o.lines) (with-nothing a tidy.lines tidy.bytes)))
 told-by touched a (line ∷ lines) tidy some more = some (λ none. cc)
 
-lags-by : (touched : Touched) (a : About) (share : List (List ℕ)) → Tidy a → (share ≢ [] → names touched a.sid ≡ true) → a.lags ≡ false → lags_with a share ≡ true → names touched a.sid ≡ true
+lags-by : (touched : Touched) (a : About) (share : List (List ℕ)) → Tidy a → (share ≢ [] → names touched a.sender.sid ≡ true) → a.lags ≡ false → lags_with a share ≡ true → names touched a.sender.sid ≡ true
 lags-by touched a [] tidy some was is = absurd (false≢true (sym was ∙ ap (λ (o : Backlog). o.lags) (with-nothing a tidy.lines tidy.bytes) ∙ is))
 lags-by touched a (line ∷ lines) tidy some was is = some (λ none. cc)
 
@@ -73,14 +73,14 @@ over-by touched sid false true change stage gone fallen was is = fallen refl (fa
 over-by touched sid false false change stage gone fallen was is = absurd (false≢true (sym was ∙ is))
 
 -- whoever is named where it is owed lines or shut out is named where an effect concerns it
-affected-named : (touched : Touched) (effect : Effect) (is_caller : Bool) (a : About) → Tidy a → (owes is_caller effect a ≢ [] → names touched a.sid ≡ true)
-    → (is_removed effect.change a.sid ≡ true → names touched a.sid ≡ true) → (is_caller ≡ true → falls effect.change ≡ true → names touched a.sid ≡ true)
+affected-named : (touched : Touched) (effect : Effect) (is_caller : Bool) (a : About) → Tidy a → (owes is_caller effect a ≢ [] → names touched a.sender.sid ≡ true)
+    → (is_removed effect.change a.sender.sid ≡ true → names touched a.sender.sid ≡ true) → (is_caller ≡ true → falls effect.change ≡ true → names touched a.sender.sid ≡ true)
     → NamesOne touched a (affected_connection is_caller effect a)
 affected-named touched effect is_caller a tidy some gone fallen = record {
   told = λ more. told-by touched a (owes is_caller effect a) tidy some more;
   lags = λ was is. lags-by touched a (owes is_caller effect a) tidy some was is;
-  shut_out = λ was is. over-by touched a.sid (removed_by effect a) is_caller effect.change a.stage
-      (λ removed. gone ((both (is_present a.stage) (is_removed effect.change a.sid) removed).1)) fallen was is;
+  shut_out = λ was is. over-by touched a.sender.sid (removed_by effect a) is_caller effect.change a.stage
+      (λ removed. gone ((both (is_present a.stage) (is_removed effect.change a.sender.sid) removed).1)) fallen was is;
 }
 
 -- ---- lines
@@ -89,15 +89,15 @@ affected-named touched effect is_caller a tidy some gone fallen = record {
 pub removed-none : (change : Change) (sid : ℕ) → removed_of change ≡ removals.Nobody → is_removed change sid ≡ true → ⊥
 removed-none change sid none is = false≢true (ap (λ (r : Removal). is_named r sid) (sym none) ∙ named change sid ∙ is)
 
-owed-named : (touched : Touched) (own c d : ℕ) (effect : Effect) (a : About) → NamesOwed touched own effect → Routed effect.hearers → ((d == c) ≡ true → a.sid ≡ own)
-    → owes (d == c) effect a ≢ [] → names touched a.sid ≡ true
+owed-named : (touched : Touched) (own c d : ℕ) (effect : Effect) (a : About) → NamesOwed touched own effect → Routed effect.hearers → ((d == c) ≡ true → a.sender.sid ≡ own)
+    → owes (d == c) effect a ≢ [] → names touched a.sender.sid ≡ true
 owed-named touched own c d effect a owed routed is_own some =
     owed c (seat_with d a) (λ is. is_own (eq-eqb d c is)) (λ none. some (sym (share-same c d effect a routed) ∙ none))
 
-line-named : (touched : Touched) (own c d : ℕ) (effect : Effect) (a : About) → NamesEffect touched own effect → Routed effect.hearers → ((d == c) ≡ true → a.sid ≡ own) → Tidy a
+line-named : (touched : Touched) (own c d : ℕ) (effect : Effect) (a : About) → NamesEffect touched own effect → Routed effect.hearers → ((d == c) ≡ true → a.sender.sid ≡ own) → Tidy a
     → NamesOne touched a (affected_connection (d == c) effect a)
 line-named touched own c d effect a n routed is_own tidy =
-    affected-named touched effect (d == c) a tidy (owed-named touched own c d effect a n.owed routed is_own) (n.removed a.sid)
+    affected-named touched effect (d == c) a tidy (owed-named touched own c d effect a n.owed routed is_own) (n.removed a.sender.sid)
     (λ is falls. ap (names touched) (is_own is) ∙ n.fallen falls)
 
 pub line-touches : (old new : CoreState) (c : ℕ) (line : PreparedLine) (now : ℕ) (seat : Seat) (effect : Effect)
@@ -110,12 +110,12 @@ unfolding Stands facts after happens
 line-touches old new c line now seat effect small is_seat decided n setup hash h caller reply at may is_line d there =
     let f : Facts = facts setup hash h in
     let is_effect = effect-is old c line now seat effect small is_seat decided setup hash h at may.0 is_line in
-    let is_sid : sid_in c old.seats ≡ (f.about c).sid =
-    ap (λ (s : CoreState). sid_in c s.seats) at.stands ∙ in-open c (λ seat. seat.sid) 0 f.about f.opened may.0 in
+    let is_sid : sid_in c old.seats ≡ (f.about c).sender.sid =
+    ap (λ (s : CoreState). sid_in c s.seats) at.stands ∙ in-open c (λ seat. seat.sender.sid) 0 f.about f.opened may.0 in
     let suits : Suits (own_of (f.about c)) (effect_of_line setup hash f c line.bytes now) = suits_of setup hash h c line.bytes now in
-    line-named new.touched (f.about c).sid c d (effect_of_line setup hash f c line.bytes now) (f.about d)
-    (subst (NamesEffect new.touched (f.about c).sid) is_effect (subst (λ sid. NamesEffect new.touched sid effect) is_sid n))
-    suits.routed (λ is. ap (λ x. (f.about x).sid) (eqb-true d c is)) (tidy_of setup hash h d)
+    line-named new.touched (f.about c).sender.sid c d (effect_of_line setup hash f c line.bytes now) (f.about d)
+    (subst (NamesEffect new.touched (f.about c).sender.sid) is_effect (subst (λ sid. NamesEffect new.touched sid effect) is_sid n))
+    suits.routed (λ is. ap (λ x. (f.about x).sender.sid) (eqb-true d c is)) (tidy_of setup hash h d)
 
 -- ---- quits
 
@@ -128,8 +128,8 @@ farewell-none false false true sid is = refl
 farewell-none false false false sid is = refl
 
 left-told : (touched : Touched) (stage : Stage) (sid : ℕ) (is_caller : Bool) (a : About) (here : Bool) → is_present stage ≡ here
-    → (here ≡ true → (s : ℕ) → names touched s ≡ true) → owes is_caller (departure stage sid) a ≢ [] → names touched a.sid ≡ true
-left-told touched stage sid is_caller a true is all some = all refl a.sid
+    → (here ≡ true → (s : ℕ) → names touched s ≡ true) → owes is_caller (departure stage sid) a ≢ [] → names touched a.sender.sid ≡ true
+left-told touched stage sid is_caller a true is all some = all refl a.sender.sid
 left-told touched stage sid is_caller a false is all some =
     absurd (some (farewell-none (is_present stage) (hears is_caller (departure stage sid).hearers a) is_caller sid is))
 
@@ -145,8 +145,8 @@ quit-touches old new c all setup hash h caller reply at may d there =
     let stage : stage_in (phase_in c old.seats) ≡ (f.about c).stage =
     ap (λ (s : CoreState). stage_in (phase_in c s.seats)) at.stands
     ∙ ap stage_in (in-open c (λ seat. seat.phase) phases.Gone f.about f.opened may.0) ∙ stage-kept c (f.about c) in
-    affected-named new.touched (departure (f.about c).stage (f.about c).sid) (d == c) (f.about d) (tidy_of setup hash h d)
-    (left-told new.touched (f.about c).stage (f.about c).sid (d == c) (f.about d) (is_present (f.about c).stage) refl (λ is. all (ap is_present stage ∙ is)))
+    affected-named new.touched (departure (f.about c).stage (f.about c).sender.sid) (d == c) (f.about d) (tidy_of setup hash h d)
+    (left-told new.touched (f.about c).stage (f.about c).sender.sid (d == c) (f.about d) (is_present (f.about c).stage) refl (λ is. all (ap is_present stage ∙ is)))
     (λ is. absurd (false≢true is))
     (λ is _. absurd (left-other c d f.opened there is))
 

@@ -33,7 +33,7 @@ pub numbers-kept : (before after : List Seat) → keys after ≡ keys before →
 numbers-kept before after same = sym (number-keys after) ∙ ap (λ (ks : Keys). map (λ (key : ℕ × ℕ). key.1) ks) same ∙ number-keys before
 
 abbrev key : Seat → ℕ × ℕ
-key seat = (seat.sid, seat.number)
+key seat = (seat.sender.sid, seat.number)
 
 key-gone : (gone : Bool) (seat : Seat) → key (gone_if gone seat) ≡ key seat
 key-gone true seat = refl
@@ -78,7 +78,7 @@ indexed-same index before after same indexed = subst (λ ks. AreIndexed index ks
 -- ---- what the index has of a seat
 
 pub indexed-at : (index : Keys) (seats : List Seat) (i : ℕ) (d : Seat) → AreIndexed index (keys seats) → i < length seats
-    → number_at index (get_or seats i d).sid ≡ Some (get_or seats i d).number
+    → number_at index (get_or seats i d).sender.sid ≡ Some (get_or seats i d).number
 unfolding AreIndexed
 indexed-at index [] i d indexed within = absurd (omega (arith, within))
 indexed-at index (seat ∷ seats) zero d indexed within = indexed.0
@@ -86,9 +86,9 @@ indexed-at index (seat ∷ seats) (suc i) d indexed within = indexed-at index se
 
 -- the number of the seat that was read stands under its identifier
 pub indexed-read : (index : Keys) (c : ℕ) (seats : List Seat) (i : ℕ) (seat : Seat) → StandsFirst c seats i → seat ≡ get_or seats i seat → AreIndexed index (keys seats)
-    → number_at index seat.sid ≡ Some c
+    → number_at index seat.sender.sid ≡ Some c
 indexed-read index c seats i seat at is indexed =
-    ap (λ (s : Seat). number_at index s.sid) is ∙ indexed-at index seats i seat indexed at.within
+    ap (λ (s : Seat). number_at index s.sender.sid) is ∙ indexed-at index seats i seat indexed at.within
     ∙ ap (λ n. Some n) (eqb-true (get_or seats i seat).number c (at.here seat))
 
 -- ---- one more seat
@@ -102,11 +102,11 @@ differs-by : (sid other : ℕ) (same : Bool) → (sid == other) ≡ same → (si
 differs-by sid other true is differs = absurd (differs (eqb-true sid other is))
 differs-by sid other false is differs = refl
 
-pub is-new : (sid : ℕ) (seats : List Seat) → (Contains (map (λ (seat : Seat). seat.sid) seats) sid → ⊥) → IsNew sid (keys seats)
+pub is-new : (sid : ℕ) (seats : List Seat) → (Contains (map (λ (seat : Seat). seat.sender.sid) seats) sid → ⊥) → IsNew sid (keys seats)
 unfolding IsNew
 is-new sid [] free = tt
 is-new sid (seat ∷ seats) free = (
-  differs-by sid seat.sid (sid == seat.sid) refl (λ same. free (0, omega arith, sym same)),
+  differs-by sid seat.sender.sid (sid == seat.sender.sid) refl (λ same. free (0, omega arith, sym same)),
   is-new sid seats (λ there. free (suc there.0, omega (arith, there.1), there.2)),
 )
 
@@ -122,7 +122,7 @@ unfolding AreIndexed
 indexed-append index [] k indexed here = (here, tt)
 indexed-append index (first ∷ ks) k indexed here = (indexed.0, indexed-append index ks k indexed.1 here)
 
-pub indexed-push : (index after : Keys) (seats : List Seat) (seat : Seat) (sid number : ℕ) → seat.sid ≡ sid → seat.number ≡ number → IsSetAt sid (Some number) index after
+pub indexed-push : (index after : Keys) (seats : List Seat) (seat : Seat) (sid number : ℕ) → seat.sender.sid ≡ sid → seat.number ≡ number → IsSetAt sid (Some number) index after
     → IsNew sid (keys seats) → AreIndexed index (keys seats) → AreIndexed after (keys (seats ++ seat ∷ []))
 indexed-push index after seats seat sid number is_sid is_number set new indexed =
     subst (λ ks. AreIndexed after ks) (sym (map-append key seats (seat ∷ [])))
@@ -131,19 +131,19 @@ indexed-push index after seats seat sid number is_sid is_number set new indexed 
 
 -- ---- a seat less
 
-other-differs : (index : Keys) (c sid : ℕ) (seat : Seat) → number_at index sid ≡ Some c → number_at index seat.sid ≡ Some seat.number → (seat.number == c) ≡ false
-    → (sid ≡ seat.sid → ⊥)
+other-differs : (index : Keys) (c sid : ℕ) (seat : Seat) → number_at index sid ≡ Some c → number_at index seat.sender.sid ≡ Some seat.number → (seat.number == c) ≡ false
+    → (sid ≡ seat.sender.sid → ⊥)
 other-differs index c sid seat here there other same =
     let both : Some seat.number ≡ Some c = sym there ∙ sym (ap (number_at index) same) ∙ here in
     false≢true (sym other ∙ eq-eqb seat.number c (ap (λ o. unwrap_or o 0) both))
 
 left-one : (index after : Keys) (c sid : ℕ) (seat : Seat) (rest : List Seat) (same : Bool) → (seat.number == c) ≡ same → IsSetAt sid None index after → number_at index sid ≡ Some c
-    → number_at index seat.sid ≡ Some seat.number → AreIndexed after (keys rest) → AreIndexed after (keys (cond (not same) (seat ∷ rest) rest))
+    → number_at index seat.sender.sid ≡ Some seat.number → AreIndexed after (keys rest) → AreIndexed after (keys (cond (not same) (seat ∷ rest) rest))
 unfolding AreIndexed
 left-one index after c sid seat rest true is set here there indexed = indexed
 left-one index after c sid seat rest false is set here there indexed =
-    let apart : (sid == seat.sid) ≡ false = differs-by sid seat.sid (sid == seat.sid) refl (other-differs index c sid seat here there is) in
-    (set seat.sid ∙ ap (λ b. cond b None (number_at index seat.sid)) apart ∙ there, indexed)
+    let apart : (sid == seat.sender.sid) ≡ false = differs-by sid seat.sender.sid (sid == seat.sender.sid) refl (other-differs index c sid seat here there is) in
+    (set seat.sender.sid ∙ ap (λ b. cond b None (number_at index seat.sender.sid)) apart ∙ there, indexed)
 
 pub indexed-left : (index after : Keys) (c sid : ℕ) (seats : List Seat) → IsSetAt sid None index after → number_at index sid ≡ Some c → AreIndexed index (keys seats)
     → AreIndexed after (keys (others_of c seats))

@@ -19,6 +19,7 @@ use Rattle.hub_core.specs.Seats.{at_seat, changed_seat, new_seat, removed_of, se
 use Rattle.hub_core.specs.State.{IsPlace, carried_out}
 use Rattle.hub_core.specs.CoreState.{CoreState}
 use Rattle.hub_rules.specs.declared.effect.Effect.{Effect}
+use Rattle.hub_rules.specs.Senders.{new_sender}
 use Rattle.hub_core.proofs.Places.{StandsFirst, none_passes}
 use Rattle.hub_core.proofs.Indexed.{keys-changed, keys-delivered, numbers-kept}
 use Rattle.hub_core.proofs.Tests.{false-lt, lt-true}
@@ -108,7 +109,7 @@ rising-at (seat ∷ seats) zero (suc j) d rising less within = above-at seat.num
 rising-at (seat ∷ seats) (suc i) (suc j) d rising less within = rising-at seats i j d rising.1 (omega (arith, less)) (omega (arith, within))
 
 no_seat : Seat
-no_seat = new_seat 0 0 [] []
+no_seat = new_seat 0 (new_sender 0 [] [])
 
 module _ (c : ℕ) (seats : List Seat) where
   abbrev has_it : Seat → Bool

@@ -3,7 +3,6 @@ use Rattle.std.proofs.Common.{◌≡◌, ◌∙◌, sym, ap, ap₂, refl, subst,
 use Rattle.std.specs.Prelude.{◌==◌, ◌||◌, ◌≢◌, cond, IfSome, Option, Some, None}
 use Rattle.std.proofs.lemmas.Bool.{eqb-true}
 use Rattle.std.proofs.lemmas.List.{append-nil, append_assoc, at_drop_more, at_drop_all}
-use Rattle.outboxes.specs.Backlogs.{backlog_after}
 use Rattle.feature_route.specs.Audiences.{holds_words}
 use Rattle.feature_route.specs.declared.hearers.Audience.{Audience}
 use Rattle.feature_route.specs.declared.hearers.Audience.TheVariants as audiences
@@ -97,18 +96,7 @@ pub both-owed : (owed : Seat → Lines) (seats : List Seat) (i j : ℕ) (d e : S
 both-owed owed seats i j d e less quiet =
     sym (two-shares 0 owed seats i j d e less quiet ∙ ap₂ (λ m n. share_at m (owed (get_or seats i d)) ++ share_at n (owed (get_or seats j e))) (omega arith) (omega arith))
 
-pub quiet-flipped : (owed : Seat → Lines) (seats : List Seat) (i j : ℕ) → i < length seats → AreQuietBut i j owed seats → AreQuietBut j i owed seats
-quiet-flipped owed seats i j within quiet = (within, λ k d less first second. quiet.1 k d less second first)
-
 -- ---- who is meant
-
-given-none : (hears : Bool) → cond {A = List (List ℕ)} hears [] [] ≡ []
-given-none true = refl
-given-none false = refl
-
-pub none-said : (one other : ℕ) (effect : Effect) → effect.others ≡ [] → IsMeant one other effect
-none-said one other effect is seat first second =
-    ap (λ xs. cond (phase_hears seat.phase false effect.hearers seat.sid) xs []) is ∙ given-none (phase_hears seat.phase false effect.hearers seat.sid)
 
 -- who hears nothing, whatever phase it is in
 quiet-in : (phase : Phase) (audience : Audience) (sid : ℕ) → ((support : Lines) → holds_words audience sid support ≡ false) → phase_hears phase false (Those audience) sid ≡ false
@@ -122,8 +110,8 @@ pub meant-by : (own : ℕ) (effect : Effect) (audience : Audience) (found : Opti
     → IfSome found (λ sid. IsOnlyFor own sid audience) → IfSome found (λ sid. IsMeant own sid effect)
 meant-by own effect audience None is only = tt
 meant-by own effect audience (Some sid) is only = λ seat first second.
-    ap (λ h. cond (phase_hears seat.phase false h seat.sid) effect.others []) is
-    ∙ ap (λ b. cond b effect.others []) (quiet-in seat.phase audience seat.sid (λ support. only seat.sid support first second))
+    ap (λ h. cond (phase_hears seat.phase false h seat.sender.sid) effect.others []) is
+    ∙ ap (λ b. cond b effect.others []) (quiet-in seat.phase audience seat.sender.sid (λ support. only seat.sender.sid support first second))
 
 -- ---- for whom a message is
 
@@ -156,10 +144,6 @@ unfolding given_at
 given-past i lines [] past = refl
 given-past zero lines (seat ∷ seats) past = absurd (omega (arith, past))
 given-past (suc i) lines (seat ∷ seats) past = ap (λ ss. seat ∷ ss) (given-past i lines seats (omega (arith, past)))
-
-pub given-some : (lines : Lines) (seat : Seat) → (lines ≡ [] → ⊥) → given_seat lines seat ≡ record seat { outbox = backlog_after seat.outbox lines }
-given-some [] seat some = absurd (some refl)
-given-some (line ∷ lines) seat some = refl
 
 first-given : (share : Share) (shares : List Share) (seats : List Seat) → given_all (share ∷ shares) seats ≡ given_all shares (given_at share.place share.lines seats)
 unfolding given_all

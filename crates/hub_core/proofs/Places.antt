@@ -6,6 +6,7 @@ use Rattle.std.proofs.lemmas.Bool.{false≢true}
 use Rattle.std.proofs.lemmas.List.Quantifiers.{position-Some}
 use Rattle.hub_core.specs.declared.seat.Seat.{Seat}
 use Rattle.hub_core.specs.Seats.{at_seat, in_seat, new_seat, outbox_in, phase_in, sid_in}
+use Rattle.hub_rules.specs.Senders.{new_sender}
 use Rattle.hub_core.proofs.Tests.{lt-true}
 
 -- the first seat with the number c stands at i
@@ -16,7 +17,7 @@ pub record StandsFirst (c : ℕ) (seats : List Seat) (i : ℕ) : Type 0 where
 
 pub stands_first : (c : ℕ) (seats : List Seat) (i : ℕ) → position (λ (seat : Seat). seat.number == c) seats ≡ Some i → StandsFirst c seats i
 stands_first c seats i e = record {
-  within = (position-Some (λ (seat : Seat). seat.number == c) seats i (new_seat 0 0 [] []) e).0;
+  within = (position-Some (λ (seat : Seat). seat.number == c) seats i (new_seat 0 (new_sender 0 [] [])) e).0;
   here = λ d. (position-Some (λ (seat : Seat). seat.number == c) seats i d e).1;
   before = λ k d h. (position-Some (λ (seat : Seat). seat.number == c) seats i d e).2 k h;
 }
@@ -76,10 +77,6 @@ none_passes p seats some none =
 pub found-alike : (c : ℕ) (seats same : List Seat) (i : ℕ) → same ≡ seats → position (λ (seat : Seat). seat.number == c) same ≡ Some i → StandsFirst c seats i
 found-alike c seats same i e place = stands_first c seats i (ap (position (λ (seat : Seat). seat.number == c)) (sym e) ∙ place)
 
--- the seat that was read has the number
-pub read-has-number : (c : ℕ) (seats : List Seat) (i : ℕ) (seat : Seat) → StandsFirst c seats i → seat ≡ get_or seats i seat → (seat.number == c) ≡ true
-read-has-number c seats i seat at e = ap (λ (s : Seat). s.number == c) e ∙ at.here seat
-
 -- the seat that was read is that of the connection
 pub seat-at : (c : ℕ) (seats : List Seat) (i : ℕ) (seat : Seat) → StandsFirst c seats i → seat ≡ get_or seats i seat → seat ≡ in_seat c (λ s. s) seat seats
 seat-at c seats i seat at e = e ∙ sym (in_seat-at c (λ s. s) seat seats i seat at)
@@ -96,8 +93,8 @@ outbox-at c seats i seat at e = in_seat-at c (λ (s : Seat). s.outbox) _ seats i
 pub phase-at : (c : ℕ) (seats : List Seat) (i : ℕ) (seat : Seat) → StandsFirst c seats i → seat ≡ get_or seats i seat → phase_in c seats ≡ seat.phase
 phase-at c seats i seat at e = in_seat-at c (λ (s : Seat). s.phase) _ seats i seat at ∙ sym (ap (λ (s : Seat). s.phase) e)
 
-pub sid-at : (c : ℕ) (seats : List Seat) (i : ℕ) (seat : Seat) → StandsFirst c seats i → seat ≡ get_or seats i seat → sid_in c seats ≡ seat.sid
-sid-at c seats i seat at e = in_seat-at c (λ (s : Seat). s.sid) _ seats i seat at ∙ sym (ap (λ (s : Seat). s.sid) e)
+pub sid-at : (c : ℕ) (seats : List Seat) (i : ℕ) (seat : Seat) → StandsFirst c seats i → seat ≡ get_or seats i seat → sid_in c seats ≡ seat.sender.sid
+sid-at c seats i seat at e = in_seat-at c (λ (s : Seat). s.sender.sid) _ seats i seat at ∙ sym (ap (λ (s : Seat). s.sender.sid) e)
 
 -- the seat of a connection, as it was found in the code's spelling of the hub
 pub at-core : (seats : List Seat) (c n : ℕ) (items same : List Seat) (i : ℕ) (seat : Seat) → same ≡ items → items ≡ seats → n ≡ c

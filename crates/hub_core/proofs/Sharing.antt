@@ -33,12 +33,12 @@ use Rattle.std.proofs.lemmas.Bool.{false≢true}
 -- ---- who hears
 
 those-same : (is_caller : Bool) (hearers : Hearers) (a : About) → Routed hearers → a.stage ≡ stages.Normal
-    → phase_hears (phases.Normal (feature_set (su_in a.fields))) is_caller hearers a.sid ≡ hears_those is_caller hearers a
+    → phase_hears (phases.Normal (feature_set (su_in a.fields))) is_caller hearers a.sender.sid ≡ hears_those is_caller hearers a
 those-same is_caller Others a routed here = refl
-those-same is_caller (Those to) a routed here = routed a.sid (su_in a.fields)
+those-same is_caller (Those to) a routed here = routed a.sender.sid (su_in a.fields)
 
 hears-at : (stage : Stage) (is_caller : Bool) (hearers : Hearers) (a : About) → Routed hearers → a.stage ≡ stage
-    → phase_hears (phase_at stage a) is_caller hearers a.sid ≡ (is_present stage && hears_those is_caller hearers a)
+    → phase_hears (phase_at stage a) is_caller hearers a.sender.sid ≡ (is_present stage && hears_those is_caller hearers a)
 hears-at stages.Protocol is_caller hearers a routed is = refl
 hears-at stages.Identify is_caller hearers a routed is = refl
 hears-at stages.Verify is_caller hearers a routed is = refl
@@ -97,13 +97,13 @@ gives a (line ∷ share) few lines bytes seat is =
 -- ---- a change
 
 -- of a connection whose user stays what it is, the phase stays
-kept-phase : (stage : Stage) (a b : About) → b.sid ≡ a.sid → b.fields ≡ a.fields → b.expected ≡ a.expected → phase_at stage a ≡ phase_at stage b
+kept-phase : (stage : Stage) (a b : About) → b.sender.sid ≡ a.sender.sid → b.fields ≡ a.fields → b.expected ≡ a.expected → phase_at stage a ≡ phase_at stage b
 kept-phase stages.Protocol a b sid fields expected = refl
 kept-phase stages.Identify a b sid fields expected = refl
 kept-phase stages.Verify a b sid fields expected =
     ap (λ n. phases.Verify (entrant (listed_user n a.fields)) a.expected) (sym sid)
-    ∙ ap (λ fs. phases.Verify (entrant (listed_user b.sid fs)) a.expected) (sym fields)
-    ∙ ap (λ (x : List ℕ). phases.Verify (entrant (listed_user b.sid b.fields)) x) (sym expected)
+    ∙ ap (λ fs. phases.Verify (entrant (listed_user b.sender.sid fs)) a.expected) (sym fields)
+    ∙ ap (λ (x : List ℕ). phases.Verify (entrant (listed_user b.sender.sid b.fields)) x) (sym expected)
 kept-phase stages.Normal a b sid fields expected = ap (λ fs. phases.Normal (feature_set (su_in fs))) (sym fields)
 kept-phase stages.Gone a b sid fields expected = refl
 
@@ -120,9 +120,9 @@ changed-phase Nothing a suited = kept-phase a.stage a (known_after Nothing a) re
 changed-phase (Sender (senders.Greets features)) a suited = refl
 changed-phase (Sender (senders.Waits newcomer expected)) a suited = ap (λ (e : Entrant). phases.Verify e expected) suited.1
 changed-phase (Sender senders.Enters) a suited =
-    ap (λ s. phase_after (Sender senders.Enters) (phase_at s a)) suited ∙ ap phases.Normal (entrant-support a.sid a.fields)
+    ap (λ s. phase_after (Sender senders.Enters) (phase_at s a)) suited ∙ ap phases.Normal (entrant-support a.sender.sid a.fields)
 changed-phase (Sender (senders.EntersAs newcomer)) a suited =
-    ap (λ (e : Entrant). phases.Normal e.support) suited.1 ∙ ap phases.Normal (entrant-support a.sid newcomer.user.fields)
+    ap (λ (e : Entrant). phases.Normal e.support) suited.1 ∙ ap phases.Normal (entrant-support a.sender.sid newcomer.user.fields)
 changed-phase (Sender (senders.Learns features)) a suited = kept-phase a.stage a (known_after (Sender (senders.Learns features)) a) refl refl refl
 changed-phase (Sender (senders.Updates revision)) a suited =
     ap phases.Normal suited.1 ∙ ap (λ s. phase_at s (known_after (Sender (senders.Updates revision)) a)) (sym suited.0)
@@ -150,11 +150,11 @@ named (Hub (shared.Ban banned)) sid = refl
 named (Hub (shared.Unban cid)) sid = refl
 named (Hub (shared.Topic text)) sid = refl
 
-removed-other : (change : Change) (a : About) → (is_present (stage_in (phase_of a)) && is_named (removed_of change) a.sid) ≡ (is_present a.stage && is_removed change a.sid)
-removed-other change a = ap₂ (λ s b. is_present s && b) (stage-of a.stage a) (named change a.sid)
+removed-other : (change : Change) (a : About) → (is_present (stage_in (phase_of a)) && is_named (removed_of change) a.sender.sid) ≡ (is_present a.stage && is_removed change a.sender.sid)
+removed-other change a = ap₂ (λ s b. is_present s && b) (stage-of a.stage a) (named change a.sender.sid)
 
 -- the connection that sent the line is shut out by an operator where its phase stays
-removed-self : (change : Change) (a : About) → (is_present (stage_in (phase_after change (phase_of a))) && is_named (removed_of change) a.sid) ≡ (is_present a.stage && is_removed change a.sid)
+removed-self : (change : Change) (a : About) → (is_present (stage_in (phase_after change (phase_of a))) && is_named (removed_of change) a.sender.sid) ≡ (is_present a.stage && is_removed change a.sender.sid)
 removed-self Nothing a = removed-other Nothing a
 removed-self (Sender change) a = and-false (is_present (stage_in (phase_after (Sender change) (phase_of a)))) ∙ sym (and-false (is_present a.stage))
 removed-self (Hub change) a = removed-other (Hub change) a
@@ -164,7 +164,7 @@ gone-seat true seat stage b is = refl
 gone-seat false seat stage b is = ap (λ (p : Phase). record seat { phase = p }) is
 
 -- a seat whose connection is at this stage, or is shut out
-removes : (removed : Bool) (change : Change) (seat : Seat) (stage : Stage) (b : About) → (is_present (stage_in seat.phase) && is_named (removed_of change) seat.sid) ≡ removed → seat.phase ≡ phase_at stage b
+removes : (removed : Bool) (change : Change) (seat : Seat) (stage : Stage) (b : About) → (is_present (stage_in seat.phase) && is_named (removed_of change) seat.sender.sid) ≡ removed → seat.phase ≡ phase_at stage b
     → removed_seat (removed_of change) seat ≡ record seat { phase = phase_at (cond removed stages.Gone stage) b }
 removes removed change seat stage b named is = ap (λ g. gone_if g seat) named ∙ gone-seat removed seat stage b is
 

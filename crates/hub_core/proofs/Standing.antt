@@ -38,6 +38,7 @@ use Rattle.hub_rules.specs.Effects.{departure, is_over, is_present, line_effect}
 use Rattle.hub_rules.specs.Facts.{Facts, about_after, after, without_connection, effect_of_line, facts, with_lines_taken, happens, has_joins, has_place, with_connection, max_joins, newcomer, next_sid, own_of, sight_of, user_of, with_one}
 use Rattle.hub_rules.specs.Identities.{listed_user}
 use Rattle.hub_rules.specs.Legal.{Legal, is_open, join_reply, reply, take_reply, verdict_of}
+use Rattle.hub_rules.specs.Senders.{new_sender}
 use Rattle.hub_rules.specs.Shares.{About, affected_connection, max_bytes, max_lines, owes, waiting}
 use Rattle.hub_rules.specs.Prepared.{prepared_line}
 use Rattle.hub_rules.specs.Sights.{PreparedLine}
@@ -76,7 +77,7 @@ pub effect-is : (old : CoreState) (c : ℕ) (line : PreparedLine) (now : ℕ) (s
     → seat ≡ in_seat c (λ s. s) seat old.seats
     → Decided (sight_in old) seat line now effect
     → (setup : Configured) (hash : List ℕ → List ℕ) (h : List Entry) → StandsAt setup hash h old → has c (facts setup hash h).opened ≡ true
-    → line ≡ prepared_line setup hash ((facts setup hash h).about c).challenge line.bytes
+    → line ≡ prepared_line setup hash ((facts setup hash h).about c).sender.challenge line.bytes
     → effect ≡ effect_of_line setup hash (facts setup hash h) c line.bytes now
 unfolding Stands
 effect-is old c line now seat effect small is_seat decided setup hash h at open_c is_line =
@@ -135,13 +136,13 @@ one-changes c change turn f sound each =
     at-one c change f.about f.opened sound.open_once
     ∙ seats-same (seat_one c change f.about) (seat_of (with_one c turn f.about)) f.opened (λ d. chosen-seat c d change turn f.about (d == c) (each d))
 
-user-one : (turn : About → About) (a : About) (same : Bool) → (turn a).sid ≡ a.sid → (turn a).fields ≡ a.fields
-    → listed_user a.sid a.fields ≡ listed_user (cond same (turn a) a).sid (cond same (turn a) a).fields
+user-one : (turn : About → About) (a : About) (same : Bool) → (turn a).sender.sid ≡ a.sender.sid → (turn a).fields ≡ a.fields
+    → listed_user a.sender.sid a.fields ≡ listed_user (cond same (turn a) a).sender.sid (cond same (turn a) a).fields
 user-one turn a true sid fields = sym (ap₂ listed_user sid fields)
 user-one turn a false sid fields = refl
 
 -- a take changes no user
-users-one : (c : ℕ) (turn : About → About) (f : Facts) → ((a : About) → (turn a).sid ≡ a.sid) → ((a : About) → (turn a).fields ≡ a.fields) → (xs : List ℕ)
+users-one : (c : ℕ) (turn : About → About) (f : Facts) → ((a : About) → (turn a).sender.sid ≡ a.sender.sid) → ((a : About) → (turn a).fields ≡ a.fields) → (xs : List ℕ)
     → map (user_of f.about) xs ≡ map (user_of (with_one c turn f.about)) xs
 users-one c turn f sid fields [] = refl
 users-one c turn f sid fields (d ∷ xs) =
@@ -176,7 +177,7 @@ take-moves old new c count lines bytes over touched is_new is_bytes is_lines is_
 -- ---- quits
 
 abbrev leaves : About → Effect
-leaves a = departure a.stage a.sid
+leaves a = departure a.stage a.sender.sid
 
 told-one : (here there : Bool) (sid : ℕ) (seat : Seat) → cond here (told_if there sid seat) seat ≡ given_seat (cond (there && true) (cond here (quit_line sid ∷ []) []) [] ++ []) seat
 told-one true true sid seat = refl
@@ -188,11 +189,11 @@ abbrev told_seat : Bool → ℕ → Seat → Seat
 told_seat here sid seat = cond here (seat_told sid seat) seat
 
 left-seat : (c d : ℕ) (a b : About) → (d == c) ≡ false → b.taken ≤ length b.owed → Tidy b
-    → told_seat (is_present a.stage) a.sid (seat_with d b) ≡ seat_with d (affected_connection (d == c) (leaves a) b)
+    → told_seat (is_present a.stage) a.sender.sid (seat_with d b) ≡ seat_with d (affected_connection (d == c) (leaves a) b)
 left-seat c d a b other few tidy =
     let seat : Seat = given_seat (owes false (leaves a) b) (seat_with d b) in
-    ap (λ s. cond (is_present a.stage) (told_if (is_present s) a.sid (seat_with d b)) (seat_with d b)) (stage-kept d b)
-    ∙ told-one (is_present a.stage) (is_present b.stage) a.sid (seat_with d b)
+    ap (λ s. cond (is_present a.stage) (told_if (is_present s) a.sender.sid (seat_with d b)) (seat_with d b)) (stage-kept d b)
+    ∙ told-one (is_present a.stage) (is_present b.stage) a.sender.sid (seat_with d b)
     ∙ ap (λ gone. gone_if gone seat) (sym (and-false (is_present (stage_in seat.phase))))
     ∙ delivers-by false (leaves a) d b few tidy.lines tidy.bytes (λ is. absurd (false≢true is))
     ∙ ap (λ same. seat_with d (affected_connection same (leaves a) b)) (sym other)
@@ -203,13 +204,13 @@ map-told false sid [] = refl
 map-told false sid (seat ∷ seats) = ap (λ (ss : List Seat). seat ∷ ss) (map-told false sid seats)
 
 seats-gone : (c : ℕ) (f : Facts) → Sound f → ((d : ℕ) → Tidy (f.about d))
-    → told_all_if (is_present (f.about c).stage) (f.about c).sid (others_of c (map (seat_of f.about) f.opened))
+    → told_all_if (is_present (f.about c).stage) (f.about c).sender.sid (others_of c (map (seat_of f.about) f.opened))
     ≡ map (seat_of (about_after c (leaves (f.about c)) f.about)) (numbers_but c f.opened)
 seats-gone c f sound tidy =
-    ap (told_all_if (is_present (f.about c).stage) (f.about c).sid) (seats-left c (seat_of f.about) f.opened (λ d. refl))
-    ∙ map-told (is_present (f.about c).stage) (f.about c).sid (map (seat_of f.about) (numbers_but c f.opened))
-    ∙ map-seats (told_seat (is_present (f.about c).stage) (f.about c).sid) (seat_of f.about) (numbers_but c f.opened)
-    ∙ others-seats c (λ d. told_seat (is_present (f.about c).stage) (f.about c).sid (seat_of f.about d)) (seat_of (about_after c (leaves (f.about c)) f.about)) f.opened
+    ap (told_all_if (is_present (f.about c).stage) (f.about c).sender.sid) (seats-left c (seat_of f.about) f.opened (λ d. refl))
+    ∙ map-told (is_present (f.about c).stage) (f.about c).sender.sid (map (seat_of f.about) (numbers_but c f.opened))
+    ∙ map-seats (told_seat (is_present (f.about c).stage) (f.about c).sender.sid) (seat_of f.about) (numbers_but c f.opened)
+    ∙ others-seats c (λ d. told_seat (is_present (f.about c).stage) (f.about c).sender.sid (seat_of f.about d)) (seat_of (about_after c (leaves (f.about c)) f.about)) f.opened
     (λ d other. left-seat c d (f.about c) (f.about d) other (sound.taken d) (tidy d))
 
 suits-leaves : (a : About) → Suits (own_of a) (leaves a)
@@ -219,7 +220,7 @@ left-stands : (setup : Configured) (c : ℕ) (f : Facts) → Sound f → Numbere
     → left_core c (core_of setup f) ≡ core_of setup (without_connection c (happens c (leaves (f.about c)) f))
 unfolding without_connection happens
 left-stands setup c f sound n tidy open_c =
-    let sid : sid_in c (map (seat_of f.about) f.opened) ≡ (f.about c).sid = in-open c (λ seat. seat.sid) 0 f.about f.opened open_c in
+    let sid : sid_in c (map (seat_of f.about) f.opened) ≡ (f.about c).sender.sid = in-open c (λ seat. seat.sender.sid) 0 f.about f.opened open_c in
     let stage : stage_in (phase_in c (map (seat_of f.about) f.opened)) ≡ (f.about c).stage =
     ap stage_in (in-open c (λ seat. seat.phase) phases.Gone f.about f.opened open_c) ∙ stage-kept c (f.about c) in
     same-core setup f.joins f.last
@@ -271,16 +272,16 @@ spent-moves old peer challenge now room spent setup hash h caller at may =
 
 -- the identifiers that are taken
 abbrev pub sids_in : List Seat → List ℕ
-sids_in seats = map (λ (seat : Seat). seat.sid) seats
+sids_in seats = map (λ (seat : Seat). seat.sender.sid) seats
 
 -- a connection joined
 abbrev pub joined_core : ℕ → List ℕ → List ℕ → CoreState → CoreState
 joined_core sid peer challenge core =
-    record core { joins = core.joins + 1; last = sid; seats = core.seats ++ new_seat (core.joins + 1) sid peer challenge ∷ [] }
+    record core { joins = core.joins + 1; last = sid; seats = core.seats ++ new_seat (core.joins + 1) (new_sender sid peer challenge) ∷ [] }
 
-map-sids : (about : ℕ → About) (xs : List ℕ) → sids_in (map (seat_of about) xs) ≡ map (λ d. (about d).sid) xs
+map-sids : (about : ℕ → About) (xs : List ℕ) → sids_in (map (seat_of about) xs) ≡ map (λ d. (about d).sender.sid) xs
 map-sids about [] = refl
-map-sids about (d ∷ xs) = ap (λ (ns : List ℕ). (about d).sid ∷ ns) (map-sids about xs)
+map-sids about (d ∷ xs) = ap (λ (ns : List ℕ). (about d).sender.sid ∷ ns) (map-sids about xs)
 
 same-on : {A : Type 0} (p q : ℕ → A) (xs : List ℕ) → ((d : ℕ) → has d xs ≡ true → p d ≡ q d) → map p xs ≡ map q xs
 same-on p q [] each = refl
@@ -301,12 +302,12 @@ joined-stands setup f caller peer challenge sound =
     let mine : About = newcomer caller (next_sid f) peer challenge in
     let now_about : ℕ → About = with_one (f.joins + 1) (λ a. mine) f.about in
     same-core setup (f.joins + 1) (next_sid f)
-    (ap (λ (ss : List Seat). ss ++ new_seat (f.joins + 1) (next_sid f) peer challenge ∷ [])
+    (ap (λ (ss : List Seat). ss ++ new_seat (f.joins + 1) (new_sender (next_sid f) peer challenge) ∷ [])
     (same-on (seat_of f.about) (seat_of now_about) f.opened (λ d there. ap (seat_with d) (sym (other-kept f sound mine d there))))
     ∙ ap (λ (s : Seat). map (seat_of now_about) f.opened ++ s ∷ []) (ap (seat_with (f.joins + 1)) (sym (ap (λ b. cond b mine (f.about (f.joins + 1))) (eq-eqb (f.joins + 1) (f.joins + 1) refl))))
     ∙ sym (map-append (seat_of now_about) f.opened ((f.joins + 1) ∷ [])))
     (same-on (user_of f.about) (user_of now_about) f.present
-    (λ d there. ap (λ (a : About). listed_user a.sid a.fields)
+    (λ d there. ap (λ (a : About). listed_user a.sender.sid a.fields)
     (sym (other-kept f sound mine d (sound.are_open d (not-over (f.about d).stage (sym (sound.entered d) ∙ there)))))))
 
 join-moves-at : (old new : CoreState) (peer challenge : List ℕ) (now sid : ℕ) → length old.seats < old.setup.max_users → old.joins < max_joins
@@ -353,7 +354,7 @@ pub sid-told : (core : CoreState) (c sid : ℕ) → sid ≡ sid_in c core.seats 
 unfolding Stands
 sid-told core c sid e has_one setup hash h at =
     let f : Facts = facts setup hash h in
-    e ∙ ap (λ (s : CoreState). sid_in c s.seats) at.stands ∙ in-open c (λ seat. seat.sid) 0 f.about f.opened (opened-at setup hash h core c at has_one)
+    e ∙ ap (λ (s : CoreState). sid_in c s.seats) at.stands ∙ in-open c (λ seat. seat.sender.sid) 0 f.about f.opened (opened-at setup hash h core c at has_one)
 
 pub look-told : (core : CoreState) (c : ℕ) (look : Look) → look.stage ≡ stage_in (phase_in c core.seats) → look.present ≡ length core.users
     → look.waiting ≡ length (lines_in c core.seats) → HasSeat c core.seats → LooksAt look c core

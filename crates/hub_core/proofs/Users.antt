@@ -82,19 +82,19 @@ module _ (setup : Configured) (f : Facts) (c : ℕ) (effect : Effect) where
   stays d = is_present (next d).stage
 
   user-other : (d : ℕ) → (d == c) ≡ false → user_of next d ≡ user_of f.about d
-  user-other d other = ap (λ b. listed_user (f.about d).sid (cond b (fields_after effect.change (f.about d).fields) (f.about d).fields)) other
+  user-other d other = ap (λ b. listed_user (f.about d).sender.sid (cond b (fields_after effect.change (f.about d).fields) (f.about d).fields)) other
 
   user-kept : (d : ℕ) → fields_after effect.change (f.about d).fields ≡ (f.about d).fields → user_of next d ≡ user_of f.about d
-  user-kept d kept = ap (listed_user (f.about d).sid) (chosen-same (d == c) (fields_after effect.change (f.about d).fields) (f.about d).fields kept)
+  user-kept d kept = ap (listed_user (f.about d).sender.sid) (chosen-same (d == c) (fields_after effect.change (f.about d).fields) (f.about d).fields kept)
 
-  user-self : user_of next c ≡ listed_user (f.about c).sid (fields_after effect.change (f.about c).fields)
-  user-self = ap (λ b. listed_user (f.about c).sid (cond b (fields_after effect.change (f.about c).fields) (f.about c).fields)) (eq-eqb c c refl)
+  user-self : user_of next c ≡ listed_user (f.about c).sender.sid (fields_after effect.change (f.about c).fields)
+  user-self = ap (λ b. listed_user (f.about c).sender.sid (cond b (fields_after effect.change (f.about c).fields) (f.about c).fields)) (eq-eqb c c refl)
 
   abbrev Quiet : Type 0
   Quiet = (sid : ℕ) → is_removed effect.change sid ≡ false
 
   removed-none : Quiet → (d : ℕ) → removed_by effect (f.about d) ≡ false
-  removed-none quiet d = ap (λ b. is_present (f.about d).stage && b) (quiet (f.about d).sid) ∙ and-false (is_present (f.about d).stage)
+  removed-none quiet d = ap (λ b. is_present (f.about d).stage && b) (quiet (f.about d).sender.sid) ∙ and-false (is_present (f.about d).stage)
 
   -- where the change is of no stage, all who are present stay
   stays-kept : Quiet → ((s : Stage) → stage_after effect.change s ≡ s) → (d : ℕ) → is_present (f.about d).stage ≡ true → stays d ≡ true
@@ -133,21 +133,21 @@ module _ (setup : Configured) (f : Facts) (c : ℕ) (effect : Effect) where
 
   -- ---- session identifiers tell users apart
 
-  own-sid : (sid : ℕ) (d : ℕ) → has_sid sid (user_of f.about d) ≡ eqb (f.about d).sid sid
-  own-sid sid d = ap (λ s. eqb s sid) (listed-sid (f.about d).sid (f.about d).fields)
+  own-sid : (sid : ℕ) (d : ℕ) → has_sid sid (user_of f.about d) ≡ eqb (f.about d).sender.sid sid
+  own-sid sid d = ap (λ s. eqb s sid) (listed-sid (f.about d).sender.sid (f.about d).fields)
 
-  tells-by : Sound f → Numbered setup f → has c f.opened ≡ true → (d : ℕ) → has d f.opened ≡ true → (same : Bool) → (d == c) ≡ same → eqb (f.about d).sid (f.about c).sid ≡ same
-  tells-by sound n open_c d open_d true is = eq-eqb (f.about d).sid (f.about c).sid (ap (λ x. (f.about x).sid) (eqb-true d c is))
+  tells-by : Sound f → Numbered setup f → has c f.opened ≡ true → (d : ℕ) → has d f.opened ≡ true → (same : Bool) → (d == c) ≡ same → eqb (f.about d).sender.sid (f.about c).sender.sid ≡ same
+  tells-by sound n open_c d open_d true is = eq-eqb (f.about d).sender.sid (f.about c).sender.sid (ap (λ x. (f.about x).sender.sid) (eqb-true d c is))
   tells-by sound n open_c d open_d false is =
-      differs-sid setup f sound n c d open_c open_d (not-self d c is) (eqb (f.about d).sid (f.about c).sid) refl
+      differs-sid setup f sound n c d open_c open_d (not-self d c is) (eqb (f.about d).sender.sid (f.about c).sender.sid) refl
 
-  tells : Sound f → Numbered setup f → has c f.opened ≡ true → (d : ℕ) → is_present (f.about d).stage ≡ true → has_sid (f.about c).sid (user_of f.about d) ≡ (d == c)
+  tells : Sound f → Numbered setup f → has c f.opened ≡ true → (d : ℕ) → is_present (f.about d).stage ≡ true → has_sid (f.about c).sender.sid (user_of f.about d) ≡ (d == c)
   tells sound n open_c d here =
-      own-sid (f.about c).sid d ∙ tells-by sound n open_c d (sound.are_open d (not-over (f.about d).stage here)) (d == c) refl
+      own-sid (f.about c).sender.sid d ∙ tells-by sound n open_c d (sound.are_open d (not-over (f.about d).stage here)) (d == c) refl
 
   -- ---- an update
 
-  update-one : (update : List Field) (key : Option (List ℕ)) → listed_user (f.about c).sid (fields_after effect.change (f.about c).fields) ≡ updated_user update key (user_of f.about c)
+  update-one : (update : List Field) (key : Option (List ℕ)) → listed_user (f.about c).sender.sid (fields_after effect.change (f.about c).fields) ≡ updated_user update key (user_of f.about c)
       → (d : ℕ) (same : Bool) → (d == c) ≡ same → user_of next d ≡ updated_if same update key (user_of f.about d)
   update-one update key is d true same =
       let e : d ≡ c = eqb-true d c same in
@@ -155,15 +155,15 @@ module _ (setup : Configured) (f : Facts) (c : ℕ) (effect : Effect) where
   update-one update key is d false same = user-other d same
 
   all-updated : Sound f → Numbered setup f → has c f.opened ≡ true → Quiet → ((s : Stage) → stage_after effect.change s ≡ s)
-      → (update : List Field) (key : Option (List ℕ)) → listed_user (f.about c).sid (fields_after effect.change (f.about c).fields) ≡ updated_user update key (user_of f.about c)
-      → map (user_of next) (filter stays f.present) ≡ with_update (f.about c).sid update key (map (user_of f.about) f.present)
+      → (update : List Field) (key : Option (List ℕ)) → listed_user (f.about c).sender.sid (fields_after effect.change (f.about c).fields) ≡ updated_user update key (user_of f.about c)
+      → map (user_of next) (filter stays f.present) ≡ with_update (f.about c).sender.sid update key (map (user_of f.about) f.present)
   all-updated sound n open_c quiet stages update key is =
-      keep-all stays (user_of next) (λ d. updated_if (has_sid (f.about c).sid (user_of f.about d)) update key (user_of f.about d)) f.present
+      keep-all stays (user_of next) (λ d. updated_if (has_sid (f.about c).sender.sid (user_of f.about d)) update key (user_of f.about d)) f.present
       (λ d there. let here = sym (sound.entered d) ∙ there in (
         stays-kept quiet stages d here,
         update-one update key is d (d == c) refl ∙ ap (λ b. updated_if b update key (user_of f.about d)) (sym (tells sound n open_c d here)),
       ))
-      ∙ sym (map-users (λ user. updated_if (has_sid (f.about c).sid user) update key user) (user_of f.about) f.present)
+      ∙ sym (map-users (λ user. updated_if (has_sid (f.about c).sender.sid user) update key user) (user_of f.about) f.present)
 
   -- ---- a fall
 
@@ -175,9 +175,9 @@ module _ (setup : Configured) (f : Facts) (c : ℕ) (effect : Effect) where
   fall-user quiet falls d = user-kept d (ap (λ t. fields_after t (f.about d).fields) falls)
 
   all-fall : Sound f → Numbered setup f → has c f.opened ≡ true → Quiet → effect.change ≡ Sender senders.Falls
-      → map (user_of next) (filter stays f.present) ≡ without_sid (f.about c).sid (map (user_of f.about) f.present)
+      → map (user_of next) (filter stays f.present) ≡ without_sid (f.about c).sender.sid (map (user_of f.about) f.present)
   all-fall sound n open_c quiet falls =
-      drop-some (f.about c).sid stays (user_of next) (user_of f.about) f.present
+      drop-some (f.about c).sender.sid stays (user_of next) (user_of f.about) f.present
       (λ d there. let here = sym (sound.entered d) ∙ there in (
         falls-one quiet falls d here (d == c) refl ∙ ap not (sym (tells sound n open_c d here)),
         λ stay. fall-user quiet falls d,
@@ -195,15 +195,15 @@ module _ (setup : Configured) (f : Facts) (c : ℕ) (effect : Effect) where
   all-removed entered target removed stages fields =
       drop-some target stays (user_of next) (user_of f.about) f.present
       (λ d there. let here = sym (entered d) ∙ there in (
-        ap₂ (λ p r. is_present (stage_next (p && r) (d == c) effect.change (f.about d).stage)) here (removed (f.about d).sid)
-            ∙ gone-or target stages d here (eqb (f.about d).sid target) ∙ ap not (sym (own-sid target d)),
+        ap₂ (λ p r. is_present (stage_next (p && r) (d == c) effect.change (f.about d).stage)) here (removed (f.about d).sender.sid)
+            ∙ gone-or target stages d here (eqb (f.about d).sender.sid target) ∙ ap not (sym (own-sid target d)),
         λ stayed. user-kept d (fields (f.about d).fields),
       ))
 
   -- ---- all changes
 
   abbrev Done : Change → Type 0
-  Done change = users_after change (f.about c).sid (phase_of (f.about c)) (map (user_of f.about) f.present)
+  Done change = users_after change (f.about c).sender.sid (phase_of (f.about c)) (map (user_of f.about) f.present)
       ≡ map (user_of next) (filter stays f.present) ++ map (user_of next) (cond (enters change) (c ∷ []) [])
 
   nobody-new : (users : List Listed) → users ≡ users ++ []
@@ -229,15 +229,15 @@ module _ (setup : Configured) (f : Facts) (c : ℕ) (effect : Effect) where
   by-sender sound n open_c quiet senders.Enters is suited =
       ap₂ ◌++◌ (sym (all-stay quiet sound.entered (ap is_present suited)))
       (ap (λ s. users_awaited (phase_at s (f.about c))) suited
-      ∙ ap (λ (u : Listed). u ∷ []) (sym (user-self ∙ ap (λ t. listed_user (f.about c).sid (fields_after t (f.about c).fields)) is)))
+      ∙ ap (λ (u : Listed). u ∷ []) (sym (user-self ∙ ap (λ t. listed_user (f.about c).sender.sid (fields_after t (f.about c).fields)) is)))
   by-sender sound n open_c quiet (senders.EntersAs newcomer) is suited =
       ap₂ ◌++◌ (sym (all-stay quiet sound.entered (ap is_present suited.0)))
       (ap (λ (e : Entrant). e.user ∷ []) suited.1
-      ∙ ap (λ (u : Listed). u ∷ []) (sym (user-self ∙ ap (λ t. listed_user (f.about c).sid (fields_after t (f.about c).fields)) is)))
+      ∙ ap (λ (u : Listed). u ∷ []) (sym (user-self ∙ ap (λ t. listed_user (f.about c).sender.sid (fields_after t (f.about c).fields)) is)))
   by-sender sound n open_c quiet (senders.Learns features) is suited = done-kept sound (Sender (senders.Learns features)) is (λ sid. refl) (λ s. refl) (λ fs. refl)
   by-sender sound n open_c quiet (senders.Updates revision) is suited =
       sym (all-updated sound n open_c quiet (λ s. ap (λ t. stage_after t s) is) revision.update (given_key revision.nick)
-      (ap (λ t. listed_user (f.about c).sid (fields_after t (f.about c).fields)) is ∙ suited.2)) ∙ nobody-new _
+      (ap (λ t. listed_user (f.about c).sender.sid (fields_after t (f.about c).fields)) is ∙ suited.2)) ∙ nobody-new _
   by-sender sound n open_c quiet (senders.Searches now) is suited = done-kept sound (Sender (senders.Searches now)) is (λ sid. refl) (λ s. refl) (λ fs. refl)
   by-sender sound n open_c quiet senders.Falls is suited = sym (all-fall sound n open_c quiet is) ∙ nobody-new _
 
@@ -250,7 +250,7 @@ module _ (setup : Configured) (f : Facts) (c : ℕ) (effect : Effect) where
   by-change sound n open_c (Hub (shared.Topic text)) is suited = done-kept sound (Hub (shared.Topic text)) is (λ sid. refl) (λ s. refl) (λ fs. refl)
 
   pub users-carried : Sound f → Numbered setup f → has c f.opened ≡ true → Suits (own_of (f.about c)) effect
-      → users_after effect.change (f.about c).sid (phase_of (f.about c)) (map (user_of f.about) f.present)
+      → users_after effect.change (f.about c).sender.sid (phase_of (f.about c)) (map (user_of f.about) f.present)
       ≡ map (user_of next) (present_after c effect f.about f.present)
   users-carried sound n open_c suits =
       by-change sound n open_c effect.change refl suits.change

@@ -36,14 +36,10 @@ expected_at phase = []
 -- the connection of a seat
 abbrev pub own_at : Seat → Option Listed → Own
 own_at seat user = record {
-  sid = seat.sid;
-  peer = seat.peer;
-  challenge = seat.challenge;
+  sender = seat.sender;
   stage = stage_in seat.phase;
-  features = seat.features;
   fields = unwrap_or (option_map (λ (u : Listed). u.fields) user) [];
   expected = expected_at seat.phase;
-  searched = seat.searched;
 }
 
 abbrev pub DecidedFor : Option Listed → Sight → Seat → PreparedLine → ℕ → Effect → Type 0
@@ -51,7 +47,7 @@ DecidedFor user hub seat line now effect = IsKnown (own_at seat user) user → e
 
 -- of a user who is known by what its fields say, it is what the rules say that the line leads to
 abbrev pub Decided : Sight → Seat → PreparedLine → ℕ → Effect → Type 0
-Decided hub seat line now effect = DecidedFor (user_at seat.phase seat.sid hub.users) hub seat line now effect
+Decided hub seat line now effect = DecidedFor (user_at seat.phase seat.sender.sid hub.users) hub seat line now effect
 
 -- so it was decided at the seat of connection c
 pub record IsDecided (c : ℕ) (line : PreparedLine) (now : ℕ) (core : CoreState) (effect : Effect) : Type 0 where

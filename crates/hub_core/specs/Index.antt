@@ -15,7 +15,7 @@ IsSetAt sid found before after = (other : ℕ) → number_at after other ≡ con
 
 -- the session identifier and the number of each connection
 abbrev pub keys : List Seat → List (ℕ × ℕ)
-keys seats = map (λ (seat : Seat). (seat.sid, seat.number)) seats
+keys seats = map (λ (seat : Seat). (seat.sender.sid, seat.number)) seats
 
 -- under the session identifier of each connection stands its number
 unfoldable pub AreIndexed : List (ℕ × ℕ) → List (ℕ × ℕ) → Type 0

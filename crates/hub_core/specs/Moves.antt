@@ -34,5 +34,5 @@ abbrev pub LineMoves : CoreState → ℕ → PreparedLine → ℕ → Verdict �
 LineMoves old connection line now verdict new =
     (setup : Configured) (hash : List ℕ → List ℕ) (h : List Entry) (caller : ℕ) → StandsAt setup hash h old
     → MayCall (facts setup hash h) caller (Line connection line.bytes now)
-    → line ≡ prepared_line setup hash ((facts setup hash h).about connection).challenge line.bytes
+    → line ≡ prepared_line setup hash ((facts setup hash h).about connection).sender.challenge line.bytes
     → StandsAt setup hash (entry caller (Line connection line.bytes now) (Said verdict) ∷ h) new

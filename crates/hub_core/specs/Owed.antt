@@ -41,4 +41,4 @@ IsOnlyFor one other audience = (sid : ℕ) (words : List (List ℕ)) → sid ≢
 -- whatever others hear of an effect, only who has one of these two session identifiers hears it
 abbrev pub IsMeant : ℕ → ℕ → Effect → Type 0
 IsMeant one other effect =
-    (seat : Seat) → seat.sid ≢ one → seat.sid ≢ other → (if phase_hears seat.phase false effect.hearers seat.sid then effect.others else []) ≡ []
+    (seat : Seat) → seat.sender.sid ≢ one → seat.sender.sid ≢ other → (if phase_hears seat.phase false effect.hearers seat.sender.sid then effect.others else []) ≡ []

@@ -27,7 +27,7 @@ stage_in phases.Gone = stages.Gone
 abbrev pub phase_at : Stage → About → Phase
 phase_at stages.Protocol a = phases.Protocol
 phase_at stages.Identify a = phases.Identify
-phase_at stages.Verify a = phases.Verify (entrant (listed_user a.sid a.fields)) a.expected
+phase_at stages.Verify a = phases.Verify (entrant (listed_user a.sender.sid a.fields)) a.expected
 phase_at stages.Normal a = phases.Normal (feature_set (su_in a.fields))
 phase_at stages.Gone a = phases.Gone
 

@@ -50,7 +50,7 @@ with_answer caller ask answer h = with_reply caller ask (reply_of answer) h
 -- a line was made ready for its connection, and a take asks for some lines and not for too many
 abbrev pub IsReady : Configured → (List ℕ → List ℕ) → List Entry → Ask → Type 0
 IsReady setup hash h (asks.Join peer challenge now) = Unit {0}
-IsReady setup hash h (asks.Line connection line now) = line.now ≡ prepared_line setup hash ((facts setup hash h).about connection).challenge line.now.bytes
+IsReady setup hash h (asks.Line connection line now) = line.now ≡ prepared_line setup hash ((facts setup hash h).about connection).sender.challenge line.now.bytes
 IsReady setup hash h (asks.Quit connection) = Unit {0}
 IsReady setup hash h (asks.Take connection count) = (1 ≤ count) × (count ≤ 256)
 

@@ -1,5 +1,5 @@
 -- The seats of the connections, before and after an effect.
-use Rattle.std.specs.Prelude.{ℕ, ◌==◌, ◌&&◌, Bool, true, false, List, [], ◌∷◌, ◌++◌, None, if◌then◌else◌}
+use Rattle.std.specs.Prelude.{ℕ, ◌==◌, ◌&&◌, Bool, true, false, List, [], ◌∷◌, ◌++◌, if◌then◌else◌}
 use Rattle.outboxes.specs.Backlogs.{Backlog, empty_backlog, backlog_after}
 use Rattle.hub_core.specs.declared.seat.Phase.{Phase}
 use Rattle.hub_core.specs.declared.seat.Phase.TheVariants as phases
@@ -11,8 +11,10 @@ use Rattle.hub_rules.specs.declared.effect.Change.{Change}
 use Rattle.hub_rules.specs.declared.effect.Change.TheVariants.{Hub}
 use Rattle.hub_rules.specs.declared.effect.Effect.{Effect}
 use Rattle.hub_rules.specs.declared.effect.HubChange.TheVariants as shared
+use Rattle.hub_rules.specs.declared.sender.Sender.{Sender}
 use Rattle.hub_rules.specs.Effects.{is_present}
-use Rattle.hub_rules.specs.Shares.{About, features_after, max_bytes, max_lines, searched_after, waiting}
+use Rattle.hub_rules.specs.Senders.{sender_after}
+use Rattle.hub_rules.specs.Shares.{About, max_bytes, max_lines, waiting}
 
 -- what waits for a connection
 abbrev pub backlog_of : About → Backlog
@@ -22,12 +24,8 @@ backlog_of a = record { lines = waiting a; lags = a.lags; cap = max_lines; bytes
 abbrev pub seat_with : ℕ → About → Seat
 seat_with c a = record {
   number = c;
-  sid = a.sid;
-  peer = a.peer;
-  challenge = a.challenge;
+  sender = a.sender;
   phase = phase_of a;
-  features = a.features;
-  searched = a.searched;
   outbox = backlog_of a;
 }
 
@@ -35,15 +33,11 @@ abbrev pub seat_of : (ℕ → About) → ℕ → Seat
 seat_of about c = seat_with c (about c)
 
 -- the seat of a connection that has just joined
-abbrev pub new_seat : ℕ → ℕ → List ℕ → List ℕ → Seat
-new_seat number sid peer challenge = record {
+abbrev pub new_seat : ℕ → Sender → Seat
+new_seat number sender = record {
   number = number;
-  sid = sid;
-  peer = peer;
-  challenge = challenge;
+  sender = sender;
   phase = phases.Protocol;
-  features = [];
-  searched = None;
   outbox = empty_backlog max_lines max_bytes;
 }
 
@@ -52,7 +46,7 @@ new_seat number sid peer challenge = record {
 -- the messages that an effect of connection c owes to the connection of a seat
 abbrev pub seat_share : ℕ → Effect → Seat → List (List ℕ)
 seat_share c effect seat =
-    (if phase_hears seat.phase (seat.number == c) effect.hearers seat.sid then effect.others else []) ++ (if seat.number == c then effect.own else [])
+    (if phase_hears seat.phase (seat.number == c) effect.hearers seat.sender.sid then effect.others else []) ++ (if seat.number == c then effect.own else [])
 
 -- a connection that hears nothing is as before
 abbrev pub given_seat : List (List ℕ) → Seat → Seat
@@ -74,7 +68,7 @@ gone_if true seat = record seat { phase = phases.Gone }
 gone_if false seat = seat
 
 abbrev pub removed_seat : Removal → Seat → Seat
-removed_seat removed seat = gone_if (is_present (stage_in seat.phase) && is_named removed seat.sid) seat
+removed_seat removed seat = gone_if (is_present (stage_in seat.phase) && is_named removed seat.sender.sid) seat
 
 -- a share is given, and the user shut out where it is the one
 abbrev pub delivered_seat : Removal → Seat → List (List ℕ) → Seat
@@ -91,8 +85,7 @@ delivered_all removed (seat ∷ seats) (share ∷ shares) = delivered_seat remov
 abbrev pub changed_seat : Change → Seat → Seat
 changed_seat change seat = record seat {
   phase = phase_after change seat.phase;
-  features = features_after change seat.features;
-  searched = searched_after change seat.searched;
+  sender = sender_after change seat.sender;
 }
 
 -- the seat of connection c changes
@@ -106,7 +99,7 @@ in_seat c read none [] = none
 in_seat c read none (seat ∷ seats) = if seat.number == c then read seat else in_seat c read none seats
 
 abbrev pub sid_in : ℕ → List Seat → ℕ
-sid_in c seats = in_seat c (λ seat. seat.sid) 0 seats
+sid_in c seats = in_seat c (λ seat. seat.sender.sid) 0 seats
 
 abbrev pub phase_in : ℕ → List Seat → Phase
 phase_in c seats = in_seat c (λ seat. seat.phase) phases.Gone seats

@@ -37,9 +37,9 @@ names Everybody sid = true
 
 -- A connection is named if it was concerned between two moments: more lines wait for it, it lags since, or it was shut out.
 pub record NamesOne (touched : Touched) (before after : About) : Type 0 where
-  pub told : length (waiting before) < length (waiting after) → names touched after.sid ≡ true
-  pub lags : before.lags ≡ false → after.lags ≡ true → names touched after.sid ≡ true
-  pub shut_out : is_over before.stage ≡ false → is_over after.stage ≡ true → names touched after.sid ≡ true
+  pub told : length (waiting before) < length (waiting after) → names touched after.sender.sid ≡ true
+  pub lags : before.lags ≡ false → after.lags ≡ true → names touched after.sender.sid ≡ true
+  pub shut_out : is_over before.stage ≡ false → is_over after.stage ≡ true → names touched after.sender.sid ≡ true
 
 -- Each connection that is open after the last call of a history is named, if that call concerned it.
 abbrev pub NamesConcerned : Touched → Configured → (List ℕ → List ℕ) → List Entry → Type 0
@@ -60,7 +60,7 @@ abbrev pub LineTouches : CoreState → ℕ → PreparedLine → ℕ → CoreStat
 LineTouches old connection line now new =
     (setup : Configured) (hash : List ℕ → List ℕ) (h : List Entry) (caller : ℕ) (reply : Reply) → StandsAt setup hash h old
     → MayCall (facts setup hash h) caller (Line connection line.bytes now)
-    → line ≡ prepared_line setup hash ((facts setup hash h).about connection).challenge line.bytes
+    → line ≡ prepared_line setup hash ((facts setup hash h).about connection).sender.challenge line.bytes
     → NamesConcerned new.touched setup hash (entry caller (Line connection line.bytes now) reply ∷ h)
 
 -- The call concerns nobody, and nobody is named.
@@ -81,7 +81,7 @@ NamesOthers touched effect =
 -- Whoever is owed lines by the effect of a line is named. The line is of the connection with this session identifier.
 abbrev pub NamesOwed : Touched → ℕ → Effect → Type 0
 NamesOwed touched own effect =
-    (c : ℕ) (seat : Seat) → (seat.number ≡ c → seat.sid ≡ own) → seat_share c effect seat ≢ [] → names touched seat.sid ≡ true
+    (c : ℕ) (seat : Seat) → (seat.number ≡ c → seat.sender.sid ≡ own) → seat_share c effect seat ≢ [] → names touched seat.sender.sid ≡ true
 
 -- the connection that sent the line is shut out
 abbrev pub falls : Change → Bool

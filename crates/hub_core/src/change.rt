@@ -36,7 +36,7 @@ impl Commons {
         seat: &mut Seat,
         change: Change,
     ) -> Result<(), AllocError>
-        ensures users { OnOk result (self.new.present.users ≡ users_after change seat.old.sid seat.old.phase self.old.present.users) }
+        ensures users { OnOk result (self.new.present.users ≡ users_after change seat.old.sender.sid seat.old.phase self.old.present.users) }
         ensures told { StaysTold setup.now self.old.present self.new.present }
         ensures bans { OnOk result (self.new.bans ≡ bans_after change self.old.bans) }
         ensures topic { OnOk result (self.new.topic ≡ topic_after change self.old.topic) }
@@ -88,7 +88,7 @@ fn change_sender(
     seat: &mut Seat,
     change: SenderChange,
 ) -> Result<(), AllocError>
-    ensures users { OnOk result (present.new.users ≡ users_after (Sender change) seat.old.sid seat.old.phase present.old.users) }
+    ensures users { OnOk result (present.new.users ≡ users_after (Sender change) seat.old.sender.sid seat.old.phase present.old.users) }
     ensures told { StaysTold setup.now present.old present.new }
     ensures seat { OnOk result (seat.new ≡ changed_seat (Sender change) seat.old) }
     ensures err { OnErr result ((present.new ≡ present.old) × (seat.new ≡ seat.old)) }
@@ -96,7 +96,7 @@ fn change_sender(
     match change {
         SenderChange::Greets(features) => {
             seat.phase = Phase::Identify;
-            seat.features = features;
+            seat.sender.features = features;
             Ok(())
         }
         SenderChange::Waits(newcomer, expected) => {
@@ -106,16 +106,16 @@ fn change_sender(
         SenderChange::Enters => enter(alloc, setup, present, seat),
         SenderChange::EntersAs(newcomer) => enter_as(alloc, setup, present, seat, newcomer),
         SenderChange::Learns(features) => {
-            seat.features = features;
+            seat.sender.features = features;
             Ok(())
         }
         SenderChange::Updates(revision) => update(alloc, setup, present, seat, revision),
         SenderChange::Searches(now) => {
-            seat.searched = Some(now);
+            seat.sender.searched = Some(now);
             Ok(())
         }
         SenderChange::Falls => {
-            present.remove(seat.sid);
+            present.remove(seat.sender.sid);
             seat.phase = Phase::Gone;
             Ok(())
         }
@@ -185,7 +185,7 @@ fn update(
     seat: &mut Seat,
     revision: Revision,
 ) -> Result<(), AllocError>
-    ensures users { OnOk result (present.new.users ≡ with_update seat.old.sid revision.update (given_key revision.nick) present.old.users) }
+    ensures users { OnOk result (present.new.users ≡ with_update seat.old.sender.sid revision.update (given_key revision.nick) present.old.users) }
     ensures told { StaysTold setup.now present.old present.new }
     ensures seat { OnOk result (seat.new ≡ record seat.old { phase = Normal revision.support }) }
     ensures err { OnErr result ((present.new ≡ present.old) × (seat.new ≡ seat.old)) }
@@ -195,7 +195,7 @@ fn update(
         nick,
         support,
     } = revision;
-    present.update(alloc, setup, seat.sid, &update, nick)?;
+    present.update(alloc, setup, seat.sender.sid, &update, nick)?;
     seat.phase = Phase::Normal(support);
     Ok(())
 }

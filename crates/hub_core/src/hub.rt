@@ -22,7 +22,7 @@ use crate::sid_index::SidIndex;
 use crate::{JoinRefused, OpenRefused};
 use adc_base32::Sid;
 use hub_decisions::Sight;
-use hub_rules::{Effect, LineRefused, Topic, Verdict};
+use hub_rules::{Effect, LineRefused, Sender, Topic, Verdict};
 use hub_setup::{Prepared, Setup};
 use operator_acts::Bans;
 use outboxes::{Outbox, TakeRefused, Taken};
@@ -145,7 +145,8 @@ impl Core {
         let sid = Sid::next_free(self.last, &taken);
         let outbox = Outbox::new(alloc, MAX_LINES, MAX_BYTES)?;
         let number = self.joins + 1;
-        let seat = Seat::new(alloc, number, sid, peer, challenge, outbox);
+        let sender = Sender::new(alloc, sid, peer, challenge);
+        let seat = Seat::new(number, sender, outbox);
         add(&mut self.seats, &mut self.index, seat)?;
         self.joins = number;
         self.last = sid.number();
@@ -164,7 +165,7 @@ impl Core {
         requires seated { IsSeated connection self.now }
         ensures { SidOf result connection self.now }
     {
-        self.seats[place(&self.seats, connection.number)].sid
+        self.seats[place(&self.seats, connection.number)].sender.sid
     }
 
     /// Handles a line of a connection that is open, at a moment in seconds. The line was made ready for this
@@ -270,7 +271,7 @@ impl Core {
     {
         let place = place(&self.seats, number);
         let effect = self.decide(alloc, number, place, line, now)?;
-        let touched = touched_by_line(self.seats[place].sid, &effect);
+        let touched = touched_by_line(self.seats[place].sender.sid, &effect);
         self.carry_out(alloc, number, place, effect)?;
         self.note(touched);
         let verdict = self.verdict(number, place);
@@ -320,7 +321,7 @@ impl Core {
         ensures { self.new ≡ left_core number self.old }
     {
         let seat = &self.seats[place];
-        let sid = seat.sid;
+        let sid = seat.sender.sid;
         let was_present = seat.phase.is_present();
         forget(&mut self.seats, number);
         self.index.remove(sid);

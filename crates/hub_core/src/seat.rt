@@ -17,9 +17,9 @@ use crate::sid_index::SidIndex;
 use adc_base32::Sid;
 use feature_route::FeatureSet;
 use hub_decisions::{Own, Sight, decide};
-use hub_rules::{Effect, Entrant, Verdict};
+use hub_rules::{Effect, Entrant, Sender, Verdict};
 use hub_setup::Prepared;
-use login_state::{Features, Stage};
+use login_state::Stage;
 use outboxes::{Batch, Outbox, TakeRefused, Taken};
 use std::alloc::{AllocError, Global};
 use user_table::{IndexedUsers, User, Users};
@@ -53,13 +53,9 @@ pub enum Removal {
 pub struct Seat {
     /// The number of its join.
     pub(crate) number: u64,
-    pub(crate) sid: Sid,
-    pub(crate) peer: [u8; 4],
-    pub(crate) challenge: [u8; 24],
+    /// Its plain fields.
+    pub(crate) sender: Sender,
     pub(crate) phase: Phase,
-    pub(crate) features: Features,
-    /// The moment of its last search that went out, in seconds.
-    pub(crate) searched: Option<u64>,
     pub(crate) outbox: Outbox,
 }
 
@@ -121,26 +117,22 @@ impl Phase {
 
 impl Seat {
     /// Makes the seat of a connection that has just joined, with its outbox.
-    pub(crate) fn new(
-        alloc: Global,
-        number: u64,
-        sid: Sid,
-        peer: [u8; 4],
-        challenge: [u8; 24],
-        outbox: Outbox,
-    ) -> Seat
-        ensures { result ≡ record (new_seat number sid peer challenge) { outbox = outbox } }
+    pub(crate) fn new(number: u64, sender: Sender, outbox: Outbox) -> Seat
+        ensures { result ≡ record (new_seat number sender) { outbox = outbox } }
     {
         Seat {
             number,
-            sid,
-            peer,
-            challenge,
+            sender,
             phase: Phase::Protocol,
-            features: Features::new(alloc),
-            searched: None,
             outbox,
         }
+    }
+
+    /// Gives the session identifier.
+    fn sid(&self) -> Sid
+        ensures { result ≡ self.now.sender.sid }
+    {
+        self.sender.sid
     }
 
     /// Gives the connection lines. Of none nothing happens.
@@ -156,7 +148,7 @@ impl Seat {
     pub(crate) fn leave_if_named(&mut self, sid: Sid)
         ensures { self.new ≡ removed_seat (removals.User sid) self.old }
     {
-        if self.phase.is_present() && self.sid == sid {
+        if self.phase.is_present() && self.sender.sid == sid {
             self.phase = Phase::Gone;
         }
     }
@@ -183,28 +175,24 @@ pub(crate) fn decide_at<'a>(
 {
     let user = user_at(hub.users, seat);
     let own = Own {
-        sid: seat.sid,
-        peer: seat.peer,
-        challenge: seat.challenge,
+        sender: &seat.sender,
         stage: seat.phase.stage(),
-        features: &seat.features,
         fields: match user {
             Some(user) => Some(user.fields()),
             None => None,
         },
         expected: seat.phase.expected_digest(),
-        searched: seat.searched,
     };
     decide(alloc, hub, &own, user, line, now)
 }
 
 /// Gives the user of the connection of a seat, where it has one.
 fn user_at<'a>(users: &'a IndexedUsers, seat: &'a Seat) -> Option<&'a User>
-    ensures { option_copied result ≡ user_at seat.now.phase seat.now.sid users.now }
+    ensures { option_copied result ≡ user_at seat.now.phase seat.now.sender.sid users.now }
 {
     match &seat.phase {
         Phase::Verify(newcomer, _) => Some(&newcomer.user),
-        Phase::Normal(_) => users.by_sid(seat.sid),
+        Phase::Normal(_) => users.by_sid(seat.sender.sid),
         Phase::Protocol | Phase::Identify | Phase::Gone => None,
     }
 }
@@ -243,10 +231,10 @@ pub(crate) fn has_seat(seats: &[Seat], number: u64) -> bool
 /// Puts a connection's seat behind the others, and its session identifier into the index, whole or not at all.
 pub(crate) fn add(seats: &mut Vec<Seat>, index: &mut SidIndex, seat: Seat) -> Result<(), AllocError>
     ensures seats { OnOk result (seats.new.items ≡ seats.old.items ++ seat ∷ []) }
-    ensures index { OnOk result (IsSetAt seat.sid (Some seat.number) index.old index.new) }
+    ensures index { OnOk result (IsSetAt seat.sender.sid (Some seat.number) index.old index.new) }
     ensures err { OnErr result ((seats.new.items ≡ seats.old.items) × (index.new ≡ index.old)) }
 {
-    let (sid, number, count) = (seat.sid, seat.number, seats.len());
+    let (sid, number, count) = (seat.sid(), seat.number, seats.len());
     if seats.push(seat).is_err() {
         return Err(AllocError);
     }
@@ -283,11 +271,11 @@ fn tell(seats: &mut [Seat], sid: Sid)
 
 /// Gives the session identifiers that are taken.
 pub(crate) fn sids(alloc: Global, seats: &[Seat]) -> Result<Vec<Sid>, AllocError>
-    ensures { IfOk result (λ sids. sids.items ≡ map (λ (seat : Seat). seat.sid) seats.now) }
+    ensures { IfOk result (λ sids. sids.items ≡ map (λ (seat : Seat). seat.sender.sid) seats.now) }
 {
     let mut sids = Vec::with_capacity(alloc, seats.len())?;
     for seat in seats {
-        sids.push(seat.sid)?;
+        sids.push(seat.sender.sid)?;
     }
     Ok(sids)
 }

@@ -67,7 +67,7 @@ fn reach(
     requires indexed { AreIndexed index.now (keys seats.now) }
     ensures { IfSome result (λ other. AreQuietBut place other (seat_share number effect.now) seats.now) }
 {
-    let own = seats[place].sid;
+    let own = seats[place].sender.sid;
     let sid = meant(effect, own)?;
     if sid == own {
         return Some(place);
@@ -107,9 +107,9 @@ fn meant_by(audience: &Audience<'_>, own: Sid) -> Option<Sid>
 fn place_by_sid(seats: &[Seat], index: &SidIndex, sid: Sid) -> Option<usize>
     requires rising { Rising (numbers seats.now) }
     requires indexed { AreIndexed index.now (keys seats.now) }
-    ensures some { IfSome result (λ place. (i : ℕ) (d : Seat) → i < length seats.now → i ≢ place → (get_or seats.now i d).sid ≢ sid) }
+    ensures some { IfSome result (λ place. (i : ℕ) (d : Seat) → i < length seats.now → i ≢ place → (get_or seats.now i d).sender.sid ≢ sid) }
     ensures within { IfSome result (λ place. place < length seats.now) }
-    ensures none { IfNone result ((i : ℕ) (d : Seat) → i < length seats.now → (get_or seats.now i d).sid ≢ sid) }
+    ensures none { IfNone result ((i : ℕ) (d : Seat) → i < length seats.now → (get_or seats.now i d).sender.sid ≢ sid) }
 {
     find(seats, index.get(sid)?)
 }
@@ -163,7 +163,7 @@ fn push_owed(
     ensures { OnOk result (shares.new.items ≡ shares.old.items ++ share_at place (seat_share number effect.now seat.now)) }
 {
     let is_caller = seat.number == number;
-    let hears = hears(&seat.phase, is_caller, &effect.hearers, seat.sid);
+    let hears = hears(&seat.phase, is_caller, &effect.hearers, seat.sender.sid);
     if !is_caller {
         if hears {
             return push_share(shares, place, effect.others.share()?);

@@ -135,7 +135,7 @@ password-grounds expected (Some digest) = step (not (bytes_eq digest expected)) 
 -- ---- logins
 
 pub login-grounds : (hub : Sight) (own : sights.Own) (now : ℕ) (digest : Option (List ℕ)) (u : List Field) (user : Listed)
-    → Agree (inf_rules (login_ask hub now own.peer digest u user)) (login_grounds hub own now digest u user)
+    → Agree (inf_rules (login_ask hub now own.sender.peer digest u user)) (login_grounds hub own now digest u user)
 unfolding login_ask login_grounds entry_ask
 login-grounds hub own now digest u user =
     let id = value_or_empty id_name u in
@@ -155,7 +155,7 @@ login-grounds hub own now digest u user =
     step (not (is_digest user.cid digest)) denials.BadPid _ _ _ (identity-if (is_digest user.cid digest)) (λ own_pid.
     step (not is_nick_good) (denials.BadNick Fatal) _ _ _ (nick-if is_nick_good nick has_nick) (λ good_nick.
     ban-step (left_of_bans hub.bans user.cid now) _ _
-    (step (is_wrong_address own.peer (value_or_empty address_name u)) (denials.Address Fatal own.peer) _ _ _ (address-if Fatal own.peer (value_or_empty address_name u)) (λ address.
+    (step (is_wrong_address own.sender.peer (value_or_empty address_name u)) (denials.Address Fatal own.sender.peer) _ _ _ (address-if Fatal own.sender.peer (value_or_empty address_name u)) (λ address.
     step barred denials.Registered _ _ _ (admission-if barred) (λ admitted.
     step (is_here (has_key user.key) hub) (denials.NickTaken Fatal) _ _ _ (taken-nick Fatal (is_here (has_key user.key) hub)) (λ free_nick.
     step (is_here (has_cid user.cid) hub) denials.CidTaken _ _ _ (taken-cid (is_here (has_cid user.cid) hub)) (λ free_cid. refl))))))))))))))
@@ -194,13 +194,13 @@ pub update-grounds : (hub : Sight) (own : sights.Own) (u : List Field) (user : L
 unfolding update_ask update_grounds
 update-grounds hub own u user =
     let touched = touches_account hub (key_in own.fields) user.key in
-    let few = fits own.fields (clean u own.peer) in
+    let few = fits own.fields (clean u own.sender.peer) in
     let is_bad = λ (name : List ℕ). is_bad_number (value_or_empty name u) in
     step (differs (unwrap_or (value_of id_name u) (value_or_empty id_name own.fields)) (value_or_empty id_name own.fields)) (denials.BadField Recoverable fields.Id) _ _ _ (id-if own.fields (value_of id_name u)) (λ own_id.
     step (is_bad share_size_name) (denials.BadField Recoverable fields.ShareSize) _ _ _ (number-if Recoverable (is_bad share_size_name) fields.ShareSize) (λ size.
     step (is_bad shared_files_name) (denials.BadField Recoverable fields.SharedFiles) _ _ _ (number-if Recoverable (is_bad shared_files_name) fields.SharedFiles) (λ files.
     step (is_bad_nick (value_of nick_name u)) (denials.BadNick Recoverable) _ _ _ (new-nick-if (value_of nick_name u)) (λ nick.
     step touched (denials.Access (codes "BINF")) _ _ _ (account-if touched) (λ account.
-    step (is_wrong_address own.peer (value_or_empty address_name u)) (denials.Address Recoverable own.peer) _ _ _ (address-if Recoverable own.peer (value_or_empty address_name u)) (λ address.
+    step (is_wrong_address own.sender.peer (value_or_empty address_name u)) (denials.Address Recoverable own.sender.peer) _ _ _ (address-if Recoverable own.sender.peer (value_or_empty address_name u)) (λ address.
     step (not few) denials.Protocol _ _ _ (size-if few) (λ fitting.
-    step (another_has_key hub own.sid user.key) (denials.NickTaken Recoverable) _ _ _ (taken-nick Recoverable (another_has_key hub own.sid user.key)) (λ free. refl))))))))
+    step (another_has_key hub own.sender.sid user.key) (denials.NickTaken Recoverable) _ _ _ (taken-nick Recoverable (another_has_key hub own.sender.sid user.key)) (λ free. refl))))))))

@@ -20,15 +20,15 @@ unfolding listed_user
 user-fields own user is = ap (λ u. u.fields) is
 
 -- the key of the user that an INF makes
-pub after-key : (own : Own) (u : List Field) → key_in (merged_with own.fields (clean u own.peer)) ≡ (user_after own u).key
+pub after-key : (own : Own) (u : List Field) → key_in (merged_with own.fields (clean u own.sender.peer)) ≡ (user_after own u).key
 unfolding listed_user
 after-key own u = refl
 
 -- the user that is passed is that of the connection
-pub has-user : (own : Own) (user : Option (Bor Listed)) (one : Bor Listed) → option_copied user ≡ Some (listed_user own.sid own.fields) → user ≡ Some one → IsUser own one.now
+pub has-user : (own : Own) (user : Option (Bor Listed)) (one : Bor Listed) → option_copied user ≡ Some (listed_user own.sender.sid own.fields) → user ≡ Some one → IsUser own one.now
 has-user own user one is found = ap (λ o. unwrap_or o one.now) (sym (ap option_copied found) ∙ is)
 
-pub no-user : (own : Own) (user : Option (Bor Listed)) → option_copied user ≡ Some (listed_user own.sid own.fields) → user ≡ None → ⊥
+pub no-user : (own : Own) (user : Option (Bor Listed)) → option_copied user ≡ Some (listed_user own.sender.sid own.fields) → user ≡ None → ⊥
 no-user own user is none = false≢true (ap is_some (sym (ap option_copied none) ∙ is))
 
 -- what is said of an answer follows from what else is said of it

@@ -32,17 +32,17 @@ id-known u peer = given-after id_name [] [] (clean u peer) (sym merged-none) ∙
 
 pub after-cid : (own : Own) (u : List Field) → own.fields ≡ [] → (user_after own u).cid ≡ cid_of u
 unfolding listed_user
-after-cid own u none = ap (λ fs. cid_in (merged_with fs (clean u own.peer))) none ∙ ap (λ v. unwrap_or (spelled_bytes 24 v) []) (id-known u own.peer)
+after-cid own u none = ap (λ fs. cid_in (merged_with fs (clean u own.sender.peer))) none ∙ ap (λ v. unwrap_or (spelled_bytes 24 v) []) (id-known u own.sender.peer)
 
 nick-known : (u : List Field) (peer : List ℕ) → value_or_empty nick_name (merged_with [] (clean u peer)) ≡ value_or_empty nick_name u
 nick-known u peer = given-after nick_name [] [] (clean u peer) (sym merged-none) ∙ ap (λ o. unwrap_or o []) (nick-clean u peer)
 
 pub known-key : (own : Own) (u : List Field) → own.fields ≡ [] → (user_after own u).key ≡ key_in u
 unfolding listed_user
-known-key own u none = ap (λ fs. key_in (merged_with fs (clean u own.peer))) none ∙ ap (λ w. key_of (meaning w)) (nick-known u own.peer)
+known-key own u none = ap (λ fs. key_in (merged_with fs (clean u own.sender.peer))) none ∙ ap (λ w. key_of (meaning w)) (nick-known u own.sender.peer)
 
 -- the identifier of one who may enter is that of the fields
-pub after-fields : (own : Own) (u : List Field) → (user_after own u).cid ≡ cid_in (merged_with own.fields (clean u own.peer))
+pub after-fields : (own : Own) (u : List Field) → (user_after own u).cid ≡ cid_in (merged_with own.fields (clean u own.sender.peer))
 unfolding listed_user
 after-fields own u = refl
 

@@ -124,7 +124,7 @@ update_ask hub own u user = record {
   shared_files = good_number shared_files_name u;
   nick = nick_found (value_of nick_name u);
   account = account_found hub (key_in own.fields) user.key;
-  address = address_found own.peer (value_or_empty address_name u);
-  size = if fits own.fields (clean u own.peer) then Fits else TooMany;
-  nick_claim = taken_if (another_has_key hub own.sid user.key);
+  address = address_found own.sender.peer (value_or_empty address_name u);
+  size = if fits own.fields (clean u own.sender.peer) then Fits else TooMany;
+  nick_claim = taken_if (another_has_key hub own.sender.sid user.key);
 }

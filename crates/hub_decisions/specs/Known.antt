@@ -8,12 +8,12 @@ use Rattle.hub_rules.specs.Sights.{Own}
 
 -- the user of the connection, known by what its fields say
 abbrev pub IsUser : Own → Listed → Type 0
-IsUser own user = user ≡ listed_user own.sid own.fields
+IsUser own user = user ≡ listed_user own.sender.sid own.fields
 
 abbrev pub KnownAt : Stage → Own → Option Listed → Type 0
 KnownAt stages.Identify own user = own.fields ≡ []
-KnownAt stages.Verify own user = user ≡ Some (listed_user own.sid own.fields)
-KnownAt stages.Normal own user = user ≡ Some (listed_user own.sid own.fields)
+KnownAt stages.Verify own user = user ≡ Some (listed_user own.sender.sid own.fields)
+KnownAt stages.Normal own user = user ≡ Some (listed_user own.sender.sid own.fields)
 KnownAt stage own user = Unit {0}
 
 -- nothing is known of it before its login, and then who it is by what its fields say

@@ -6,12 +6,8 @@ use Rattle.hub_rules.specs.Sights.{Own}
 
 abbrev pub own_view : Inside → Own
 own_view own = record {
-  sid = own.sid;
-  peer = own.peer;
-  challenge = own.challenge;
+  sender = own.sender.now;
   stage = own.stage;
-  features = own.features.now;
   fields = unwrap_or (option_copied own.fields) [];
   expected = unwrap_or own.expected [];
-  searched = own.searched;
 }

@@ -24,10 +24,10 @@ abbrev pub Supports : Result (List (List ℕ)) Deny → Result (List (List ℕ))
 Supports answer after = MatchResult answer (λ features. (after ≡ Ok features) × (sup_denied after ≡ None)) (λ deny. sup_denied after ≡ Some deny)
 
 abbrev pub effect_of_greeting : Sight → Own → ℕ → List (List ℕ) → Effect
-effect_of_greeting hub own now params = unless_denied own (sup_denied (support_after own.features params)) (greets hub own now (support_after own.features params))
+effect_of_greeting hub own now params = unless_denied own (sup_denied (support_after own.sender.features params)) (greets hub own now (support_after own.sender.features params))
 
 abbrev pub effect_of_support : Own → List (List ℕ) → Effect
-effect_of_support own params = unless_denied own (sup_denied (support_after own.features params)) (learns (support_after own.features params))
+effect_of_support own params = unless_denied own (sup_denied (support_after own.sender.features params)) (learns (support_after own.sender.features params))
 
 -- what the INF says that the line is, if it is one whose words make an update
 abbrev pub inf_in : PreparedLine → Option (List Field)
@@ -43,7 +43,7 @@ effect_of_update hub own None = denial own Protocol
 effect_of_update hub own (Some u) = unless_denied own (update_denied hub own (Ok u)) (updates_user own (Ok u))
 
 abbrev pub effect_of_password : Sight → Own → ℕ → List (List ℕ) → Effect
-effect_of_password hub own now params = unless_denied own (password_denied hub own now params) (enters hub own (listed_user own.sid own.fields) (Sender Enters))
+effect_of_password hub own now params = unless_denied own (password_denied hub own now params) (enters hub own (listed_user own.sender.sid own.fields) (Sender Enters))
 
 abbrev pub effect_of_act : Sight → Own → ℕ → List (List ℕ) → Effect
 effect_of_act hub own now params = unless_denied own (act_denied hub own now params) (act_effect hub own now params)

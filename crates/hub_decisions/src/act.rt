@@ -121,13 +121,13 @@ fn kick<'a>(
     nick: &Nick,
     reason: &FreeText<'_>,
 ) -> Result<Effect<'a>, AllocError>
-    ensures { IfOk result (λ effect. effect ≡ answer_for own.now (if_present (user_called hub.now.users nick.now) (kick own.now.sid reason.now))) }
+    ensures { IfOk result (λ effect. effect ≡ answer_for own.now (if_present (user_called hub.now.users nick.now) (kick own.now.sender.sid reason.now))) }
 {
     let key = nick.key(alloc)?;
     let Some(target) = hub.users.by_nick(&key) else {
         return denial(alloc, own, Deny::NoUser);
     };
-    let line = removal_line(alloc, target.sid(), own.sid, None, reason.as_str())?;
+    let line = removal_line(alloc, target.sid(), own.sender.sid, None, reason.as_str())?;
     effect_for_all(alloc, one(alloc, line)?, HubChange::Kick(target.sid()))
 }
 
@@ -149,7 +149,13 @@ fn ban<'a>(
     if hub.bans.is_full(target.cid()) {
         return denial(alloc, own, Deny::BansFull);
     }
-    let line = removal_line(alloc, target.sid(), own.sid, Some(seconds), reason.as_str())?;
+    let line = removal_line(
+        alloc,
+        target.sid(),
+        own.sender.sid,
+        Some(seconds),
+        reason.as_str(),
+    )?;
     let banned = Banned {
         sid: target.sid(),
         cid: target.cid(),

@@ -15,7 +15,7 @@ ghost use Rattle.hub_decisions.specs.Asks.{denial_of, entry_ask, login_ask, upda
 /// (ADC 1.0, "SUP", "INF", "PAS").
 pub fn checks_agree()
     ensures sup { (features : List (List ℕ)) → denial_of (first_denial (sup_rules features)) ≡ first_ground (sup_grounds features) }
-    ensures login { (hub : Sight) (own : sights.Own) (now : ℕ) (digest : Option (List ℕ)) (u : List Field) (user : Listed) → denial_of (first_denial (inf_rules (login_ask hub now own.peer digest u user))) ≡ first_ground (login_grounds hub own now digest u user) }
+    ensures login { (hub : Sight) (own : sights.Own) (now : ℕ) (digest : Option (List ℕ)) (u : List Field) (user : Listed) → denial_of (first_denial (inf_rules (login_ask hub now own.sender.peer digest u user))) ≡ first_ground (login_grounds hub own now digest u user) }
     ensures update { (hub : Sight) (own : sights.Own) (u : List Field) (user : Listed) → denial_of (first_denial (update_rules (update_ask hub own u user))) ≡ first_ground (update_grounds hub own u user) }
     ensures entry { (hub : Sight) (now : ℕ) (user : Listed) → denial_of (first_denial (entry_rules (entry_ask hub now user))) ≡ first_ground (entry_grounds hub now user) }
     ensures password { (expected : List ℕ) (digest : Option (List ℕ)) → denial_of (first_denial (pass_rules expected digest)) ≡ first_ground ((not (is_digest expected digest), denials.Password) ∷ []) }

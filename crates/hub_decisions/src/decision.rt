@@ -63,7 +63,7 @@ fn decide_message<'a>(
     requires { lines.reading line.now.bytes ≡ Ok message.now }
     ensures { IfOk result (λ effect. IsKnown own.now (option_copied user.entry) → effect ≡ effect_of_reading hub.now own.now line.now now (Ok message.now)) }
 {
-    if names_another(own.sid, message.from()) {
+    if names_another(own.sender.sid, message.from()) {
         return denial(alloc, own, Deny::WrongSid);
     }
     decide_request(alloc, hub, own, user, line, message, now)

@@ -36,10 +36,13 @@ pub(crate) fn denial<'a>(alloc: Global, own: &Own<'_>, deny: Deny) -> Result<Eff
 
 /// Gives what the others hear where a connection is shut out.
 fn farewell(alloc: Global, own: &Own<'_>) -> Result<Batch, AllocError>
-    ensures { IfOk result (λ batch. batch ≡ farewell own.now.stage own.now.sid) }
+    ensures { IfOk result (λ batch. batch ≡ farewell own.now.stage own.now.sender.sid) }
 {
     if own.stage == Stage::Normal {
-        one(alloc, Bytes::copy_from_slice(alloc, &quit_line(own.sid))?)
+        one(
+            alloc,
+            Bytes::copy_from_slice(alloc, &quit_line(own.sender.sid))?,
+        )
     } else {
         Ok(Batch::new(alloc))
     }

@@ -32,7 +32,7 @@ pub(crate) fn effect_of_entry<'a>(
     let line = line_of(alloc, hub.setup, user)?;
     let shared = line.clone()?;
     Ok(Effect {
-        own: welcome(alloc, hub, own.features, user, line)?,
+        own: welcome(alloc, hub, &own.sender.features, user, line)?,
         others: one(alloc, shared)?,
         hearers: Hearers::Others,
         change: Change::Sender(SenderChange::Enters),

@@ -75,7 +75,7 @@ fn effect_of_entrant<'a>(
     let Some(expected) = line.password() else {
         return Err(AllocError);
     };
-    let challenge = one(alloc, challenge_line(alloc, own.challenge)?)?;
+    let challenge = one(alloc, challenge_line(alloc, own.sender.challenge)?)?;
     Ok(answer(alloc, challenge, SenderChange::Waits(newcomer, expected)))
 }
 
@@ -94,7 +94,7 @@ fn user_of_login(
         Ok(cid) => {
             let fields = made_known(alloc, own, inf.update())?;
             let key = String::from_str(alloc, inf.key())?;
-            Ok(Ok(entrant(alloc, own.sid, cid, key, fields)?))
+            Ok(Ok(entrant(alloc, own.sender.sid, cid, key, fields)?))
         }
         Err(deny) => Ok(Err(deny)),
     }
@@ -102,10 +102,10 @@ fn user_of_login(
 
 /// Makes the fields that are known of a user by its login.
 fn made_known(alloc: Global, own: &Own<'_>, update: &Update) -> Result<Fields, AllocError>
-    ensures { IfOk result (λ fields. fields ≡ merged_with [] (clean update.now own.now.peer)) }
+    ensures { IfOk result (λ fields. fields ≡ merged_with [] (clean update.now own.now.sender.peer)) }
 {
     let mut fields = Fields::new(alloc);
-    let passed = passed_on(alloc, own.peer, update)?;
+    let passed = passed_on(alloc, own.sender.peer, update)?;
     match fields.merge(&passed) {
         Ok(()) => Ok(fields),
         Err(_) => Err(AllocError),
@@ -191,7 +191,7 @@ fn entrant_grounds(
     let severity = Severity::Fatal;
     let (update, key) = (inf.update(), inf.key());
     let address = value_in_update(update, FieldName::address());
-    let is_wrong_address = is_wrong_address(alloc, own.peer, address)?;
+    let is_wrong_address = is_wrong_address(alloc, own.sender.peer, address)?;
     let has_owner = owner.is_some();
     let left = hub.bans.left(cid, now);
     Ok([
@@ -202,7 +202,7 @@ fn entrant_grounds(
         (!inf.is_nick(), Deny::BadNick(severity)),
         (is_ever(left), Deny::BannedEver),
         (is_timed(left), Deny::BannedFor(seconds_of(left))),
-        (is_wrong_address, Deny::Address(severity, own.peer)),
+        (is_wrong_address, Deny::Address(severity, own.sender.peer)),
         (is_barred(hub, key), Deny::Registered),
         (has_key(hub, key), Deny::NickTaken(severity)),
         (has_cid(hub, cid), Deny::CidTaken),

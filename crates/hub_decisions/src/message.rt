@@ -46,7 +46,7 @@ pub(crate) fn decide_search<'a>(
 ) -> Result<Effect<'a>, AllocError>
     ensures { IfOk result (λ effect. effect ≡ effect_of_search hub.now own.now now line.now) }
 {
-    if !may_search(own.searched, now, hub.setup.search_interval()) {
+    if !may_search(own.sender.searched, now, hub.setup.search_interval()) {
         return denial(alloc, own, Deny::SearchSoon);
     }
     let change = Change::Sender(SenderChange::Searches(now));

@@ -31,7 +31,7 @@ pub(crate) fn decide_greeting<'a>(
 ) -> Result<Effect<'a>, AllocError>
     ensures { IfOk result (λ effect. effect ≡ effect_of_greeting hub.now own.now now (words_left words.entry)) }
 {
-    let features = match features_after(alloc, own.features, words)? {
+    let features = match features_after(alloc, &own.sender.features, words)? {
         Ok(features) => features,
         Err(deny) => return denial(alloc, own, deny),
     };
@@ -51,7 +51,7 @@ pub(crate) fn decide_support<'a>(
 ) -> Result<Effect<'a>, AllocError>
     ensures { IfOk result (λ effect. effect ≡ effect_of_support own.now (words_left words.entry)) }
 {
-    let features = match features_after(alloc, own.features, words)? {
+    let features = match features_after(alloc, &own.sender.features, words)? {
         Ok(features) => features,
         Err(deny) => return denial(alloc, own, deny),
     };
@@ -86,11 +86,11 @@ fn greeting(
     features: &Features,
     now: u64,
 ) -> Result<Batch, AllocError>
-    ensures { IfOk result (λ batch. batch ≡ greeting hub.now now own.now.sid features.now) }
+    ensures { IfOk result (λ batch. batch ≡ greeting hub.now now own.now.sender.sid features.now) }
 {
     let ping = ping_of(alloc, hub, features, now)?;
     let mut batch = one(alloc, support_line(alloc)?)?;
-    push(&mut batch, identifier_line(alloc, own.sid)?)?;
+    push(&mut batch, identifier_line(alloc, own.sender.sid)?)?;
     let topic = hub.topic.as_str();
     push(&mut batch, hub_line(alloc, hub.setup, topic, &ping)?)?;
     Ok(batch)

@@ -6,7 +6,7 @@ ghost use Rattle.hub_decisions.specs.Requested.{effect_of_update, inf_in};
 ghost use Rattle.hub_rules.specs.Effects.{line_unless_empty, update_effect};
 ghost use Rattle.hub_rules.specs.Grounds.{differs, is_bad_nick, touches_account, update_grounds};
 ghost use Rattle.hub_rules.specs.Identities.{value_or_empty, key_in, meaning, su_in};
-ghost use Rattle.hub_rules.specs.Sights.{Own as Sender, another_has_key, user_after};
+ghost use Rattle.hub_rules.specs.Sights.{Own as OwnConnection, another_has_key, user_after};
 ghost use Rattle.inf_fields.specs.Cleaning.{clean};
 ghost use Rattle.inf_fields.specs.Field.{value_of};
 ghost use Rattle.inf_fields.specs.FieldNames.{id_name, nick_name, support_name};
@@ -63,7 +63,7 @@ fn decide_change<'a>(
 ) -> Result<Effect<'a>, AllocError>
     ensures { IfOk result (λ effect. IsUser own.now user.now → effect ≡ effect_of_update hub.now own.now (Some inf.now)) }
 {
-    let cleaned = passed_on(alloc, own.peer, inf.update())?;
+    let cleaned = passed_on(alloc, own.sender.peer, inf.update())?;
     let grounds = update_grounds(alloc, hub, own, user, inf, &cleaned)?;
     match first_ground(&grounds) {
         Some(deny) => denial(alloc, own, deny),
@@ -80,13 +80,13 @@ fn update_grounds(
     inf: &Inf,
     cleaned: &Update,
 ) -> Result<[(bool, Deny); 8], AllocError>
-    requires { cleaned.now ≡ clean inf.now own.now.peer }
+    requires { cleaned.now ≡ clean inf.now own.now.sender.peer }
     ensures { IfOk result (λ grounds. IsUser own.now user.now → grounds ≡ update_grounds hub.now own.now inf.now (user_after own.now inf.now)) }
 {
     let severity = Severity::Recoverable;
     let (update, key) = (inf.update(), key_after(user, inf));
     let address = value_in_update(update, FieldName::address());
-    let is_wrong_address = is_wrong_address(alloc, own.peer, address)?;
+    let is_wrong_address = is_wrong_address(alloc, own.sender.peer, address)?;
     Ok([
         (
             changes_id(user.fields(), update),
@@ -99,10 +99,10 @@ fn update_grounds(
             touches_account(hub, user.key(), key),
             Deny::Access(*b"BINF"),
         ),
-        (is_wrong_address, Deny::Address(severity, own.peer)),
+        (is_wrong_address, Deny::Address(severity, own.sender.peer)),
         (!user.fields().fits(cleaned), Deny::Protocol),
         (
-            another_has_key(hub, own.sid, key),
+            another_has_key(hub, own.sender.sid, key),
             Deny::NickTaken(severity),
         ),
     ])
@@ -110,7 +110,7 @@ fn update_grounds(
 
 /// Gives the key of the user's nick after an update: of the nick that it gives, and else the one before.
 fn key_after<'a>(user: &'a User, inf: &'a Inf) -> &'a str
-    ensures { (own : Sender) → IsUser own user.now → result.now ≡ (user_after own inf.now).key }
+    ensures { (own : OwnConnection) → IsUser own user.now → result.now ≡ (user_after own inf.now).key }
 {
     match inf.update().get(FieldName::nick()) {
         Some(_) => inf.key(),
@@ -168,7 +168,7 @@ fn effect_of_update<'a>(
     requires { value_of nick_name cleaned ≡ value_of nick_name inf.now }
     ensures { IfOk result (λ effect. IsUser own.now user.now → effect ≡ update_effect own.now cleaned) }
 {
-    let others = line_unless_empty(alloc, own.sid, &cleaned)?;
+    let others = line_unless_empty(alloc, own.sender.sid, &cleaned)?;
     let nick = nick_in(alloc, inf)?;
     let support = support_after(alloc, user.fields(), &cleaned)?;
     let revision = Revision {

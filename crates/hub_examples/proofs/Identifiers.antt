@@ -76,7 +76,7 @@ is-there n sid about = ap (λ b. b || false) (itself (suc n))
 
 -- it leaves
 abbrev leaves : ℕ → (ℕ → About) → Effect
-leaves n about = departure ((one_of n (suc n) about).about (suc n)).stage ((one_of n (suc n) about).about (suc n)).sid
+leaves n about = departure ((one_of n (suc n) about).about (suc n)).stage ((one_of n (suc n) about).about (suc n)).sender.sid
 
 one-goes : (n : ℕ) (about : ℕ → About) → without_connection (suc n) (happens (suc n) (leaves n about) (one_of n (suc n) about))
     ≡ idle_facts (suc n) (about_after (suc n) (leaves n about) (one_of n (suc n) about).about)
@@ -115,7 +115,7 @@ each-has-its-own : (hash : List ℕ → List ℕ) (n : ℕ) → n < 1_048_575 �
 each-has-its-own hash n few =
     let there = so-many-came hash n (omega (arith, few)) in
     let came = one-joined hash n (suc n) there (omega (arith, few)) (omega (arith, few)) in
-    ap (λ f. (f.about (suc n)).sid) came.1 ∙ ap (λ a. a.sid) (its-about n (suc n) there.about)
+    ap (λ f. (f.about (suc n)).sender.sid) came.1 ∙ ap (λ a. a.sender.sid) (its-about n (suc n) there.about)
 
 -- the last of them asks
 last-asks : (hash : List ℕ → List ℕ) → Idle hash 1_048_575 → Legal plain hash all_given × (lines_owed plain hash all_given 1_048_576 ≡ greeting_of (codes "AAAB"))

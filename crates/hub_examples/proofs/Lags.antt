@@ -21,6 +21,7 @@ use Rattle.hub_rules.specs.declared.history.Reply.TheVariants.{Took}
 use Rattle.hub_rules.specs.declared.history.Verdict.TheVariants.{Kept}
 use Rattle.hub_rules.specs.Effects.{is_present}
 use Rattle.hub_rules.specs.Facts.{after, newcomer}
+use Rattle.hub_rules.specs.Senders.{new_sender}
 use Rattle.hub_rules.specs.Legal.{reply, take_reply}
 use Rattle.hub_rules.specs.Shares.{About, affected_connection, has_room, lags_with, owed_with, waiting}
 use Rattle.hub_examples.specs.Conversations.{bobs_id, nobodys_id, one, peer, plain, zeros}
@@ -49,7 +50,7 @@ heard-length sid n = omega (arith, length-replicate n ho_told)
 -- a user who is present
 abbrev present_about : ℕ → List Field → List (List ℕ) → About
 present_about c fields owed =
-    record (newcomer c c peer zeros) { stage = stages.Normal; features = codes "TIGR" ∷ codes "BASE" ∷ []; fields = fields; owed = owed }
+    record (newcomer c c peer zeros) { sender = record (new_sender c peer zeros) { features = codes "TIGR" ∷ codes "BASE" ∷ [] }; stage = stages.Normal; fields = fields; owed = owed }
 
 abbrev ana_about : List (List ℕ) → About
 ana_about owed =

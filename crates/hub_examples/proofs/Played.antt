@@ -119,19 +119,19 @@ effect_by setup f c bytes now prepared read =
 
 abbrev heard : Configured → ℕ → List ℕ → ℕ → Result Reading LineFault → Known → Known
 heard setup c bytes now read k =
-    with_effect c (effect_by setup (facts_of k) c bytes now (prepared_of setup sample (about_in k.abouts c).challenge bytes read) read) k
+    with_effect c (effect_by setup (facts_of k) c bytes now (prepared_of setup sample (about_in k.abouts c).sender.challenge bytes read) read) k
 
 abbrev answered : ℕ → ℕ → List ℕ → ℕ → Bool → Known → Run → Run
 answered caller c bytes now may t run = goes may caller (Line c bytes now) (Said (verdict_of (about_in t.abouts c).stage)) t run
 
 abbrev with_line : Configured → List (List ℕ) → ℕ → ℕ → List ℕ → ℕ → Result Reading LineFault → Run → Run
 with_line setup hashed caller c bytes now read run =
-    answered caller c bytes now (names run.known caller c && is_hashed setup hashed (about_in run.known.abouts c).challenge (update_of read))
+    answered caller c bytes now (names run.known caller c && is_hashed setup hashed (about_in run.known.abouts c).sender.challenge (update_of read))
     (heard setup c bytes now read run.known) run
 
 -- no open connection has the identifier after the last one
 abbrev is_next_free : Known → Bool
-is_next_free k = not (is_taken (following k.last 0) (map (λ c. (about_in k.abouts c).sid) k.opened))
+is_next_free k = not (is_taken (following k.last 0) (map (λ c. (about_in k.abouts c).sender.sid) k.opened))
 
 abbrev joined : Bool → ℕ → List ℕ → List ℕ → Known → Known
 joined accepted caller peer challenge k = if accepted then with_newcomer caller (following k.last 0) peer challenge k else k
@@ -139,7 +139,7 @@ joined accepted caller peer challenge k = if accepted then with_newcomer caller 
 -- the connection left
 abbrev with_quit : ℕ → Known → Known
 with_quit c k =
-    let gone = with_effect c (departure (about_in k.abouts c).stage (about_in k.abouts c).sid) k in
+    let gone = with_effect c (departure (about_in k.abouts c).stage (about_in k.abouts c).sender.sid) k in
     record gone { opened = filter (λ d. not (d == c)) gone.opened }
 
 abbrev with_call : Configured → List (List ℕ) → Run → ℕ → Call → Run
@@ -174,8 +174,8 @@ next-number : (most last : ℕ) (taken : List ℕ) → is_taken (following last 
 unfolding next_within
 next-number most last taken free = ap (λ b. cond b (next_within most (following last 0) taken) (following last 0)) free
 
-pub next-at : (f : Facts) → is_taken (following f.last 0) (map (λ c. (f.about c).sid) f.opened) ≡ false → next_sid f ≡ following f.last 0
-next-at f free = next-number 1_048_574 f.last (map (λ c. (f.about c).sid) f.opened) free
+pub next-at : (f : Facts) → is_taken (following f.last 0) (map (λ c. (f.about c).sender.sid) f.opened) ≡ false → next_sid f ≡ following f.last 0
+next-at f free = next-number 1_048_574 f.last (map (λ c. (f.about c).sender.sid) f.opened) free
 
 not-true : (b : Bool) → not b ≡ true → b ≡ false
 not-true b is = grind arith
@@ -191,15 +191,15 @@ module _ (setup : Configured) (hash : List ℕ → List ℕ) (hashed : List (Lis
       → (if accepted then with_connection (facts_of k) caller peer challenge else facts_of k) ≡ facts_of (joined accepted caller peer challenge k)
   joined-known k caller peer challenge true free =
       joins-known caller (following k.last 0) peer challenge k
-      (next-at (facts_of k) (not-true (is_taken (following k.last 0) (map (λ c. (about_in k.abouts c).sid) k.opened)) free))
+      (next-at (facts_of k) (not-true (is_taken (following k.last 0) (map (λ c. (about_in k.abouts c).sender.sid) k.opened)) free))
   joined-known k caller peer challenge false free = refl
 
   line-known : (k : Known) (caller c : ℕ) (bytes : List ℕ) (now : ℕ) → is_known c k ≡ true
-      → is_hashed setup hashed (about_in k.abouts c).challenge (update_of (reading bytes)) ≡ true
+      → is_hashed setup hashed (about_in k.abouts c).sender.challenge (update_of (reading bytes)) ≡ true
       → after setup hash (facts_of k) caller (Line c bytes now) ≡ facts_of (heard setup c bytes now (reading bytes) k)
   unfolding after line_effect prepared_line
   line-known k caller c bytes now there are =
-      let challenge = (about_in k.abouts c).challenge in
+      let challenge = (about_in k.abouts c).sender.challenge in
       ap (λ prepared. happens c (effect_by setup (facts_of k) c bytes now prepared (reading bytes)) (facts_of k)) (same-prepared hash hashed so setup challenge bytes (reading bytes) are)
       ∙ happens-known c (effect_by setup (facts_of k) c bytes now (prepared_of setup sample challenge bytes (reading bytes)) (reading bytes)) k there
 
@@ -216,7 +216,7 @@ module _ (setup : Configured) (hash : List ℕ → List ℕ) (hashed : List (Lis
       (joined-known k caller peer challenge (place && counted) both.1)
   called run caller (Line c bytes now) before legal =
       let k = run.known in
-      let are = is_hashed setup hashed (about_in k.abouts c).challenge (update_of (reading bytes)) in
+      let are = is_hashed setup hashed (about_in k.abouts c).sender.challenge (update_of (reading bytes)) in
       let t = heard setup c bytes now (reading bytes) k in
       let both = and_parts run.legal (names k caller c && are) legal in
       let parts = and_parts (names k caller c) are both.1 in
@@ -229,7 +229,7 @@ module _ (setup : Configured) (hash : List ℕ → List ℕ) (hashed : List (Lis
       let both = and_parts run.legal (names k caller c) legal in
       let named = is-named k caller c both.1 in
       goes-on setup hash run.history k (with_quit c k) (record { caller = caller; call = Quit c; reply = Left }) (before both.0) (named.0, named.1) refl
-      (ap (without_connection c) (happens-known c (departure (about_in k.abouts c).stage (about_in k.abouts c).sid) k named.2))
+      (ap (without_connection c) (happens-known c (departure (about_in k.abouts c).stage (about_in k.abouts c).sender.sid) k named.2))
   called run caller (Take c count) before legal =
       let k = run.known in
       let both = and_parts run.legal (names k caller c) legal in

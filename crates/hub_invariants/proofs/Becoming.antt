@@ -18,7 +18,7 @@ pub data Becomes (setup : Configured) (hash : List ℕ → List ℕ) (f : Facts)
       → Becomes setup hash f caller d (Join peer challenge now) (newcomer caller (next_sid f) peer challenge)
   misses : (peer challenge : List ℕ) (now : ℕ) → (has_place setup f && has_joins f && (d == (f.joins + 1))) ≡ false → Becomes setup hash f caller d (Join peer challenge now) (f.about d)
   says : (c : ℕ) (bytes : List ℕ) (now : ℕ) → Becomes setup hash f caller d (Line c bytes now) (affected_connection (d == c) (effect_of_line setup hash f c bytes now) (f.about d))
-  quits : (c : ℕ) → Becomes setup hash f caller d (Quit c) (affected_connection (d == c) (departure (f.about c).stage (f.about c).sid) (f.about d))
+  quits : (c : ℕ) → Becomes setup hash f caller d (Quit c) (affected_connection (d == c) (departure (f.about c).stage (f.about c).sender.sid) (f.about d))
   takes : (c count : ℕ) → Becomes setup hash f caller d (Take c count) (taken_by (d == c) count (f.about d))
 
 take-one : (count : ℕ) (a : About) (same : Bool) → taken_by same count a ≡ cond same (with_lines_taken count a) a

@@ -87,8 +87,8 @@ unfolding after
 after-sound setup hash f caller (Join peer challenge now) sound = join-sound f caller peer challenge (has_place setup f && has_joins f) sound
 after-sound setup hash f caller (Line c bytes now) sound = happens-sound c (effect_of_line setup hash f c bytes now) f sound (fits-line setup hash f c bytes now)
 after-sound setup hash f caller (Quit c) sound =
-    closed-sound c (happens c (departure (f.about c).stage (f.about c).sid) f) (departed-over c f)
-    (happens-sound c (departure (f.about c).stage (f.about c).sid) f sound (fits-departure (f.about c).stage (f.about c).stage (f.about c).sid))
+    closed-sound c (happens c (departure (f.about c).stage (f.about c).sender.sid) f) (departed-over c f)
+    (happens-sound c (departure (f.about c).stage (f.about c).sender.sid) f sound (fits-departure (f.about c).stage (f.about c).stage (f.about c).sender.sid))
 after-sound setup hash f caller (Take c count) sound = taken-sound c count f sound
 
 pub sound_of : (setup : Configured) (hash : List ℕ → List ℕ) (h : List Entry) → Sound (facts setup hash h)

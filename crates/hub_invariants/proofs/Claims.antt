@@ -98,7 +98,7 @@ abbrev pub NamesOwn : List Field → List Field → Type 0
 NamesOwn fields u = unwrap_or (value_of id_name u) (value_or_empty id_name fields) ≡ value_or_empty id_name fields
 
 pub update-free : (hub : Sight) (own : sights.Own) (u : List Field) (user : Listed) → first_ground (update_grounds hub own u user) ≡ None
-    → (another_has_key hub own.sid user.key ≡ false) × NamesOwn own.fields u
+    → (another_has_key hub own.sender.sid user.key ≡ false) × NamesOwn own.fields u
 unfolding update_grounds
 update-free hub own u user none =
     let nick : AllFalse (grounds_of is_nick_taken (update_grounds hub own u user)) = none-of is_nick_taken (update_grounds hub own u user) none in
@@ -107,5 +107,5 @@ update-free hub own u user none =
 
 -- an update that names no other identifier leaves the one that is known
 pub same-cid : (own : sights.Own) (u : List Field) (infs : List (List Field)) → own.fields ≡ merged_fields infs → NamesOwn own.fields u
-    → cid_in (merged_with own.fields (clean u own.peer)) ≡ cid_in own.fields
+    → cid_in (merged_with own.fields (clean u own.sender.peer)) ≡ cid_in own.fields
 same-cid own u infs known identity = grind (arith, given-after, id-clean)

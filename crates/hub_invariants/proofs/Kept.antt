@@ -69,12 +69,12 @@ apart-one g c d (x ∷ xs) once there-c there-d same =
     (λ later-c later-d. apart-one g c d xs tests.1 later-c later-d same)
 
 pub differs-sid : (setup : Configured) (f : Facts) → Sound f → Numbered setup f → (c d : ℕ) → has c f.opened ≡ true → has d f.opened ≡ true → (c == d) ≡ false → (same : Bool)
-    → eqb (f.about d).sid (f.about c).sid ≡ same → same ≡ false
+    → eqb (f.about d).sender.sid (f.about c).sender.sid ≡ same → same ≡ false
 differs-sid setup f sound n c d open-c open-d other same is = grind (arith, eq-eqb, apart-one, eqb-true)
 
 pub sids_differ : SidsDiffer
 sids_differ setup hash h small c d there-c there-d same =
-    apart-one (λ x. ((facts setup hash h).about x).sid) c d (facts setup hash h).opened (numbered_of setup hash h small).apart_sids there-c there-d same
+    apart-one (λ x. ((facts setup hash h).about x).sender.sid) c d (facts setup hash h).opened (numbered_of setup hash h small).apart_sids there-c there-d same
 
 pub sids_are_given : SidsAreGiven
 sids_are_given setup hash h small c there = (numbered_of setup hash h small).given_sids c there

@@ -130,8 +130,8 @@ pub data Outcome (hub : Sight) (own : Own) (line : PreparedLine) (now : ℕ) : O
   quiet : Outcome hub own line now None requests.Nothing nothing
   denies : (deny : Deny) → Outcome hub own line now None requests.Nothing (tells_sender (denial_line deny ∷ []) Nothing)
   shuts_out : (deny : Deny) → Outcome hub own line now None requests.Nothing
-      (tells_others (denial_line deny ∷ []) (farewell own.stage own.sid) (Sender senders.Falls))
-  greets : (reading : Reading) (features : List (List ℕ)) → own.stage ≡ stages.Protocol → support_after own.features reading.params ≡ Ok features
+      (tells_others (denial_line deny ∷ []) (farewell own.stage own.sender.sid) (Sender senders.Falls))
+  greets : (reading : Reading) (features : List (List ℕ)) → own.stage ≡ stages.Protocol → support_after own.sender.features reading.params ≡ Ok features
       → Outcome hub own line now (Some reading) requests.Greeting (effects.greets hub own now (Ok features))
   waits : (reading : Reading) (u : List Field) → Logs hub own line now reading u → is_account hub (user_after own u).key ≡ true
       → Outcome hub own line now (Some reading) requests.Login (admits hub own line true (user_after own u))
@@ -139,12 +139,12 @@ pub data Outcome (hub : Sight) (own : Own) (line : PreparedLine) (now : ℕ) : O
       → Outcome hub own line now (Some reading) requests.Login (admits hub own line false (user_after own u))
   proves : (reading : Reading) → own.stage ≡ stages.Verify → request_of own.stage reading.kind reading.command ≡ requests.Password
       → password_denied hub own now reading.params ≡ None
-      → Outcome hub own line now (Some reading) requests.Password (enters hub own (listed_user own.sid own.fields) (Sender senders.Enters))
+      → Outcome hub own line now (Some reading) requests.Password (enters hub own (listed_user own.sender.sid own.fields) (Sender senders.Enters))
   revises : (reading : Reading) (u : List Field) → own.stage ≡ stages.Normal → updates.reading reading.params ≡ Ok u → update_denied hub own (Ok u) ≡ None
-      → Outcome hub own line now (Some reading) requests.Update (update_effect own (clean u own.peer))
-  learns : (reading : Reading) (features : List (List ℕ)) → own.stage ≡ stages.Normal → support_after own.features reading.params ≡ Ok features
+      → Outcome hub own line now (Some reading) requests.Update (update_effect own (clean u own.sender.peer))
+  learns : (reading : Reading) (features : List (List ℕ)) → own.stage ≡ stages.Normal → support_after own.sender.features reading.params ≡ Ok features
       → Outcome hub own line now (Some reading) requests.Support (effects.learns (Ok features))
-  acts : (reading : Reading) (done : Done) → own.stage ≡ stages.Normal → is_operator hub own ≡ true → Does hub.users hub.bans own.sid done.others done.change
+  acts : (reading : Reading) (done : Done) → own.stage ≡ stages.Normal → is_operator hub own ≡ true → Does hub.users hub.bans own.sender.sid done.others done.change
       → Outcome hub own line now (Some reading) requests.Act (effect_for_all done)
   chats : (reading : Reading) → own.stage ≡ stages.Normal → Outcome hub own line now (Some reading) requests.Act nothing
   searches : (reading : Reading) → own.stage ≡ stages.Normal → Outcome hub own line now (Some reading) requests.Search (passes_on hub reading (Sender (senders.Searches now)))
@@ -161,16 +161,16 @@ module _ (hub : Sight) (own : Own) (line : PreparedLine) (now : ℕ) where
   Has said request effect = Outcome hub own line now said request effect
 
   by-denial : (deny : Deny) (fatal : Bool)
-      → Has None requests.Nothing (cond fatal (tells_others (denial_line deny ∷ []) (farewell own.stage own.sid) (Sender senders.Falls)) (tells_sender (denial_line deny ∷ []) Nothing))
+      → Has None requests.Nothing (cond fatal (tells_others (denial_line deny ∷ []) (farewell own.stage own.sender.sid) (Sender senders.Falls)) (tells_sender (denial_line deny ∷ []) Nothing))
   by-denial deny true = shuts_out deny
   by-denial deny false = denies deny
 
-  by-greeting : (reading : Reading) → own.stage ≡ stages.Protocol → (r : Result (List (List ℕ)) SupFault) → support_after own.features reading.params ≡ r → sup_denied r ≡ None
+  by-greeting : (reading : Reading) → own.stage ≡ stages.Protocol → (r : Result (List (List ℕ)) SupFault) → support_after own.sender.features reading.params ≡ r → sup_denied r ≡ None
       → Has (Some reading) requests.Greeting (effects.greets hub own now r)
   by-greeting reading at (Ok features) is none = greets reading features at is
   by-greeting reading at (Err fault) is none = absurd (some-none none)
 
-  by-support : (reading : Reading) → own.stage ≡ stages.Normal → (r : Result (List (List ℕ)) SupFault) → support_after own.features reading.params ≡ r → sup_denied r ≡ None
+  by-support : (reading : Reading) → own.stage ≡ stages.Normal → (r : Result (List (List ℕ)) SupFault) → support_after own.sender.features reading.params ≡ r → sup_denied r ≡ None
       → Has (Some reading) requests.Support (effects.learns r)
   by-support reading at (Ok features) is none = learns reading features at is
   by-support reading at (Err fault) is none = absurd (some-none none)
@@ -189,7 +189,7 @@ module _ (hub : Sight) (own : Own) (line : PreparedLine) (now : ℕ) where
   by-update reading at (Ok u) words none = revises reading u at words none
   by-update reading at (Err fault) words none = absurd (some-none none)
 
-  by-answer : (reading : Reading) → own.stage ≡ stages.Normal → is_operator hub own ≡ true → (answer : Result Done Deny) → DoesIt hub.users hub.bans own.sid answer
+  by-answer : (reading : Reading) → own.stage ≡ stages.Normal → is_operator hub own ≡ true → (answer : Result Done Deny) → DoesIt hub.users hub.bans own.sender.sid answer
       → result_err answer ≡ None → Has (Some reading) requests.Act (effect_by answer)
   by-answer reading at operator (Ok done) it none = acts reading done at operator it
   by-answer reading at operator (Err deny) it none = absurd (some-none none)
@@ -197,7 +197,7 @@ module _ (hub : Sight) (own : Own) (line : PreparedLine) (now : ℕ) where
   by-command : (reading : Reading) → own.stage ≡ stages.Normal → is_operator hub own ≡ true → (act : Option Act) → result_err (answer_to hub own now act) ≡ None
       → Has (Some reading) requests.Act (effect_by (answer_to hub own now act))
   by-command reading at operator None none = absurd (some-none none)
-  by-command reading at operator (Some act) none = by-answer reading at operator _ (does hub.users hub.bans own.sid now act) none
+  by-command reading at operator (Some act) none = by-answer reading at operator _ (does hub.users hub.bans own.sender.sid now act) none
 
   by-operator : (reading : Reading) → own.stage ≡ stages.Normal → (command operator : Bool) → is_operator hub own ≡ operator
       → (if not command then None else if not operator then Some (denials.Access (codes "HMSG")) else result_err (answer_to hub own now (act_at (text_in reading.params)))) ≡ None
@@ -213,11 +213,11 @@ module _ (hub : Sight) (own : Own) (line : PreparedLine) (now : ℕ) where
   pub by-request : (reading : Reading) (request : Request) → Asked own.stage request → request_of own.stage reading.kind reading.command ≡ request
       → request_denied hub own line now reading request ≡ None → Has (Some reading) request (accepted_effect hub own line now reading request)
   unfolding accepted_effect request_denied
-  by-request reading requests.Greeting at asks none = by-greeting reading at (support_after own.features reading.params) refl none
+  by-request reading requests.Greeting at asks none = by-greeting reading at (support_after own.sender.features reading.params) refl none
   by-request reading requests.Login at asks none = by-login reading at asks (updates.reading reading.params) refl none
   by-request reading requests.Password at asks none = proves reading at asks none
   by-request reading requests.Update at asks none = by-update reading at (updates.reading reading.params) refl none
-  by-request reading requests.Support at asks none = by-support reading at (support_after own.features reading.params) refl none
+  by-request reading requests.Support at asks none = by-support reading at (support_after own.sender.features reading.params) refl none
   by-request reading requests.Act at asks none = by-act reading at none
   by-request reading requests.Search at asks none = searches reading at
   by-request reading requests.Message at asks none = passes reading at
@@ -234,7 +234,7 @@ module _ (hub : Sight) (own : Own) (line : PreparedLine) (now : ℕ) where
 
   by-reading : (r : Result Reading LineFault) → IsOutcome (unless_refused hub own line now r) (effect_of_reading hub own line now r)
   unfolding denial
-  by-reading (Ok reading) = by-refusal reading (denial_of hub own line now reading) (later-none (refusal_of own.stage own.sid reading) _)
+  by-reading (Ok reading) = by-refusal reading (denial_of hub own line now reading) (later-none (refusal_of own.stage own.sender.sid reading) _)
   by-reading (Err fault) = by-denial denials.Protocol (is_fatal denials.Protocol)
 
   unless-quiet : (b : Bool) (said : Option Reading) (effect : Effect) → IsOutcome said effect → IsOutcome (if b then None else said) (if b then nothing else effect)
@@ -247,8 +247,8 @@ module _ (hub : Sight) (own : Own) (line : PreparedLine) (now : ℕ) where
 
 -- of a line of connection c
 pub line-outcome : (setup : Configured) (hash : List ℕ → List ℕ) (f : Facts) (c : ℕ) (bytes : List ℕ) (now : ℕ)
-    → Outcome (sight_of setup f) (own_of (f.about c)) (prepared_line setup hash (f.about c).challenge bytes) now
-    (accepted_line (sight_of setup f) (own_of (f.about c)) (prepared_line setup hash (f.about c).challenge bytes) now)
-    (request_in (own_of (f.about c)) (accepted_line (sight_of setup f) (own_of (f.about c)) (prepared_line setup hash (f.about c).challenge bytes) now))
+    → Outcome (sight_of setup f) (own_of (f.about c)) (prepared_line setup hash (f.about c).sender.challenge bytes) now
+    (accepted_line (sight_of setup f) (own_of (f.about c)) (prepared_line setup hash (f.about c).sender.challenge bytes) now)
+    (request_in (own_of (f.about c)) (accepted_line (sight_of setup f) (own_of (f.about c)) (prepared_line setup hash (f.about c).sender.challenge bytes) now))
     (effect_of_line setup hash f c bytes now)
-line-outcome setup hash f c bytes now = outcome (sight_of setup f) (own_of (f.about c)) (prepared_line setup hash (f.about c).challenge bytes) now
+line-outcome setup hash f c bytes now = outcome (sight_of setup f) (own_of (f.about c)) (prepared_line setup hash (f.about c).sender.challenge bytes) now

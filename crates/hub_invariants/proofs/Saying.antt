@@ -13,7 +13,9 @@ use Rattle.login_state.specs.Support.{features_of, mentions_in, supported_after}
 use Rattle.login_state.specs.SupportAnswers.{support_after}
 use Rattle.login_state.proofs.LineByLine.{applied-ok}
 use Rattle.login_state.proofs.Mentioned.{features_of-nil, features_of-push}
+use Rattle.hub_rules.specs.declared.effect.Change.TheVariants.{Sender}
 use Rattle.hub_rules.specs.declared.effect.Effect.{Effect}
+use Rattle.hub_rules.specs.declared.effect.SenderChange.TheVariants as senders
 use Rattle.hub_rules.specs.declared.history.Call.{Call}
 use Rattle.hub_rules.specs.declared.history.Entry.{Entry}
 use Rattle.login_state.specs.declared.request.Request.{Request}
@@ -23,7 +25,8 @@ use Rattle.hub_rules.specs.Facts.{Facts, facts, effect_of_line, own_of, sight_of
 use Rattle.hub_rules.specs.Identities.{listed_user}
 use Rattle.hub_rules.specs.Prepared.{prepared_line}
 use Rattle.hub_invariants.specs.Said.{FeaturesAreLastAdded, InfoIsMerged, accepted_line, cleaned_update, inf_update, infs, listed_if, read_by, said_in, sup_words, sups, unless_refused, words_if}
-use Rattle.hub_rules.specs.Shares.{About, features_after, fields_after}
+use Rattle.hub_rules.specs.Senders.{features_after, own_change}
+use Rattle.hub_rules.specs.Shares.{About, fields_after}
 use Rattle.hub_rules.specs.Sights.{Own, PreparedLine, Sight, user_after}
 use Rattle.hub_invariants.proofs.Becoming.{Becomes, becomes}
 use Rattle.hub_invariants.proofs.Calls.{above, over-unless, sound_of}
@@ -44,10 +47,10 @@ with_sup before (Some words) = supported_after before (mentions_in words)
 
 -- an effect does to features and fields what is said
 pub record Says (own : Own) (effect : Effect) (sup : Option (List (List ℕ))) (inf : Option (List Field)) : Type 0 where
-  pub supports : features_after effect.change own.features ≡ with_sup own.features sup
+  pub supports : features_after effect.change own.sender.features ≡ with_sup own.sender.features sup
   pub tells : fields_after effect.change own.fields ≡ with_update own.fields inf
 
-login-fields : (own : Own) (u : List Field) → (user_after own u).fields ≡ merged_with own.fields (clean u own.peer)
+login-fields : (own : Own) (u : List Field) → (user_after own u).fields ≡ merged_with own.fields (clean u own.sender.peer)
 unfolding listed_user
 login-fields own u = refl
 
@@ -59,12 +62,12 @@ said_by read own (Some reading) request = read own request reading
 pub said-read : {A : Type 0} (read : Own → Request → Reading → Option A) (own : Own) (mentions_in : Option Reading) → said_by read own mentions_in (request_in own mentions_in) ≡ read_by read own mentions_in
 said-read read own mentions_in = grind arith
 
-says-words : (own : Own) (words features : List (List ℕ)) → support_after own.features words ≡ Ok features → features ≡ with_sup own.features (words_if (support_after own.features words) words)
-says-words own words features is = sym (applied-ok own.features words features is) ∙ ap (λ r. with_sup own.features (words_if r words)) (sym is)
+says-words : (own : Own) (words features : List (List ℕ)) → support_after own.sender.features words ≡ Ok features → features ≡ with_sup own.sender.features (words_if (support_after own.sender.features words) words)
+says-words own words features is = sym (applied-ok own.sender.features words features is) ∙ ap (λ r. with_sup own.sender.features (words_if r words)) (sym is)
 
 says-cleaned : (own : Own) (reading : Reading) (u : List Field) → updates.reading reading.params ≡ Ok u
-    → merged_with own.fields (clean u own.peer) ≡ with_update own.fields (cleaned_update own.peer (updates.reading reading.params))
-says-cleaned own reading u is = ap (λ r. with_update own.fields (cleaned_update own.peer r)) (sym is)
+    → merged_with own.fields (clean u own.sender.peer) ≡ with_update own.fields (cleaned_update own.sender.peer (updates.reading reading.params))
+says-cleaned own reading u is = ap (λ r. with_update own.fields (cleaned_update own.sender.peer r)) (sym is)
 
 module _ {hub : Sight} {own : Own} {line : PreparedLine} {now : ℕ} where
   says-outcome : {mentions_in : Option Reading} {request : Request} {effect : Effect} → Outcome hub own line now mentions_in request effect → Says own effect (said_by sup_words own mentions_in request) (said_by inf_update own mentions_in request)
@@ -80,7 +83,7 @@ says-line : (hub : Sight) (own : Own) (line : PreparedLine) (now : ℕ)
 says-line hub own line now =
     let mentions_in = accepted_line hub own line now in
     let says = says-outcome (outcome hub own line now) in record {
-      supports = says.supports ∙ ap (with_sup own.features) (said-read sup_words own mentions_in);
+      supports = says.supports ∙ ap (with_sup own.sender.features) (said-read sup_words own mentions_in);
       tells = says.tells ∙ ap (with_update own.fields) (said-read inf_update own mentions_in);
     }
 
@@ -98,12 +101,12 @@ fields-more infs inf = grind (arith, append-nil, merged-more)
 
 -- what is known of a connection is what was said
 pub record Told (a : About) (sups : List (List (List ℕ))) (infs : List (List Field)) : Type 0 where
-  pub supports : a.features ≡ features_of sups
+  pub supports : a.sender.features ≡ features_of sups
   pub tells : a.fields ≡ merged_fields infs
 
 said-one : (f : Facts) (c d : ℕ) (effect : Effect) (sup : Option (List (List ℕ))) (inf : Option (List Field)) (same : Bool) → (c == d) ≡ same
     → Says (own_of (f.about d)) effect sup inf → (sups : List (List (List ℕ))) (infs : List (List Field)) → Told (f.about c) sups infs
-    → (cond same (features_after effect.change (f.about c).features) (f.about c).features ≡ features_of (sups ++ listed_if same sup))
+    → (features_after (own_change same effect.change) (f.about c).sender.features ≡ features_of (sups ++ listed_if same sup))
     × (cond same (fields_after effect.change (f.about c).fields) (f.about c).fields ≡ merged_fields (infs ++ listed_if same inf))
 said-one f c d effect sup inf same is says sups infs told = grind (arith, eqb-true, features-more, fields-more, append-nil)
 
@@ -112,14 +115,19 @@ said-one f c d effect sup inf same is says sups infs told = grind (arith, eqb-tr
 pub same-chosen : {A : Type 0} (b : Bool) (x : A) → cond b x x ≡ x
 same-chosen b x = grind arith
 
+-- a connection that leaves supports what it did
+features-kept : (same : Bool) (features : List (List ℕ)) → features_after (own_change same (Sender senders.Falls)) features ≡ features
+features-kept true features = refl
+features-kept false features = refl
+
 -- a call that says nothing of it
-told-still : (a b : About) (sups : List (List (List ℕ))) (infs : List (List Field)) → b.features ≡ a.features → b.fields ≡ a.fields → Told a sups infs → Told b (sups ++ []) (infs ++ [])
+told-still : (a b : About) (sups : List (List (List ℕ))) (infs : List (List Field)) → b.sender.features ≡ a.sender.features → b.fields ≡ a.fields → Told a sups infs → Told b (sups ++ []) (infs ++ [])
 told-still a b sups infs same_features same_fields told = grind (arith, append-nil)
 
 -- ---- a connection that has not joined yet
 
 pub record Untouched (a : About) : Type 0 where
-  pub no_features : a.features ≡ []
+  pub no_features : a.sender.features ≡ []
   pub no_fields : a.fields ≡ []
 
 pub unheard : (hub : Sight) (own : Own) (line : PreparedLine) (now : ℕ) → is_over own.stage ≡ true → accepted_line hub own line now ≡ None
@@ -127,27 +135,27 @@ unfolding accepted_line
 unheard hub own line now over = ap (λ b. if b then None else (if length line.bytes == 0 then None else unless_refused hub own line now (lines.reading line.bytes))) over
 
 quiet-line : (hub : Sight) (own : Own) (line : PreparedLine) (now : ℕ) → is_over own.stage ≡ true
-    → (features_after (line_effect hub own line now).change own.features ≡ own.features) × (fields_after (line_effect hub own line now).change own.fields ≡ own.fields)
+    → (features_after (line_effect hub own line now).change own.sender.features ≡ own.sender.features) × (fields_after (line_effect hub own line now).change own.fields ≡ own.fields)
 quiet-line hub own line now over =
     let says = says-line hub own line now in (
-      says.supports ∙ ap (λ mentions_in. with_sup own.features (read_by sup_words own mentions_in)) (unheard hub own line now over),
+      says.supports ∙ ap (λ mentions_in. with_sup own.sender.features (read_by sup_words own mentions_in)) (unheard hub own line now over),
       says.tells ∙ ap (λ mentions_in. with_update own.fields (read_by inf_update own mentions_in)) (unheard hub own line now over),
     )
 
 quiet-one : (setup : Configured) (hash : List ℕ → List ℕ) (f : Facts) (d c : ℕ) (bytes : List ℕ) (now : ℕ) (same : Bool) → (d == c) ≡ same → is_over (f.about d).stage ≡ true
-    → (cond same (features_after (effect_of_line setup hash f c bytes now).change (f.about d).features) (f.about d).features ≡ (f.about d).features)
+    → (features_after (own_change same (effect_of_line setup hash f c bytes now).change) (f.about d).sender.features ≡ (f.about d).sender.features)
     × (cond same (fields_after (effect_of_line setup hash f c bytes now).change (f.about d).fields) (f.about d).fields ≡ (f.about d).fields)
 quiet-one setup hash f d c bytes now true is over =
     let e : c ≡ d = sym (eqb-true d c is) in
-    subst (λ x. (features_after (effect_of_line setup hash f x bytes now).change (f.about d).features ≡ (f.about d).features)
+    subst (λ x. (features_after (effect_of_line setup hash f x bytes now).change (f.about d).sender.features ≡ (f.about d).sender.features)
     × (fields_after (effect_of_line setup hash f x bytes now).change (f.about d).fields ≡ (f.about d).fields)) (sym e)
-    (quiet-line (sight_of setup f) (own_of (f.about d)) (prepared_line setup hash (f.about d).challenge bytes) now over)
+    (quiet-line (sight_of setup f) (own_of (f.about d)) (prepared_line setup hash (f.about d).sender.challenge bytes) now over)
 quiet-one setup hash f d c bytes now false is over = (refl, refl)
 
 pub over-beyond : (f : Facts) → Sound f → (d : ℕ) → f.joins < d → is_over (f.about d).stage ≡ true
 over-beyond f sound d beyond = over-unless f sound d (above f sound d beyond (has d f.opened) refl) (is_over (f.about d).stage) refl
 
-untouched-same : (a b : About) → b.features ≡ a.features → b.fields ≡ a.fields → Untouched a → Untouched b
+untouched-same : (a b : About) → b.sender.features ≡ a.sender.features → b.fields ≡ a.fields → Untouched a → Untouched b
 untouched-same a b same_features same_fields none = record { no_features = same_features ∙ none.no_features; no_fields = same_fields ∙ none.no_fields }
 
 module _ {setup : Configured} {hash : List ℕ → List ℕ} {f : Facts} {caller c : ℕ} where
@@ -156,7 +164,7 @@ module _ {setup : Configured} {hash : List ℕ → List ℕ} {f : Facts} {caller
   untouched-after (Becomes.says d bytes now) sound beyond none =
       let quiet = quiet-one setup hash f c d bytes now (c == d) refl (over-beyond f sound c beyond) in untouched-same (f.about c) _ quiet.0 quiet.1 none
   untouched-after (Becomes.quits d) sound beyond none =
-      untouched-same (f.about c) _ (same-chosen (c == d) (f.about c).features) (same-chosen (c == d) (f.about c).fields) none
+      untouched-same (f.about c) _ (features-kept (c == d) (f.about c).sender.features) (same-chosen (c == d) (f.about c).fields) none
   untouched-after _ sound beyond none = untouched-same (f.about c) _ refl refl none
 
 untouched_of : (setup : Configured) (hash : List ℕ → List ℕ) (h : List Entry) (d : ℕ) → (facts setup hash h).joins < d → Untouched ((facts setup hash h).about d)
@@ -174,10 +182,10 @@ module _ {setup : Configured} {hash : List ℕ → List ℕ} {f : Facts} {caller
   told-after (Becomes.joins peer challenge now place is) sups infs fresh told =
       let none = fresh (omega (arith, is)) in told-still (f.about c) _ sups infs (sym none.no_features) (sym none.no_fields) told
   told-after (Becomes.says d bytes now) sups infs fresh told =
-      let says = says-line (sight_of setup f) (own_of (f.about d)) (prepared_line setup hash (f.about d).challenge bytes) now in
+      let says = says-line (sight_of setup f) (own_of (f.about d)) (prepared_line setup hash (f.about d).sender.challenge bytes) now in
       let both = said-one f c d (effect_of_line setup hash f d bytes now) _ _ (c == d) refl says sups infs told in record { supports = both.0; tells = both.1 }
   told-after (Becomes.quits d) sups infs fresh told =
-      told-still (f.about c) _ sups infs (same-chosen (c == d) (f.about c).features) (same-chosen (c == d) (f.about c).fields) told
+      told-still (f.about c) _ sups infs (features-kept (c == d) (f.about c).sender.features) (same-chosen (c == d) (f.about c).fields) told
   told-after _ sups infs fresh told = told-still (f.about c) _ sups infs refl refl told
 
 pub told_of : (setup : Configured) (hash : List ℕ → List ℕ) (h : List Entry) (c : ℕ) → Told ((facts setup hash h).about c) (sups setup hash h c) (infs setup hash h c)

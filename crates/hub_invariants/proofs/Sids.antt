@@ -17,11 +17,11 @@ use Rattle.hub_invariants.proofs.Members.{apart, apart-push, both, has, has-appe
 use Rattle.hub_invariants.proofs.Sound.{Sound, eqb-sym, or-false, or-true}
 
 abbrev pub sids : Facts → List ℕ
-sids f = map (λ d. (f.about d).sid) f.opened
+sids f = map (λ d. (f.about d).sender.sid) f.opened
 
 pub record Numbered (setup : Configured) (f : Facts) : Type 0 where
   pub apart_sids : apart (sids f) ≡ true
-  pub given_sids : (d : ℕ) → has d f.opened ≡ true → (0 < (f.about d).sid) × ((f.about d).sid < 1_048_576)
+  pub given_sids : (d : ℕ) → has d f.opened ≡ true → (0 < (f.about d).sender.sid) × ((f.about d).sender.sid < 1_048_576)
   pub last_in : f.last < 1_048_576
   pub few : length f.opened ≤ setup.max_users
 
@@ -83,7 +83,7 @@ happens-numbered setup c effect f n = record { apart_sids = n.apart_sids; given_
 closed-numbered : (setup : Configured) (c : ℕ) (f : Facts) → Numbered setup f → Numbered setup (without_connection c f)
 unfolding without_connection
 closed-numbered setup c f n = record {
-  apart_sids = apart-map-filter (λ d. (f.about d).sid) (λ x. not (x == c)) f.opened n.apart_sids;
+  apart_sids = apart-map-filter (λ d. (f.about d).sender.sid) (λ x. not (x == c)) f.opened n.apart_sids;
   given_sids = λ d there. n.given_sids d ((and_parts (has d f.opened) (not (d == c)) (sym (has-filter (λ x. not (x == c)) d f.opened) ∙ there)).0);
   last_in = n.last_in;
   few = omega (arith, n.few, fewer (λ x. not (x == c)) f.opened);
@@ -102,20 +102,20 @@ room-by : (most count : ℕ) → not (nat_le most count) ≡ true → count < mo
 room-by most count has_room = grind arith
 
 joined-sid : (f : Facts) (owner : ℕ) (peer challenge : List ℕ) → Sound f → (d : ℕ) → has d f.opened ≡ true
-    → (with_one (f.joins + 1) (λ a. newcomer owner (next_sid f) peer challenge) f.about d).sid ≡ (f.about d).sid
+    → (with_one (f.joins + 1) (λ a. newcomer owner (next_sid f) peer challenge) f.about d).sender.sid ≡ (f.about d).sender.sid
 joined-sid f owner peer challenge sound d there = grind arith
 
 new-sid : (f : Facts) (owner : ℕ) (peer challenge : List ℕ)
-    → (with_one (f.joins + 1) (λ a. newcomer owner (next_sid f) peer challenge) f.about (f.joins + 1)).sid ≡ next_sid f
-new-sid f owner peer challenge = ap (λ b. (cond b (newcomer owner (next_sid f) peer challenge) (f.about (f.joins + 1))).sid) (eq-eqb (f.joins + 1) (f.joins + 1) refl)
+    → (with_one (f.joins + 1) (λ a. newcomer owner (next_sid f) peer challenge) f.about (f.joins + 1)).sender.sid ≡ next_sid f
+new-sid f owner peer challenge = ap (λ b. (cond b (newcomer owner (next_sid f) peer challenge) (f.about (f.joins + 1))).sender.sid) (eq-eqb (f.joins + 1) (f.joins + 1) refl)
 
 fresh-sid : (setup : Configured) (f : Facts) → setup.max_users ≤ most_users → Numbered setup f → has_place setup f ≡ true → has (next_sid f) (sids f) ≡ false
 fresh-sid setup f few n place = grind (arith, room-by, has-is_taken, next_free-free, length-map)
 
 joined-given : (f : Facts) (owner : ℕ) (peer challenge : List ℕ) → Sound f → (setup : Configured) → Numbered setup f → (d : ℕ) (before : Bool)
     → has d f.opened ≡ before → (before || (eqb (f.joins + 1) d || false)) ≡ true
-    → (0 < (with_one (f.joins + 1) (λ a. newcomer owner (next_sid f) peer challenge) f.about d).sid)
-    × ((with_one (f.joins + 1) (λ a. newcomer owner (next_sid f) peer challenge) f.about d).sid < 1_048_576)
+    → (0 < (with_one (f.joins + 1) (λ a. newcomer owner (next_sid f) peer challenge) f.about d).sender.sid)
+    × ((with_one (f.joins + 1) (λ a. newcomer owner (next_sid f) peer challenge) f.about d).sender.sid < 1_048_576)
 joined-given f owner peer challenge sound setup n d before is there = grind (arith, joined-sid, eqb-true, or-false, new-sid, next_free-range)
 
 joined-numbered : (setup : Configured) (f : Facts) (owner : ℕ) (peer challenge : List ℕ) → setup.max_users ≤ most_users → has_place setup f ≡ true → Sound f
@@ -138,7 +138,7 @@ after-numbered setup hash f caller (Join peer challenge now) small sound n =
     join-numbered setup f caller peer challenge (has_place setup f) (has_joins f) refl small sound n
 after-numbered setup hash f caller (Line c bytes now) small sound n = happens-numbered setup c (effect_of_line setup hash f c bytes now) f n
 after-numbered setup hash f caller (Quit c) small sound n =
-    closed-numbered setup c _ (happens-numbered setup c (departure (f.about c).stage (f.about c).sid) f n)
+    closed-numbered setup c _ (happens-numbered setup c (departure (f.about c).stage (f.about c).sender.sid) f n)
 after-numbered setup hash f caller (Take c count) small sound n = taken-numbered setup c count f n
 
 pub numbered_of : (setup : Configured) (hash : List ℕ → List ℕ) (h : List Entry) → setup.max_users ≤ most_users → Numbered setup (facts setup hash h)

@@ -86,6 +86,6 @@ unfolding happens
 happens-sound c effect f sound suits = grind (arith, happens-open, happens-entered, newcomer-apart, has-filter, apart-filter, owed-before)
 
 -- a connection that leaves is shut out
-pub departed-over : (c : ℕ) (f : Facts) → is_over ((happens c (departure (f.about c).stage (f.about c).sid) f).about c).stage ≡ true
+pub departed-over : (c : ℕ) (f : Facts) → is_over ((happens c (departure (f.about c).stage (f.about c).sender.sid) f).about c).stage ≡ true
 unfolding happens
 departed-over c f = grind arith

@@ -39,13 +39,13 @@ listed-sid sid fields = refl
 -- a change that the connection which sent the line can take
 abbrev pub Suited : Own → Change → Type 0
 Suited own (Sender (senders.Greets features)) = own.stage ≡ stages.Protocol
-Suited own (Sender (senders.Waits newcomer expected)) = (own.stage ≡ stages.Identify) × (newcomer ≡ entrant (listed_user own.sid newcomer.user.fields))
+Suited own (Sender (senders.Waits newcomer expected)) = (own.stage ≡ stages.Identify) × (newcomer ≡ entrant (listed_user own.sender.sid newcomer.user.fields))
 Suited own (Sender senders.Enters) = own.stage ≡ stages.Verify
-Suited own (Sender (senders.EntersAs newcomer)) = (own.stage ≡ stages.Identify) × (newcomer ≡ entrant (listed_user own.sid newcomer.user.fields))
+Suited own (Sender (senders.EntersAs newcomer)) = (own.stage ≡ stages.Identify) × (newcomer ≡ entrant (listed_user own.sender.sid newcomer.user.fields))
 Suited own (Sender (senders.Updates revision)) =
     (own.stage ≡ stages.Normal)
     × (revision.support ≡ feature_set (su_in (merged_with own.fields revision.update)))
-    × (listed_user own.sid (merged_with own.fields revision.update) ≡ updated_user revision.update (given_key revision.nick) (listed_user own.sid own.fields))
+    × (listed_user own.sender.sid (merged_with own.fields revision.update) ≡ updated_user revision.update (given_key revision.nick) (listed_user own.sender.sid own.fields))
 Suited own change = Unit {0}
 
 -- a set made of an SU tells who hears
@@ -99,17 +99,17 @@ unfolding listed_user
 listed-same sid before u key cid nick = grind arith
 
 suits-revised : (hub : Sight) (own : Own) (infs : List (List Field)) (u : List Field) → own.fields ≡ merged_fields infs → update_denied hub own (Ok u) ≡ None
-    → listed_user own.sid (merged_with own.fields (clean u own.peer))
-    ≡ updated_user (clean u own.peer) (given_key (option_map (λ (word : List ℕ). chars (meaning word)) (value_of nick_name (clean u own.peer)))) (listed_user own.sid own.fields)
+    → listed_user own.sender.sid (merged_with own.fields (clean u own.sender.peer))
+    ≡ updated_user (clean u own.sender.peer) (given_key (option_map (λ (word : List ℕ). chars (meaning word)) (value_of nick_name (clean u own.sender.peer)))) (listed_user own.sender.sid own.fields)
 suits-revised hub own infs u known none = grind (arith, update-free, listed-same, same-cid, given-after, key-by)
 
 module _ {hub : Sight} {own : Own} {line : PreparedLine} {now : ℕ} where
   suits-outcome : {said : Option Reading} {request : Request} {effect : Effect} → Outcome hub own line now said request effect → (infs : List (List Field)) → own.fields ≡ merged_fields infs → Suits own effect
   suits-outcome (greets reading features at is) infs known = record { change = at; routed = tt }
   suits-outcome (waits reading u logs account) infs known =
-      record { change = (logs.at, ap entrant (sym (listed-fields own.sid (merged_with own.fields (clean u own.peer))))); routed = tt }
+      record { change = (logs.at, ap entrant (sym (listed-fields own.sender.sid (merged_with own.fields (clean u own.sender.peer))))); routed = tt }
   suits-outcome (lets_in reading u logs account) infs known =
-      record { change = (logs.at, ap entrant (sym (listed-fields own.sid (merged_with own.fields (clean u own.peer))))); routed = tt }
+      record { change = (logs.at, ap entrant (sym (listed-fields own.sender.sid (merged_with own.fields (clean u own.sender.peer))))); routed = tt }
   suits-outcome (proves reading at asks none) infs known = record { change = at; routed = tt }
   suits-outcome (revises reading u at words none) infs known = record { change = (at, refl, suits-revised hub own infs u known none); routed = routed-all }
   suits-outcome (acts reading done at operator does) infs known = record { change = tt; routed = routed-all }

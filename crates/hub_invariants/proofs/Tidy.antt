@@ -117,13 +117,13 @@ module _ {setup : Configured} {hash : List ℕ → List ℕ} {f : Facts} {caller
       let effect : Effect = effect_of_line setup hash f c bytes now in
       tidy-affected (d == c) effect (f.about d) (sound.taken d)
       (λ is. subst (λ x. Suited (own_of (f.about x)) effect.change) (sym (eqb-true d c is)) (suits c bytes now).change) tidy
-  tidy-after (Becomes.quits c) sound suits tidy = tidy-affected (d == c) (departure (f.about c).stage (f.about c).sid) (f.about d) (sound.taken d) (λ is. tt) tidy
+  tidy-after (Becomes.quits c) sound suits tidy = tidy-affected (d == c) (departure (f.about c).stage (f.about c).sender.sid) (f.about d) (sound.taken d) (λ is. tt) tidy
   tidy-after (Becomes.takes c count) sound suits tidy = tidy-taken (d == c) count (f.about d) tidy
 
 pub suits_of : (setup : Configured) (hash : List ℕ → List ℕ) (h : List Entry) (c : ℕ) (bytes : List ℕ) (now : ℕ)
     → Suits (own_of ((facts setup hash h).about c)) (effect_of_line setup hash (facts setup hash h) c bytes now)
 suits_of setup hash h c bytes now =
-    suits-line (sight_of setup (facts setup hash h)) (own_of ((facts setup hash h).about c)) (prepared_line setup hash ((facts setup hash h).about c).challenge bytes) now
+    suits-line (sight_of setup (facts setup hash h)) (own_of ((facts setup hash h).about c)) (prepared_line setup hash ((facts setup hash h).about c).sender.challenge bytes) now
     (infs setup hash h c) (told_of setup hash h c).tells
 
 pub tidy_of : (setup : Configured) (hash : List ℕ → List ℕ) (h : List Entry) (c : ℕ) → Tidy ((facts setup hash h).about c)

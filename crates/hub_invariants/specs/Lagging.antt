@@ -12,7 +12,7 @@ use Rattle.hub_rules.specs.Shares.{has_room_for, owes}
 -- the lines that a call owes connection d
 abbrev pub share : Configured → (List ℕ → List ℕ) → Facts → ℕ → Call → List (List ℕ)
 share setup hash f d (Line c bytes now) = owes (d == c) (effect_of_line setup hash f c bytes now) (f.about d)
-share setup hash f d (Quit c) = owes (d == c) (departure (f.about c).stage (f.about c).sid) (f.about d)
+share setup hash f d (Quit c) = owes (d == c) (departure (f.about c).stage (f.about c).sender.sid) (f.about d)
 share setup hash f d call = []
 
 -- each share so far fitted when it came: with what was owed before and not taken yet, it was within the limits

@@ -47,8 +47,8 @@ words_if (Err fault) words = None
 
 -- the words of a SUP
 abbrev pub sup_words : Own → Request → Reading → Option (List (List ℕ))
-sup_words own requests.Greeting line = words_if (support_after own.features line.params) line.params
-sup_words own requests.Support line = words_if (support_after own.features line.params) line.params
+sup_words own requests.Greeting line = words_if (support_after own.sender.features line.params) line.params
+sup_words own requests.Support line = words_if (support_after own.sender.features line.params) line.params
 sup_words own request line = None
 
 abbrev pub cleaned_update : List ℕ → Result (List Field) InfFault → Option (List Field)
@@ -57,8 +57,8 @@ cleaned_update peer (Err fault) = None
 
 -- what an INF says that may be passed on
 abbrev pub inf_update : Own → Request → Reading → Option (List Field)
-inf_update own requests.Login line = cleaned_update own.peer (updates.reading line.params)
-inf_update own requests.Update line = cleaned_update own.peer (updates.reading line.params)
+inf_update own requests.Login line = cleaned_update own.sender.peer (updates.reading line.params)
+inf_update own requests.Update line = cleaned_update own.sender.peer (updates.reading line.params)
 inf_update own request line = None
 
 abbrev pub read_by : {A : Type 0} → (Own → Request → Reading → Option A) → Own → Option Reading → Option A
@@ -73,7 +73,7 @@ listed_if false o = []
 -- what a call says of connection c, as it is read
 abbrev pub said_in : {A : Type 0} → (Own → Request → Reading → Option A) → Configured → (List ℕ → List ℕ) → Facts → ℕ → Call → List A
 said_in read setup hash f c (Line d bytes now) =
-    listed_if (c == d) (read_by read (own_of (f.about d)) (accepted_line (sight_of setup f) (own_of (f.about d)) (prepared_line setup hash (f.about d).challenge bytes) now))
+    listed_if (c == d) (read_by read (own_of (f.about d)) (accepted_line (sight_of setup f) (own_of (f.about d)) (prepared_line setup hash (f.about d).sender.challenge bytes) now))
 said_in read setup hash f c call = []
 
 -- the words of the accepted SUP of a connection, oldest first

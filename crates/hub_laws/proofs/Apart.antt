@@ -42,12 +42,12 @@ clears-from of test knows setup f c effect sound n suits differ (inr (inl kept))
 clears-from of test knows setup f c effect sound n suits differ (inr (inr none)) here d there other same =
     let open-c = happens-open c effect f sound suits c (not-over (about_after c effect f.about c).stage here) in
     let open-d = sound.are_open d (not-over (f.about d).stage (sym (sound.entered d) ∙ there)) in
-    let not_same : has_sid (f.about c).sid (user_of f.about d) ≡ false =
-    ap (λ s. eqb s (f.about c).sid) (listed-sid (f.about d).sid (f.about d).fields)
-    ∙ differs-sid setup f sound n c d open-c open-d other (eqb (f.about d).sid (f.about c).sid) refl in
-    false≢true (sym (none-at (λ (user : Listed). test (of (fields_after effect.change (f.about c).fields)) user && not (has_sid (f.about c).sid user)) (user_of f.about) d f.present none there)
+    let not_same : has_sid (f.about c).sender.sid (user_of f.about d) ≡ false =
+    ap (λ s. eqb s (f.about c).sender.sid) (listed-sid (f.about d).sender.sid (f.about d).fields)
+    ∙ differs-sid setup f sound n c d open-c open-d other (eqb (f.about d).sender.sid (f.about c).sender.sid) refl in
+    false≢true (sym (none-at (λ (user : Listed). test (of (fields_after effect.change (f.about c).fields)) user && not (has_sid (f.about c).sender.sid user)) (user_of f.about) d f.present none there)
     ∙ ap₂ (λ a b. a && not b)
-    (ap (λ k. test k (user_of f.about d)) same ∙ knows (f.about d).sid (f.about d).fields) not_same)
+    (ap (λ k. test k (user_of f.about d)) same ∙ knows (f.about d).sender.sid (f.about d).fields) not_same)
 
 -- ---- every call
 
@@ -75,10 +75,10 @@ after-differ of setup hash f caller (Line c bytes now) sound differ clears =
     let effect : Effect = effect_of_line setup hash f c bytes now in
     happens-differ of c effect f (happens-sound c effect f sound (fits-line setup hash f c bytes now)) differ (clears c bytes now)
 after-differ of setup hash f caller (Quit c) sound differ clears =
-    let effect : Effect = departure (f.about c).stage (f.about c).sid in
+    let effect : Effect = departure (f.about c).stage (f.about c).sender.sid in
     closed-differ of c (happens c effect f)
-    (happens-differ of c effect f (happens-sound c effect f sound (fits-departure (f.about c).stage (f.about c).stage (f.about c).sid)) differ
-    (falls-away c f (f.about c).stage (f.about c).sid of))
+    (happens-differ of c effect f (happens-sound c effect f sound (fits-departure (f.about c).stage (f.about c).stage (f.about c).sender.sid)) differ
+    (falls-away c f (f.about c).stage (f.about c).sender.sid of))
 after-differ of setup hash f caller (Take c count) sound differ clears = subst (Differ of) (take-facts c count f) differ
 
 -- ---- every history
@@ -90,7 +90,7 @@ nicks_differ_in setup hash (e ∷ h) small =
     after-differ key_in setup hash (facts setup hash h) e.caller e.call (sound_of setup hash h) (nicks_differ_in setup hash h small)
     (λ c bytes now. clears-from key_in has_key knows-key setup (facts setup hash h) c (effect_of_line setup hash (facts setup hash h) c bytes now)
     (sound_of setup hash h) (numbered_of setup hash h small) (fits-line setup hash (facts setup hash h) c bytes now) (nicks_differ_in setup hash h small)
-    (clear-line (sight_of setup (facts setup hash h)) (own_of ((facts setup hash h).about c)) (prepared_line setup hash ((facts setup hash h).about c).challenge bytes) now
+    (clear-line (sight_of setup (facts setup hash h)) (own_of ((facts setup hash h).about c)) (prepared_line setup hash ((facts setup hash h).about c).sender.challenge bytes) now
     (infs setup hash h c) (told_of setup hash h c).tells).nick)
 
 pub cids_differ_in : (setup : Configured) (hash : List ℕ → List ℕ) (h : List Entry) → setup.max_users ≤ most_users → Differ cid_in (facts setup hash h)
@@ -100,7 +100,7 @@ cids_differ_in setup hash (e ∷ h) small =
     after-differ cid_in setup hash (facts setup hash h) e.caller e.call (sound_of setup hash h) (cids_differ_in setup hash h small)
     (λ c bytes now. clears-from cid_in has_cid knows-cid setup (facts setup hash h) c (effect_of_line setup hash (facts setup hash h) c bytes now)
     (sound_of setup hash h) (numbered_of setup hash h small) (fits-line setup hash (facts setup hash h) c bytes now) (cids_differ_in setup hash h small)
-    (clear-line (sight_of setup (facts setup hash h)) (own_of ((facts setup hash h).about c)) (prepared_line setup hash ((facts setup hash h).about c).challenge bytes) now
+    (clear-line (sight_of setup (facts setup hash h)) (own_of ((facts setup hash h).about c)) (prepared_line setup hash ((facts setup hash h).about c).sender.challenge bytes) now
     (infs setup hash h c) (told_of setup hash h c).tells).cid)
 
 pub nicks_differ : NicksDiffer

@@ -10,7 +10,7 @@ use Rattle.hub_laws.proofs.Moving.{moves-to, gone-verify, identify-verify, norma
 -- ---- one line
 
 record Asks (own : Own) (effect : Effect) : Type 0 where
-  challenge : effect.own ≡ challenge_line own.challenge ∷ []
+  challenge : effect.own ≡ challenge_line own.sender.challenge ∷ []
   others : effect.others ≡ []
 
 abbrev IsAsking : Own → Effect → Type 0
@@ -35,25 +35,25 @@ asked-now own effect before made = grind arith
 
 line-tells : (setup : Configured) (hash : List ℕ → List ℕ) (f : Facts) (c d : ℕ) (bytes : List ℕ) (now : ℕ) → ((f.about c).stage ≡ stages.Verify → ⊥)
     → stage_after (effect_of_line setup hash f c bytes now).change (f.about c).stage ≡ stages.Verify
-    → share setup hash f d (Line c bytes now) ≡ cond (d == c) (challenge_line (f.about c).challenge ∷ []) []
+    → share setup hash f d (Line c bytes now) ≡ cond (d == c) (challenge_line (f.about c).sender.challenge ∷ []) []
 line-tells setup hash f c d bytes now before is =
     let asks = asked-now (own_of (f.about c)) (effect_of_line setup hash f c bytes now) before
     (asking (line-outcome setup hash f c bytes now) is) in
-    owes-own (d == c) (effect_of_line setup hash f c bytes now) (f.about d) (challenge_line (f.about c).challenge ∷ []) asks.others asks.challenge
+    owes-own (d == c) (effect_of_line setup hash f c bytes now) (f.about d) (challenge_line (f.about c).sender.challenge ∷ []) asks.others asks.challenge
 
 module _ {setup : Configured} {hash : List ℕ → List ℕ} {f : Facts} {caller c : ℕ} where
   tells-after : {call : Call} {a : About} → Becomes setup hash f caller c call a → (d : ℕ) → ((f.about c).stage ≡ stages.Verify → ⊥) → a.stage ≡ stages.Verify
-      → share setup hash f d call ≡ cond (d == c) (challenge_line (f.about c).challenge ∷ []) []
+      → share setup hash f d call ≡ cond (d == c) (challenge_line (f.about c).sender.challenge ∷ []) []
   tells-after (Becomes.joins peer challenge now place at) d before is = absurd (protocol-verify is)
   tells-after (Becomes.says o bytes now) d before is =
       let effect : Effect = effect_of_line setup hash f o bytes now in
       let to = moves-to (removed_by effect (f.about c)) (c == o) effect.change (f.about c).stage stages.Verify gone-verify before is in
       let same : c ≡ o = eqb-true c o to.is_caller in
-      subst (λ x. share setup hash f d (Line x bytes now) ≡ cond (d == c) (challenge_line (f.about c).challenge ∷ []) []) same
+      subst (λ x. share setup hash f d (Line x bytes now) ≡ cond (d == c) (challenge_line (f.about c).sender.challenge ∷ []) []) same
       (line-tells setup hash f c d bytes now before
       (subst (λ x. stage_after (effect_of_line setup hash f x bytes now).change (f.about c).stage ≡ stages.Verify) (sym same) to.moves))
   tells-after (Becomes.quits o) d before is =
-      absurd (gone-verify (moves-to (removed_by (departure (f.about o).stage (f.about o).sid) (f.about c)) (c == o) (Sender senders.Falls) (f.about c).stage stages.Verify gone-verify before is).moves)
+      absurd (gone-verify (moves-to (removed_by (departure (f.about o).stage (f.about o).sender.sid) (f.about c)) (c == o) (Sender senders.Falls) (f.about c).stage stages.Verify gone-verify before is).moves)
   tells-after _ d before is = absurd (before is)
 
 pub challenges_are_told : ChallengesAreTold

@@ -13,7 +13,7 @@ abbrev pub IsClear : (List Field → List ℕ) → (List ℕ → Listed → Bool
 IsClear of test hub own effect =
     (is_present (stage_after effect.change own.stage) ≡ false)
     ⊎ (((of (fields_after effect.change own.fields) ≡ of own.fields) × (is_present own.stage ≡ true))
-    ⊎ (another (test (of (fields_after effect.change own.fields))) hub own.sid ≡ false))
+    ⊎ (another (test (of (fields_after effect.change own.fields))) hub own.sender.sid ≡ false))
 
 pub record Clear (hub : Sight) (own : Own) (effect : Effect) : Type 0 where
   pub nick : IsClear key_in has_key hub own effect
@@ -59,23 +59,23 @@ listed-cid sid fields = refl
 
 -- a user with these fields enters, whom nobody is like
 clear-entering : (hub : Sight) (own : Own) (effect : Effect) (fields : List Field) → fields_after effect.change own.fields ≡ fields
-    → (is_here (has_key (listed_user own.sid fields).key) hub ≡ false) × (is_here (has_cid (listed_user own.sid fields).cid) hub ≡ false) → Clear hub own effect
+    → (is_here (has_key (listed_user own.sender.sid fields).key) hub ≡ false) × (is_here (has_cid (listed_user own.sender.sid fields).cid) hub ≡ false) → Clear hub own effect
 clear-entering hub own effect fields is free = record {
-  nick = inr (inr (ap (λ fs. another (has_key (key_in fs)) hub own.sid) is
-      ∙ nobody-else (has_key (key_in fields)) own.sid hub.users (ap (λ k. is_here (has_key k) hub) (sym (listed-key own.sid fields)) ∙ free.0)));
-  cid = inr (inr (ap (λ fs. another (has_cid (cid_in fs)) hub own.sid) is
-      ∙ nobody-else (has_cid (cid_in fields)) own.sid hub.users (ap (λ k. is_here (has_cid k) hub) (sym (listed-cid own.sid fields)) ∙ free.1)));
+  nick = inr (inr (ap (λ fs. another (has_key (key_in fs)) hub own.sender.sid) is
+      ∙ nobody-else (has_key (key_in fields)) own.sender.sid hub.users (ap (λ k. is_here (has_key k) hub) (sym (listed-key own.sender.sid fields)) ∙ free.0)));
+  cid = inr (inr (ap (λ fs. another (has_cid (cid_in fs)) hub own.sender.sid) is
+      ∙ nobody-else (has_cid (cid_in fields)) own.sender.sid hub.users (ap (λ k. is_here (has_cid k) hub) (sym (listed-cid own.sender.sid fields)) ∙ free.1)));
 }
 
 -- ---- updates
 
 clear-update : (hub : Sight) (own : Own) (infs : List (List Field)) (u : List Field) → own.fields ≡ merged_fields infs → update_denied hub own (Ok u) ≡ None
-    → Clear hub own (update_effect own (clean u own.peer))
+    → Clear hub own (update_effect own (clean u own.sender.peer))
 clear-update hub own infs u known none =
     let free = update-free hub own u (user_after own u) none in
     record {
-      nick = inr (inr (ap (λ k. another (has_key k) hub own.sid) (sym (listed-key own.sid (merged_with own.fields (clean u own.peer)))) ∙ free.0));
-      cid = kept-by cid_in has_cid hub own (update_effect own (clean u own.peer)) (is_present own.stage)
+      nick = inr (inr (ap (λ k. another (has_key k) hub own.sender.sid) (sym (listed-key own.sender.sid (merged_with own.fields (clean u own.sender.peer)))) ∙ free.0));
+      cid = kept-by cid_in has_cid hub own (update_effect own (clean u own.sender.peer)) (is_present own.stage)
           (same-cid own u infs known free.1) refl (λ here. here);
     }
 
@@ -87,8 +87,8 @@ module _ {hub : Sight} {own : Own} {line : PreparedLine} {now : ℕ} where
   clear (shuts_out deny) infs known = clear-absent hub own _ refl
   clear (greets reading features at applies) infs known = clear-absent hub own _ refl
   clear (waits reading u logs account) infs known = clear-absent hub own _ refl
-  clear (lets_in reading u logs account) infs known = clear-entering hub own _ _ (listed-fields own.sid _) (login-free hub own now line.owner u (user_after own u) logs.allowed)
-  clear (proves reading at asks none) infs known = clear-entering hub own _ own.fields refl (password-free hub own now (digest_given reading.params) (listed_user own.sid own.fields) none)
+  clear (lets_in reading u logs account) infs known = clear-entering hub own _ _ (listed-fields own.sender.sid _) (login-free hub own now line.owner u (user_after own u) logs.allowed)
+  clear (proves reading at asks none) infs known = clear-entering hub own _ own.fields refl (password-free hub own now (digest_given reading.params) (listed_user own.sender.sid own.fields) none)
   clear (revises reading u at words none) infs known = clear-update hub own infs u known none
   clear _ infs known = clear-kept hub own _ refl (λ here. here)
 

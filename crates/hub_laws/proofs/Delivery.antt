@@ -27,7 +27,7 @@ module _ {setup : Configured} {hash : List ℕ → List ℕ} {f : Facts} {caller
       let beyond : f.joins < d = omega (arith, is) in
       ap₂ (λ n ls. concat (take n ls)) (sym (fresh beyond)) (sym (unowed beyond).owed) ∙ sym (append-nil (front (f.about d)))
   front-next (Becomes.says c bytes now) fresh unowed few = front-after c (effect_of_line setup hash f c bytes now) f d few ∙ sym (append-nil (front (f.about d)))
-  front-next (Becomes.quits c) fresh unowed few = front-after c (departure (f.about c).stage (f.about c).sid) f d few ∙ sym (append-nil (front (f.about d)))
+  front-next (Becomes.quits c) fresh unowed few = front-after c (departure (f.about c).stage (f.about c).sender.sid) f d few ∙ sym (append-nil (front (f.about d)))
   front-next (Becomes.takes c count) fresh unowed few = take-front f c count d (d == c) (c == d) refl (eqb-sym d c (d == c) (c == d) refl refl)
   front-next _ fresh unowed few = sym (append-nil (front (f.about d)))
 

@@ -13,7 +13,7 @@ use Rattle.hub_laws.proofs.Worlds.{is_act, no-removal}
 -- ---- one line
 
 record SaysFarewell (own : Own) (effect : Effect) : Type 0 where
-  others : effect.others ≡ quit_line own.sid ∷ []
+  others : effect.others ≡ quit_line own.sender.sid ∷ []
   hearers : effect.hearers ≡ Others
 
 abbrev IsLeft : Own → Effect → Type 0
@@ -21,7 +21,7 @@ IsLeft own effect = own.stage ≡ stages.Normal → (stage_after effect.change o
 
 module _ {hub : Sight} {own : Own} {line : PreparedLine} {now : ℕ} where
   left : {said : Option Reading} {request : Request} {effect : Effect} → Outcome hub own line now said request effect → IsLeft own effect
-  left (shuts_out deny) here leaves = record { others = ap (λ (s : Stage). farewell s own.sid) here; hearers = refl }
+  left (shuts_out deny) here leaves = record { others = ap (λ (s : Stage). farewell s own.sender.sid) here; hearers = refl }
   left (greets reading features at applies) here leaves = absurd (protocol-normal (sym at ∙ here))
   left (waits reading u logs account) here leaves = absurd (identify-normal (sym logs.at ∙ here))
   left (lets_in reading u logs account) here leaves = absurd (identify-normal (sym logs.at ∙ here))
@@ -43,17 +43,17 @@ not-act : (change : Change) → ((act : HubChange) → change ≡ Hub act → �
 not-act change none = grind arith
 
 nobody-removed : (effect : Effect) (a : About) → ((act : HubChange) → effect.change ≡ Hub act → ⊥) → removed_by effect a ≡ false
-nobody-removed effect a none = ap (λ r. is_present a.stage && r) (no-removal effect.change a.sid (not-act effect.change none)) ∙ and-false (is_present a.stage)
+nobody-removed effect a none = ap (λ r. is_present a.stage && r) (no-removal effect.change a.sender.sid (not-act effect.change none)) ∙ and-false (is_present a.stage)
 
 line-heard : (setup : Configured) (hash : List ℕ → List ℕ) (f : Facts) (c d : ℕ) (bytes : List ℕ) (now : ℕ) → (f.about c).stage ≡ stages.Normal
     → (stage_after (effect_of_line setup hash f c bytes now).change (f.about c).stage ≡ stages.Normal → ⊥) → (f.about d).stage ≡ stages.Normal → (d == c) ≡ false
-    → share setup hash f d (Line c bytes now) ≡ quit_line (f.about c).sid ∷ []
+    → share setup hash f d (Line c bytes now) ≡ quit_line (f.about c).sender.sid ∷ []
 line-heard setup hash f c d bytes now here leaves there other =
     let says = left (line-outcome setup hash f c bytes now) here leaves in
-    hears-one (d == c) (effect_of_line setup hash f c bytes now) (f.about d) (quit_line (f.about c).sid) says.others says.hearers other there
+    hears-one (d == c) (effect_of_line setup hash f c bytes now) (f.about d) (quit_line (f.about c).sender.sid) says.others says.hearers other there
 
 quit-heard : (setup : Configured) (hash : List ℕ → List ℕ) (f : Facts) (c d : ℕ) → (f.about c).stage ≡ stages.Normal → (f.about d).stage ≡ stages.Normal → (d == c) ≡ false
-    → share setup hash f d (Quit c) ≡ quit_line (f.about c).sid ∷ []
+    → share setup hash f d (Quit c) ≡ quit_line (f.about c).sender.sid ∷ []
 quit-heard setup hash f c d here there other = grind arith
 
 no-act : (act : HubChange) → Sender senders.Falls ≡ Hub act → ⊥
@@ -62,20 +62,20 @@ no-act act is = cc is
 module _ {setup : Configured} {hash : List ℕ → List ℕ} {f : Facts} {caller c : ℕ} where
   left-after : {call : Call} {a : About} → Becomes setup hash f caller c call a → (d : ℕ) → Sound f → (f.about c).stage ≡ stages.Normal → (a.stage ≡ stages.Normal → ⊥)
       → ((act : HubChange) → change_of setup hash f call ≡ Hub act → ⊥) → (f.about d).stage ≡ stages.Normal → (d == c) ≡ false
-      → share setup hash f d call ≡ quit_line (f.about c).sid ∷ []
+      → share setup hash f d call ≡ quit_line (f.about c).sender.sid ∷ []
   left-after (Becomes.joins peer challenge now place is) d sound here leaves same there other =
       absurd (false≢true (sym (absent-newcomer f sound) ∙ ap (λ x. is_present (f.about x).stage) (sym is) ∙ ap is_present here))
   left-after (Becomes.says o bytes now) d sound here leaves same there other =
       let effect : Effect = effect_of_line setup hash f o bytes now in
       let by = leaves-by (removed_by effect (f.about c)) (c == o) effect.change (f.about c).stage (nobody-removed effect (f.about c) same) here leaves in
       let is : c ≡ o = eqb-true c o by.is_caller in
-      subst (λ x. share setup hash f d (Line x bytes now) ≡ quit_line (f.about c).sid ∷ []) is
+      subst (λ x. share setup hash f d (Line x bytes now) ≡ quit_line (f.about c).sender.sid ∷ []) is
       (line-heard setup hash f c d bytes now here
       (subst (λ x. stage_after (effect_of_line setup hash f x bytes now).change (f.about c).stage ≡ stages.Normal → ⊥) (sym is) by.leaves) there other)
   left-after (Becomes.quits o) d sound here leaves same there other =
-      let effect : Effect = departure (f.about o).stage (f.about o).sid in
+      let effect : Effect = departure (f.about o).stage (f.about o).sender.sid in
       let by = leaves-by (removed_by effect (f.about c)) (c == o) effect.change (f.about c).stage (nobody-removed effect (f.about c) no-act) here leaves in
-      subst (λ x. share setup hash f d (Quit x) ≡ quit_line (f.about c).sid ∷ []) (eqb-true c o by.is_caller) (quit-heard setup hash f c d here there other)
+      subst (λ x. share setup hash f d (Quit x) ≡ quit_line (f.about c).sender.sid ∷ []) (eqb-true c o by.is_caller) (quit-heard setup hash f c d here there other)
   left-after _ d sound here leaves same there other = absurd (leaves here)
 
 pub departures_are_heard : DeparturesAreHeard

@@ -23,7 +23,7 @@ pub record LogsIn (hub : Sight) (own : Own) (now : ℕ) (said : Option Reading) 
   pub at : own.stage ≡ stages.Identify
   pub asks : request_of own.stage reading.kind reading.command ≡ requests.Login
   pub words : updates.reading reading.params ≡ Ok update
-  pub merges : fields ≡ merged_with own.fields (clean update own.peer)
+  pub merges : fields ≡ merged_with own.fields (clean update own.sender.peer)
   pub unbanned : left_of_bans hub.bans (cid_in fields) now ≡ lefts.Free
   pub admitted : is_barred hub (key_in fields) ≡ false
 
@@ -89,7 +89,7 @@ gives-password hub own now reading at asks none = grind (arith, password-right, 
 -- ---- updates
 
 keeps-nick : (hub : Sight) (own : Own) (u : List Field) → update_denied hub own (Ok u) ≡ None
-    → KeepsNick hub (key_in own.fields) (key_in (merged_with own.fields (clean u own.peer)))
+    → KeepsNick hub (key_in own.fields) (key_in (merged_with own.fields (clean u own.sender.peer)))
 keeps-nick hub own u none = grind (arith, listed-key, update-keeps)
 
 -- ---- every line

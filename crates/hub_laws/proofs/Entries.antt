@@ -135,9 +135,9 @@ after-ordered setup hash f caller (Line c bytes now) cs sound ordered =
 after-ordered setup hash f caller (Join peer challenge now) cs sound ordered =
     none-brought _ cs (join-ordered f caller peer challenge cs (has_place setup f && has_joins f) ordered)
 after-ordered setup hash f caller (Quit c) cs sound ordered =
-    closed-ordered c (happens c (departure (f.about c).stage (f.about c).sid) f) (cs ++ [])
-    (happens-ordered c (departure (f.about c).stage (f.about c).sid) f cs sound
-    (fits-departure (f.about c).stage (f.about c).stage (f.about c).sid) (record { settled = λ is. refl }) ordered)
+    closed-ordered c (happens c (departure (f.about c).stage (f.about c).sender.sid) f) (cs ++ [])
+    (happens-ordered c (departure (f.about c).stage (f.about c).sender.sid) f cs sound
+    (fits-departure (f.about c).stage (f.about c).stage (f.about c).sender.sid) (record { settled = λ is. refl }) ordered)
 after-ordered setup hash f caller (Take c count) cs sound ordered =
     none-brought _ cs
     (subst (λ g. Ordered g cs) (take-facts c count f) (record { all_settled = ordered.all_settled; all_joined = ordered.all_joined; in_order = ordered.in_order }))

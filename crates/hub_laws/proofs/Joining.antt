@@ -8,9 +8,9 @@ use Rattle.hub_laws.specs.Joining.{IsAsJoined, JoinsAreCounted, JoinsStay, joins
 -- a connection has what it joined with
 pub record IsSame (a b : About) : Type 0 where
   pub owner : b.owner ≡ a.owner
-  pub peer : b.peer ≡ a.peer
-  pub challenge : b.challenge ≡ a.challenge
-  pub sid : b.sid ≡ a.sid
+  pub peer : b.sender.peer ≡ a.sender.peer
+  pub challenge : b.sender.challenge ≡ a.sender.challenge
+  pub sid : b.sender.sid ≡ a.sender.sid
 
 -- ---- one call
 

@@ -89,7 +89,7 @@ module _ {setup : Configured} {hash : List ℕ → List ℕ} {f : Facts} {caller
   stood-after (Becomes.joins peer challenge now place is) fit lines tidy fresh stood =
       let none = fresh (omega (arith, is)) in still-stood (f.about d) _ fit lines tidy (sym none.lags) (sym none.owed) stood
   stood-after (Becomes.says c bytes now) fit lines tidy fresh stood = effect-stood c (effect_of_line setup hash f c bytes now) f d fit lines stood
-  stood-after (Becomes.quits c) fit lines tidy fresh stood = effect-stood c (departure (f.about c).stage (f.about c).sid) f d fit lines stood
+  stood-after (Becomes.quits c) fit lines tidy fresh stood = effect-stood c (departure (f.about c).stage (f.about c).sender.sid) f d fit lines stood
   stood-after _ fit lines tidy fresh stood = still-stood (f.about d) _ fit lines tidy refl refl stood
 
 -- ---- every history

@@ -30,7 +30,7 @@ module _ {setup : Configured} {hash : List ℕ → List ℕ} {f : Facts} {caller
       next-over (removed_by (effect_of_line setup hash f c bytes now) (f.about d)) (d == c) (effect_of_line setup hash f c bytes now).change (f.about d).stage over
       (line-over setup hash f c d bytes now over)
   over-after (Becomes.quits c) old over =
-      next-over (removed_by (departure (f.about c).stage (f.about c).sid) (f.about d)) (d == c) (Sender senders.Falls) (f.about d).stage over (λ is. refl)
+      next-over (removed_by (departure (f.about c).stage (f.about c).sender.sid) (f.about d)) (d == c) (Sender senders.Falls) (f.about d).stage over (λ is. refl)
   over-after _ old over = over
 
 -- ---- every history
@@ -55,7 +55,7 @@ who_is_out_hears_nothing setup hash h d call over = share-beyond setup hash (fac
 
 -- ---- kicks and bans
 
-kicked : (c : ℕ) (effect : Effect) (f : Facts) (d : ℕ) → (f.about d).stage ≡ stages.Normal → is_removed effect.change (f.about d).sid ≡ true
+kicked : (c : ℕ) (effect : Effect) (f : Facts) (d : ℕ) → (f.about d).stage ≡ stages.Normal → is_removed effect.change (f.about d).sender.sid ≡ true
     → ((happens c effect f).about d).stage ≡ stages.Gone
 unfolding happens
 kicked c effect f d present is = grind arith
@@ -67,12 +67,12 @@ not-same : (sid : ℕ) (banned : Banned) → (Nothing ≡ Hub (shared.Kick sid))
 not-same sid banned named = grind arith
 
 call-kicks : (setup : Configured) (hash : List ℕ → List ℕ) (f : Facts) (caller : ℕ) (call : Call) (d : ℕ) (banned : Banned) → (f.about d).stage ≡ stages.Normal
-    → (change_of setup hash f call ≡ Hub (shared.Kick (f.about d).sid)) ⊎ ((change_of setup hash f call ≡ Hub (shared.Ban banned)) × (banned.sid ≡ (f.about d).sid))
+    → (change_of setup hash f call ≡ Hub (shared.Kick (f.about d).sender.sid)) ⊎ ((change_of setup hash f call ≡ Hub (shared.Ban banned)) × (banned.sid ≡ (f.about d).sender.sid))
     → ((after setup hash f caller call).about d).stage ≡ stages.Gone
 unfolding after
 call-kicks setup hash f caller (Line c bytes now) d banned present is =
-    kicked c (effect_of_line setup hash f c bytes now) f d present (names (effect_of_line setup hash f c bytes now).change (f.about d).sid banned is)
-call-kicks setup hash f caller _ d banned present is = absurd (not-same (f.about d).sid banned is)
+    kicked c (effect_of_line setup hash f c bytes now) f d present (names (effect_of_line setup hash f c bytes now).change (f.about d).sender.sid banned is)
+call-kicks setup hash f caller _ d banned present is = absurd (not-same (f.about d).sender.sid banned is)
 
 pub kicks_shut_out : KicksShutOut
 unfolding facts

@@ -39,7 +39,7 @@ only_operators_set_topics setup hash h e none_of = grind (arith, step-topic, no-
 -- ---- whose stage changes
 
 none-removed : (effect : Effect) (a : About) → is_act effect.change ≡ false → removed_by effect a ≡ false
-none-removed effect a same = ap (λ r. is_present a.stage && r) (no-removal effect.change a.sid same) ∙ and-false (is_present a.stage)
+none-removed effect a same = ap (λ r. is_present a.stage && r) (no-removal effect.change a.sender.sid same) ∙ and-false (is_present a.stage)
 
 module _ {setup : Configured} {hash : List ℕ → List ℕ} {f : Facts} {caller d : ℕ} where
   kept-after : {call : Call} {a : About} → Becomes setup hash f caller d call a → is_act (change_of setup hash f call) ≡ false → is_own f.joins d call ≡ false
@@ -49,7 +49,7 @@ module _ {setup : Configured} {hash : List ℕ → List ℕ} {f : Facts} {caller
       let effect : Effect = effect_of_line setup hash f c bytes now in
       ap₂ (λ r b. stage_next r b effect.change (f.about d).stage) (none-removed effect (f.about d) same) other
   kept-after (Becomes.quits c) same other =
-      ap₂ (λ r b. stage_next r b (Sender senders.Falls) (f.about d).stage) (none-removed (departure (f.about c).stage (f.about c).sid) (f.about d) refl) other
+      ap₂ (λ r b. stage_next r b (Sender senders.Falls) (f.about d).stage) (none-removed (departure (f.about c).stage (f.about c).sender.sid) (f.about d) refl) other
   kept-after _ same other = refl
 
 pub only_operators_shut_out : OnlyOperatorsShutOut
@@ -72,7 +72,7 @@ module _ {setup : Configured} {hash : List ℕ → List ℕ} {f : Facts} {caller
   enters-after : {call : Call} {a : About} → Becomes setup hash f caller d call a → ((f.about d).stage ≡ stages.Normal → ⊥) → a.stage ≡ stages.Normal → Enters f a.fields call d
   enters-after (Becomes.joins peer challenge now place at) absent here = absurd (protocol-normal here)
   enters-after (Becomes.says c bytes now) absent here =
-      let line : PreparedLine = prepared_line setup hash (f.about c).challenge bytes in
+      let line : PreparedLine = prepared_line setup hash (f.about c).sender.challenge bytes in
       let effect : Effect = effect_of_line setup hash f c bytes now in
       let moved = moves-to (removed_by effect (f.about d)) (d == c) effect.change (f.about d).stage stages.Normal gone-normal absent here in
       let same : d ≡ c = eqb-true d c moved.is_caller in
@@ -88,7 +88,7 @@ module _ {setup : Configured} {hash : List ℕ → List ℕ} {f : Facts} {caller
             (checked.enters (subst (λ x. stage_after effect.change (f.about x).stage ≡ stages.Normal) same moved.moves)),
       )
   enters-after (Becomes.quits c) absent here =
-      absurd (gone-normal (moves-to (removed_by (departure (f.about c).stage (f.about c).sid) (f.about d)) (d == c) (Sender senders.Falls)
+      absurd (gone-normal (moves-to (removed_by (departure (f.about c).stage (f.about c).sender.sid) (f.about d)) (d == c) (Sender senders.Falls)
       (f.about d).stage stages.Normal gone-normal absent here).moves)
   enters-after _ absent here = absurd (absent here)
 

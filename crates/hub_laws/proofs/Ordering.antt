@@ -130,12 +130,12 @@ own-name : (own from : ℕ) → names_another own (Some from) ≡ false → from
 own-name own from is = eqb-true from own (not-false (from == own) is)
 
 from-own : (hub : Sight) (own : Own) (line : PreparedLine) (now : ℕ) (reading : Reading) → IsAccepted hub own line now reading
-    → is_for_users (request_of stages.Normal reading.kind reading.command) ≡ true → reading.from ≡ Some own.sid
+    → is_for_users (request_of stages.Normal reading.kind reading.command) ≡ true → reading.from ≡ Some own.sender.sid
 from-own hub own line now reading is asks =
     let reads = Reads-of line.bytes reading is.reads in
     let says = says-from reading.kind reading.command reads.addresses reading.from reading.target reading.features reads.addressed asks in
-    let own-line = not-another own.stage own.sid reading (first-none (refusal_of own.stage own.sid reading) _ is.allowed) in
-    says.1 ∙ ap Some (own-name own.sid says.0 (ap (names_another own.sid) (sym says.1) ∙ own-line))
+    let own-line = not-another own.stage own.sender.sid reading (first-none (refusal_of own.stage own.sender.sid reading) _ is.allowed) in
+    says.1 ∙ ap Some (own-name own.sender.sid says.0 (ap (names_another own.sender.sid) (sym says.1) ∙ own-line))
 
 either : (request : Request) → is_for_users request ≡ true → (request ≡ requests.Message) ⊎ (request ≡ requests.Search)
 either request is = grind arith
@@ -151,7 +151,7 @@ module _ (setup : Configured) (hash : List ℕ → List ℕ) (h : List Entry) (c
   own = own_of (before.about c)
 
   abbrev line : PreparedLine
-  line = prepared_line setup hash (before.about c).challenge bytes
+  line = prepared_line setup hash (before.about c).sender.challenge bytes
 
   message-of : (reading : Reading) → IsAccepted (sight_of setup before) own line now reading → is_for_users (request_of own.stage reading.kind reading.command) ≡ true
       → IsMessage setup hash h c bytes now reading

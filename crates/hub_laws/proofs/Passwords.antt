@@ -24,7 +24,7 @@ own-same a b same = ap (λ (x : About). own_of (record x { expected = b.expected
 users-same : (about others : ℕ → About) (cs : List ℕ) → ((d : ℕ) → without_digest (about d) ≡ without_digest (others d)) → map (user_of others) cs ≡ map (user_of about) cs
 users-same about others [] same = refl
 users-same about others (c ∷ cs) same =
-    ap₂ (λ (user : Listed) users. user ∷ users) (ap (λ (a : About). listed_user a.sid a.fields) (sym (same c))) (users-same about others cs same)
+    ap₂ (λ (user : Listed) users. user ∷ users) (ap (λ (a : About). listed_user a.sender.sid a.fields) (sym (same c))) (users-same about others cs same)
 
 abbrev with_accounts : Configured → List Account → Configured
 with_accounts setup accounts = record setup { accounts = accounts }
@@ -110,11 +110,11 @@ module _ (setup : Configured) (accounts : List Account) (hash : List ℕ → Lis
       → ((f.about c).stage ≡ stages.Verify → is_right (f.about c).expected (lines.reading bytes) ≡ is_right (g.about c).expected (lines.reading others))
       → veiled_effect (effect_of_line setup hash f c bytes now) ≡ veiled_effect (effect_of_line (with_accounts setup accounts) hash g c others now)
   effect-same c bytes others now like right =
-      decided-same (sight_of setup f) (own_of (f.about c)) (g.about c).expected (f.about c).challenge bytes others now alike like right
+      decided-same (sight_of setup f) (own_of (f.about c)) (g.about c).expected (f.about c).sender.challenge bytes others now alike like right
       ∙ ap (λ (a : About).
       veiled_effect (line_effect (other_hub (sight_of setup f) accounts) (other_own (own_of (f.about c)) (g.about c).expected)
-      (prepared_line (with_accounts setup accounts) hash a.challenge others) now)) (same.about c)
-      ∙ ap₂ (λ (hub : Sight) (own : Own). veiled_effect (line_effect hub own (prepared_line (with_accounts setup accounts) hash (g.about c).challenge others) now))
+      (prepared_line (with_accounts setup accounts) hash a.sender.challenge others) now)) (same.about c)
+      ∙ ap₂ (λ (hub : Sight) (own : Own). veiled_effect (line_effect hub own (prepared_line (with_accounts setup accounts) hash (g.about c).sender.challenge others) now))
       (sym (sight-same)) (sym (own-same (f.about c) (g.about c) (same.about c)))
 
   -- ---- every call
@@ -146,7 +146,7 @@ module _ (setup : Configured) (accounts : List Account) (hash : List ℕ → Lis
   join-same caller peer challenge = grind (arith, places-same, chosen-same, joined-same)
 
   quit-same : (c : ℕ)
-      → AreSame (without_connection c (happens c (departure (f.about c).stage (f.about c).sid) f)) (without_connection c (happens c (departure (g.about c).stage (g.about c).sid) g))
+      → AreSame (without_connection c (happens c (departure (f.about c).stage (f.about c).sender.sid) f)) (without_connection c (happens c (departure (g.about c).stage (g.about c).sender.sid) g))
   quit-same c = grind (arith, closed-same, happens-same)
 
   after-same : (caller : ℕ) (call another : Call) → LikeCalls f g call another

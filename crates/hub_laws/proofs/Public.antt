@@ -22,12 +22,12 @@ is_address (denials.Address severity peer) = true
 is_address deny = false
 
 pub login-right : (hub : Sight) (own : Own) (now : ℕ) (digest : Option (List ℕ)) (u : List Field) (user : Listed) → first_ground (login_grounds hub own now digest u user) ≡ None
-    → IsRightAddress own.peer u
+    → IsRightAddress own.sender.peer u
 unfolding login_grounds
 login-right hub own now digest u user none =
     let address : AllFalse (grounds_of is_address (login_grounds hub own now digest u user)) = none-of is_address (login_grounds hub own now digest u user) none in address.0
 
-pub update-right : (hub : Sight) (own : Own) (u : List Field) (user : Listed) → first_ground (update_grounds hub own u user) ≡ None → IsRightAddress own.peer u
+pub update-right : (hub : Sight) (own : Own) (u : List Field) (user : Listed) → first_ground (update_grounds hub own u user) ≡ None → IsRightAddress own.sender.peer u
 unfolding update_grounds
 update-right hub own u user none =
     let address : AllFalse (grounds_of is_address (update_grounds hub own u user)) = none-of is_address (update_grounds hub own u user) none in address.0
@@ -35,18 +35,18 @@ update-right hub own u user none =
 -- ---- one line
 
 abbrev KeepsPublic : Own → Effect → Type 0
-KeepsPublic own effect = ArePublic own.peer own.fields → ArePublic own.peer (fields_after effect.change own.fields)
+KeepsPublic own effect = ArePublic own.sender.peer own.fields → ArePublic own.sender.peer (fields_after effect.change own.fields)
 
-public-merged : (own : Own) (u : List Field) → IsRightAddress own.peer u → ArePublic own.peer own.fields
-    → ArePublic own.peer (merged_with own.fields (clean u own.peer))
-public-merged own u right all = merged-public own.peer own.fields (clean u own.peer) all (clean-passed u own.peer right)
+public-merged : (own : Own) (u : List Field) → IsRightAddress own.sender.peer u → ArePublic own.sender.peer own.fields
+    → ArePublic own.sender.peer (merged_with own.fields (clean u own.sender.peer))
+public-merged own u right all = merged-public own.sender.peer own.fields (clean u own.sender.peer) all (clean-passed u own.sender.peer right)
 
 listed-public : (sid : ℕ) (peer : List ℕ) (fields : List Field) → ArePublic peer fields → ArePublic peer (listed_user sid fields).fields
 unfolding listed_user
 listed-public sid peer fields all = all
 
-login-public : (hub : Sight) (own : Own) (line : PreparedLine) (now : ℕ) (u : List Field) → login_denied hub own line.owner now (Ok u) ≡ None → ArePublic own.peer own.fields
-    → ArePublic own.peer (user_after own u).fields
+login-public : (hub : Sight) (own : Own) (line : PreparedLine) (now : ℕ) (u : List Field) → login_denied hub own line.owner now (Ok u) ≡ None → ArePublic own.sender.peer own.fields
+    → ArePublic own.sender.peer (user_after own u).fields
 login-public hub own line now u none all = grind (arith, listed-public, public-merged, login-right)
 
 module _ {hub : Sight} {own : Own} {line : PreparedLine} {now : ℕ} where
@@ -60,7 +60,7 @@ module _ {hub : Sight} {own : Own} {line : PreparedLine} {now : ℕ} where
 -- ---- one call
 
 abbrev AboutIsPublic : About → Type 0
-AboutIsPublic a = ArePublic a.peer a.fields
+AboutIsPublic a = ArePublic a.sender.peer a.fields
 
 chosen-public : (peer : List ℕ) (same : Bool) (after before : List Field) → (same ≡ true → ArePublic peer after) → ArePublic peer before → ArePublic peer (cond same after before)
 chosen-public peer same after before own all = grind arith
@@ -70,10 +70,10 @@ module _ {setup : Configured} {hash : List ℕ → List ℕ} {f : Facts} {caller
   public-after (Becomes.joins peer challenge now place is) all = tt
   public-after (Becomes.says c bytes now) all =
       let effect : Effect = effect_of_line setup hash f c bytes now in
-      chosen-public (f.about d).peer (d == c) (fields_after effect.change (f.about d).fields) (f.about d).fields
-      (λ is. subst (λ x. AboutIsPublic (f.about x) → ArePublic (f.about x).peer (fields_after effect.change (f.about x).fields)) (sym (eqb-true d c is))
+      chosen-public (f.about d).sender.peer (d == c) (fields_after effect.change (f.about d).fields) (f.about d).fields
+      (λ is. subst (λ x. AboutIsPublic (f.about x) → ArePublic (f.about x).sender.peer (fields_after effect.change (f.about x).fields)) (sym (eqb-true d c is))
       (public (line-outcome setup hash f c bytes now)) all) all
-  public-after (Becomes.quits c) all = chosen-public (f.about d).peer (d == c) (f.about d).fields (f.about d).fields (λ is. all) all
+  public-after (Becomes.quits c) all = chosen-public (f.about d).sender.peer (d == c) (f.about d).fields (f.about d).fields (λ is. all) all
   public-after _ all = all
 
 -- ---- every history

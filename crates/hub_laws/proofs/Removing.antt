@@ -75,7 +75,7 @@ found-by same user target more is = grind arith
 
 -- one of these connections has a user with this identifier
 abbrev HasUser : (ℕ → About) → List ℕ → ℕ → Type 0
-HasUser about cs named = (c : ℕ) × (is_in c cs ≡ true) × ((about c).sid ≡ named)
+HasUser about cs named = (c : ℕ) × (is_in c cs ≡ true) × ((about c).sender.sid ≡ named)
 
 first-or-later : (about : ℕ → About) (c : ℕ) (cs : List ℕ) (target : Listed) (more : Option Listed) → (more ≡ Some target → HasUser about cs target.sid)
     → (user_of about c ≡ target) ⊎ (more ≡ Some target) → HasUser about (c ∷ cs) target.sid
@@ -128,13 +128,13 @@ record Remains (f g : Facts) (c n : ℕ) : Type 0 where
   fields : (g.about n).fields ≡ (f.about n).fields
   other : n ≡ c → ⊥
 
-effect-remains : (o : ℕ) (effect : Effect) (f : Facts) (c n : ℕ) → (f.about c).stage ≡ stages.Normal → is_removed effect.change (f.about c).sid ≡ true
+effect-remains : (o : ℕ) (effect : Effect) (f : Facts) (c n : ℕ) → (f.about c).stage ≡ stages.Normal → is_removed effect.change (f.about c).sender.sid ≡ true
     → ((happens o effect f).about n).stage ≡ stages.Normal → Remains f (happens o effect f) c n
 unfolding happens
 effect-remains o effect f c n present named is = grind arith
 
 module _ (setup : Configured) (hash : List ℕ → List ℕ) where
-  call-remains : (f : Facts) (caller : ℕ) (call : Call) (c n : ℕ) → (f.about c).stage ≡ stages.Normal → is_removed (change_of setup hash f call) (f.about c).sid ≡ true
+  call-remains : (f : Facts) (caller : ℕ) (call : Call) (c n : ℕ) → (f.about c).stage ≡ stages.Normal → is_removed (change_of setup hash f call) (f.about c).sender.sid ≡ true
       → ((after setup hash f caller call).about n).stage ≡ stages.Normal → Remains f (after setup hash f caller call) c n
   unfolding after
   call-remains f caller call c n present named is = grind (arith, effect-remains)

@@ -60,10 +60,10 @@ module _ (setup : Configured) (hash : List ℕ → List ℕ) (h : List Entry) (c
 
   effect-is : (change : Change) × (effect_of_line setup hash f c bytes now ≡ passed_effect (sight_of setup f) line change)
   effect-is =
-      let same = prepared-bytes setup hash (f.about c).challenge bytes in
-      let goes = message-passes (sight_of setup f) (own_of (f.about c)) (prepared_line setup hash (f.about c).challenge bytes) now line (request_of Normal line.kind line.command) message.to_users in (
+      let same = prepared-bytes setup hash (f.about c).sender.challenge bytes in
+      let goes = message-passes (sight_of setup f) (own_of (f.about c)) (prepared_line setup hash (f.about c).sender.challenge bytes) now line (request_of Normal line.kind line.command) message.to_users in (
         goes.0,
-        line-heard (sight_of setup f) (own_of (f.about c)) (prepared_line setup hash (f.about c).challenge bytes) now line message.present
+        line-heard (sight_of setup f) (own_of (f.about c)) (prepared_line setup hash (f.about c).sender.challenge bytes) now line message.present
             (ap (λ (bs : List ℕ). length bs == 0) same ∙ not-empty bytes message.some) (ap lines.reading same ∙ message.reading) message.allowed
             ∙ goes.1,
       )
@@ -74,7 +74,7 @@ none = []
 
 owes-message : (hub : Sight) (line : Reading) (change : Change) (is_caller : Bool) (own : ℕ) (a : About) → line.from ≡ Some own
     → owes is_caller (passed_effect hub line change) a
-    ≡ cond (is_present a.stage && is_for line.kind line (is_target_here hub line.target) own a.sid (su_in a.fields)) (with_line_feed line.text ∷ []) []
+    ≡ cond (is_present a.stage && is_for line.kind line (is_target_here hub line.target) own a.sender.sid (su_in a.fields)) (with_line_feed line.text ∷ []) []
 owes-message hub line change is_caller own a from = grind (arith, audience-is, given-nothing, append-nil)
 
 pub messages_are_routed : MessagesAreRouted
@@ -82,7 +82,7 @@ messages_are_routed setup hash h c d bytes now line message =
     let f : Facts = facts setup hash h in
     let effect = effect-is setup hash h c bytes now line message in
     ap (λ (e : Effect). owes (d == c) e (f.about d)) effect.1
-    ∙ owes-message (sight_of setup f) line effect.0 (d == c) (f.about c).sid (f.about d) message.from
+    ∙ owes-message (sight_of setup f) line effect.0 (d == c) (f.about c).sender.sid (f.about d) message.from
 
 -- ---- what owes nobody anything
 

@@ -1,11 +1,12 @@
 -- A connection's last search is the last of its accepted searches.
-use Rattle.std.proofs.Common.{◌≡◌, ◌∙◌, sym, ap, ap₂, refl, subst, ℕ, ◌+◌, ◌<◌, Bool, true, false, ◌&&◌, ◌==◌, List, [], ◌∷◌, length, map, Option, None, arith, cond}
+use Rattle.std.proofs.Common.{◌≡◌, ◌∙◌, sym, ap, ap₂, refl, subst, ℕ, ◌+◌, ◌<◌, Bool, true, false, ◌&&◌, ◌==◌, List, [], ◌∷◌, length, map, Option, None, arith}
 use Rattle.user_table.specs.declared.totals.Totals.{Totals}
 use Rattle.hub_laws.specs.Searched.{SearchIsTheLast, TotalsAreSums, is_search, last_search, moment_if, search_in, searches}
-use Rattle.hub_laws.proofs.Words.{About, Becomes, Call, Configured, Effect, Entry, Facts, Field, Line, Listed, Outcome, Own, PreparedLine, Reading, Request, Sight, Sound, about_after}
-use Rattle.hub_laws.proofs.Words.{accepted_line, after, amount, becomes, effect_of_line, eqb-true, facts, is_over, joins-grow, length-map, line_effect, listed_user, option_or, outcome}
-use Rattle.hub_laws.proofs.Words.{over-beyond, own_of, prepared_line, request_in, same-chosen, searched_after, share_size_name, shared_files_name, sight_of, sound_of, sum_by, sum_by-cons, unheard}
+use Rattle.hub_laws.proofs.Words.{About, Becomes, Call, Change, Configured, Effect, Entry, Facts, Field, Line, Listed, Outcome, Own, PreparedLine, Reading, Request, Sender, Sight, Sound, about_after}
+use Rattle.hub_laws.proofs.Words.{accepted_line, amount, becomes, effect_of_line, eqb-true, facts, is_over, joins-grow, length-map, line_effect, listed_user, option_or, outcome}
+use Rattle.hub_laws.proofs.Words.{over-beyond, own_of, prepared_line, request_in, own_change, searched_after, share_size_name, shared_files_name, sight_of, sound_of, sum_by, sum_by-cons, unheard}
 use Rattle.hub_laws.proofs.Words.{user_of}
+use Rattle.hub_laws.proofs.Words.senders
 
 -- ---- one line
 
@@ -27,39 +28,47 @@ finds-line hub own line now before =
 
 -- ---- what a call does to the last search of a connection
 
-search-one : (is_caller is_searching : Bool) (now : ℕ) (before after : Option ℕ) → after ≡ option_or (moment_if is_searching now) before
-    → cond is_caller after before ≡ option_or (moment_if (is_caller && is_searching) now) before
-search-one is_caller is_searching now before after is = grind arith
+search-one : (is_caller is_searching : Bool) (now : ℕ) (change : Change) (before : Option ℕ) → searched_after change before ≡ option_or (moment_if is_searching now) before
+    → searched_after (own_change is_caller change) before ≡ option_or (moment_if (is_caller && is_searching) now) before
+search-one true is_searching now change before is = is
+search-one false is_searching now change before is = refl
 
 -- a line of connection d
 line-searched : (setup : Configured) (hash : List ℕ → List ℕ) (f : Facts) (c d : ℕ) (bytes : List ℕ) (now : ℕ)
-    → (about_after d (effect_of_line setup hash f d bytes now) f.about c).searched ≡ option_or (search_in setup hash f c (Line d bytes now)) (f.about c).searched
-line-searched setup hash f c d bytes now = grind (arith, search-one, finds-line)
+    → (about_after d (effect_of_line setup hash f d bytes now) f.about c).sender.searched ≡ option_or (search_in setup hash f c (Line d bytes now)) (f.about c).sender.searched
+line-searched setup hash f c d bytes now =
+    search-one (c == d) _ now (effect_of_line setup hash f d bytes now).change (f.about c).sender.searched
+    (finds-line (sight_of setup f) (own_of (f.about d)) (prepared_line setup hash (f.about d).sender.challenge bytes) now (f.about c).sender.searched)
+
+-- a connection that leaves does not search
+searched-kept : (same : Bool) (before : Option ℕ) → searched_after (own_change same (Sender senders.Falls)) before ≡ before
+searched-kept true before = refl
+searched-kept false before = refl
 
 -- ---- a connection that has not joined yet never searched
 
 quiet-one : (setup : Configured) (hash : List ℕ → List ℕ) (f : Facts) (c d : ℕ) (bytes : List ℕ) (now : ℕ) (same : Bool) → (c == d) ≡ same → is_over (f.about c).stage ≡ true
-    → moment_if (same && searches (own_of (f.about d)) (accepted_line (sight_of setup f) (own_of (f.about d)) (prepared_line setup hash (f.about d).challenge bytes) now)) now ≡ None
+    → moment_if (same && searches (own_of (f.about d)) (accepted_line (sight_of setup f) (own_of (f.about d)) (prepared_line setup hash (f.about d).sender.challenge bytes) now)) now ≡ None
 quiet-one setup hash f c d bytes now true is over =
     let e : c ≡ d = eqb-true c d is in
     ap (λ said. moment_if (searches (own_of (f.about d)) said) now)
-    (unheard (sight_of setup f) (own_of (f.about d)) (prepared_line setup hash (f.about d).challenge bytes) now (subst (λ x. is_over (f.about x).stage ≡ true) e over))
+    (unheard (sight_of setup f) (own_of (f.about d)) (prepared_line setup hash (f.about d).sender.challenge bytes) now (subst (λ x. is_over (f.about x).stage ≡ true) e over))
 quiet-one setup hash f c d bytes now false is over = refl
 
 -- ---- every call, and every history
 
 module _ {setup : Configured} {hash : List ℕ → List ℕ} {f : Facts} {caller c : ℕ} where
-  searched-after : {call : Call} {a : About} → Becomes setup hash f caller c call a → (f.joins < c → (f.about c).searched ≡ None)
-      → a.searched ≡ option_or (search_in setup hash f c call) (f.about c).searched
+  searched-after : {call : Call} {a : About} → Becomes setup hash f caller c call a → (f.joins < c → (f.about c).sender.searched ≡ None)
+      → a.sender.searched ≡ option_or (search_in setup hash f c call) (f.about c).sender.searched
   searched-after (Becomes.joins peer challenge now place is) fresh = sym (fresh (omega (arith, is)))
   searched-after (Becomes.says d bytes now) fresh = line-searched setup hash f c d bytes now
-  searched-after (Becomes.quits d) fresh = same-chosen (c == d) (f.about c).searched
+  searched-after (Becomes.quits d) fresh = searched-kept (c == d) (f.about c).sender.searched
   searched-after _ fresh = refl
 
 no-search : (setup : Configured) (hash : List ℕ → List ℕ) (f : Facts) (call : Call) (c : ℕ) → Sound f → f.joins < c → search_in setup hash f c call ≡ None
 no-search setup hash f call c sound beyond = grind (arith, quiet-one, over-beyond)
 
-never-searched : (setup : Configured) (hash : List ℕ → List ℕ) (h : List Entry) (c : ℕ) → (facts setup hash h).joins < c → ((facts setup hash h).about c).searched ≡ None
+never-searched : (setup : Configured) (hash : List ℕ → List ℕ) (h : List Entry) (c : ℕ) → (facts setup hash h).joins < c → ((facts setup hash h).about c).sender.searched ≡ None
 unfolding facts
 never-searched setup hash [] c beyond = refl
 never-searched setup hash (e ∷ h) c beyond =

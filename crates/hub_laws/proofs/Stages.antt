@@ -53,7 +53,7 @@ makes-unless own refusal effect made makes = grind (arith, makes-denial)
 makes-heard : (hub : Sight) (own : Own) (line : PreparedLine) (now : ℕ) (r : Result Reading LineFault) → Makes own (effect_of_reading hub own line now r) (heard_stage hub own line now r)
 makes-heard hub own line now (Ok reading) =
     makes-unless own (denial_of hub own line now reading) _ _
-    (λ none. makes (by-request hub own line now reading _ (request-asks own.stage reading.kind reading.command) refl (later-none (refusal_of own.stage own.sid reading) _ none)))
+    (λ none. makes (by-request hub own line now reading _ (request-asks own.stage reading.kind reading.command) refl (later-none (refusal_of own.stage own.sender.sid reading) _ none)))
 makes-heard hub own line now (Err fault) = makes-denial own _
 
 makes-line : (hub : Sight) (own : Own) (line : PreparedLine) (now : ℕ) → Makes own (line_effect hub own line now) (line_stage hub own line now)
@@ -81,8 +81,8 @@ module _ {setup : Configured} {hash : List ℕ → List ℕ} {f : Facts} {caller
       let effect : Effect = effect_of_line setup hash f d bytes now in
       next-made (removed_by effect (f.about c)) (c == d) effect.change (f.about c).stage _
       (λ is. subst (λ x. stage_after effect.change (f.about x).stage
-      ≡ unwrap_or (line_stage (sight_of setup f) (own_of (f.about d)) (prepared_line setup hash (f.about d).challenge bytes) now) (f.about x).stage) (sym (eqb-true c d is))
-      (makes-line (sight_of setup f) (own_of (f.about d)) (prepared_line setup hash (f.about d).challenge bytes) now))
+      ≡ unwrap_or (line_stage (sight_of setup f) (own_of (f.about d)) (prepared_line setup hash (f.about d).sender.challenge bytes) now) (f.about x).stage) (sym (eqb-true c d is))
+      (makes-line (sight_of setup f) (own_of (f.about d)) (prepared_line setup hash (f.about d).sender.challenge bytes) now))
   made-after (Becomes.quits d) =
       ap (λ r. stage_next r (c == d) (Sender senders.Falls) (f.about c).stage) (and-false (is_present (f.about c).stage))
       ∙ quit-next (c == d) (f.about c).stage ∙ made-alone (f.about c) _

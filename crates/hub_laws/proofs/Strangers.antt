@@ -9,7 +9,7 @@ IsUnheard own effect = is_present own.stage ≡ false → is_present (stage_afte
 
 module _ {hub : Sight} {own : Own} {line : PreparedLine} {now : ℕ} where
   unheard : {said : Option Reading} {request : Request} {effect : Effect} → Outcome hub own line now said request effect → IsUnheard own effect
-  unheard (shuts_out deny) away still = ap (λ b. cond b (quit_line own.sid ∷ []) []) away
+  unheard (shuts_out deny) away still = ap (λ b. cond b (quit_line own.sender.sid ∷ []) []) away
   unheard (lets_in reading u logs account) away still = absurd (false≢true (sym still))
   unheard (proves reading at asks none) away still = absurd (false≢true (sym still))
   unheard (revises reading u at words none) away still = absurd (false≢true (sym away ∙ ap is_present at))

@@ -44,7 +44,7 @@ held-by : (hub : Sight) (sid : ℕ) (given : Option (List ℕ)) (before after : 
 held-by hub sid given before after is none = grind (arith, nobody-holds)
 
 abbrev nick_given : Own → List Field → Option (List ℕ)
-nick_given own u = given_key (revision own (clean u own.peer)).nick
+nick_given own u = given_key (revision own (clean u own.sender.peer)).nick
 
 key-by : (fields : List Field) (nick : Option (List ℕ)) → key_of (meaning (unwrap_or nick (value_or_empty nick_name fields)))
     ≡ changed_key (given_key (option_map (λ (word : List ℕ). chars (meaning word)) nick)) (key_in fields)
@@ -55,7 +55,7 @@ revised-key : (own : Own) (infs : List (List Field)) (u : List Field) → own.fi
 revised-key own infs u known = grind (arith, listed-key, given-after, key-by)
 
 takes-update : (hub : Sight) (own : Own) (infs : List (List Field)) (u : List Field) → own.fields ≡ merged_fields infs → update_denied hub own (Ok u) ≡ None
-    → users_after_update own.sid (clean u own.peer) (nick_given own u) hub.users ≡ Ok (with_update own.sid (clean u own.peer) (nick_given own u) hub.users)
+    → users_after_update own.sender.sid (clean u own.sender.peer) (nick_given own u) hub.users ≡ Ok (with_update own.sender.sid (clean u own.sender.peer) (nick_given own u) hub.users)
 takes-update hub own infs u known none = grind (arith, held-by, revised-key, update-free)
 
 -- ---- bans
@@ -72,12 +72,12 @@ module _ {hub : Sight} {own : Own} {line : PreparedLine} {now : ℕ} where
       → IsTaken hub own effect.change
   takes (lets_in reading u logs account) infs known = free-enters hub (user_after own u) (login-free hub own now line.owner u (user_after own u) logs.allowed)
   takes (proves reading at asks none) infs known =
-      free-enters hub (listed_user own.sid own.fields) (password-free hub own now (digest_given reading.params) (listed_user own.sid own.fields) none)
+      free-enters hub (listed_user own.sender.sid own.fields) (password-free hub own now (digest_given reading.params) (listed_user own.sender.sid own.fields) none)
   takes (revises reading u at words none) infs known = takes-update hub own infs u known none
   takes (acts reading done at operator does) infs known = takes-act hub own refl does
   takes _ infs known = tt
 
 pub decided_is_taken : DecidedIsTaken
 decided_is_taken setup hash h c bytes now =
-    takes (outcome (sight_of setup (facts setup hash h)) (own_of ((facts setup hash h).about c)) (prepared_line setup hash ((facts setup hash h).about c).challenge bytes) now)
+    takes (outcome (sight_of setup (facts setup hash h)) (own_of ((facts setup hash h).about c)) (prepared_line setup hash ((facts setup hash h).about c).sender.challenge bytes) now)
     (infs setup hash h c) (told_of setup hash h c).tells

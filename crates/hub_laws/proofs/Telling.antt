@@ -14,14 +14,14 @@ news_by change operator reason = []
 
 record IsTold (own : Own) (effect : Effect) : Type 0 where
   reason : List ℕ
-  others : effect.others ≡ news_by effect.change own.sid reason
+  others : effect.others ≡ news_by effect.change own.sender.sid reason
   hearers : effect.hearers ≡ Those audiences.All
   done : effect.own ≡ done_line ∷ []
 
 abbrev Tells : Own → Effect → Type 0
 Tells own effect = (is_act effect.change ≡ false) ⊎ IsTold own effect
 
-told-act : {users : List Listed} {bans : List (List ℕ × Ban)} {own : Own} (done : Done) → Does users bans own.sid done.others done.change → IsTold own (effect_for_all done)
+told-act : {users : List Listed} {bans : List (List ℕ × Ban)} {own : Own} (done : Done) → Does users bans own.sender.sid done.others done.change → IsTold own (effect_for_all done)
 told-act done (kicks nick reason target called) = record { reason = reason; others = refl; hearers = refl; done = refl }
 told-act done (bans_user nick reason target banned called same room) = record { reason = reason; others = refl; hearers = refl; done = refl }
 told-act done (unbans cid) = record { reason = []; others = refl; hearers = refl; done = refl }
@@ -45,7 +45,7 @@ owes-all is_caller effect a ls own others hearers done = grind arith
 abbrev IsHeard : Configured → (List ℕ → List ℕ) → Facts → Call → HubChange → Type 0
 IsHeard setup hash f call act =
     (c : ℕ) × (bytes : List ℕ) × (now : ℕ) × (reason : List ℕ) × (call ≡ Line c bytes now)
-    × ((d : ℕ) → share setup hash f d call ≡ cond (is_present (f.about d).stage) (news_of act (f.about c).sid reason) [] ++ cond (d == c) (done_line ∷ []) [])
+    × ((d : ℕ) → share setup hash f d call ≡ cond (is_present (f.about d).stage) (news_of act (f.about c).sender.sid reason) [] ++ cond (d == c) (done_line ∷ []) [])
 
 no-act : (act : HubChange) → Nothing ≡ Hub act → ⊥
 no-act act is = cc is
@@ -59,7 +59,7 @@ call-heard setup hash f (Line c bytes now) act changes =
       now,
       is.reason,
       refl,
-      λ d. owes-all (d == c) effect (f.about d) _ (done_line ∷ []) (is.others ∙ ap (λ change. news_by change (f.about c).sid is.reason) changes) is.hearers is.done,
+      λ d. owes-all (d == c) effect (f.about d) _ (done_line ∷ []) (is.others ∙ ap (λ change. news_by change (f.about c).sender.sid is.reason) changes) is.hearers is.done,
     )
 call-heard setup hash f _ act changes = absurd (no-act act changes)
 

@@ -12,26 +12,26 @@ use Rattle.hub_laws.proofs.Naming.{read-passed}
 use Rattle.hub_laws.proofs.Public.{login-right, update-right}
 
 record IsUpdate (own : Own) (effect : Effect) (u : List Field) : Type 0 where
-  others : effect.others ≡ line_unless_empty own.sid u
+  others : effect.others ≡ line_unless_empty own.sender.sid u
   hearers : effect.hearers ≡ Those audiences.All
   silent : effect.own ≡ []
 
 -- an INF that says this
 record IsInf (own : Own) (effect : Effect) (u : List Field) : Type 0 where
-  passed : AllByRecursion (IsPassed own.peer) u
+  passed : AllByRecursion (IsPassed own.sender.peer) u
   heard : own.stage ≡ stages.Normal → IsUpdate own effect u
 
 -- what a login or an update says that is not denied is what may be passed on of it
-says-passed : (own : Own) (reading : Reading) (first u : List Field) → updates.reading reading.params ≡ Ok first → is_wrong_address own.peer (value_or_empty address_name first) ≡ false
-    → cleaned_update own.peer (updates.reading reading.params) ≡ Some u → (clean first own.peer ≡ u) × AllByRecursion (IsPassed own.peer) u
+says-passed : (own : Own) (reading : Reading) (first u : List Field) → updates.reading reading.params ≡ Ok first → is_wrong_address own.sender.peer (value_or_empty address_name first) ≡ false
+    → cleaned_update own.sender.peer (updates.reading reading.params) ≡ Some u → (clean first own.sender.peer ≡ u) × AllByRecursion (IsPassed own.sender.peer) u
 says-passed own reading first u words right says = grind (arith, read-passed)
 
 login-inf : (hub : Sight) (own : Own) (line : PreparedLine) (now : ℕ) (reading : Reading) (effect : Effect) (first u : List Field) → Logs hub own line now reading first
-    → cleaned_update own.peer (updates.reading reading.params) ≡ Some u → IsInf own effect u
+    → cleaned_update own.sender.peer (updates.reading reading.params) ≡ Some u → IsInf own effect u
 login-inf hub own line now reading effect first u logs says = grind (arith, says-passed, login-right, identify-normal)
 
 update-inf : (hub : Sight) (own : Own) (reading : Reading) (first u : List Field) → updates.reading reading.params ≡ Ok first → update_denied hub own (Ok first) ≡ None
-    → cleaned_update own.peer (updates.reading reading.params) ≡ Some u → IsInf own (update_effect own (clean first own.peer)) u
+    → cleaned_update own.sender.peer (updates.reading reading.params) ≡ Some u → IsInf own (update_effect own (clean first own.sender.peer)) u
 update-inf hub own reading first u words none says = grind (arith, says-passed, update-right)
 
 module _ {hub : Sight} {own : Own} {line : PreparedLine} {now : ℕ} where
@@ -57,13 +57,13 @@ speaks : (same : Bool) (o : Option (List Field)) (u : List Field) → listed_if 
 speaks same o u is = grind arith
 
 line-says : (setup : Configured) (hash : List ℕ → List ℕ) (f : Facts) (c d : ℕ) (bytes : List ℕ) (now : ℕ) (u : List Field)
-    → listed_if (c == d) (read_by inf_update (own_of (f.about d)) (accepted_line (sight_of setup f) (own_of (f.about d)) (prepared_line setup hash (f.about d).challenge bytes) now)) ≡ u ∷ []
+    → listed_if (c == d) (read_by inf_update (own_of (f.about d)) (accepted_line (sight_of setup f) (own_of (f.about d)) (prepared_line setup hash (f.about d).sender.challenge bytes) now)) ≡ u ∷ []
     → IsInf (own_of (f.about c)) (effect_of_line setup hash f d bytes now) u
 line-says setup hash f c d bytes now u is =
     let speaks-own = speaks (c == d) _ u is in
     subst (λ x. IsInf (own_of (f.about x)) (effect_of_line setup hash f d bytes now) u) (sym (eqb-true c d speaks-own.is_own))
     (says-inf (line-outcome setup hash f d bytes now) u
-    (said-read inf_update (own_of (f.about d)) (accepted_line (sight_of setup f) (own_of (f.about d)) (prepared_line setup hash (f.about d).challenge bytes) now) ∙ speaks-own.says))
+    (said-read inf_update (own_of (f.about d)) (accepted_line (sight_of setup f) (own_of (f.about d)) (prepared_line setup hash (f.about d).sender.challenge bytes) now) ∙ speaks-own.says))
 
 pub updates_are_passed : UpdatesArePassed
 updates_are_passed setup hash h c (Line d bytes now) u is = (line-says setup hash (facts setup hash h) c d bytes now u is).passed

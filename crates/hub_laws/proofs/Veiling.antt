@@ -129,7 +129,7 @@ outcome hub own line now reading refusal request =
 
 heard-pass : (hub : Sight) (own : Own) (line : PreparedLine) (now : ℕ) (reading : Reading) → IsPass reading
     → effect_of_reading hub own line now (Ok reading)
-    ≡ outcome hub own line now reading (refusal_of own.stage own.sid (skeleton kinds.Hub (codes "PAS") None)) (request_of own.stage kinds.Hub (codes "PAS"))
+    ≡ outcome hub own line now reading (refusal_of own.stage own.sender.sid (skeleton kinds.Hub (codes "PAS") None)) (request_of own.stage kinds.Hub (codes "PAS"))
 heard-pass hub own line now reading pass = grind arith
 
 -- ---- the same of both hubs
@@ -184,10 +184,10 @@ module _ (hub : Sight) (accounts : List Account) (own : Own) (expected : List �
       → veiled_effect (accepted_effect hub own line now reading request)
       ≡ veiled_effect (accepted_effect (other_hub hub accounts) (other_own own expected) (other_line line password) now reading request)
   unfolding accepted_effect
-  accepted-alike line password reading requests.Greeting = greets-alike (support_after own.features reading.params)
+  accepted-alike line password reading requests.Greeting = greets-alike (support_after own.sender.features reading.params)
   accepted-alike line password reading requests.Login =
       login-alike line password (updates.reading reading.params)
-  accepted-alike line password reading requests.Password = enters-alike (listed_user own.sid own.fields) (Sender senders.Enters)
+  accepted-alike line password reading requests.Password = enters-alike (listed_user own.sender.sid own.fields) (Sender senders.Enters)
   accepted-alike line password reading requests.Update = ap veiled_effect (update-alike (updates.reading reading.params))
   accepted-alike line password reading requests.Act = ap veiled_effect (act-alike reading.params)
   accepted-alike line password reading _ = refl
@@ -219,7 +219,7 @@ module _ (hub : Sight) (accounts : List Account) (own : Own) (expected : List �
   password-alike : (params others : List (List ℕ)) → is_digest own.expected (digest_given params) ≡ is_digest expected (digest_given others)
       → password_denied hub own now params ≡ password_denied (other_hub hub accounts) (other_own own expected) now others
   unfolding entry_grounds
-  password-alike params others right = ap (λ b. first_ground ((not b, denials.Password) ∷ entry_grounds hub now (listed_user own.sid own.fields))) right
+  password-alike params others right = ap (λ b. first_ground ((not b, denials.Password) ∷ entry_grounds hub now (listed_user own.sender.sid own.fields))) right
 
   request-denied-alike : (line : PreparedLine) (password : Option (List ℕ)) (reading : Reading) (request : Request)
       → (request ≡ requests.Password → is_digest own.expected (digest_given reading.params) ≡ is_digest expected (digest_given reading.params))
@@ -264,9 +264,9 @@ module _ (hub : Sight) (accounts : List Account) (own : Own) (expected : List �
       ∙ ap (λ (r : Request). veiled_effect (outcome (other_hub hub accounts) (other_own own expected) another now others refusal r)) (sym is)
   outcome-alike line another reading others refusal request (inr asks) right =
       ap (λ (r : Request). veiled_effect (outcome hub own line now reading refusal r)) asks.0
-      ∙ ap (λ d. veiled_effect (unless_denied own (option_or refusal d) (enters hub own (listed_user own.sid own.fields) (Sender senders.Enters))))
+      ∙ ap (λ d. veiled_effect (unless_denied own (option_or refusal d) (enters hub own (listed_user own.sender.sid own.fields) (Sender senders.Enters))))
       (password-alike reading.params others.params (right asks.1))
-      ∙ unless-alike _ _ _ (enters-alike (listed_user own.sid own.fields) (Sender senders.Enters))
+      ∙ unless-alike _ _ _ (enters-alike (listed_user own.sender.sid own.fields) (Sender senders.Enters))
       ∙ ap (λ (r : Request). veiled_effect (outcome (other_hub hub accounts) (other_own own expected) another now others refusal r)) (sym asks.0)
 
   heard-passwords : (line another : PreparedLine) (reading others : Reading) → IsPass reading → IsPass others

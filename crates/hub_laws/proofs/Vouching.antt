@@ -22,12 +22,12 @@ record IsVouched (setup : Configured) (hash : List ℕ → List ℕ) (h : List E
   proved : stage ≡ stages.Normal → (account : Account) → account_with (key_in fields) setup.accounts ≡ Some account → HasGiven setup hash h c (hash (account.password ++ challenge))
 
 abbrev VouchedBy : Configured → (List ℕ → List ℕ) → List Entry → ℕ → About → Type 0
-VouchedBy setup hash h c a = IsVouched setup hash h c a.stage a.fields a.expected a.challenge
+VouchedBy setup hash h c a = IsVouched setup hash h c a.stage a.fields a.expected a.sender.challenge
 
 -- the same after a change of its own
 abbrev VouchedAfter : Configured → (List ℕ → List ℕ) → List Entry → ℕ → Change → About → Type 0
 VouchedAfter setup hash h c change a =
-    IsVouched setup hash h c (stage_after change a.stage) (fields_after change a.fields) (expected_after change a.expected) a.challenge
+    IsVouched setup hash h c (stage_after change a.stage) (fields_after change a.fields) (expected_after change a.expected) a.sender.challenge
 
 -- ---- the history grows
 
@@ -105,19 +105,19 @@ accounts_of setup fields = account_with (key_in fields) setup.accounts
 module _ (setup : Configured) (hash : List ℕ → List ℕ) where
   asked-waits : (f : Facts) (c : ℕ) (bytes : List ℕ) (now : ℕ) (said : Option Reading) (effect : Effect)
       → ((reading : Reading) → said ≡ Some reading → lines.reading bytes ≡ Ok reading) → ((f.about c).stage ≡ stages.Identify → (f.about c).fields ≡ [])
-      → IsAsked (sight_of setup f) (own_of (f.about c)) (prepared_line setup hash (f.about c).challenge bytes) now said effect
-      → password_of hash (f.about c).challenge (accounts_of setup (fields_after effect.change (f.about c).fields)) ≡ Some (expected_after effect.change (f.about c).expected)
+      → IsAsked (sight_of setup f) (own_of (f.about c)) (prepared_line setup hash (f.about c).sender.challenge bytes) now said effect
+      → password_of hash (f.about c).sender.challenge (accounts_of setup (fields_after effect.change (f.about c).fields)) ≡ Some (expected_after effect.change (f.about c).expected)
   asked-waits f c bytes now said effect reads unnamed asked = grind (arith, key-merged, login-password, found-password)
 
   gives-proof : (h : List Entry) (e : Entry) (c : ℕ) (bytes : List ℕ) (now : ℕ) (said : Option Reading) (fields : List Field) (account : Account) → e.call ≡ Line c bytes now
       → ((reading : Reading) → said ≡ Some reading → lines.reading bytes ≡ Ok reading)
       → GivesPassword (sight_of setup (facts setup hash h)) (own_of ((facts setup hash h).about c)) now said fields
-      → password_of hash ((facts setup hash h).about c).challenge (accounts_of setup ((facts setup hash h).about c).fields) ≡ Some ((facts setup hash h).about c).expected
-      → accounts_of setup fields ≡ Some account → HasGiven setup hash (e ∷ h) c (hash (account.password ++ ((facts setup hash h).about c).challenge))
+      → password_of hash ((facts setup hash h).about c).sender.challenge (accounts_of setup ((facts setup hash h).about c).fields) ≡ Some ((facts setup hash h).about c).expected
+      → accounts_of setup fields ≡ Some account → HasGiven setup hash (e ∷ h) c (hash (account.password ++ ((facts setup hash h).about c).sender.challenge))
   gives-proof h e c bytes now said fields account call reads gives waits has =
       let a : About = (facts setup hash h).about c in
-      let digest : Some (hash (account.password ++ a.challenge)) ≡ Some a.expected =
-      ap (password_of hash a.challenge) (sym (ap (accounts_of setup) (sym gives.stays) ∙ has)) ∙ waits in
+      let digest : Some (hash (account.password ++ a.sender.challenge)) ≡ Some a.expected =
+      ap (password_of hash a.sender.challenge) (sym (ap (accounts_of setup) (sym gives.stays) ∙ has)) ∙ waits in
       let pas = is-pas gives.reading.kind gives.reading.command
       (subst (λ stage. request_of stage gives.reading.kind gives.reading.command ≡ requests.Password) gives.at gives.asks) in
       record {
@@ -138,11 +138,11 @@ module _ (setup : Configured) (hash : List ℕ → List ℕ) where
 
   waits-after : (f : Facts) (c : ℕ) (bytes : List ℕ) (now : ℕ) (said : Option Reading) (effect : Effect)
       → ((reading : Reading) → said ≡ Some reading → lines.reading bytes ≡ Ok reading) → ((f.about c).stage ≡ stages.Identify → (f.about c).fields ≡ [])
-      → ((f.about c).stage ≡ stages.Verify → password_of hash (f.about c).challenge (accounts_of setup (f.about c).fields) ≡ Some (f.about c).expected)
-      → WaitsStill (own_of (f.about c)) effect ⊎ IsAsked (sight_of setup f) (own_of (f.about c)) (prepared_line setup hash (f.about c).challenge bytes) now said effect
-      → password_of hash (f.about c).challenge (accounts_of setup (fields_after effect.change (f.about c).fields)) ≡ Some (expected_after effect.change (f.about c).expected)
+      → ((f.about c).stage ≡ stages.Verify → password_of hash (f.about c).sender.challenge (accounts_of setup (f.about c).fields) ≡ Some (f.about c).expected)
+      → WaitsStill (own_of (f.about c)) effect ⊎ IsAsked (sight_of setup f) (own_of (f.about c)) (prepared_line setup hash (f.about c).sender.challenge bytes) now said effect
+      → password_of hash (f.about c).sender.challenge (accounts_of setup (fields_after effect.change (f.about c).fields)) ≡ Some (expected_after effect.change (f.about c).expected)
   waits-after f c bytes now said effect reads unnamed waits (inl still) =
-      ap (λ fs. password_of hash (f.about c).challenge (accounts_of setup fs)) still.fields ∙ waits still.at ∙ ap Some (sym still.expected)
+      ap (λ fs. password_of hash (f.about c).sender.challenge (accounts_of setup fs)) still.fields ∙ waits still.at ∙ ap Some (sym still.expected)
   waits-after f c bytes now said effect reads unnamed waits (inr asked) = asked-waits f c bytes now said effect reads unnamed asked
 
 abbrev Enters : Configured → (List ℕ → List ℕ) → Facts → ℕ → ℕ → Option Reading → Effect → Type 0
@@ -159,14 +159,14 @@ module _ (setup : Configured) (hash : List ℕ → List ℕ) where
 
   keeps-proved : (h : List Entry) (e : Entry) (c : ℕ) (account : Account) (afterwards : List ℕ) → VouchedBy setup hash h c ((facts setup hash h).about c)
       → ((facts setup hash h).about c).stage ≡ stages.Normal → KeepsNick (sight_of setup (facts setup hash h)) (key_in ((facts setup hash h).about c).fields) afterwards
-      → account_with afterwards setup.accounts ≡ Some account → HasGiven setup hash (e ∷ h) c (hash (account.password ++ ((facts setup hash h).about c).challenge))
+      → account_with afterwards setup.accounts ≡ Some account → HasGiven setup hash (e ∷ h) c (hash (account.password ++ ((facts setup hash h).about c).sender.challenge))
   keeps-proved h e c account afterwards vouched at keeps has = grind (arith, given-still)
 
   proved-after : (h : List Entry) (e : Entry) (c : ℕ) (bytes : List ℕ) (now : ℕ) (said : Option Reading) (effect : Effect) → e.call ≡ Line c bytes now
       → ((reading : Reading) → said ≡ Some reading → lines.reading bytes ≡ Ok reading) → VouchedBy setup hash h c ((facts setup hash h).about c)
       → Enters setup hash (facts setup hash h) c now said effect → (account : Account)
       → accounts_of setup (fields_after effect.change ((facts setup hash h).about c).fields) ≡ Some account
-      → HasGiven setup hash (e ∷ h) c (hash (account.password ++ ((facts setup hash h).about c).challenge))
+      → HasGiven setup hash (e ∷ h) c (hash (account.password ++ ((facts setup hash h).about c).sender.challenge))
   proved-after h e c bytes now said effect call reads vouched (inl here) account has = keeps-proved h e c account _ vouched here.at here.nick has
   proved-after h e c bytes now said effect call reads vouched (inr (inl unasked)) account has = absurd (false≢true (sym unasked.account ∙ ap is_some has))
   proved-after h e c bytes now said effect call reads vouched (inr (inr gives)) account has =
@@ -174,7 +174,7 @@ module _ (setup : Configured) (hash : List ℕ → List ℕ) where
 
   change-vouched : (h : List Entry) (e : Entry) (c : ℕ) (bytes : List ℕ) (now : ℕ) (said : Option Reading) (effect : Effect) → e.call ≡ Line c bytes now
       → ((reading : Reading) → said ≡ Some reading → lines.reading bytes ≡ Ok reading)
-      → IsChecked (sight_of setup (facts setup hash h)) (own_of ((facts setup hash h).about c)) (prepared_line setup hash ((facts setup hash h).about c).challenge bytes) now said effect
+      → IsChecked (sight_of setup (facts setup hash h)) (own_of ((facts setup hash h).about c)) (prepared_line setup hash ((facts setup hash h).about c).sender.challenge bytes) now said effect
       → VouchedBy setup hash h c ((facts setup hash h).about c) → VouchedAfter setup hash (e ∷ h) c effect.change ((facts setup hash h).about c)
   change-vouched h e c bytes now said effect call reads checked vouched = record {
     waits = λ at. waits-after setup hash (facts setup hash h) c bytes now said effect reads
@@ -188,16 +188,16 @@ module _ (setup : Configured) (hash : List ℕ → List ℕ) where
   vouched-next : (h : List Entry) (e : Entry) (c : ℕ) (removed same : Bool) (change : Change) (a : About) → VouchedBy setup hash h c a
       → (same ≡ true → VouchedAfter setup hash (e ∷ h) c change a)
       → IsVouched setup hash (e ∷ h) c (stage_next removed same change a.stage) (cond same (fields_after change a.fields) a.fields)
-      (cond same (expected_after change a.expected) a.expected) a.challenge
+      (cond same (expected_after change a.expected) a.expected) a.sender.challenge
   vouched-next h e c removed same change a vouched own = grind (arith, vouched-gone, vouched-still)
 
   line-vouched : (h : List Entry) (e : Entry) (c : ℕ) (bytes : List ℕ) (now : ℕ) → e.call ≡ Line c bytes now → VouchedBy setup hash h c ((facts setup hash h).about c)
       → VouchedAfter setup hash (e ∷ h) c (effect_of_line setup hash (facts setup hash h) c bytes now).change ((facts setup hash h).about c)
   line-vouched h e c bytes now call vouched =
       let f : Facts = facts setup hash h in
-      let line : PreparedLine = prepared_line setup hash (f.about c).challenge bytes in
+      let line : PreparedLine = prepared_line setup hash (f.about c).sender.challenge bytes in
       change-vouched h e c bytes now (accepted_line (sight_of setup f) (own_of (f.about c)) line now) (effect_of_line setup hash f c bytes now) call
-      (λ reading said. ap lines.reading (sym (prepared-bytes setup hash (f.about c).challenge bytes)) ∙ read-accepted (sight_of setup f) (own_of (f.about c)) line now reading said)
+      (λ reading said. ap lines.reading (sym (prepared-bytes setup hash (f.about c).sender.challenge bytes)) ∙ read-accepted (sight_of setup f) (own_of (f.about c)) line now reading said)
       (checked-line (sight_of setup f) (own_of (f.about c)) line now) vouched
 
 module _ (setup : Configured) (hash : List ℕ → List ℕ) (h : List Entry) (e : Entry) (d : ℕ) where
@@ -211,11 +211,11 @@ module _ (setup : Configured) (hash : List ℕ → List ℕ) (h : List Entry) (e
       vouched-next setup hash h e d (removed_by effect (f.about d)) (d == c) effect.change (f.about d) vouched
       (λ same. subst (λ x. VouchedBy setup hash h x (f.about x)
       → IsVouched setup hash (e ∷ h) x (stage_after effect.change (f.about x).stage) (fields_after effect.change (f.about x).fields)
-      (expected_after effect.change (f.about x).expected) (f.about x).challenge) (sym (eqb-true d c same)) (line-vouched setup hash h e c bytes now is) vouched)
+      (expected_after effect.change (f.about x).expected) (f.about x).sender.challenge) (sym (eqb-true d c same)) (line-vouched setup hash h e c bytes now is) vouched)
   vouched-after (Becomes.quits c) is vouched =
-      vouched-next setup hash h e d (removed_by (departure (f.about c).stage (f.about c).sid) (f.about d)) (d == c) (Sender senders.Falls) (f.about d) vouched
-      (λ same. vouched-gone setup hash (e ∷ h) d _ _ (f.about d).challenge)
-  vouched-after _ is vouched = vouched-still setup hash h e d (f.about d).stage (f.about d).fields (f.about d).expected (f.about d).challenge vouched
+      vouched-next setup hash h e d (removed_by (departure (f.about c).stage (f.about c).sender.sid) (f.about d)) (d == c) (Sender senders.Falls) (f.about d) vouched
+      (λ same. vouched-gone setup hash (e ∷ h) d _ _ (f.about d).sender.challenge)
+  vouched-after _ is vouched = vouched-still setup hash h e d (f.about d).stage (f.about d).fields (f.about d).expected (f.about d).sender.challenge vouched
 
 -- ---- every history
 

@@ -11,13 +11,13 @@ use Rattle.hub_laws.proofs.Operating.{nobody_banned_enters}
 -- ---- one line
 
 abbrev line_by : Sight → Own → List Field → List ℕ
-line_by hub own fields = user_line own.sid fields (account_of hub (key_in fields))
+line_by hub own fields = user_line own.sender.sid fields (account_of hub (key_in fields))
 
 -- the user comes in with these fields
 record Welcomes (hub : Sight) (own : Own) (effect : Effect) (fields : List Field) : Type 0 where
   others : effect.others ≡ line_by hub own fields ∷ []
   hearers : effect.hearers ≡ Others
-  welcomes : effect.own ≡ map (line_of hub) hub.users ++ line_by hub own fields ∷ cond (has_feature ucmd own.features) (map menu_line hub.setup.menu) []
+  welcomes : effect.own ≡ map (line_of hub) hub.users ++ line_by hub own fields ∷ cond (has_feature ucmd own.sender.features) (map menu_line hub.setup.menu) []
 
 abbrev IsWelcome : Sight → Own → Effect → Type 0
 IsWelcome hub own effect = stage_after effect.change own.stage ≡ stages.Normal → (own.stage ≡ stages.Normal) ⊎ Welcomes hub own effect (fields_after effect.change own.fields)
@@ -45,11 +45,11 @@ record Brings (setup : Configured) (hash : List ℕ → List ℕ) (h : List Entr
   call : e.call ≡ Line c bytes now
   welcomes : Welcomes (sight_of setup (facts setup hash h)) (own_of ((facts setup hash h).about c)) (effect_of_line setup hash (facts setup hash h) c bytes now) ((facts setup hash (e
       ∷ h)).about c).fields
-  same_sid : ((facts setup hash (e ∷ h)).about c).sid ≡ ((facts setup hash h).about c).sid
+  same_sid : ((facts setup hash (e ∷ h)).about c).sender.sid ≡ ((facts setup hash h).about c).sender.sid
 
 record BringsBy (setup : Configured) (hash : List ℕ → List ℕ) (f g : Facts) (c : ℕ) (bytes : List ℕ) (now : ℕ) : Type 0 where
   welcomes : Welcomes (sight_of setup f) (own_of (f.about c)) (effect_of_line setup hash f c bytes now) (g.about c).fields
-  same_sid : (g.about c).sid ≡ (f.about c).sid
+  same_sid : (g.about c).sender.sid ≡ (f.about c).sender.sid
 
 brings-by : (setup : Configured) (hash : List ℕ → List ℕ) (f : Facts) (caller c : ℕ) (bytes : List ℕ) (now : ℕ) → ((f.about c).stage ≡ stages.Normal → ⊥)
     → ((after setup hash f caller (Line c bytes now)).about c).stage ≡ stages.Normal → BringsBy setup hash f (after setup hash f caller (Line c bytes now)) c bytes now
@@ -100,10 +100,10 @@ entries_are_heard setup hash h e c d absent here there =
 
 lines-of : (setup : Configured) (f : Facts) (present : List ℕ)
     → map (line_of (sight_of setup f)) (map (user_of f.about) present)
-    ≡ map (λ c. user_line (f.about c).sid (f.about c).fields (account_with (key_in (f.about c).fields) setup.accounts)) present
+    ≡ map (λ c. user_line (f.about c).sender.sid (f.about c).fields (account_with (key_in (f.about c).fields) setup.accounts)) present
 unfolding listed_user
 lines-of setup f [] = refl
-lines-of setup f (c ∷ present) = ap (λ ls. user_line (f.about c).sid (f.about c).fields (account_with (key_in (f.about c).fields) setup.accounts) ∷ ls) (lines-of setup f present)
+lines-of setup f (c ∷ present) = ap (λ ls. user_line (f.about c).sender.sid (f.about c).fields (account_with (key_in (f.about c).fields) setup.accounts) ∷ ls) (lines-of setup f present)
 
 pub entrants_are_welcomed : EntrantsAreWelcomed
 entrants_are_welcomed setup hash h e c absent here =
@@ -113,4 +113,4 @@ entrants_are_welcomed setup hash h e c absent here =
     ∙ hears-own (c == c) (effect_of_line setup hash f c by.bytes by.now) (f.about c) by.welcomes.hearers (eq-eqb c c refl)
     ∙ by.welcomes.welcomes
     ∙ ap₂ (λ first s. first ++ user_line s ((facts setup hash (e ∷ h)).about c).fields (account_with (key_in ((facts setup hash (e ∷ h)).about c).fields) setup.accounts)
-    ∷ cond (has_feature ucmd (f.about c).features) (map menu_line setup.menu) []) (lines-of setup f f.present) (sym by.same_sid)
+    ∷ cond (has_feature ucmd (f.about c).sender.features) (map menu_line setup.menu) []) (lines-of setup f f.present) (sym by.same_sid)

@@ -52,7 +52,8 @@ pub use Rattle.hub_rules.specs.Requests.{names_another, refusal_of, request_of}
 pub use Rattle.hub_invariants.specs.Said.{cleaned_update, inf_update, infs, listed_if, read_by}
 unfoldable pub use Rattle.hub_invariants.specs.Said.{accepted_line}
 pub use Rattle.hub_rules.specs.Shares.{About, affected_connection, expected_after, fields_after, has_room_for, hears_those, is_removed, owes}
-pub use Rattle.hub_rules.specs.Shares.{removed_by, searched_after, stage_after, waiting}
+pub use Rattle.hub_rules.specs.Senders.{own_change, searched_after}
+pub use Rattle.hub_rules.specs.Shares.{removed_by, stage_after, waiting}
 unfoldable pub use Rattle.hub_rules.specs.Shares.{lags_with, owed_with}
 pub use Rattle.hub_rules.specs.Sights.{Own, PreparedLine, Sight, account_of, another_has_key, is_account, is_here, user_after}
 pub use Rattle.hub_rules.specs.Texts.{challenge_line, client_type, done_line, menu_line, removal_line, with_line_feed}

@@ -14,7 +14,7 @@ use Rattle.hub_rules.specs.Shares.{About}
 -- a connection has the owner, the address and the challenge of this join, and the first identifier that was free then
 abbrev pub IsAsJoined : Facts → About → ℕ → Call → Type 0
 IsAsJoined before a caller (calls.Join peer challenge now) =
-    (a.owner ≡ caller) × (a.peer ≡ peer) × (a.challenge ≡ challenge) × (a.sid ≡ next_sid before)
+    (a.owner ≡ caller) × (a.sender.peer ≡ peer) × (a.sender.challenge ≡ challenge) × (a.sender.sid ≡ next_sid before)
 IsAsJoined before a caller (calls.Line c bytes now) = ⊥
 IsAsJoined before a caller (calls.Quit c) = ⊥
 IsAsJoined before a caller (calls.Take c count) = ⊥

@@ -76,4 +76,4 @@ abbrev pub ChallengesAreTold : Type 0
 ChallengesAreTold =
     (setup : Configured) (hash : List ℕ → List ℕ) (h : List Entry) (e : Entry) (c d : ℕ) → (stage setup hash h c ≡ Verify → ⊥)
     → stage setup hash (e ∷ h) c ≡ Verify
-    → share setup hash (facts setup hash h) d e.call ≡ (if d == c then challenge_line (about setup hash h c).challenge ∷ [] else [])
+    → share setup hash (facts setup hash h) d e.call ≡ (if d == c then challenge_line (about setup hash h c).sender.challenge ∷ [] else [])

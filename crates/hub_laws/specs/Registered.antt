@@ -36,7 +36,7 @@ pub record HasGiven (setup : Configured) (hash : List ℕ → List ℕ) (h : Lis
 abbrev pub NicksAreProved : Type 0
 NicksAreProved =
     (setup : Configured) (hash : List ℕ → List ℕ) (h : List Entry) (c : ℕ) (account : Account) → stage setup hash h c ≡ Normal → account_at setup hash h c ≡ Some account
-    → HasGiven setup hash h c (hash (account.password ++ (about setup hash h c).challenge))
+    → HasGiven setup hash h c (hash (account.password ++ (about setup hash h c).sender.challenge))
 
 -- where only registered users may enter, whoever is present has the nick of an account
 abbrev pub OnlyAccountsEnter : Type 0

@@ -49,7 +49,7 @@ pub record IsMessage (setup : Configured) (hash : List ℕ → List ℕ) (h : Li
   pub from : line.from ≡ Some (sid setup hash h c)
   pub to_users : (request_of Normal line.kind line.command ≡ Message) ⊎ (request_of Normal line.kind line.command ≡ Search)
   pub allowed :
-      denial_of (sight_of setup (facts setup hash h)) (own_of (about setup hash h c)) (prepared_line setup hash (about setup hash h c).challenge bytes) now line ≡ None
+      denial_of (sight_of setup (facts setup hash h)) (own_of (about setup hash h c)) (prepared_line setup hash (about setup hash h c).sender.challenge bytes) now line ≡ None
 
 -- those who are present and for whom it is are owed it, as it came; all others are owed nothing
 abbrev pub MessagesAreRouted : Type 0

@@ -34,7 +34,7 @@ moment_if false now = None
 -- the moment of a call that is an accepted search of connection c
 abbrev pub search_in : Configured → (List ℕ → List ℕ) → Facts → ℕ → Call → Option ℕ
 search_in setup hash f c (Line d bytes now) =
-    moment_if ((c == d) && searches (own_of (f.about d)) (accepted_line (sight_of setup f) (own_of (f.about d)) (prepared_line setup hash (f.about d).challenge bytes) now)) now
+    moment_if ((c == d) && searches (own_of (f.about d)) (accepted_line (sight_of setup f) (own_of (f.about d)) (prepared_line setup hash (f.about d).sender.challenge bytes) now)) now
 search_in setup hash f c call = None
 
 -- the moment of the last of them
@@ -44,7 +44,7 @@ last_search setup hash (e ∷ h) c = option_or (search_in setup hash (facts setu
 
 -- the interval is counted from the last accepted search
 abbrev pub SearchIsTheLast : Type 0
-SearchIsTheLast = (setup : Configured) (hash : List ℕ → List ℕ) (h : List Entry) (c : ℕ) → (about setup hash h c).searched ≡ last_search setup hash h c
+SearchIsTheLast = (setup : Configured) (hash : List ℕ → List ℕ) (h : List Entry) (c : ℕ) → (about setup hash h c).sender.searched ≡ last_search setup hash h c
 
 -- The totals are the number of users who are present, and the sums of their fields SS and SF, in which a field that is missing or no
 -- number counts nothing.

@@ -21,7 +21,7 @@ IsPublic peer f = (is_held_back f ≡ false) × (is_called address_name f ≡ tr
 
 -- all that is known of a user is so; lines that say who is present are made of that alone
 abbrev pub InfoIsPublic : Type 0
-InfoIsPublic = (setup : Configured) (hash : List ℕ → List ℕ) (h : List Entry) (c : ℕ) → AllByRecursion (IsPublic (about setup hash h c).peer) (info setup hash h c)
+InfoIsPublic = (setup : Configured) (hash : List ℕ → List ℕ) (h : List Entry) (c : ℕ) → AllByRecursion (IsPublic (about setup hash h c).sender.peer) (info setup hash h c)
 
 -- a field of an update may be passed on: an I4 in it is the address too, or empty, which takes it away
 abbrev pub IsPassed : List ℕ → Field → Type 0
@@ -31,7 +31,7 @@ IsPassed peer f = (is_held_back f ≡ false) × (is_called address_name f ≡ tr
 abbrev pub UpdatesArePassed : Type 0
 UpdatesArePassed =
     (setup : Configured) (hash : List ℕ → List ℕ) (h : List Entry) (c : ℕ) (call : Call) (u : List Field)
-    → said_in inf_update setup hash (facts setup hash h) c call ≡ u ∷ [] → AllByRecursion (IsPassed (about setup hash h c).peer) u
+    → said_in inf_update setup hash (facts setup hash h) c call ≡ u ∷ [] → AllByRecursion (IsPassed (about setup hash h c).sender.peer) u
 
 -- where a user who is present sends one, all who are present are owed the line that says these fields, where there are any, and nobody anything else
 abbrev pub UpdatesAreHeard : Type 0

@@ -49,7 +49,7 @@ logged_in hub own (Err fault) = None
 
 -- what an accepted line makes of the stage of its connection
 abbrev pub accepted_stage : Sight → Own → Reading → Request → Option Stage
-accepted_stage hub own line requests.Greeting = stage_after_sup (support_after own.features line.params)
+accepted_stage hub own line requests.Greeting = stage_after_sup (support_after own.sender.features line.params)
 accepted_stage hub own line requests.Login = logged_in hub own (updates.reading line.params)
 accepted_stage hub own line requests.Password = Some stages.Normal
 accepted_stage hub own line request = None
@@ -77,13 +77,13 @@ only_if false made = None
 
 -- an operator shuts the user of connection c out
 abbrev pub shuts_out : Configured → (List ℕ → List ℕ) → Facts → ℕ → Call → Bool
-shuts_out setup hash f c call = is_present (f.about c).stage && is_removed (change_of setup hash f call) (f.about c).sid
+shuts_out setup hash f c call = is_present (f.about c).stage && is_removed (change_of setup hash f call) (f.about c).sender.sid
 
 -- what a call itself makes of the stage of connection c: an accepted join, a line of its own, its quit
 abbrev pub call_stage : Configured → (List ℕ → List ℕ) → Facts → ℕ → Call → Option Stage
 call_stage setup hash f c (Join peer challenge now) = only_if (has_place setup f && has_joins f && (c == (f.joins + 1))) (Some stages.Protocol)
 call_stage setup hash f c (Line d bytes now) =
-    only_if (c == d) (line_stage (sight_of setup f) (own_of (f.about d)) (prepared_line setup hash (f.about d).challenge bytes) now)
+    only_if (c == d) (line_stage (sight_of setup f) (own_of (f.about d)) (prepared_line setup hash (f.about d).sender.challenge bytes) now)
 call_stage setup hash f c (Quit d) = only_if (c == d) (Some stages.Gone)
 call_stage setup hash f c (Take d count) = None
 

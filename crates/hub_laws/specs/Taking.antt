@@ -17,9 +17,9 @@ use Rattle.hub_rules.specs.Sights.{Own, Sight}
 abbrev pub IsTaken : Sight → Own → Change → Type 0
 IsTaken hub own (Sender (senders.EntersAs newcomer)) = users_after_entry newcomer.user hub.users ≡ Ok (hub.users ++ newcomer.user ∷ [])
 IsTaken hub own (Sender senders.Enters) =
-    users_after_entry (listed_user own.sid own.fields) hub.users ≡ Ok (hub.users ++ listed_user own.sid own.fields ∷ [])
+    users_after_entry (listed_user own.sender.sid own.fields) hub.users ≡ Ok (hub.users ++ listed_user own.sender.sid own.fields ∷ [])
 IsTaken hub own (Sender (senders.Updates revision)) =
-    users_after_update own.sid revision.update (given_key revision.nick) hub.users ≡ Ok (with_update own.sid revision.update (given_key revision.nick) hub.users)
+    users_after_update own.sender.sid revision.update (given_key revision.nick) hub.users ≡ Ok (with_update own.sender.sid revision.update (given_key revision.nick) hub.users)
 IsTaken hub own (Hub (shared.Ban banned)) = is_full hub.bans banned.cid ≡ false
 IsTaken hub own change = Unit {0}
 

@@ -81,7 +81,7 @@ answer_of users bans operator now (acts.Topic text) = Ok (topic text)
 -- what a command leads to that was read, if it is one, or why it is denied
 abbrev pub answer_to : Sight → Own → ℕ → Option Act → Result Done Deny
 answer_to hub own now None = Err denials.BadCommand
-answer_to hub own now (Some act) = answer_of hub.users hub.bans own.sid now act
+answer_to hub own now (Some act) = answer_of hub.users hub.bans own.sender.sid now act
 
 -- all users who are present are told, and then the operator that it is done
 abbrev pub effect_for_all : Done → Effect

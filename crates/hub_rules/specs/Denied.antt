@@ -36,7 +36,7 @@ digest_given (word ∷ more) = spelled_bytes 24 word
 
 -- of a password: the digest, and then what may have changed since the login
 abbrev pub password_denied : Sight → Own → ℕ → List (List ℕ) → Option Deny
-password_denied hub own now params = first_ground (password_grounds hub own now (digest_given params) (listed_user own.sid own.fields))
+password_denied hub own now params = first_ground (password_grounds hub own now (digest_given params) (listed_user own.sender.sid own.fields))
 
 -- of an update: its words, what they say
 abbrev pub update_denied : Sight → Own → Result (List Field) InfFault → Option Deny
@@ -45,15 +45,15 @@ update_denied hub own (Err fault) = Some denials.Protocol
 
 -- of a search: the time since the last one
 abbrev pub search_denied : Sight → Own → ℕ → Option Deny
-search_denied hub own now = if may_search own.searched now hub.setup.search_interval then None else Some denials.SearchSoon
+search_denied hub own now = if may_search own.sender.searched now hub.setup.search_interval then None else Some denials.SearchSoon
 
 -- the rules of what the line asks for
 unfoldable pub request_denied : Sight → Own → PreparedLine → ℕ → Reading → Request → Option Deny
-request_denied hub own prepared now line requests.Greeting = sup_denied (support_after own.features line.params)
+request_denied hub own prepared now line requests.Greeting = sup_denied (support_after own.sender.features line.params)
 request_denied hub own prepared now line requests.Login = login_denied hub own prepared.owner now (updates.reading line.params)
 request_denied hub own prepared now line requests.Password = password_denied hub own now line.params
 request_denied hub own prepared now line requests.Update = update_denied hub own (updates.reading line.params)
-request_denied hub own prepared now line requests.Support = sup_denied (support_after own.features line.params)
+request_denied hub own prepared now line requests.Support = sup_denied (support_after own.sender.features line.params)
 request_denied hub own prepared now line requests.Act = act_denied hub own now line.params
 request_denied hub own prepared now line requests.Search = search_denied hub own now
 request_denied hub own prepared now line requests.Message = None
@@ -62,4 +62,4 @@ request_denied hub own prepared now line requests.Nothing = None
 -- why a line is denied, if it is
 abbrev pub denial_of : Sight → Own → PreparedLine → ℕ → Reading → Option Deny
 denial_of hub own prepared now line =
-    option_or (refusal_of own.stage own.sid line) (request_denied hub own prepared now line (request_of own.stage line.kind line.command))
+    option_or (refusal_of own.stage own.sender.sid line) (request_denied hub own prepared now line (request_of own.stage line.kind line.command))

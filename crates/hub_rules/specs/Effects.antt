@@ -74,7 +74,7 @@ farewell stage sid = if is_present stage then quit_line sid ∷ [] else []
 -- the connection is told why, and shut out where that is fatal
 unfoldable pub denial : Own → Deny → Effect
 denial own deny =
-    if is_fatal deny then tells_others (denial_line deny ∷ []) (farewell own.stage own.sid) (Sender senders.Falls)
+    if is_fatal deny then tells_others (denial_line deny ∷ []) (farewell own.stage own.sender.sid) (Sender senders.Falls)
     else tells_sender (denial_line deny ∷ []) Nothing
 
 -- a connection leaves
@@ -93,7 +93,7 @@ greeting hub now sid features = support_line ∷ identifier_line sid ∷ hub_lin
 
 -- the client is greeted, and may log in
 abbrev pub greets : Sight → Own → ℕ → Result (List (List ℕ)) SupFault → Effect
-greets hub own now (Ok features) = tells_sender (greeting hub now own.sid features) (Sender (senders.Greets features))
+greets hub own now (Ok features) = tells_sender (greeting hub now own.sender.sid features) (Sender (senders.Greets features))
 greets hub own now (Err fault) = nothing
 
 -- the client supports other features from now on
@@ -113,7 +113,7 @@ welcome hub features user =
 
 -- a user enters: it hears who is there, and the others hear of it
 abbrev pub enters : Sight → Own → Listed → Change → Effect
-enters hub own user change = tells_others (welcome hub own.features user) (line_of hub user ∷ []) change
+enters hub own user change = tells_others (welcome hub own.sender.features user) (line_of hub user ∷ []) change
 
 abbrev pub entrant : Listed → Entrant
 entrant user = record { user = user; support = feature_set (su_in user.fields) }
@@ -121,7 +121,7 @@ entrant user = record { user = user; support = feature_set (su_in user.fields) }
 -- a user with an account is asked for the password, and another enters
 abbrev pub admits : Sight → Own → PreparedLine → Bool → Listed → Effect
 admits hub own prepared true user =
-    tells_sender (challenge_line own.challenge ∷ []) (Sender (senders.Waits (entrant user) (unwrap_or prepared.password [])))
+    tells_sender (challenge_line own.sender.challenge ∷ []) (Sender (senders.Waits (entrant user) (unwrap_or prepared.password [])))
 admits hub own prepared false user = enters hub own user (Sender (senders.EntersAs (entrant user)))
 
 abbrev pub logs_in : Sight → Own → PreparedLine → Result (List Field) InfFault → Effect
@@ -142,10 +142,10 @@ revision own u = record {
 
 -- all who are present hear what changes
 abbrev pub update_effect : Own → List Field → Effect
-update_effect own u = tells_users (line_unless_empty own.sid u) audiences.All (Sender (senders.Updates (revision own u)))
+update_effect own u = tells_users (line_unless_empty own.sender.sid u) audiences.All (Sender (senders.Updates (revision own u)))
 
 abbrev pub updates_user : Own → Result (List Field) InfFault → Effect
-updates_user own (Ok u) = update_effect own (clean u own.peer)
+updates_user own (Ok u) = update_effect own (clean u own.sender.peer)
 updates_user own (Err fault) = nothing
 
 -- ---- messages
@@ -161,11 +161,11 @@ passes_on hub line change = tells_users (with_line_feed line.text ∷ []) (audie
 
 -- what an accepted line leads to, by what it asks for
 unfoldable pub accepted_effect : Sight → Own → PreparedLine → ℕ → Reading → Request → Effect
-accepted_effect hub own prepared now line requests.Greeting = greets hub own now (support_after own.features line.params)
+accepted_effect hub own prepared now line requests.Greeting = greets hub own now (support_after own.sender.features line.params)
 accepted_effect hub own prepared now line requests.Login = logs_in hub own prepared (updates.reading line.params)
-accepted_effect hub own prepared now line requests.Password = enters hub own (listed_user own.sid own.fields) (Sender senders.Enters)
+accepted_effect hub own prepared now line requests.Password = enters hub own (listed_user own.sender.sid own.fields) (Sender senders.Enters)
 accepted_effect hub own prepared now line requests.Update = updates_user own (updates.reading line.params)
-accepted_effect hub own prepared now line requests.Support = learns (support_after own.features line.params)
+accepted_effect hub own prepared now line requests.Support = learns (support_after own.sender.features line.params)
 accepted_effect hub own prepared now line requests.Act = act_effect hub own now line.params
 accepted_effect hub own prepared now line requests.Search = passes_on hub line (Sender (senders.Searches now))
 accepted_effect hub own prepared now line requests.Message = passes_on hub line Nothing

@@ -1,6 +1,6 @@
 -- The sum of the calls so far. A history is a list of entries, written **newest first**: `e ∷ h` is the history h
 -- and then the entry e. So 'h begins with s' says that s is an end of the list h.
-use Rattle.std.specs.Prelude.{ℕ, ◌+◌, ◌==◌, ◌&&◌, not, nat_le, Bool, false, List, [], ◌∷◌, ◌++◌, length, map, take, filter, None, if◌then◌else◌}
+use Rattle.std.specs.Prelude.{ℕ, ◌+◌, ◌==◌, ◌&&◌, not, nat_le, Bool, false, List, [], ◌∷◌, ◌++◌, length, map, take, filter, if◌then◌else◌}
 use Rattle.adc_base32.specs.Turns.{next_free}
 use Rattle.login_state.specs.declared.stage.Stage.TheVariants as stages
 use Rattle.operator_acts.specs.Bans.{with_ban, without_ban}
@@ -18,6 +18,7 @@ use Rattle.hub_rules.specs.Configured.{Configured}
 use Rattle.hub_rules.specs.Effects.{line_effect, departure, is_present}
 use Rattle.hub_rules.specs.Identities.{listed_user}
 use Rattle.hub_rules.specs.Prepared.{prepared_line}
+use Rattle.hub_rules.specs.Senders.{new_sender}
 use Rattle.hub_rules.specs.Shares.{About, affected_connection, waiting, stage_after}
 use Rattle.hub_rules.specs.Sights.{Sight, Own}
 
@@ -39,14 +40,10 @@ pub record Facts : Type 0 where
 abbrev pub nobody : About
 nobody = record {
   owner = 0;
-  sid = 0;
-  peer = [];
-  challenge = [];
+  sender = new_sender 0 [] [];
   stage = stages.Gone;
-  features = [];
   fields = [];
   expected = [];
-  searched = None;
   owed = [];
   taken = 0;
   lags = false;
@@ -58,32 +55,23 @@ start setup = record { joins = 0; last = 0; opened = []; present = []; bans = []
 
 -- a connection that has just joined
 abbrev pub newcomer : ℕ → ℕ → List ℕ → List ℕ → About
-newcomer owner sid peer challenge = record nobody { owner = owner; sid = sid; peer = peer; challenge = challenge; stage = stages.Protocol }
+newcomer owner sid peer challenge = record nobody { owner = owner; sender = new_sender sid peer challenge; stage = stages.Protocol }
 
 -- ---- what a decision looks at
 
 abbrev pub user_of : (ℕ → About) → ℕ → Listed
-user_of about c = listed_user (about c).sid (about c).fields
+user_of about c = listed_user (about c).sender.sid (about c).fields
 
 abbrev pub sight_of : Configured → Facts → Sight
 sight_of setup f = record { setup = setup; users = map (user_of f.about) f.present; bans = f.bans; topic = f.topic }
 
 abbrev pub own_of : About → Own
-own_of a = record {
-  sid = a.sid;
-  peer = a.peer;
-  challenge = a.challenge;
-  stage = a.stage;
-  features = a.features;
-  fields = a.fields;
-  expected = a.expected;
-  searched = a.searched;
-}
+own_of a = record { sender = a.sender; stage = a.stage; fields = a.fields; expected = a.expected }
 
 -- what a line of connection c leads to
 abbrev pub effect_of_line : Configured → (List ℕ → List ℕ) → Facts → ℕ → List ℕ → ℕ → Effect
 effect_of_line setup hash f c bytes now =
-    line_effect (sight_of setup f) (own_of (f.about c)) (prepared_line setup hash (f.about c).challenge bytes) now
+    line_effect (sight_of setup f) (own_of (f.about c)) (prepared_line setup hash (f.about c).sender.challenge bytes) now
 
 -- ---- what an effect does
 
@@ -131,7 +119,7 @@ has_joins f = not (nat_le max_joins f.joins)
 
 -- the first identifier after the last one that no open connection has
 abbrev pub next_sid : Facts → ℕ
-next_sid f = next_free f.last (map (λ c. (f.about c).sid) f.opened)
+next_sid f = next_free f.last (map (λ c. (f.about c).sender.sid) f.opened)
 
 -- one connection changes, and no other
 abbrev pub with_one : ℕ → (About → About) → (ℕ → About) → ℕ → About
@@ -157,7 +145,7 @@ with_lines_taken count a = record a { taken = a.taken + length (take count (wait
 unfoldable pub after : Configured → (List ℕ → List ℕ) → Facts → ℕ → Call → Facts
 after setup hash f caller (Join peer challenge now) = if has_place setup f && has_joins f then with_connection f caller peer challenge else f
 after setup hash f caller (Line c bytes now) = happens c (effect_of_line setup hash f c bytes now) f
-after setup hash f caller (Quit c) = without_connection c (happens c (departure (f.about c).stage (f.about c).sid) f)
+after setup hash f caller (Quit c) = without_connection c (happens c (departure (f.about c).stage (f.about c).sender.sid) f)
 after setup hash f caller (Take c count) = record f { about = with_one c (with_lines_taken count) f.about }
 
 -- the hub after a history

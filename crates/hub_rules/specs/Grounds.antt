@@ -108,7 +108,7 @@ entrant_grounds hub own now digest u user =
     ∷ (not (is_nick (chars (nick_in u))), denials.BadNick Fatal)
     ∷ (is_ever (left_of_bans hub.bans user.cid now), denials.BannedEver)
     ∷ (is_timed (left_of_bans hub.bans user.cid now), denials.BannedFor (seconds_of (left_of_bans hub.bans user.cid now)))
-    ∷ (is_wrong_address own.peer (value_or_empty address_name u), denials.Address Fatal own.peer)
+    ∷ (is_wrong_address own.sender.peer (value_or_empty address_name u), denials.Address Fatal own.sender.peer)
     ∷ (hub.setup.registered_only && not (is_account hub user.key), denials.Registered)
     ∷ (is_here (has_key user.key) hub, denials.NickTaken Fatal)
     ∷ (is_here (has_cid user.cid) hub, denials.CidTaken)
@@ -131,7 +131,7 @@ update_grounds hub own u user =
     ∷ number_ground Recoverable fields.SharedFiles u
     ∷ (is_bad_nick (value_of nick_name u), denials.BadNick Recoverable)
     ∷ (touches_account hub (key_in own.fields) user.key, denials.Access (codes "BINF"))
-    ∷ (is_wrong_address own.peer (value_or_empty address_name u), denials.Address Recoverable own.peer)
-    ∷ (not (fits own.fields (clean u own.peer)), denials.Protocol)
-    ∷ (another_has_key hub own.sid user.key, denials.NickTaken Recoverable)
+    ∷ (is_wrong_address own.sender.peer (value_or_empty address_name u), denials.Address Recoverable own.sender.peer)
+    ∷ (not (fits own.fields (clean u own.sender.peer)), denials.Protocol)
+    ∷ (another_has_key hub own.sender.sid user.key, denials.NickTaken Recoverable)
     ∷ []

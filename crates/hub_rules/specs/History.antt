@@ -20,7 +20,7 @@ stage setup hash h c = (about setup hash h c).stage
 
 -- what its client supports
 abbrev pub features : Configured → (List ℕ → List ℕ) → List Entry → ℕ → List (List ℕ)
-features setup hash h c = (about setup hash h c).features
+features setup hash h c = (about setup hash h c).sender.features
 
 -- what is known of its user
 abbrev pub info : Configured → (List ℕ → List ℕ) → List Entry → ℕ → List Field
@@ -28,7 +28,7 @@ info setup hash h c = (about setup hash h c).fields
 
 -- its session identifier
 abbrev pub sid : Configured → (List ℕ → List ℕ) → List Entry → ℕ → ℕ
-sid setup hash h c = (about setup hash h c).sid
+sid setup hash h c = (about setup hash h c).sender.sid
 
 -- every line that it was owed
 abbrev pub lines_owed : Configured → (List ℕ → List ℕ) → List Entry → ℕ → List (List ℕ)

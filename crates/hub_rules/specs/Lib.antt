@@ -9,6 +9,7 @@ pub mod Acts
 pub mod Requests
 pub mod Denied
 pub mod Effects
+pub mod Senders
 pub mod Shares
 pub mod Facts
 pub mod Grounds

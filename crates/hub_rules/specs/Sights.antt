@@ -6,6 +6,7 @@ use Rattle.login_state.specs.declared.stage.Stage.{Stage}
 use Rattle.operator_acts.specs.declared.ban.Ban.{Ban}
 use Rattle.user_table.specs.Listed.{Listed}
 use Rattle.user_table.specs.Tables.{has_sid, has_key}
+use Rattle.hub_rules.specs.declared.sender.Sender.{Sender}
 use Rattle.hub_rules.specs.Accounts.{account_with}
 use Rattle.hub_rules.specs.Configured.{Account, Configured}
 use Rattle.hub_rules.specs.Identities.{listed_user}
@@ -22,16 +23,11 @@ pub record Sight : Type 0 where
 
 -- the connection that sent the line
 pub record Own : Type 0 where
-  pub sid : ℕ
-  pub peer : List ℕ
-  pub challenge : List ℕ
+  pub sender : Sender
   pub stage : Stage
-  pub features : List (List ℕ)
   pub fields : List Field
   -- the digest that its password must give, while it waits for one
   pub expected : List ℕ
-  -- the moment of its last search that went out
-  pub searched : Option ℕ
 
 -- a line as it comes to the hub: its bytes, and the digests that were made of them beforehand
 pub record PreparedLine : Type 0 where
@@ -57,4 +53,4 @@ another_has_key hub sid key = list_any (λ (user : Listed). has_key key user && 
 
 -- the user that an INF makes of a connection: what is known of it, merged with what may be passed on
 abbrev pub user_after : Own → List Field → Listed
-user_after own u = listed_user own.sid (merged_with own.fields (clean u own.peer))
+user_after own u = listed_user own.sender.sid (merged_with own.fields (clean u own.sender.peer))

@@ -4,9 +4,11 @@
 mod effect;
 mod history;
 mod refused;
+mod sender;
 
 pub use effect::{
     Banned, Change, Effect, Entrant, Hearers, HubChange, Revision, SenderChange, Topic,
 };
 pub use history::{Call, Entry, Reply, Verdict};
 pub use refused::LineRefused;
+pub use sender::Sender;

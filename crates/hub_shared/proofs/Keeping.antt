@@ -17,7 +17,7 @@ use Rattle.hub_shared.specs.Connections.{challenge_of}
 -- the same caller and the same challenge
 pub record Same (a b : About) : Type 0 where
   pub owner : a.owner ≡ b.owner
-  pub challenge : a.challenge ≡ b.challenge
+  pub challenge : a.sender.challenge ≡ b.sender.challenge
 
 same : (a : About) → Same a a
 same a = record { owner = refl; challenge = refl }
@@ -56,7 +56,7 @@ unfolding after
 after-same setup hash f caller (Join peer challenge now) d below = join-same f caller peer challenge d (has_place setup f && has_joins f) below
 after-same setup hash f caller (Line c bytes now) d below = happens-same c (effect_of_line setup hash f c bytes now) f d
 after-same setup hash f caller (Quit c) d below =
-    then _ _ _ (closed-same c (happens c (departure (f.about c).stage (f.about c).sid) f) d) (happens-same c (departure (f.about c).stage (f.about c).sid) f d)
+    then _ _ _ (closed-same c (happens c (departure (f.about c).stage (f.about c).sender.sid) f) d) (happens-same c (departure (f.about c).stage (f.about c).sender.sid) f d)
 after-same setup hash f caller (Take c count) d below = given-same count (f.about d) (d == c)
 
 -- ---- a join that was accepted
@@ -67,7 +67,7 @@ pub record IsNew (f g : Facts) (caller : ℕ) (call : Call) (c : ℕ) : Type 0 w
   pub counted : g.joins ≡ f.joins + 1
   pub there : has c g.opened ≡ true
   pub owner : (g.about c).owner ≡ caller
-  pub challenge : (g.about c).challenge ≡ challenge_of call
+  pub challenge : (g.about c).sender.challenge ≡ challenge_of call
   pub no_quit : (d : ℕ) → quits d call ≡ false
 
 new-there : (f : Facts) (c : ℕ) → ((f.joins + 1) == c) ≡ true → has c (f.opened ++ (f.joins + 1) ∷ []) ≡ true
@@ -84,7 +84,7 @@ new-join f caller peer challenge now c true true is = record {
   counted = refl;
   there = new-there f c is;
   owner = ap (λ b. (cond b (newcomer caller (next_sid f) peer challenge) (f.about c)).owner) (other-way (f.joins + 1) c is);
-  challenge = ap (λ b. (cond b (newcomer caller (next_sid f) peer challenge) (f.about c)).challenge) (other-way (f.joins + 1) c is);
+  challenge = ap (λ b. (cond b (newcomer caller (next_sid f) peer challenge) (f.about c)).sender.challenge) (other-way (f.joins + 1) c is);
   no_quit = λ d. refl;
 }
 new-join f caller peer challenge now c true false is = absurd (false≢true is)

@@ -63,7 +63,7 @@ pub record Known (setup : Configured) (hash : List ℕ → List ℕ) (p c : ℕ)
   pub counted : c ≤ (facts setup hash h).joins
   pub joined : has_joined c h ≡ true
   pub owner : ((facts setup hash h).about c).owner ≡ p
-  pub challenge : ((facts setup hash h).about c).challenge ≡ challenge_in c mine
+  pub challenge : ((facts setup hash h).about c).sender.challenge ≡ challenge_in c mine
   pub quit : has_quit c h ≡ has_quit c mine
 
 -- nobody quits what a new join made
@@ -141,7 +141,7 @@ is-known setup hash (e ∷ h) legal p c there =
 -- a caller may make calls of its open connections, each of which has the challenge of its join
 pub record Mine (setup : Configured) (hash : List ℕ → List ℕ) (p c : ℕ) (mine h : List Entry) : Type 0 where
   pub may : IsOpenFor (facts setup hash h) p c
-  pub challenge : ((facts setup hash h).about c).challenge ≡ challenge_in c mine
+  pub challenge : ((facts setup hash h).about c).sender.challenge ≡ challenge_in c mine
 
 stays-mine : (setup : Configured) (hash : List ℕ → List ℕ) (h : List Entry) → Legal setup hash h → (p c : ℕ) → has_stayed c (entries_of p h) ≡ true
     → Mine setup hash p c (entries_of p h) h

@@ -49,7 +49,7 @@ module _ (setup : Configured) (hash : List ℕ → List ℕ) (old new : CoreStat
     own = All-cons (λ (e : Entry). e.caller ≡ first) asking [] refl (All-nil (λ (e : Entry). e.caller ≡ first));
     opened = ap (λ (f : Facts). f.opened) facts_joined;
     owner = ap (λ (f : Facts). (f.about first).owner) facts_joined;
-    challenge = ap (λ (f : Facts). (f.about first).challenge) facts_joined;
+    challenge = ap (λ (f : Facts). (f.about first).sender.challenge) facts_joined;
   }
 
   join_taken : taken_in setup hash (asking ∷ []) ≡ []

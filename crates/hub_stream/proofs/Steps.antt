@@ -48,7 +48,7 @@ only_over stages.Gone lags e = inl refl
 -- what an effect leaves of a connection: its owner, its challenge, and what was taken
 pub record IsKept (a b : About) : Type 0 where
   pub owner : b.owner ≡ a.owner
-  pub challenge : b.challenge ≡ a.challenge
+  pub challenge : b.sender.challenge ≡ a.sender.challenge
   pub taken : take b.taken b.owed ≡ take a.taken a.owed
 
 taken-kept : (room : Bool) (taken : ℕ) (owed share : List (List ℕ)) → taken ≤ length owed → take taken (cond room (owed ++ share) owed) ≡ take taken owed
@@ -141,7 +141,7 @@ module _ (setup : Configured) (hash : List ℕ → List ℕ) (h : List Entry) (o
       own = own_more (Take first count) (Took bytes lines ended);
       opened = opened_taken ∙ alone.opened;
       owner = ap (λ (a : About). a.owner) about_taken ∙ alone.owner;
-      challenge = ap (λ (a : About). a.challenge) about_taken ∙ alone.challenge;
+      challenge = ap (λ (a : About). a.sender.challenge) about_taken ∙ alone.challenge;
     }
 
     pub take_written : taken_in setup hash (took count bytes lines ended ∷ h) ≡ taken_in setup hash h ++ bytes
@@ -176,7 +176,7 @@ module _ (setup : Configured) (hash : List ℕ → List ℕ) (h : List Entry) (o
     same_bytes : line.bytes ≡ bytes
     same_bytes = ap (λ (l : PreparedLine). l.bytes) ready ∙ prepared-bytes setup hash zeros bytes
 
-    is_ready : line ≡ prepared_line setup hash (about_first setup hash h).challenge line.bytes
+    is_ready : line ≡ prepared_line setup hash (about_first setup hash h).sender.challenge line.bytes
     is_ready = ready ∙ ap₂ (prepared_line setup hash) (sym alone.challenge) (sym same_bytes)
 
     stands_said : StandsAt setup hash (said_entry bytes verdict ∷ h) new

@@ -27,7 +27,7 @@ pub record IsAlone (setup : Configured) (hash : List ℕ → List ℕ) (h : List
   pub own : All (λ e. e.caller ≡ first) h
   pub opened : (facts setup hash h).opened ≡ first ∷ []
   pub owner : (about_first setup hash h).owner ≡ first
-  pub challenge : (about_first setup hash h).challenge ≡ zeros
+  pub challenge : (about_first setup hash h).sender.challenge ≡ zeros
 
 -- a run so far: what the writer held before it, the lines that were handed over, the calls that were made
 pub record Run : Type 0 where

@@ -6,7 +6,7 @@ use Rattle.hub_core.proofs.share.place_by_sid.Goals as goal
 
 pub returns-in_err-get-clause-none : goal.returns-in_err-get-clause-none
 returns-in_err-get-clause-none c =
-    subst (λ r. IfNone r ((i : ℕ) (d : Seat) → i < length c.args.seats.now → (get_or c.args.seats.now i d).sid ≢ c.args.sid)) (sym c.from_residual.ensures)
+    subst (λ r. IfNone r ((i : ℕ) (d : Seat) → i < length c.args.seats.now → (get_or c.args.seats.now i d).sender.sid ≢ c.args.sid)) (sym c.from_residual.ensures)
     (nobody-has c.args.index.now c.args.seats.now c.requires.indexed c.args.sid (sym c.get.ensures ∙ c.in_err-get.was))
 
 pub returns-clause-some : goal.returns-clause-some

@@ -19,7 +19,7 @@ returns c =
     let keyed = c.key-key.ensures ∙ sym same_key in
     let left : c.left-left.result ≡ left_of_bans hub.bans user.cid c.args.now =
     c.left-left.ensures ∙ ap₂ (λ (h : Sight) i. left_of_bans h.bans i c.args.now) c.hub.view_is (sym same_cid) in
-    let peer = ap (λ (o : Own). o.peer) c.own.view_is in
+    let peer = ap (λ (o : Own). o.sender.peer) c.own.view_is in
     before (by-test _ (ap not c.is_some-has_owner.ensures))
     (before (c.number_ground.ensures ∙ ap (number_ground Fatal ShareSize) c.update-update.ensures)
     (before (c.number_ground-2.ensures ∙ ap (number_ground Fatal SharedFiles) c.update-update.ensures)

@@ -17,14 +17,14 @@ returns-in_ok-entrant-in-Ok c =
     let own : Own = c.args.own.now in
     let u : List Field = c.args.inf.now in
     let user : Listed = user_after own u in
-    let fields : c.in_ok-fields-in-Ok.fields ≡ merged_with own.fields (clean u own.peer) =
-    c.in_ok-fields-in-Ok.ensures ∙ ap₂ (λ fs u. merged_with fs (clean u own.peer)) (sym none) c.update.ensures in
+    let fields : c.in_ok-fields-in-Ok.fields ≡ merged_with own.fields (clean u own.sender.peer) =
+    c.in_ok-fields-in-Ok.ensures ∙ ap₂ (λ fs u. merged_with fs (clean u own.sender.peer)) (sym none) c.update.ensures in
     let keyed : string_bytes c.in_ok-key-in-Ok.key ≡ key_in c.in_ok-fields-in-Ok.fields =
     c.in_ok-key-in-Ok.ensures.ok ∙ c.key.ensures ∙ sym (known-key own u none) ∙ sym (after-key own u) ∙ ap key_in (sym fields) in
     let may = rw c.in-Ok.is at (c.in_ok-cid.ensures user (after-cid own u none) (known-key own u none)) in (
       may.1,
       c.in_ok-entrant-in-Ok.ensures (sym may.0 ∙ after-fields own u ∙ ap cid_in (sym fields)) keyed
-          ∙ ap (λ s. entrant (listed_user s c.in_ok-fields-in-Ok.fields)) (ap (λ (o : Own). o.sid) c.own.view_is) ∙ ap (λ f. entrant (listed_user own.sid f)) fields,
+          ∙ ap (λ s. entrant (listed_user s c.in_ok-fields-in-Ok.fields)) (ap (λ (o : Own). o.sender.sid) c.own.view_is) ∙ ap (λ f. entrant (listed_user own.sender.sid f)) fields,
     )
 
 pub returns-in-Err : goal.returns-in-Err

@@ -15,10 +15,10 @@ returns-in-Some c =
     (λ effect is known.
     let own : Own = c.args.own.now in
     let u : List Field = c.args.inf.now in
-    let cleaned : c.in_ok-cleaned.cleaned ≡ clean u own.peer = c.in_ok-cleaned.ensures ∙ ap₂ (λ u (o : Own). clean u o.peer) c.update.ensures c.own.view_is in
+    let cleaned : c.in_ok-cleaned.cleaned ≡ clean u own.sender.peer = c.in_ok-cleaned.ensures ∙ ap₂ (λ u (o : Own). clean u o.sender.peer) c.update.ensures c.own.view_is in
     let denied : first_ground (update_grounds c.args.hub.now own u (user_after own u)) ≡ Some c.in-Some.deny =
     ap first_ground (sym (c.in_ok-grounds.ensures known)) ∙ sym c.first_ground.ensures ∙ c.in-Some.is in
-    is ∙ ap (λ d. unless_denied own d (update_effect own (clean u own.peer))) (sym denied))
+    is ∙ ap (λ d. unless_denied own d (update_effect own (clean u own.sender.peer))) (sym denied))
 
 pub returns : goal.returns
 returns c =
@@ -26,11 +26,11 @@ returns c =
     (λ effect is known.
     let own : Own = c.args.own.now in
     let u : List Field = c.args.inf.now in
-    let cleaned : c.in_ok-cleaned.cleaned ≡ clean u own.peer = c.in_ok-cleaned.ensures ∙ ap₂ (λ u (o : Own). clean u o.peer) c.update.ensures c.own.view_is in
+    let cleaned : c.in_ok-cleaned.cleaned ≡ clean u own.sender.peer = c.in_ok-cleaned.ensures ∙ ap₂ (λ u (o : Own). clean u o.sender.peer) c.update.ensures c.own.view_is in
     let none : first_ground (update_grounds c.args.hub.now own u (user_after own u)) ≡ None =
     ap first_ground (sym (c.in_ok-grounds.ensures known)) ∙ sym c.first_ground.ensures ∙ c.in-None.is in
-    is known ∙ ap (update_effect own) cleaned ∙ ap (λ d. unless_denied own d (update_effect own (clean u own.peer))) (sym none))
+    is known ∙ ap (update_effect own) cleaned ∙ ap (λ d. unless_denied own d (update_effect own (clean u own.sender.peer))) (sym none))
 
 pub effect_of_update-requires : goal.effect_of_update-requires
 effect_of_update-requires c =
-    ap (value_of nick_name) c.in_ok-cleaned.ensures ∙ nick-clean c.update.result.now c.own.inside.peer ∙ ap (value_of nick_name) c.update.ensures
+    ap (value_of nick_name) c.in_ok-cleaned.ensures ∙ nick-clean c.update.result.now c.own.inside.sender.now.peer ∙ ap (value_of nick_name) c.update.ensures

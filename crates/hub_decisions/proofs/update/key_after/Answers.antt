@@ -10,12 +10,12 @@ pub returns-in-Some : goal.returns-in-Some
 returns-in-Some c =
     λ own known.
     c.key.ensures
-    ∙ key-given own.fields c.args.inf.now (clean c.args.inf.now own.peer) c.in-Some.field-0.now (c.in-Some.ensures ∙ ap₂ value_of c.nick.ensures c.update.ensures) (nick-clean c.args.inf.now own.peer)
+    ∙ key-given own.fields c.args.inf.now (clean c.args.inf.now own.sender.peer) c.in-Some.field-0.now (c.in-Some.ensures ∙ ap₂ value_of c.nick.ensures c.update.ensures) (nick-clean c.args.inf.now own.sender.peer)
     ∙ after-key own c.args.inf.now
 
 pub returns-in-None : goal.returns-in-None
 returns-in-None c =
     λ own known.
     c.key-in-None.ensures ∙ user-key own c.args.user.now known
-    ∙ key-renewed _ own.fields (clean c.args.inf.now own.peer) refl (nick-clean c.args.inf.now own.peer ∙ sym (c.in-None.ensures ∙ ap₂ value_of c.nick.ensures c.update.ensures))
+    ∙ key-renewed _ own.fields (clean c.args.inf.now own.sender.peer) refl (nick-clean c.args.inf.now own.sender.peer ∙ sym (c.in-None.ensures ∙ ap₂ value_of c.nick.ensures c.update.ensures))
     ∙ after-key own c.args.inf.now

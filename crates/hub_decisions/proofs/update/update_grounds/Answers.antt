@@ -22,7 +22,7 @@ returns c =
     let u : List Field = c.args.inf.now in
     let keyed = c.key_after-key.ensures own known in
     let fields : c.args.user.now.fields ≡ own.fields = user-fields own c.args.user.now known in
-    let peer = ap (λ (o : Own). o.peer) c.own.view_is in
+    let peer = ap (λ (o : Own). o.sender.peer) c.own.view_is in
     before (by-test _ (c.changes_id.ensures ∙ ap₂ (λ u fs. differs (unwrap_or (value_of id_name u) (value_or_empty id_name fs)) (value_or_empty id_name fs)) c.update-update.ensures (c.fields.ensures ∙ fields)))
     (before (c.number_ground.ensures ∙ ap (number_ground Recoverable ShareSize) c.update-update.ensures)
     (before (c.number_ground-2.ensures ∙ ap (number_ground Recoverable SharedFiles) c.update-update.ensures)
@@ -30,5 +30,5 @@ returns c =
     (before (by-test _ (c.touches_account.ensures ∙ ap₂ (touches_account hub) (c.key.ensures ∙ user-key own c.args.user.now known) keyed))
     (before (ap₂ (λ w p. (w, denials.Address Recoverable p)) (c.in_ok-is_wrong_address.ensures ∙ ap₂ is_wrong_address peer (c.value_in_update-address.ensures ∙ ap₂ value_or_empty c.address.ensures c.update-update.ensures)) peer)
     (before (by-test _ (ap not (c.fits.ensures ∙ ap₂ fits (c.fields-2.ensures ∙ fields) c.requires)))
-    (before (by-test _ (c.another_has_key.ensures ∙ ap₂ (another_has_key hub) (ap (λ (o : Own). o.sid) c.own.view_is) keyed))
+    (before (by-test _ (c.another_has_key.ensures ∙ ap₂ (another_has_key hub) (ap (λ (o : Own). o.sender.sid) c.own.view_is) keyed))
     refl)))))))

@@ -4,6 +4,8 @@ use Rattle.std.specs.List.{Contains}
 use Rattle.adc_base32.specs.Turns.{next_free}
 use Rattle.outboxes.specs.Backlogs.{Backlog}
 use Rattle.hub_core.specs.declared.seat.Seat.{Seat}
+use Rattle.hub_rules.specs.declared.sender.Sender.{Sender}
+use Rattle.hub_rules.specs.Senders.{new_sender}
 use Rattle.hub_core.specs.CoreState.{CoreState}
 use Rattle.hub_core.specs.Seats.{new_seat}
 use Rattle.hub_core.proofs.Standing.{full-moves, join-moves, joined_core, sids_in, spent-moves}
@@ -43,22 +45,22 @@ returns c =
     ∙ ap₂ next_free (ap (λ (s : CoreState). s.last) c.self.view_is) (c.deref-3.ensures.value ∙ c.in_ok-taken.ensures ∙ ap sids_in (c.deref-2.ensures.value ∙ seats)))
     (ap (λ (ss : List Seat). record { setup = arc_value c.self.inside.setup; joins = c.self.inside.joins + 1; last = c.number-self-inside.result; seats = ss; users = c.self.inside.commons.present.users; bans = c.self.inside.commons.bans; topic = c.self.inside.commons.topic; touched = c.self.inside.touched })
     (c.in_ok-add.ensures.seats
-    ∙ ap (λ (seat : Seat). c.self.inside.seats.items ++ seat ∷ []) (c.new-seat.ensures ∙ ap (λ (o : Backlog). record (new_seat (c.self.inside.joins + 1) c.next_free-sid.result c.args.peer c.args.challenge) { outbox = o }) c.in_ok-outbox.ensures))
-    ∙ ap (λ n. record { setup = arc_value c.self.inside.setup; joins = c.self.inside.joins + 1; last = n; seats = c.self.inside.seats.items ++ new_seat (c.self.inside.joins + 1) c.next_free-sid.result c.args.peer c.args.challenge ∷ []; users = c.self.inside.commons.present.users; bans = c.self.inside.commons.bans; topic = c.self.inside.commons.topic; touched = c.self.inside.touched })
+    ∙ ap (λ (seat : Seat). c.self.inside.seats.items ++ seat ∷ []) (c.new-seat.ensures ∙ ap₂ (λ (s : Sender) (o : Backlog). record (new_seat (c.self.inside.joins + 1) s) { outbox = o }) c.new-sender.ensures c.in_ok-outbox.ensures))
+    ∙ ap (λ n. record { setup = arc_value c.self.inside.setup; joins = c.self.inside.joins + 1; last = n; seats = c.self.inside.seats.items ++ new_seat (c.self.inside.joins + 1) (new_sender c.next_free-sid.result c.args.peer c.args.challenge) ∷ []; users = c.self.inside.commons.present.users; bans = c.self.inside.commons.bans; topic = c.self.inside.commons.topic; touched = c.self.inside.touched })
     c.number-self-inside.ensures.exact
     ∙ ap (joined_core c.next_free-sid.result c.args.peer c.args.challenge) c.self.view_is)
 
 pub invariant_of-self-2 : goal.invariant_of-self-2
 invariant_of-self-2 c =
-    let is_sid = ap (λ (seat : Seat). seat.sid) c.new-seat.ensures in
+    let is_sid = ap (λ (seat : Seat). seat.sender.sid) c.new-seat.ensures ∙ ap (λ (s : Sender). s.sid) c.new-sender.ensures in
     let is_number = ap (λ (seat : Seat). seat.number) c.new-seat.ensures in
-    let taken : c.deref-3.result.now ≡ map (λ (seat : Seat). seat.sid) c.self.inside.seats.items = c.deref-3.ensures.value ∙ c.in_ok-taken.ensures ∙ ap sids_in c.deref-2.ensures.value in (
+    let taken : c.deref-3.result.now ≡ map (λ (seat : Seat). seat.sender.sid) c.self.inside.seats.items = c.deref-3.ensures.value ∙ c.in_ok-taken.ensures ∙ ap sids_in c.deref-2.ensures.value in (
       c.self.invariant.0,
       search rules,
       subst (Ordered (c.self.inside.joins + 1)) (sym c.in_ok-add.ensures.seats) (ordered-push c.self.inside.joins c.self.inside.seats.items c.new-seat.result is_number c.self.invariant.2),
       subst (λ ss. AreIndexed c.add.new.index (keys ss)) (sym c.in_ok-add.ensures.seats)
-          (indexed-push c.self.inside.index c.add.new.index c.self.inside.seats.items c.new-seat.result c.new-seat.result.sid c.new-seat.result.number refl refl c.in_ok-add.ensures.index
-          (is-new c.new-seat.result.sid c.self.inside.seats.items (λ there. c.next_free-sid.ensures.free (subst (λ ns. Contains ns c.next_free-sid.result) (sym taken) (subst (Contains (sids_in c.self.inside.seats.items)) is_sid there))))
+          (indexed-push c.self.inside.index c.add.new.index c.self.inside.seats.items c.new-seat.result c.new-seat.result.sender.sid c.new-seat.result.number refl refl c.in_ok-add.ensures.index
+          (is-new c.new-seat.result.sender.sid c.self.inside.seats.items (λ there. c.next_free-sid.ensures.free (subst (λ ns. Contains ns c.next_free-sid.result) (sym taken) (subst (Contains (sids_in c.self.inside.seats.items)) is_sid there))))
           c.self.invariant.3),
       c.self.invariant.4,
     )

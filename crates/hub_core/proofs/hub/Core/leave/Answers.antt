@@ -21,9 +21,9 @@ returns c =
     let at : StandsFirst c.args.number c.self.inside.seats.items c.args.place = found-alike c.args.number c.self.inside.seats.items c.args.self.now.seats c.args.place seats c.requires in
     same-core (arc_value c.self.inside.setup) c.self.inside.joins c.self.inside.last
     (with_items_is c.forget.new.seats c.tell_if.new.seats
-    (ap length c.tell_if.ensures ∙ length-told c.is_present-was_present.result c.index-seat.result.now.sid c.deref_mut.result.now ∙ c.deref_mut.ensures.len)
+    (ap length c.tell_if.ensures ∙ length-told c.is_present-was_present.result c.index-seat.result.now.sender.sid c.deref_mut.result.now ∙ c.deref_mut.ensures.len)
     ∙ c.tell_if.ensures
-    ∙ ap (told_all_if c.is_present-was_present.result c.index-seat.result.now.sid) (c.deref_mut.ensures.value ∙ c.forget.ensures)
+    ∙ ap (told_all_if c.is_present-was_present.result c.index-seat.result.now.sender.sid) (c.deref_mut.ensures.value ∙ c.forget.ensures)
     ∙ ap₂ (λ b sid. told_all_if b sid (others_of c.args.number c.self.inside.seats.items))
     (c.is_present-was_present.ensures ∙ ap (λ p. is_present (stage_in p)) (sym (phase-at c.args.number c.self.inside.seats.items c.args.place c.index-seat.result.now at c.index-seat.ensures)))
     (sym (sid-at c.args.number c.self.inside.seats.items c.args.place c.index-seat.result.now at c.index-seat.ensures)))
@@ -36,14 +36,14 @@ invariant_of-self c =
     let at : StandsFirst c.args.number c.self.inside.seats.items c.args.place = found-alike c.args.number c.self.inside.seats.items c.args.self.now.seats c.args.place seats c.requires in
     let same : keys (with_items c.forget.new.seats c.tell_if.new.seats).items ≡ keys (others_of c.args.number c.self.inside.seats.items) =
     ap keys (with_items_is c.forget.new.seats c.tell_if.new.seats
-    (ap length c.tell_if.ensures ∙ length-told c.is_present-was_present.result c.index-seat.result.now.sid c.deref_mut.result.now ∙ c.deref_mut.ensures.len))
-    ∙ ap keys c.tell_if.ensures ∙ keys-told c.is_present-was_present.result c.index-seat.result.now.sid c.deref_mut.result.now
+    (ap length c.tell_if.ensures ∙ length-told c.is_present-was_present.result c.index-seat.result.now.sender.sid c.deref_mut.result.now ∙ c.deref_mut.ensures.len))
+    ∙ ap keys c.tell_if.ensures ∙ keys-told c.is_present-was_present.result c.index-seat.result.now.sender.sid c.deref_mut.result.now
     ∙ ap keys (c.deref_mut.ensures.value ∙ c.forget.ensures) in (
       c.self.invariant.0,
       c.self.invariant.1,
       ordered-kept c.self.inside.joins _ _ same (ordered-but c.self.inside.joins c.args.number c.self.inside.seats.items c.self.invariant.2),
       indexed-same c.remove.new.self _ _ same
-          (indexed-left c.self.inside.index c.remove.new.self c.args.number c.index-seat.result.now.sid c.self.inside.seats.items c.remove.ensures
+          (indexed-left c.self.inside.index c.remove.new.self c.args.number c.index-seat.result.now.sender.sid c.self.inside.seats.items c.remove.ensures
           (indexed-read c.self.inside.index c.args.number c.self.inside.seats.items c.args.place c.index-seat.result.now at c.index-seat.ensures c.self.invariant.3) c.self.invariant.3),
       c.remove-2.ensures.told (arc_value c.self.inside.setup) c.self.invariant.4,
     )
