@@ -34,3 +34,11 @@ pub mod Vouching
 pub mod Welcoming
 pub mod Worlds
 pub mod Words
+pub mod Owed
+pub mod Outsiders
+pub mod Refusals
+pub mod Greetings
+pub mod Hearing
+pub mod Owners
+pub mod Staying
+pub mod Limits

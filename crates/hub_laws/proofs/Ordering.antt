@@ -95,12 +95,12 @@ calls_keep_their_order setup hash h c d = first-of setup hash h d (heard_of setu
 -- ---- an accepted line that is a message to users
 
 -- what is so of a line that was accepted
-record IsAccepted (hub : Sight) (own : Own) (line : PreparedLine) (now : ℕ) (reading : Reading) : Type 0 where
-  some : (length line.bytes == 0) ≡ false
-  reads : lines.reading line.bytes ≡ Ok reading
-  allowed : denial_of hub own line now reading ≡ None
+pub record IsAccepted (hub : Sight) (own : Own) (line : PreparedLine) (now : ℕ) (reading : Reading) : Type 0 where
+  pub some : (length line.bytes == 0) ≡ false
+  pub reads : lines.reading line.bytes ≡ Ok reading
+  pub allowed : denial_of hub own line now reading ≡ None
 
-is-accepted : (hub : Sight) (own : Own) (line : PreparedLine) (now : ℕ) (reading : Reading) → accepted_line hub own line now ≡ Some reading → IsAccepted hub own line now reading
+pub is-accepted : (hub : Sight) (own : Own) (line : PreparedLine) (now : ℕ) (reading : Reading) → accepted_line hub own line now ≡ Some reading → IsAccepted hub own line now reading
 unfolding accepted_line
 is-accepted hub own line now reading is = grind arith
 

@@ -32,7 +32,7 @@ clean-cons false false peer f fields held called rest =
     (ap (bytes_eq nick_name) (passed-name (asks_for_address f) f (field f.name (dotted_decimal peer)) refl) ∙ called)
     ∙ rest
 
-nick-clean : (fields : List Field) (peer : List ℕ) → value_of nick_name (clean fields peer) ≡ value_of nick_name fields
+pub nick-clean : (fields : List Field) (peer : List ℕ) → value_of nick_name (clean fields peer) ≡ value_of nick_name fields
 unfolding clean
 nick-clean [] peer = refl
 nick-clean (f ∷ fields) peer = clean-cons (is_held_back f) (is_called nick_name f) peer f fields refl refl (nick-clean fields peer)
@@ -41,7 +41,7 @@ merged-none : merged_fields [] ≡ []
 unfolding merged_fields
 merged-none = refl
 
-nick-merged : (u : List Field) (peer : List ℕ) → value_or_empty nick_name (merged_with [] (clean u peer)) ≡ value_or_empty nick_name u
+pub nick-merged : (u : List Field) (peer : List ℕ) → value_or_empty nick_name (merged_with [] (clean u peer)) ≡ value_or_empty nick_name u
 nick-merged u peer = given-after nick_name [] [] (clean u peer) (sym merged-none) ∙ ap (λ o. unwrap_or o []) (nick-clean u peer)
 
 -- where nothing is known of a user yet, its nick is that of its first INF

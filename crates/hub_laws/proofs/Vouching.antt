@@ -70,7 +70,7 @@ password-if : (b is_status : Bool) (deny : Deny)
     → result_unwrap_or (if b then Ok requests.Password else (if is_status then Ok requests.Nothing else Err deny)) requests.Nothing ≡ requests.Password → b ≡ true
 password-if b is_status deny is = grind arith
 
-is-inf : (kind : Kind) (command : List ℕ) → request_of stages.Identify kind command ≡ requests.Login → (is_broadcast kind && bytes_eq command (codes "INF")) ≡ true
+pub is-inf : (kind : Kind) (command : List ℕ) → request_of stages.Identify kind command ≡ requests.Login → (is_broadcast kind && bytes_eq command (codes "INF")) ≡ true
 unfolding request_at
 is-inf kind command is = grind arith
 
@@ -78,7 +78,7 @@ is-pas : (kind : Kind) (command : List ℕ) → request_of stages.Verify kind co
 unfolding request_at
 is-pas kind command is = grind (arith, bytes_eq-Decides, password-if)
 
-prepared-bytes : (setup : Configured) (hash : List ℕ → List ℕ) (challenge bytes : List ℕ) → (prepared_line setup hash challenge bytes).bytes ≡ bytes
+pub prepared-bytes : (setup : Configured) (hash : List ℕ → List ℕ) (challenge bytes : List ℕ) → (prepared_line setup hash challenge bytes).bytes ≡ bytes
 unfolding prepared_line
 prepared-bytes setup hash challenge bytes = refl
 

@@ -15,7 +15,7 @@ pub use Rattle.hub_invariants.proofs.Kept.{differs-sid, few_are_open, fresh-take
 pub use Rattle.hub_invariants.proofs.Kept.{sids_differ, taken_is_the_sum, users_are_open}
 pub use Rattle.hub_invariants.proofs.Lines.{fits-line}
 pub use Rattle.hub_invariants.proofs.Members.{and-false, has, has-append, has-filter, or-parts}
-pub use Rattle.hub_invariants.proofs.Outcomes.{Asked, Does, Logs, Outcome, acts, bans_user, by-request, denies, greets, kicks, later-none, lets_in, line-outcome, outcome, passes}
+pub use Rattle.hub_invariants.proofs.Outcomes.{Asked, Does, Logs, Outcome, acts, bans_user, by-request, denies, greets, kicks, later-none, learns, lets_in, line-outcome, outcome, passes}
 pub use Rattle.hub_invariants.proofs.Outcomes.{proves, quiet, request-asks, request_in, revises, searches, sets_topic, shuts_out, unbans, waits}
 pub use Rattle.hub_invariants.proofs.Saying.{features_are_last_added, info_is_merged, over-beyond, said-read, said_by, same-chosen, told_of, unheard}
 pub use Rattle.hub_invariants.proofs.Sound.{Sound, eqb-sym, happens-open, happens-sound, not-over, or-true}
@@ -52,7 +52,7 @@ pub use Rattle.hub_rules.specs.Requests.{names_another, refusal_of, request_of}
 pub use Rattle.hub_invariants.specs.Said.{cleaned_update, inf_update, infs, listed_if, read_by}
 unfoldable pub use Rattle.hub_invariants.specs.Said.{accepted_line}
 pub use Rattle.hub_rules.specs.Shares.{About, affected_connection, expected_after, fields_after, has_room_for, hears_those, is_removed, owes}
-pub use Rattle.hub_rules.specs.Senders.{own_change, searched_after}
+pub use Rattle.hub_rules.specs.Senders.{features_after, own_change, searched_after}
 pub use Rattle.hub_rules.specs.Shares.{removed_by, stage_after, waiting}
 unfoldable pub use Rattle.hub_rules.specs.Shares.{lags_with, owed_with}
 pub use Rattle.hub_rules.specs.Sights.{Own, PreparedLine, Sight, account_of, another_has_key, is_account, is_here, user_after}

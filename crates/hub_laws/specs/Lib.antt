@@ -17,3 +17,10 @@ pub mod Differing
 pub mod Entering
 pub mod Searched
 pub mod Stepping
+pub mod Owed
+pub mod Outsiders
+pub mod Refusals
+pub mod Greetings
+pub mod Hearing
+pub mod Owners
+pub mod Limits

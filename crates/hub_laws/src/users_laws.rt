@@ -1,0 +1,49 @@
+//! The laws that users of a hub ask for first. Each is proved of the rules themselves.
+
+ghost use Rattle.hub_laws.specs.Greetings.{NewcomersHearTheTopic};
+ghost use Rattle.hub_laws.specs.Hearing.{AllHearInOneOrder, AllHearTheSame};
+ghost use Rattle.hub_invariants.specs.Promises.{FewAreOpen};
+ghost use Rattle.hub_laws.specs.Holding.{BansAreFew};
+ghost use Rattle.hub_laws.specs.Limits.{FewLinesWait, UsersAreWellFormed};
+ghost use Rattle.hub_laws.specs.Outsiders.{OutsidersHearNothing};
+ghost use Rattle.hub_laws.specs.Owners.{CidsAreShown};
+ghost use Rattle.hub_laws.specs.Refusals.{RefusalsAreToldAlone};
+
+/// Says what stays within limits: after every call at most 1,024 lines and 1 MiB wait for a connection, no more connections are open
+/// than the hub admits, and at most 1,024 client identifiers are banned. Whoever is present has a nick, the features BASE and
+/// TIGR, and at most 40 fields.
+pub fn limit_laws()
+    ensures waiting { FewLinesWait }
+    ensures open { FewAreOpen }
+    ensures bans { BansAreFew }
+    ensures users { UsersAreWellFormed }
+{}
+
+/// Says that nobody outside hears: a connection whose user is not present is owed nothing by the calls of others.
+pub fn outsider_laws()
+    ensures { OutsidersHearNothing }
+{}
+
+/// Says that a refusal is told to its sender alone: it is owed one status. Where the refusal is fatal, the others hear that the
+/// user left; where it is not, nothing else changes.
+pub fn refusal_laws()
+    ensures { RefusalsAreToldAlone }
+{}
+
+/// Says that newcomers are told the topic that holds, when the hub greets them (ADC 1.0, "SUP", "INF").
+pub fn greeting_laws()
+    ensures { NewcomersHearTheTopic }
+{}
+
+/// Says that nobody is present under another's CID: whoever is present sent, in the accepted login of its own connection, a PID
+/// whose hash is its CID (ADC 1.0, "INF", "ID", "PD").
+pub fn owner_laws()
+    ensures { CidsAreShown }
+{}
+
+/// Says that all hear others in one order, that of the calls: whatever two connections both hear of two calls, they hear in the
+/// same order; and of one call of another, those who hear something hear the same lines.
+pub fn hearing_laws()
+    ensures order { AllHearInOneOrder }
+    ensures same { AllHearTheSame }
+{}
