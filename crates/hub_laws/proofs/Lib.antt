@@ -42,3 +42,5 @@ pub mod Hearing
 pub mod Owners
 pub mod Staying
 pub mod Limits
+pub mod Messages
+pub mod Intervals

@@ -24,3 +24,5 @@ pub mod Greetings
 pub mod Hearing
 pub mod Owners
 pub mod Limits
+pub mod Messages
+pub mod Intervals

@@ -8,6 +8,8 @@ ghost use Rattle.hub_laws.specs.Limits.{FewLinesWait, UsersAreWellFormed};
 ghost use Rattle.hub_laws.specs.Outsiders.{OutsidersHearNothing};
 ghost use Rattle.hub_laws.specs.Owners.{CidsAreShown};
 ghost use Rattle.hub_laws.specs.Refusals.{RefusalsAreToldAlone};
+ghost use Rattle.hub_laws.specs.Messages.{MessagesAreAccepted};
+ghost use Rattle.hub_laws.specs.Intervals.{SearchesAreAccepted, SearchesAreApart};
 
 /// Says what stays within limits: after every call at most 1,024 lines and 1 MiB wait for a connection, no more connections are open
 /// than the hub admits, and at most 1,024 client identifiers are banned. Whoever is present has a nick, the features BASE and
@@ -46,4 +48,17 @@ pub fn owner_laws()
 pub fn hearing_laws()
     ensures order { AllHearInOneOrder }
     ensures same { AllHearTheSame }
+{}
+
+/// Says that what must work works for messages: a line of the grammar of the type B, D, E or F, of a user who is present, under its own
+/// SID, is accepted, unless its command is the hub's own or a search (ADC 1.0, "Message types").
+pub fn message_laws()
+    ensures { MessagesAreAccepted }
+{}
+
+/// Says of searches: two of one connection that went out are at least the interval apart; and a search of a user who is present is
+/// refused only within the interval since the last that went out (ADC 1.0, "SCH").
+pub fn search_laws()
+    ensures apart { SearchesAreApart }
+    ensures accepted { SearchesAreAccepted }
 {}
