@@ -44,3 +44,5 @@ pub mod Staying
 pub mod Limits
 pub mod Messages
 pub mod Intervals
+pub mod Commands
+pub mod Logins

@@ -95,7 +95,7 @@ some-joined : (a : ℕ) (word : List ℕ) (ws : List (List ℕ)) → (length (jo
 some-joined a word [] = more-than-none a word
 some-joined a word (w ∷ ws) = more-than-none a _
 
-some-read : (bytes : List ℕ) (line : Reading) → Reads bytes line → (length bytes == 0) ≡ false
+pub some-read : (bytes : List ℕ) (line : Reading) → Reads bytes line → (length bytes == 0) ≡ false
 some-read bytes line reads = ap (λ (bs : List ℕ). length bs == 0) reads.spelt ∙ some-joined (letter line.kind) line.command (reads.addresses ++ line.params)
 
 kept-search : (hub : Sight) (own : Own) (now : ℕ) (line : Reading) (may : Bool) → may_search own.searched now hub.setup.search_interval ≡ may

@@ -96,11 +96,11 @@ module _ {hub : Sight} {own : Own} {line : PreparedLine} {now : ℕ} where
 is-broadcast : (kind : Kind) → is_broadcast kind ≡ true → kind ≡ kinds.Broadcast
 is-broadcast kind is = grind arith
 
-prepared-owner : (setup : Configured) (hash : List ℕ → List ℕ) (challenge bytes : List ℕ) → (prepared_line setup hash challenge bytes).owner ≡ owner_digest hash (update_of (lines.reading bytes))
+pub prepared-owner : (setup : Configured) (hash : List ℕ → List ℕ) (challenge bytes : List ℕ) → (prepared_line setup hash challenge bytes).owner ≡ owner_digest hash (update_of (lines.reading bytes))
 unfolding prepared_line
 prepared-owner setup hash challenge bytes = refl
 
-owner-login : (hash : List ℕ → List ℕ) (line : Reading) (u : List Field) → (is_broadcast line.kind && bytes_eq line.command (codes "INF")) ≡ true → updates.reading line.params ≡ Ok u
+pub owner-login : (hash : List ℕ → List ℕ) (line : Reading) (u : List Field) → (is_broadcast line.kind && bytes_eq line.command (codes "INF")) ≡ true → updates.reading line.params ≡ Ok u
     → owner_digest hash (update_of (Ok line)) ≡ option_map hash (spelled_bytes 24 (value_or_empty private_id_name u))
 owner-login hash line u inf words = grind arith
 

@@ -44,7 +44,7 @@ not-empty (b ∷ bytes) some = more-than-none (length bytes)
 abbrev unless_over : Bool → Bool → Effect → Effect
 unless_over over empty effect = if over then nothing else if empty then nothing else effect
 
-line-heard : (hub : Sight) (own : Own) (prepared_line : PreparedLine) (now : ℕ) (line : Reading) → own.stage ≡ Normal → (length prepared_line.bytes == 0) ≡ false
+pub line-heard : (hub : Sight) (own : Own) (prepared_line : PreparedLine) (now : ℕ) (line : Reading) → own.stage ≡ Normal → (length prepared_line.bytes == 0) ≡ false
     → lines.reading prepared_line.bytes ≡ Ok line → denial_of hub own prepared_line now line ≡ None
     → line_effect hub own prepared_line now ≡ accepted_effect hub own prepared_line now line (request_of Normal line.kind line.command)
 unfolding line_effect

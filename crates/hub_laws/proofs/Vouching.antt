@@ -16,12 +16,12 @@ use Rattle.hub_laws.proofs.Entrances.{EntersUnasked, GivesPassword, IsAsked, IsC
 use Rattle.hub_laws.proofs.Passing.{key-merged}
 
 -- what is so of the user of a connection, by its stage, its fields, the digest that is waited for and the challenge
-record IsVouched (setup : Configured) (hash : List ℕ → List ℕ) (h : List Entry) (c : ℕ) (stage : Stage) (fields : List Field) (expected challenge : List ℕ) : Type 0 where
-  waits : stage ≡ stages.Verify → password_of hash challenge (account_with (key_in fields) setup.accounts) ≡ Some expected
-  admitted : stage ≡ stages.Normal → setup.registered_only ≡ true → is_some (account_with (key_in fields) setup.accounts) ≡ true
-  proved : stage ≡ stages.Normal → (account : Account) → account_with (key_in fields) setup.accounts ≡ Some account → HasGiven setup hash h c (hash (account.password ++ challenge))
+pub record IsVouched (setup : Configured) (hash : List ℕ → List ℕ) (h : List Entry) (c : ℕ) (stage : Stage) (fields : List Field) (expected challenge : List ℕ) : Type 0 where
+  pub waits : stage ≡ stages.Verify → password_of hash challenge (account_with (key_in fields) setup.accounts) ≡ Some expected
+  pub admitted : stage ≡ stages.Normal → setup.registered_only ≡ true → is_some (account_with (key_in fields) setup.accounts) ≡ true
+  pub proved : stage ≡ stages.Normal → (account : Account) → account_with (key_in fields) setup.accounts ≡ Some account → HasGiven setup hash h c (hash (account.password ++ challenge))
 
-abbrev VouchedBy : Configured → (List ℕ → List ℕ) → List Entry → ℕ → About → Type 0
+abbrev pub VouchedBy : Configured → (List ℕ → List ℕ) → List Entry → ℕ → About → Type 0
 VouchedBy setup hash h c a = IsVouched setup hash h c a.stage a.fields a.expected a.sender.challenge
 
 -- the same after a change of its own
@@ -219,7 +219,7 @@ module _ (setup : Configured) (hash : List ℕ → List ℕ) (h : List Entry) (e
 
 -- ---- every history
 
-vouched_of : (setup : Configured) (hash : List ℕ → List ℕ) (h : List Entry) (d : ℕ) → VouchedBy setup hash h d ((facts setup hash h).about d)
+pub vouched_of : (setup : Configured) (hash : List ℕ → List ℕ) (h : List Entry) (d : ℕ) → VouchedBy setup hash h d ((facts setup hash h).about d)
 unfolding facts
 vouched_of setup hash [] d = vouched-gone setup hash [] d [] [] []
 vouched_of setup hash (e ∷ h) d = vouched-after setup hash h e d (becomes setup hash (facts setup hash h) e.caller d e.call) refl (vouched_of setup hash h d)

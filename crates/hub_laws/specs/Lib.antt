@@ -26,3 +26,5 @@ pub mod Owners
 pub mod Limits
 pub mod Messages
 pub mod Intervals
+pub mod Commands
+pub mod Logins

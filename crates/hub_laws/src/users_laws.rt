@@ -10,6 +10,8 @@ ghost use Rattle.hub_laws.specs.Owners.{CidsAreShown};
 ghost use Rattle.hub_laws.specs.Refusals.{RefusalsAreToldAlone};
 ghost use Rattle.hub_laws.specs.Messages.{MessagesAreAccepted};
 ghost use Rattle.hub_laws.specs.Intervals.{SearchesAreAccepted, SearchesAreApart};
+ghost use Rattle.hub_laws.specs.Commands.{BansAreCarriedOut, KicksAreCarriedOut, TopicsAreCarriedOut, UnbansAreCarriedOut};
+ghost use Rattle.hub_laws.specs.Logins.{LoginsAreAccepted, PasswordsAreAccepted};
 
 /// Says what stays within limits: after every call at most 1,024 lines and 1 MiB wait for a connection, no more connections are open
 /// than the hub admits, and at most 1,024 client identifiers are banned. Whoever is present has a nick, the features BASE and
@@ -61,4 +63,20 @@ pub fn message_laws()
 pub fn search_laws()
     ensures apart { SearchesAreApart }
     ensures accepted { SearchesAreAccepted }
+{}
+
+/// Says that what an operator asks for is carried out: a user who is present is shut out by a kick; by a ban too, which holds from
+/// then on, unless 1,024 client identifiers are banned, and its own is not; an identifier whose ban is ended may enter; a topic is set.
+pub fn command_laws()
+    ensures kicks { KicksAreCarriedOut }
+    ensures bans { BansAreCarriedOut }
+    ensures unbans { UnbansAreCarriedOut }
+    ensures topics { TopicsAreCarriedOut }
+{}
+
+/// Says that a login that meets every check of the protocol and of the settings enters, or is asked for a password, where its nick is
+/// an account's; and that the right password enters, where nobody took the nick or the CID meanwhile, and no ban came (ADC 1.0, "INF", "PAS").
+pub fn login_laws()
+    ensures logins { LoginsAreAccepted }
+    ensures passwords { PasswordsAreAccepted }
 {}
