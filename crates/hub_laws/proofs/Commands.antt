@@ -44,12 +44,12 @@ record IsAsked (hub : Sight) (own : Own) (now : ℕ) (line : Reading) (act : Act
   begins : is_command (text_in line.params) ≡ true
   reads : act_at (text_in line.params) ≡ Some act
 
-act-allowed : (hub : Sight) (own : Own) (now : ℕ) (line : Reading) (act : Act) (done : Done) → IsAsked hub own now line act → answer_of hub.users hub.bans own.sid now act ≡ Ok done
+act-allowed : (hub : Sight) (own : Own) (now : ℕ) (line : Reading) (act : Act) (done : Done) → IsAsked hub own now line act → answer_of hub.users hub.bans own.sender.sid now act ≡ Ok done
     → act_denied hub own now line.params ≡ None
 unfolding act_denied
 act-allowed hub own now line act done asked answers = grind arith
 
-act-does : (hub : Sight) (own : Own) (now : ℕ) (line : Reading) (act : Act) (done : Done) → IsAsked hub own now line act → answer_of hub.users hub.bans own.sid now act ≡ Ok done
+act-does : (hub : Sight) (own : Own) (now : ℕ) (line : Reading) (act : Act) (done : Done) → IsAsked hub own now line act → answer_of hub.users hub.bans own.sender.sid now act ≡ Ok done
     → act_effect hub own now line.params ≡ effect_for_all done
 unfolding act_effect
 act-does hub own now line act done asked answers = grind arith
@@ -75,7 +75,7 @@ module _ {setup : Configured} {hash : List ℕ → List ℕ} {h : List Entry} {e
   own = own_of (f.about c.operator)
 
   abbrev prepared : PreparedLine
-  prepared = prepared_line setup hash (f.about c.operator).challenge c.bytes
+  prepared = prepared_line setup hash (f.about c.operator).sender.challenge c.bytes
 
   asked : IsAsked hub own now c.line act
   asked = record {
@@ -87,16 +87,16 @@ module _ {setup : Configured} {hash : List ℕ → List ℕ} {h : List Entry} {e
     reads = c.asks;
   }
 
-  effect-is : (done : Done) → answer_of hub.users hub.bans own.sid now act ≡ Ok done → effect_of_line setup hash f c.operator c.bytes now ≡ effect_for_all done
+  effect-is : (done : Done) → answer_of hub.users hub.bans own.sender.sid now act ≡ Ok done → effect_of_line setup hash f c.operator c.bytes now ≡ effect_for_all done
   effect-is done answers =
-      let same = prepared-bytes setup hash (f.about c.operator).challenge c.bytes in
+      let same = prepared-bytes setup hash (f.about c.operator).sender.challenge c.bytes in
       let a = asked in
       line-heard hub own prepared now c.line c.present (ap (λ (bs : List ℕ). length bs == 0) same ∙ some-read c.bytes c.line c.grammar)
       (ap lines.reading same ∙ reading-of c.bytes c.line c.grammar)
       (denied-none hub own prepared now c.line a.at a.from a.asks (act-allowed hub own now c.line act done a answers))
       ∙ act-accepted hub own prepared now c.line a.asks ∙ act-does hub own now c.line act done a answers
 
-  step : (done : Done) → answer_of hub.users hub.bans own.sid now act ≡ Ok done → facts setup hash (e ∷ h) ≡ happens c.operator (effect_for_all done) f
+  step : (done : Done) → answer_of hub.users hub.bans own.sender.sid now act ≡ Ok done → facts setup hash (e ∷ h) ≡ happens c.operator (effect_for_all done) f
   unfolding facts after
   step done answers = ap (after setup hash f e.caller) c.call ∙ ap (λ effect. happens c.operator effect f) (effect-is done answers)
 
@@ -152,7 +152,7 @@ called setup hash h d nick small named =
 
 -- ---- each command
 
-shut-out : (c d : ℕ) (effect : Effect) (f : Facts) → (f.about d).stage ≡ stages.Normal → is_removed effect.change (f.about d).sid ≡ true → (about_after c effect f.about d).stage ≡ stages.Gone
+shut-out : (c d : ℕ) (effect : Effect) (f : Facts) → (f.about d).stage ≡ stages.Normal → is_removed effect.change (f.about d).sender.sid ≡ true → (about_after c effect f.about d).stage ≡ stages.Gone
 shut-out c d effect f here removed = ap₂ (λ s b. stage_next (is_present s && b) (d == c) effect.change s) here removed
 
 held-now : (bans : List (List ℕ × Ban)) (cid : List ℕ) (held : Ban) → ban_on (with_ban bans cid held) cid ≡ Some held
@@ -168,21 +168,21 @@ kicks_are_carried_out setup hash h e d now nick reason small asks named =
     let user : Listed = user_of f.about d in
     let done : Done = record { others = _; change = shared.Kick user.sid } in
     ap (λ (g : Facts). (g.about d).stage)
-    (step asks done (ap (λ found. if_present found (kick (f.about asks.operator).sid reason)) (called setup hash h d nick small named)))
-    ∙ shut-out asks.operator d (effect_for_all done) f named.0 (eq-eqb (f.about d).sid user.sid (sym (listed-sid (f.about d).sid (f.about d).fields)))
+    (step asks done (ap (λ found. if_present found (kick (f.about asks.operator).sender.sid reason)) (called setup hash h d nick small named)))
+    ∙ shut-out asks.operator d (effect_for_all done) f named.0 (eq-eqb (f.about d).sender.sid user.sid (sym (listed-sid (f.about d).sender.sid (f.about d).fields)))
 
 pub bans_are_carried_out : BansAreCarriedOut
 unfolding happens left_of_bans
 bans_are_carried_out setup hash h e d now nick seconds reason small asks named room =
     let f : Facts = facts setup hash h in
     let user : Listed = user_of f.about d in
-    let done : Done = removal (f.about asks.operator).sid reason (banned_for seconds now user) in
-    let cid : user.cid ≡ cid_in (f.about d).fields = listed-cid (f.about d).sid (f.about d).fields in
+    let done : Done = removal (f.about asks.operator).sender.sid reason (banned_for seconds now user) in
+    let cid : user.cid ≡ cid_in (f.about d).fields = listed-cid (f.about d).sender.sid (f.about d).fields in
     let goes = step asks done
-    (ap (λ found. if_present found (λ target. ban f.bans (f.about asks.operator).sid reason (banned_for seconds now target))) (called setup hash h d nick small named)
+    (ap (λ found. if_present found (λ target. ban f.bans (f.about asks.operator).sender.sid reason (banned_for seconds now target))) (called setup hash h d nick small named)
     ∙ ap (λ b. if b then Err denials.BansFull else Ok done) (ap (is_full f.bans) cid ∙ room)) in (
       ap (λ (g : Facts). (g.about d).stage) goes
-          ∙ shut-out asks.operator d (effect_for_all done) f named.0 (eq-eqb (f.about d).sid user.sid (sym (listed-sid (f.about d).sid (f.about d).fields))),
+          ∙ shut-out asks.operator d (effect_for_all done) f named.0 (eq-eqb (f.about d).sender.sid user.sid (sym (listed-sid (f.about d).sender.sid (f.about d).fields))),
       λ moment. ap (λ (g : Facts). left_of (ban_on g.bans (cid_in (f.about d).fields)) moment) goes
           ∙ ap (λ (key : List ℕ). left_of (ban_on (with_ban f.bans key (record { seconds = seconds; moment = now })) (cid_in (f.about d).fields)) moment) cid
           ∙ ap (λ b. left_of b moment) (held-now f.bans (cid_in (f.about d).fields) (record { seconds = seconds; moment = now })),

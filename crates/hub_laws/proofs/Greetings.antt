@@ -24,7 +24,7 @@ Greeting hub sid ping = support_line ∷ identifier_line sid ∷ hub_line hub.se
 
 record Greets (hub : Sight) (own : Own) (effect : Effect) : Type 0 where
   ping : List ℕ
-  greeting : effect.own ≡ Greeting hub own.sid ping
+  greeting : effect.own ≡ Greeting hub own.sender.sid ping
   others : effect.others ≡ []
 
 abbrev IsGreeting : Sight → Own → Effect → Type 0
@@ -48,7 +48,7 @@ owes-own : (same : Bool) (effect : Effect) (a : About) (own : List (List ℕ)) �
 owes-own same effect a own is none says = grind arith
 
 abbrev Greeted : Configured → (List ℕ → List ℕ) → Facts → ℕ → Call → Type 0
-Greeted setup hash f c call = (ping : List ℕ) × (share setup hash f c call ≡ Greeting (sight_of setup f) (f.about c).sid ping)
+Greeted setup hash f c call = (ping : List ℕ) × (share setup hash f c call ≡ Greeting (sight_of setup f) (f.about c).sender.sid ping)
 
 line-greets : (setup : Configured) (hash : List ℕ → List ℕ) (f : Facts) (c : ℕ) (bytes : List ℕ) (now : ℕ) → ((f.about c).stage ≡ stages.Identify → ⊥)
     → stage_after (effect_of_line setup hash f c bytes now).change (f.about c).stage ≡ stages.Identify → Greeted setup hash f c (Line c bytes now)
@@ -69,7 +69,7 @@ module _ {setup : Configured} {hash : List ℕ → List ℕ} {f : Facts} {caller
       (line-greets setup hash f c bytes now before
       (subst (λ x. stage_after (effect_of_line setup hash f x bytes now).change (f.about c).stage ≡ stages.Identify) (sym same) to.moves))
   greets-after (Becomes.quits o) before is =
-      absurd (gone-identify (moves-to (removed_by (departure (f.about o).stage (f.about o).sid) (f.about c)) (c == o) (Sender senders.Falls) (f.about c).stage stages.Identify gone-identify before is).moves)
+      absurd (gone-identify (moves-to (removed_by (departure (f.about o).stage (f.about o).sender.sid) (f.about c)) (c == o) (Sender senders.Falls) (f.about c).stage stages.Identify gone-identify before is).moves)
   greets-after _ before is = absurd (before is)
 
 pub newcomers_hear_the_topic : NewcomersHearTheTopic
@@ -78,5 +78,5 @@ newcomers_hear_the_topic setup hash h e c before is =
     let greeted = greets-after (becomes setup hash (facts setup hash h) e.caller c e.call) (λ same. protocol-identify (sym before ∙ same)) is in (
       greeted.0,
       owed-as setup hash h e c _ (greeted.1
-          ∙ ap (λ (topic : List ℕ). support_line ∷ identifier_line ((facts setup hash h).about c).sid ∷ hub_line setup topic greeted.0 ∷ []) (topic_is_the_last setup hash h)),
+          ∙ ap (λ (topic : List ℕ). support_line ∷ identifier_line ((facts setup hash h).about c).sender.sid ∷ hub_line setup topic greeted.0 ∷ []) (topic_is_the_last setup hash h)),
     )

@@ -43,7 +43,7 @@ others-by same here own others other = ap (λ b. cond here others [] ++ cond b o
 -- what a call tells others
 abbrev news : Configured → (List ℕ → List ℕ) → Facts → Call → List (List ℕ)
 news setup hash f (Line c bytes now) = (effect_of_line setup hash f c bytes now).others
-news setup hash f (Quit c) = (departure (f.about c).stage (f.about c).sid).others
+news setup hash f (Quit c) = (departure (f.about c).stage (f.about c).sender.sid).others
 news setup hash f call = []
 
 share-news : (setup : Configured) (hash : List ℕ → List ℕ) (f : Facts) (call : Call) (d : ℕ) → is_of d call ≡ false → (here : Bool) × (share setup hash f d call ≡ cond here (news setup hash f call) [])
@@ -51,7 +51,7 @@ share-news setup hash f (Line c bytes now) d other =
     let effect : Effect = effect_of_line setup hash f c bytes now in
     (is_present (f.about d).stage && hears_those (d == c) effect.hearers (f.about d), others-by (d == c) _ effect.own effect.others (other-way c d other))
 share-news setup hash f (Quit c) d other =
-    let effect : Effect = departure (f.about c).stage (f.about c).sid in
+    let effect : Effect = departure (f.about c).stage (f.about c).sender.sid in
     (is_present (f.about d).stage && hears_those (d == c) effect.hearers (f.about d), others-by (d == c) _ effect.own effect.others (other-way c d other))
 share-news setup hash f (Join peer challenge now) d other = (false, refl)
 share-news setup hash f (Take c count) d other = (false, refl)

@@ -25,29 +25,29 @@ not-soon : (may : Bool) → (if may then None else Some denials.SearchSoon) ≡ 
 not-soon may is = grind arith
 
 by-request : (hub : Sight) (own : Own) (line : PreparedLine) (now : ℕ) (reading : Reading) (request : Request) → request ≡ requests.Search
-    → request_denied hub own line now reading request ≡ None → may_search own.searched now hub.setup.search_interval ≡ true
+    → request_denied hub own line now reading request ≡ None → may_search own.sender.searched now hub.setup.search_interval ≡ true
 unfolding request_denied
 by-request hub own line now reading request is none =
-    not-soon (may_search own.searched now hub.setup.search_interval) (sym (ap (request_denied hub own line now reading) is) ∙ none)
+    not-soon (may_search own.sender.searched now hub.setup.search_interval) (sym (ap (request_denied hub own line now reading) is) ∙ none)
 
 by-said : (hub : Sight) (own : Own) (line : PreparedLine) (now : ℕ) (said : Option Reading) → accepted_line hub own line now ≡ said → searches own said ≡ true
-    → may_search own.searched now hub.setup.search_interval ≡ true
+    → may_search own.sender.searched now hub.setup.search_interval ≡ true
 by-said hub own line now (Some reading) is asks =
     by-request hub own line now reading _ (search-asked (request_of own.stage reading.kind reading.command) asks)
-    (later-none (refusal_of own.stage own.sid reading) _ (is-accepted hub own line now reading is).allowed)
+    (later-none (refusal_of own.stage own.sender.sid reading) _ (is-accepted hub own line now reading is).allowed)
 by-said hub own line now None is asks = let no : ⊥ = cc asks in absurd no
 
 no-moment : {moment : ℕ} → None ≡ Some moment → ⊥
 no-moment is = cc is
 
 went-out : (setup : Configured) (hash : List ℕ → List ℕ) (f : Facts) (c : ℕ) (call : Call) (moment : ℕ) → search_in setup hash f c call ≡ Some moment
-    → may_search (f.about c).searched moment setup.search_interval ≡ true
+    → may_search (f.about c).sender.searched moment setup.search_interval ≡ true
 went-out setup hash f c (Line d bytes now) moment is =
-    let at = moment-is ((c == d) && searches (own_of (f.about d)) (accepted_line (sight_of setup f) (own_of (f.about d)) (prepared_line setup hash (f.about d).challenge bytes) now)) now moment is in
+    let at = moment-is ((c == d) && searches (own_of (f.about d)) (accepted_line (sight_of setup f) (own_of (f.about d)) (prepared_line setup hash (f.about d).sender.challenge bytes) now)) now moment is in
     let parts = and_parts (c == d) _ at.0 in
-    ap (λ x. may_search (f.about x).searched moment setup.search_interval) (eqb-true c d parts.0)
-    ∙ ap (λ n. may_search (f.about d).searched n setup.search_interval) (sym at.1)
-    ∙ by-said (sight_of setup f) (own_of (f.about d)) (prepared_line setup hash (f.about d).challenge bytes) now _ refl parts.1
+    ap (λ x. may_search (f.about x).sender.searched moment setup.search_interval) (eqb-true c d parts.0)
+    ∙ ap (λ n. may_search (f.about d).sender.searched n setup.search_interval) (sym at.1)
+    ∙ by-said (sight_of setup f) (own_of (f.about d)) (prepared_line setup hash (f.about d).sender.challenge bytes) now _ refl parts.1
 went-out setup hash f c (Join peer challenge now) moment is = absurd (no-moment is)
 went-out setup hash f c (Quit d) moment is = absurd (no-moment is)
 went-out setup hash f c (Take d count) moment is = absurd (no-moment is)

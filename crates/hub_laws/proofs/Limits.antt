@@ -81,12 +81,12 @@ login-nick hub own now digest u user none =
     not-false (is_nick (chars (nick_in u))) nick.0
 
 update-nick : (hub : Sight) (own : Own) (u : List Field) (user : Listed) → first_ground (update_grounds hub own u user) ≡ None
-    → (is_bad_nick (value_of nick_name u) ≡ false) × (fits own.fields (clean u own.peer) ≡ true)
+    → (is_bad_nick (value_of nick_name u) ≡ false) × (fits own.fields (clean u own.sender.peer) ≡ true)
 unfolding update_grounds
 update-nick hub own u user none =
     let nick : AllFalse (grounds_of is_nick_bad (update_grounds hub own u user)) = none-of is_nick_bad (update_grounds hub own u user) none in
     let few : AllFalse (grounds_of is_protocol (update_grounds hub own u user)) = none-of is_protocol (update_grounds hub own u user) none in
-    (nick.0, not-false (fits own.fields (clean u own.peer)) few.0)
+    (nick.0, not-false (fits own.fields (clean u own.sender.peer)) few.0)
 
 -- ---- the users
 
@@ -141,20 +141,20 @@ both-of features none = grind arith
 
 abbrev KeepsFit : Own → Effect → Type 0
 KeepsFit own effect =
-    IsFit own.stage own.features own.fields
-    → IsFit (stage_after effect.change own.stage) (features_after effect.change own.features) (fields_after effect.change own.fields)
+    IsFit own.stage own.sender.features own.fields
+    → IsFit (stage_after effect.change own.stage) (features_after effect.change own.sender.features) (fields_after effect.change own.fields)
 
 fit-login : (hub : Sight) (own : Own) (line : PreparedLine) (now : ℕ) (reading : Reading) (u : List Field) → (is_unnamed own.stage ≡ true → own.fields ≡ [])
     → Logs hub own line now reading u → IsUser (user_after own u).fields
 fit-login hub own line now reading u unnamed logs =
-    subst IsUser (sym (listed-fields own.sid (merged_with own.fields (clean u own.peer))))
-    (login-user own.fields u own.peer (unnamed (ap is_unnamed logs.at)) (login-nick hub own now line.owner u (user_after own u) logs.allowed) (few-read reading.params u logs.words))
+    subst IsUser (sym (listed-fields own.sender.sid (merged_with own.fields (clean u own.sender.peer))))
+    (login-user own.fields u own.sender.peer (unnamed (ap is_unnamed logs.at)) (login-nick hub own now line.owner u (user_after own u) logs.allowed) (few-read reading.params u logs.words))
 
 -- no rule of what it asks for denies what was said
 abbrev Allowed : Sight → Own → PreparedLine → ℕ → Option Reading → Request → Type 0
 Allowed hub own line now said request = (reading : Reading) → said ≡ Some reading → request_denied hub own line now reading request ≡ None
 
-sup-fit : (own : Own) (reading : Reading) (features : List (List ℕ)) → support_after own.features reading.params ≡ Ok features → sup_denied (support_after own.features reading.params) ≡ None → HasBoth features
+sup-fit : (own : Own) (reading : Reading) (features : List (List ℕ)) → support_after own.sender.features reading.params ≡ Ok features → sup_denied (support_after own.sender.features reading.params) ≡ None → HasBoth features
 sup-fit own reading features is none = both-of features (ap sup_denied (sym is) ∙ none)
 
 module _ {hub : Sight} {own : Own} {line : PreparedLine} {now : ℕ} where
@@ -173,7 +173,7 @@ module _ {hub : Sight} {own : Own} {line : PreparedLine} {now : ℕ} where
       record { greeted = λ is. was.greeted (ap is_greeted at); known = λ is. was.known (ap is_known at) }
   fit (revises reading u at words none) allowed infs known unnamed was =
       let good = update-nick hub own u (user_after own u) none in
-      record { greeted = was.greeted; known = λ is. update-user own.fields u infs own.peer known good.0 good.1 (was.known is) }
+      record { greeted = was.greeted; known = λ is. update-user own.fields u infs own.sender.peer known good.0 good.1 (was.known is) }
   fit _ allowed infs known unnamed was = was
 
 -- ---- every history
@@ -184,10 +184,10 @@ fit-line setup hash h c bytes now =
     let f : Facts = facts setup hash h in
     let own : Own = own_of (f.about c) in
     let hub : Sight = sight_of setup f in
-    let line : PreparedLine = prepared_line setup hash (f.about c).challenge bytes in
+    let line : PreparedLine = prepared_line setup hash (f.about c).sender.challenge bytes in
     fit (outcome hub own line now)
     (λ reading said. subst (λ (r : Option Reading). request_denied hub own line now reading (request_in own r) ≡ None) (sym said)
-    (later-none (refusal_of own.stage own.sid reading) _ (is-accepted hub own line now reading said).allowed))
+    (later-none (refusal_of own.stage own.sender.sid reading) _ (is-accepted hub own line now reading said).allowed))
     (infs setup hash h c) (told_of setup hash h c).tells (tidy_of setup hash h c).unnamed
 
 fit_of : (setup : Configured) (hash : List ℕ → List ℕ) (h : List Entry) (c : ℕ) → IsFit (stage setup hash h c) (features setup hash h c) (info setup hash h c)

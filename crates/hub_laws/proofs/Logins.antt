@@ -113,7 +113,7 @@ is-inf kind command is-kind is-command = ap₂ (λ k (w : List ℕ). is_broadcas
 own-named : (sid : ℕ) (from : Option ℕ) → from ≡ Some sid → names_another sid from ≡ false
 own-named sid from is = ap (names_another sid) is ∙ ap not (eq-eqb sid sid refl)
 
-denied-none : (hub : Sight) (own : Own) (prepared : PreparedLine) (now : ℕ) (line : Reading) (stage : Stage) (request : Request) → own.stage ≡ stage → names_another own.sid line.from ≡ false
+denied-none : (hub : Sight) (own : Own) (prepared : PreparedLine) (now : ℕ) (line : Reading) (stage : Stage) (request : Request) → own.stage ≡ stage → names_another own.sender.sid line.from ≡ false
     → request_at stage line.kind line.command ≡ Ok request → request_denied hub own prepared now line request ≡ None → denial_of hub own prepared now line ≡ None
 denied-none hub own prepared now line stage request at from asks none = grind arith
 
@@ -136,7 +136,7 @@ module _ {setup : Configured} {hash : List ℕ → List ℕ} {h : List Entry} {e
   own = own_of (f.about c)
 
   abbrev prepared : PreparedLine
-  prepared = prepared_line setup hash (f.about c).challenge login.bytes
+  prepared = prepared_line setup hash (f.about c).sender.challenge login.bytes
 
   reads : lines.reading login.bytes ≡ Ok login.line
   reads = reading-of login.bytes login.line login.grammar
@@ -146,14 +146,14 @@ module _ {setup : Configured} {hash : List ℕ → List ℕ} {h : List Entry} {e
 
   digest : prepared.owner ≡ Some (hash login.pid)
   digest =
-      prepared-owner setup hash (f.about c).challenge login.bytes ∙ ap (λ r. owner_digest hash (update_of r)) reads
+      prepared-owner setup hash (f.about c).sender.challenge login.bytes ∙ ap (λ r. owner_digest hash (update_of r)) reads
       ∙ owner-login hash login.line fields (is-inf login.line.kind login.line.command login.kind login.command) login.words ∙ ap (option_map hash) login.owns
 
   key-is : (user_after own fields).key ≡ key_in fields
-  key-is = listed-key own.sid (merged_with own.fields (clean fields own.peer)) ∙ key-merged own.fields fields own.peer unnamed
+  key-is = listed-key own.sender.sid (merged_with own.fields (clean fields own.sender.peer)) ∙ key-merged own.fields fields own.sender.peer unnamed
 
   cid-is : (user_after own fields).cid ≡ hash login.pid
-  cid-is = listed-cid own.sid (merged_with own.fields (clean fields own.peer)) ∙ cid-merged own.fields fields own.peer (hash login.pid) unnamed login.shows
+  cid-is = listed-cid own.sender.sid (merged_with own.fields (clean fields own.sender.peer)) ∙ cid-merged own.fields fields own.sender.peer (hash login.pid) unnamed login.shows
 
   allowed : login_denied hub own prepared.owner login.now (Ok fields) ≡ None
   unfolding login_grounds
@@ -169,11 +169,11 @@ module _ {setup : Configured} {hash : List ℕ → List ℕ} {h : List Entry} {e
   goes : effect_of_line setup hash f c login.bytes login.now ≡ admits hub own prepared (is_account hub (user_after own fields).key) (user_after own fields)
   unfolding request_denied accepted_effect
   goes =
-      let same = prepared-bytes setup hash (f.about c).challenge login.bytes in
+      let same = prepared-bytes setup hash (f.about c).sender.challenge login.bytes in
       let asks = broadcast-asks login.line.kind login.line.command login.kind login.command in
       heard hub own prepared login.now login.line stages.Identify requests.Login login.may refl
       (ap (λ (bs : List ℕ). length bs == 0) same ∙ some-read login.bytes login.line login.grammar) (ap lines.reading same ∙ reads) asks
-      (denied-none hub own prepared login.now login.line stages.Identify requests.Login login.may (own-named own.sid login.line.from login.from) asks
+      (denied-none hub own prepared login.now login.line stages.Identify requests.Login login.may (own-named own.sender.sid login.line.from login.from) asks
       (ap (login_denied hub own prepared.owner login.now) login.words ∙ allowed))
       ∙ ap (logs_in hub own prepared) login.words
 
@@ -214,22 +214,22 @@ passwords_are_accepted setup hash h e c account gives =
     let f : Facts = facts setup hash h in
     let hub : Sight = sight_of setup f in
     let own : Own = own_of (f.about c) in
-    let prepared : PreparedLine = prepared_line setup hash (f.about c).challenge gives.bytes in
-    let user : Listed = listed_user own.sid own.fields in
-    let same = prepared-bytes setup hash (f.about c).challenge gives.bytes in
+    let prepared : PreparedLine = prepared_line setup hash (f.about c).sender.challenge gives.bytes in
+    let user : Listed = listed_user own.sender.sid own.fields in
+    let same = prepared-bytes setup hash (f.about c).sender.challenge gives.bytes in
     let asks = hub-asks gives.line.kind gives.line.command gives.kind gives.command in
-    let expected : hash (account.password ++ (f.about c).challenge) ≡ own.expected =
-    some-same _ _ (ap (password_of hash (f.about c).challenge) (sym gives.has) ∙ (vouched_of setup hash h c).waits gives.waits) in
-    let key : user.key ≡ key_in own.fields = listed-key own.sid own.fields in
-    let cid : user.cid ≡ cid_in own.fields = listed-cid own.sid own.fields in
+    let expected : hash (account.password ++ (f.about c).sender.challenge) ≡ own.expected =
+    some-same _ _ (ap (password_of hash (f.about c).sender.challenge) (sym gives.has) ∙ (vouched_of setup hash h c).waits gives.waits) in
+    let key : user.key ≡ key_in own.fields = listed-key own.sender.sid own.fields in
+    let cid : user.cid ≡ cid_in own.fields = listed-cid own.sender.sid own.fields in
     let left = free-left (left_of_bans hub.bans user.cid gives.now) (ap (λ (x : List ℕ). left_of_bans hub.bans x gives.now) cid ∙ gives.unbanned) in
     let free = unclaimed setup hash h user.key user.cid (subst (λ (x : List ℕ). IsFree setup hash h x user.cid) (sym key)
     (subst (IsFree setup hash h (key_in own.fields)) (sym cid) gives.free)) in
     let allowed : password_denied hub own gives.now gives.line.params ≡ None =
     all-pass (password_grounds hub own gives.now (digest_given gives.line.params) user)
     (same-digest own.expected (digest_given gives.line.params) (gives.spells ∙ ap Some expected), (left.0, (left.1, (free.0, (free.1, tt))))) in
-    let none : names_another own.sid gives.line.from ≡ false =
-    ap (names_another own.sid) (none-from gives.line.kind gives.grammar.addresses gives.line.from gives.line.target gives.line.features gives.kind gives.grammar.addressed) in
+    let none : names_another own.sender.sid gives.line.from ≡ false =
+    ap (names_another own.sender.sid) (none-from gives.line.kind gives.grammar.addresses gives.line.from gives.line.target gives.line.features gives.kind gives.grammar.addressed) in
     line-stage setup hash h e c gives.bytes gives.now gives.call
     ∙ own-stage c (effect_of_line setup hash f c gives.bytes gives.now) f stages.Verify gives.waits refl
     ∙ ap (λ (effect : Effect). stage_after effect.change (f.about c).stage)

@@ -77,7 +77,7 @@ unfolding request_denied
 by-request hub own line now reading true = refl
 by-request hub own line now reading false = refl
 
-denial-is : (hub : Sight) (own : Own) (line : PreparedLine) (now : ℕ) (reading : Reading) (search : Bool) → own.stage ≡ stages.Normal → reading.from ≡ Some own.sid
+denial-is : (hub : Sight) (own : Own) (line : PreparedLine) (now : ℕ) (reading : Reading) (search : Bool) → own.stage ≡ stages.Normal → reading.from ≡ Some own.sender.sid
     → request_at stages.Normal reading.kind reading.command ≡ Ok (search_or_message search)
     → denial_of hub own line now reading ≡ denied_if hub own now search
 denial-is hub own line now reading search at from asks = grind (arith, own-named, by-request)
@@ -98,7 +98,7 @@ some-joined a word (w ∷ ws) = more-than-none a _
 pub some-read : (bytes : List ℕ) (line : Reading) → Reads bytes line → (length bytes == 0) ≡ false
 some-read bytes line reads = ap (λ (bs : List ℕ). length bs == 0) reads.spelt ∙ some-joined (letter line.kind) line.command (reads.addresses ++ line.params)
 
-kept-search : (hub : Sight) (own : Own) (now : ℕ) (line : Reading) (may : Bool) → may_search own.searched now hub.setup.search_interval ≡ may
+kept-search : (hub : Sight) (own : Own) (now : ℕ) (line : Reading) (may : Bool) → may_search own.sender.searched now hub.setup.search_interval ≡ may
     → kept_unless (search_denied hub own now) line ≡ (if may then Some line else None)
 kept-search hub own now line may is = grind arith
 
@@ -113,11 +113,11 @@ module _ (setup : Configured) (hash : List ℕ → List ℕ) (h : List Entry) (c
   own = own_of (f.about c)
 
   abbrev prepared : PreparedLine
-  prepared = prepared_line setup hash (f.about c).challenge bytes
+  prepared = prepared_line setup hash (f.about c).sender.challenge bytes
 
   accepted-as : (search : Bool) → is_search_command line.command ≡ search → accepted_line hub own prepared now ≡ kept_unless (denied_if hub own now search) line
   accepted-as search is =
-      let same = prepared-bytes setup hash (f.about c).challenge bytes in
+      let same = prepared-bytes setup hash (f.about c).sender.challenge bytes in
       let reads : lines.reading bytes ≡ Ok line = reading-of bytes line message.grammar in
       accepted-if hub own prepared now line message.present (ap (λ (bs : List ℕ). length bs == 0) same ∙ some-read bytes line message.grammar) (ap lines.reading same ∙ reads)
       ∙ ap (λ d. kept_unless d line)

@@ -19,7 +19,7 @@ other-way c d other = sym (eqb-sym c d (c == d) (d == c) refl refl) ∙ other
 absent-share : (setup : Configured) (hash : List ℕ → List ℕ) (f : Facts) (d : ℕ) (call : Call) → is_present (f.about d).stage ≡ false → is_of d call ≡ false
     → share setup hash f d call ≡ []
 absent-share setup hash f d (Line c bytes now) absent other = owes-absent (d == c) (effect_of_line setup hash f c bytes now) (f.about d) (other-way c d other) absent
-absent-share setup hash f d (Quit c) absent other = owes-absent (d == c) (departure (f.about c).stage (f.about c).sid) (f.about d) (other-way c d other) absent
+absent-share setup hash f d (Quit c) absent other = owes-absent (d == c) (departure (f.about c).stage (f.about c).sender.sid) (f.about d) (other-way c d other) absent
 absent-share setup hash f d (Join peer challenge now) absent other = refl
 absent-share setup hash f d (Take c count) absent other = refl
 

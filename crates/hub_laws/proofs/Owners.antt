@@ -70,7 +70,7 @@ shows-login hub own line now reading u logs = record {
   asks = logs.asks;
   words = logs.words;
   digest = login-pid hub own now line.owner u (user_after own u) logs.allowed
-      ∙ ap Some (listed-cid own.sid (merged_with own.fields (clean u own.peer)) ∙ ap cid_in (sym (listed-fields own.sid (merged_with own.fields (clean u own.peer)))));
+      ∙ ap Some (listed-cid own.sender.sid (merged_with own.fields (clean u own.sender.peer)) ∙ ap cid_in (sym (listed-fields own.sender.sid (merged_with own.fields (clean u own.sender.peer)))));
 }
 
 no-gone : is_known stages.Gone ≡ true → ⊥
@@ -118,17 +118,17 @@ module _ (setup : Configured) (hash : List ℕ → List ℕ) (h : List Entry) (e
   own = own_of ((facts setup hash h).about c)
 
   has-shown : (bytes : List ℕ) (now : ℕ) (fields : List Field) → e.call ≡ Line c bytes now
-      → Shows own (prepared_line setup hash own.challenge bytes)
-      (accepted_line (sight_of setup (facts setup hash h)) own (prepared_line setup hash own.challenge bytes) now) fields
+      → Shows own (prepared_line setup hash own.sender.challenge bytes)
+      (accepted_line (sight_of setup (facts setup hash h)) own (prepared_line setup hash own.sender.challenge bytes) now) fields
       → HasShown setup hash (e ∷ h) c (cid_in fields)
   has-shown bytes now fields call shows =
-      let line : PreparedLine = prepared_line setup hash own.challenge bytes in
+      let line : PreparedLine = prepared_line setup hash own.sender.challenge bytes in
       let reads : lines.reading bytes ≡ Ok shows.reading =
-      ap lines.reading (sym (prepared-bytes setup hash own.challenge bytes)) ∙ read-accepted (sight_of setup (facts setup hash h)) own line now shows.reading shows.is_said in
+      ap lines.reading (sym (prepared-bytes setup hash own.sender.challenge bytes)) ∙ read-accepted (sight_of setup (facts setup hash h)) own line now shows.reading shows.is_said in
       let inf = is-inf shows.reading.kind shows.reading.command (subst (λ stage. request_of stage shows.reading.kind shows.reading.command ≡ requests.Login) shows.at shows.asks) in
       let parts = and_parts (is_broadcast shows.reading.kind) (bytes_eq shows.reading.command (codes "INF")) inf in
       let pid = pid-of hash (spelled_bytes 24 (value_or_empty private_id_name shows.update)) (cid_in fields)
-      (sym (prepared-owner setup hash own.challenge bytes ∙ ap (λ r. owner_digest hash (update_of r)) reads ∙ owner-login hash shows.reading shows.update inf shows.words) ∙ shows.digest) in
+      (sym (prepared-owner setup hash own.sender.challenge bytes ∙ ap (λ r. owner_digest hash (update_of r)) reads ∙ owner-login hash shows.reading shows.update inf shows.words) ∙ shows.digest) in
       record {
         later = [];
         entry = e;
@@ -183,13 +183,13 @@ module _ (setup : Configured) (hash : List ℕ → List ℕ) (h : List Entry) (e
       → HasShown setup hash (e ∷ h) c (cid_in (fields_after (effect_of_line setup hash (facts setup hash h) c bytes now).change ((facts setup hash h).about c).fields))
   shown-line c bytes now call shown is =
       let f : Facts = facts setup hash h in
-      let line : PreparedLine = prepared_line setup hash (f.about c).challenge bytes in
+      let line : PreparedLine = prepared_line setup hash (f.about c).sender.challenge bytes in
       by-either c bytes now call shown (showing (outcome (sight_of setup f) (own_of (f.about c)) line now) (infs setup hash h c) (told_of setup hash h c).tells is)
     where
       by-either : (c : ℕ) (bytes : List ℕ) (now : ℕ) → e.call ≡ Line c bytes now → ShownBy setup hash h c ((facts setup hash h).about c)
           → {fields : List Field} → Keeps (own_of ((facts setup hash h).about c)) fields
-          ⊎ Shows (own_of ((facts setup hash h).about c)) (prepared_line setup hash ((facts setup hash h).about c).challenge bytes)
-          (accepted_line (sight_of setup (facts setup hash h)) (own_of ((facts setup hash h).about c)) (prepared_line setup hash ((facts setup hash h).about c).challenge bytes) now) fields
+          ⊎ Shows (own_of ((facts setup hash h).about c)) (prepared_line setup hash ((facts setup hash h).about c).sender.challenge bytes)
+          (accepted_line (sight_of setup (facts setup hash h)) (own_of ((facts setup hash h).about c)) (prepared_line setup hash ((facts setup hash h).about c).sender.challenge bytes) now) fields
           → HasShown setup hash (e ∷ h) c (cid_in fields)
       by-either c bytes now call shown (inl keeps) =
           subst (HasShown setup hash (e ∷ h) c) (sym keeps.same) (shown-still setup hash h e c _ (shown keeps.known))
@@ -213,7 +213,7 @@ module _ (setup : Configured) (hash : List ℕ → List ℕ) (h : List Entry) (e
       → HasShown setup hash (e ∷ h) x (cid_in (fields_after effect.change (f.about x).fields))) (sym (eqb-true d c same)) (shown-line c bytes now call) shown) is
   shown-after d (Becomes.quits c) call shown is =
       let f : Facts = facts setup hash h in
-      shown-next d (removed_by (departure (f.about c).stage (f.about c).sid) (f.about d)) (d == c) (Sender senders.Falls) (f.about d) shown
+      shown-next d (removed_by (departure (f.about c).stage (f.about c).sender.sid) (f.about d)) (d == c) (Sender senders.Falls) (f.about d) shown
       (λ same gone. absurd (no-gone gone)) is
   shown-after d _ call shown is = shown-still setup hash h e d _ (shown is)
 

@@ -46,7 +46,7 @@ denied-line hub own line now still some none =
 -- what a denial says, by whether it is fatal
 record Says (own : Own) (deny : Deny) (effect : Effect) : Type 0 where
   sender : effect.own ≡ denial_line deny ∷ []
-  others : effect.others ≡ cond (is_fatal deny && is_present own.stage) (quit_line own.sid ∷ []) []
+  others : effect.others ≡ cond (is_fatal deny && is_present own.stage) (quit_line own.sender.sid ∷ []) []
   hearers : effect.hearers ≡ Others
   falls : is_fatal deny ≡ true → effect.change ≡ Sender senders.Falls
   keeps : is_fatal deny ≡ false → effect.change ≡ Nothing
@@ -135,8 +135,8 @@ module _ (setup : Configured) (hash : List ℕ → List ℕ) (h : List Entry) (e
 pub refusals_are_told_alone : RefusalsAreToldAlone
 refusals_are_told_alone setup hash h e c r =
     let f : Facts = facts setup hash h in
-    let line : PreparedLine = prepared_line setup hash (f.about c).challenge r.bytes in
+    let line : PreparedLine = prepared_line setup hash (f.about c).sender.challenge r.bytes in
     let denied = denied-line (sight_of setup f) (own_of (f.about c)) line r.now (is-heard (f.about c).stage r.heard)
-    (ap (λ (bs : List ℕ). length bs == 0) (prepared-bytes setup hash (f.about c).challenge r.bytes) ∙ is-some r.bytes r.some) r.refused in
+    (ap (λ (bs : List ℕ). length bs == 0) (prepared-bytes setup hash (f.about c).sender.challenge r.bytes) ∙ is-some r.bytes r.some) r.refused in
     told-by setup hash h e c r.bytes r.now denied.deny
     (subst (Says (own_of (f.about c)) denied.deny) (sym denied.is) (by-fatal (own_of (f.about c)) denied.deny (is_fatal denied.deny) refl)) r.call

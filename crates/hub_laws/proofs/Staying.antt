@@ -8,11 +8,11 @@ use Rattle.hub_laws.proofs.Words.stages
 module _ (setup : Configured) (hash : List ℕ → List ℕ) (P : Stage → List (List ℕ) → List Field → Type 0) where
   -- it holds of a connection
   abbrev pub Holds : About → Type 0
-  Holds a = P a.stage a.features a.fields
+  Holds a = P a.stage a.sender.features a.fields
 
   -- and of one after a change of its own
   abbrev pub HoldsAfter : Change → About → Type 0
-  HoldsAfter change a = P (stage_after change a.stage) (features_after change a.features) (fields_after change a.fields)
+  HoldsAfter change a = P (stage_after change a.stage) (features_after change a.sender.features) (fields_after change a.fields)
 
   -- an own line keeps it
   abbrev pub IsKept : Type 0
@@ -21,7 +21,7 @@ module _ (setup : Configured) (hash : List ℕ → List ℕ) (P : Stage → List
 
   holds-next : ((features : List (List ℕ)) (fields : List Field) → P stages.Gone features fields) → (removed same : Bool) (change : Change) (a : About) → Holds a
       → (same ≡ true → HoldsAfter change a)
-      → P (stage_next removed same change a.stage) (cond same (features_after change a.features) a.features) (cond same (fields_after change a.fields) a.fields)
+      → P (stage_next removed same change a.stage) (cond same (features_after change a.sender.features) a.sender.features) (cond same (fields_after change a.fields) a.fields)
   holds-next gone true same change a holds after = gone _ _
   holds-next gone false true change a holds after = after refl
   holds-next gone false false change a holds after = holds
@@ -36,7 +36,7 @@ module _ (setup : Configured) (hash : List ℕ → List ℕ) (P : Stage → List
       (λ same. subst (λ x. Holds (f.about x) → HoldsAfter effect.change (f.about x)) (sym (eqb-true d c same)) (kept h c bytes now) holds)
   holds-after gone joined kept h caller d (Becomes.quits c) holds =
       let f : Facts = facts setup hash h in
-      holds-next gone (removed_by (departure (f.about c).stage (f.about c).sid) (f.about d)) (d == c) (Sender senders.Falls) (f.about d) holds (λ same. gone _ _)
+      holds-next gone (removed_by (departure (f.about c).stage (f.about c).sender.sid) (f.about d)) (d == c) (Sender senders.Falls) (f.about d) holds (λ same. gone _ _)
   holds-after gone joined kept h caller d _ holds = holds
 
   pub always : ((features : List (List ℕ)) (fields : List Field) → P stages.Gone features fields) → P stages.Protocol [] [] → IsKept → (h : List Entry) (d : ℕ) → Holds ((facts setup hash h).about d)

@@ -46,7 +46,7 @@ pub record LogsIn (setup : Configured) (hash : List ℕ → List ℕ) (h : List 
   pub nick : IsNick (chars (nick_in fields))
   pub share : is_bad_number (value_or_empty share_size_name fields) ≡ false
   pub files : is_bad_number (value_or_empty shared_files_name fields) ≡ false
-  pub address : is_wrong_address (about setup hash h c).peer (value_or_empty address_name fields) ≡ false
+  pub address : is_wrong_address (about setup hash h c).sender.peer (value_or_empty address_name fields) ≡ false
   -- it is not banned, registered where it has to be, and nobody has its nick or its CID
   pub unbanned : ban setup hash h (hash pid) now ≡ Free
   pub registered : setup.registered_only ≡ true → is_some (account_with (key_in fields) setup.accounts) ≡ true
@@ -69,7 +69,7 @@ pub record GivesPassword (setup : Configured) (hash : List ℕ → List ℕ) (h 
   pub grammar : Reads bytes line
   pub kind : line.kind ≡ Hub
   pub command : line.command ≡ codes "PAS"
-  pub spells : digest_given line.params ≡ Some (hash (account.password ++ (about setup hash h c).challenge))
+  pub spells : digest_given line.params ≡ Some (hash (account.password ++ (about setup hash h c).sender.challenge))
   pub unbanned : ban setup hash h (cid_in (info setup hash h c)) now ≡ Free
   pub free : IsFree setup hash h (key_in (info setup hash h c)) (cid_in (info setup hash h c))
 

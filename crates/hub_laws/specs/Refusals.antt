@@ -18,7 +18,7 @@ use Rattle.hub_laws.specs.Owed.{IsOwed}
 -- the message that these bytes of connection c are, where the hub accepts them
 abbrev pub accepted : Configured → (List ℕ → List ℕ) → List Entry → ℕ → List ℕ → ℕ → Option Reading
 accepted setup hash h c bytes now =
-    accepted_line (sight_of setup (facts setup hash h)) (own_of (about setup hash h c)) (prepared_line setup hash (about setup hash h c).challenge bytes) now
+    accepted_line (sight_of setup (facts setup hash h)) (own_of (about setup hash h c)) (prepared_line setup hash (about setup hash h c).sender.challenge bytes) now
 
 -- the entry is a line that is refused: it is not empty, its connection is not shut out, and the hub does not accept it
 pub record IsRefused (setup : Configured) (hash : List ℕ → List ℕ) (h : List Entry) (e : Entry) (c : ℕ) : Type 0 where
