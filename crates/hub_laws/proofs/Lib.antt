@@ -46,3 +46,8 @@ pub mod Messages
 pub mod Intervals
 pub mod Commands
 pub mod Logins
+pub mod Pieces
+pub mod Fields
+pub mod Others
+pub mod Listing
+pub mod Lists

@@ -109,7 +109,7 @@ passed-all peer u (f ∷ fields) right exactly =
 named-same : (named : Bool) (fields u : List Field) → (if named then unless_too_many fields else Err BadName) ≡ Ok u → u ≡ fields
 named-same named fields u is = grind arith
 
-read-update : (words : List (List ℕ)) (u : List Field) → updates.reading words ≡ Ok u → u ≡ update words
+pub read-update : (words : List (List ℕ)) (u : List Field) → updates.reading words ≡ Ok u → u ≡ update words
 unfolding reading
 read-update words u is = named-same (list_all is_named words) (update words) u is
 

@@ -74,14 +74,14 @@ found-by : (same : Bool) (user target : Listed) (more : Option Listed) → (if s
 found-by same user target more is = grind arith
 
 -- one of these connections has a user with this identifier
-abbrev HasUser : (ℕ → About) → List ℕ → ℕ → Type 0
+abbrev pub HasUser : (ℕ → About) → List ℕ → ℕ → Type 0
 HasUser about cs named = (c : ℕ) × (is_in c cs ≡ true) × ((about c).sender.sid ≡ named)
 
 first-or-later : (about : ℕ → About) (c : ℕ) (cs : List ℕ) (target : Listed) (more : Option Listed) → (more ≡ Some target → HasUser about cs target.sid)
     → (user_of about c ≡ target) ⊎ (more ≡ Some target) → HasUser about (c ∷ cs) target.sid
 first-or-later about c cs target more later either = grind (arith, eq-eqb, listed-sid, or-true)
 
-found-here : (about : ℕ → About) (key : List ℕ) (cs : List ℕ) (target : Listed) → user_by_key key (map (user_of about) cs) ≡ Some target → HasUser about cs target.sid
+pub found-here : (about : ℕ → About) (key : List ℕ) (cs : List ℕ) (target : Listed) → user_by_key key (map (user_of about) cs) ≡ Some target → HasUser about cs target.sid
 found-here about key [] target is = let nothing : ⊥ = cc is in absurd nothing
 found-here about key (c ∷ cs) target is =
     first-or-later about c cs target (user_by_key key (map (user_of about) cs)) (found-here about key cs target)

@@ -7,18 +7,18 @@ use Rattle.hub_laws.specs.Secrets.{IsPublic}
 
 -- ---- lists
 
-all-append : {X : Type 0} (P : X → Type 0) (xs ys : List X) → AllByRecursion P xs → AllByRecursion P ys → AllByRecursion P (xs ++ ys)
+pub all-append : {X : Type 0} (P : X → Type 0) (xs ys : List X) → AllByRecursion P xs → AllByRecursion P ys → AllByRecursion P (xs ++ ys)
 all-append P [] ys first second = second
 all-append P (x ∷ xs) ys first second = (first.0, all-append P xs ys first.1 second)
 
 all-cond : {X : Type 0} (P : X → Type 0) (b : Bool) (x : X) (xs : List X) → P x → AllByRecursion P xs → AllByRecursion P (cond b (x ∷ xs) xs)
 all-cond P b x xs one rest = grind arith
 
-all-filter : {X : Type 0} (P : X → Type 0) (test : X → Bool) (xs : List X) → AllByRecursion P xs → AllByRecursion P (filter test xs)
+pub all-filter : {X : Type 0} (P : X → Type 0) (test : X → Bool) (xs : List X) → AllByRecursion P xs → AllByRecursion P (filter test xs)
 all-filter P test [] all = tt
 all-filter P test (x ∷ xs) all = all-cond P (test x) x (filter test xs) all.0 (all-filter P test xs all.1)
 
-all-as : {X : Type 0} (P Q : X → Type 0) (xs : List X) → ((x : X) → P x → Q x) → AllByRecursion P xs → AllByRecursion Q xs
+pub all-as : {X : Type 0} (P Q : X → Type 0) (xs : List X) → ((x : X) → P x → Q x) → AllByRecursion P xs → AllByRecursion Q xs
 all-as P Q [] implied all = tt
 all-as P Q (x ∷ xs) implied all = (implied x all.0, all-as P Q xs implied all.1)
 
@@ -54,7 +54,7 @@ keep-if : (peer : List ℕ) (f : Field) (xs : List Field) (held : Bool) → is_h
     → AllByRecursion (λ (g : Field). is_held_back g ≡ false) (map (with_address peer) (cond (not held) (f ∷ xs) xs))
 keep-if peer f xs held is rest = grind (arith, addressed-held)
 
-clean-kept : (u : List Field) (peer : List ℕ) → AllByRecursion (λ (f : Field). is_held_back f ≡ false) (clean u peer)
+pub clean-kept : (u : List Field) (peer : List ℕ) → AllByRecursion (λ (f : Field). is_held_back f ≡ false) (clean u peer)
 unfolding clean
 clean-kept [] peer = tt
 clean-kept (f ∷ u) peer = keep-if peer f (filter (λ g. not (is_held_back g)) u) (is_held_back f) refl (clean-kept u peer)

@@ -10,7 +10,7 @@ use Rattle.hub_laws.proofs.Operating.{nobody_banned_enters}
 
 -- ---- one line
 
-abbrev line_by : Sight → Own → List Field → List ℕ
+abbrev pub line_by : Sight → Own → List Field → List ℕ
 line_by hub own fields = user_line own.sender.sid fields (account_of hub (key_in fields))
 
 -- the user comes in with these fields

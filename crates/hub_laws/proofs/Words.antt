@@ -15,7 +15,7 @@ pub use Rattle.hub_invariants.proofs.Kept.{differs-sid, few_are_open, fresh-take
 pub use Rattle.hub_invariants.proofs.Kept.{sids_differ, taken_is_the_sum, users_are_open}
 pub use Rattle.hub_invariants.proofs.Lines.{fits-line}
 pub use Rattle.hub_invariants.proofs.Members.{and-false, has, has-append, has-filter, or-parts}
-pub use Rattle.hub_invariants.proofs.Outcomes.{Asked, Does, Logs, Outcome, acts, bans_user, by-request, denies, greets, kicks, later-none, learns, lets_in, line-outcome, outcome, passes}
+pub use Rattle.hub_invariants.proofs.Outcomes.{Asked, Does, Logs, Outcome, acts, bans_user, by-request, chats, denies, greets, ignores, kicks, later-none, learns, lets_in, line-outcome, outcome, passes}
 pub use Rattle.hub_invariants.proofs.Outcomes.{proves, quiet, request-asks, request_in, revises, searches, sets_topic, shuts_out, unbans, waits}
 pub use Rattle.hub_invariants.proofs.Saying.{features_are_last_added, info_is_merged, over-beyond, said-read, said_by, same-chosen, told_of, unheard}
 pub use Rattle.hub_invariants.proofs.Sound.{Sound, eqb-sym, happens-open, happens-sound, not-over, or-true}

@@ -28,3 +28,4 @@ pub mod Messages
 pub mod Intervals
 pub mod Commands
 pub mod Logins
+pub mod Lists

@@ -12,6 +12,7 @@ ghost use Rattle.hub_laws.specs.Messages.{MessagesAreAccepted};
 ghost use Rattle.hub_laws.specs.Intervals.{SearchesAreAccepted, SearchesAreApart};
 ghost use Rattle.hub_laws.specs.Commands.{BansAreCarriedOut, KicksAreCarriedOut, TopicsAreCarriedOut, UnbansAreCarriedOut};
 ghost use Rattle.hub_laws.specs.Logins.{LoginsAreAccepted, PasswordsAreAccepted};
+ghost use Rattle.hub_laws.specs.Lists.{AllListTheSame};
 
 /// Says what stays within limits: after every call at most 1,024 lines and 1 MiB wait for a connection, no more connections are open
 /// than the hub admits, and at most 1,024 client identifiers are banned. Whoever is present has a nick, the features BASE and
@@ -79,4 +80,10 @@ pub fn command_laws()
 pub fn login_laws()
     ensures logins { LoginsAreAccepted }
     ensures passwords { PasswordsAreAccepted }
+{}
+
+/// Says that there is one list for all: what a user who is present, and does not lag, was told of users by the lines of type BINF and
+/// IQUI, one after another, comes to exactly those who are present, in order of entry, with their fields. So two list the same.
+pub fn list_laws()
+    ensures { AllListTheSame }
 {}

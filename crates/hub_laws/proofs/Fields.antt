@@ -1,0 +1,177 @@
+-- After every history the fields of a user can be printed as words: names of two characters, and values without blanks and line feeds.
+use Rattle.std.proofs.Common.{◌≡◌, sym, refl, subst, ℕ, Bool, true, false, ◌==◌, List, [], ◌∷◌, ◌++◌, map, cond, All, Option, Some, Ok, Err, unwrap_or, arith}
+use Rattle.std.specs.Prelude.{if◌then◌else◌}
+use Rattle.std.specs.Fmt.{digits}
+use Rattle.std.specs.List.{join_with_byte}
+use Rattle.std.proofs.lemmas.List.Elements.{All-head, All-tail}
+use Rattle.adc_line.specs.Grammar.{IsParameter}
+use Rattle.adc_line.specs.Header.{is_letter, is_letter_or_digit}
+use Rattle.adc_line.proofs.GrammarLemmas.{parameter_tests}
+use Rattle.inf_fields.specs.Cleaning.{dotted_decimal}
+use Rattle.inf_fields.specs.FieldNames.{client_type_name}
+use Rattle.inf_fields.specs.Updates.{before, field_in, is_named, unless_too_many, update}
+use Rattle.inf_fields.specs.declared.fault.InfFault.TheVariants.{BadName}
+use Rattle.hub_laws.proofs.Words.{About, AllByRecursion, Becomes, Call, Configured, Effect, Entry, Facts, Field, Outcome, Own, PreparedLine, Reading, Reads-of, Request, Sight, and_parts, besides}
+use Rattle.hub_laws.proofs.Words.{clean, becomes, effect_of_line, eqb-true, facts, false≢true, field, fields_after, info, is_called, is_held_back, latest}
+use Rattle.hub_laws.proofs.Words.{lets_in, list_all, merged_with, or-parts, outcome, own_of, prepared_line, revises, sight_of, user_after, value_of, waits, with_address}
+use Rattle.hub_laws.proofs.Words.lines
+use Rattle.hub_laws.proofs.Words.updates
+use Rattle.hub_laws.proofs.Clearing.{listed-fields}
+use Rattle.hub_laws.proofs.Naming.{read-update}
+use Rattle.hub_laws.proofs.Ordering.{is-accepted}
+use Rattle.hub_laws.proofs.Pieces.{IsGood, IsSolid, IsTold, from-all, is_gap, onto-solid}
+use Rattle.hub_laws.proofs.Public.{info_is_public}
+use Rattle.hub_laws.specs.Secrets.{IsPublic}
+use Rattle.hub_rules.specs.History.{about}
+use Rattle.hub_laws.proofs.Secrets.{all-append, all-as, all-filter, clean-kept}
+
+abbrev pub AreGood : List Field → Type 0
+AreGood fields = AllByRecursion IsGood fields
+
+-- ---- addresses
+
+joined-solid : (words : List (List ℕ)) → AllByRecursion IsSolid words → IsSolid (join_with_byte 46 words)
+joined-solid [] all = tt
+joined-solid (word ∷ []) all = all.0
+joined-solid (word ∷ next ∷ words) all = all-append (λ b. is_gap b ≡ false) word (46 ∷ join_with_byte 46 (next ∷ words)) all.0 (refl, joined-solid (next ∷ words) all.1)
+
+decimals-solid : (peer : List ℕ) → AllByRecursion IsSolid (map (λ n. digits 10 false n) peer)
+unfolding digits
+decimals-solid [] = tt
+decimals-solid (n ∷ peer) = (onto-solid 64 n [] tt, decimals-solid peer)
+
+address-solid : (peer : List ℕ) → IsSolid (dotted_decimal peer)
+unfolding dotted_decimal
+address-solid peer = joined-solid _ (decimals-solid peer)
+
+-- ---- what words say
+
+-- a word that has a name makes a field that can be printed
+good-word : (word : List ℕ) → is_named word ≡ true → IsSolid word → IsGood (field_in word)
+unfolding is_named
+good-word [] named solid = absurd (false≢true named)
+good-word (a ∷ []) named solid = absurd (false≢true named)
+good-word (a ∷ b ∷ value) named solid =
+    let tests = and_parts _ (is_letter_or_digit b) named in
+    record { first = a; second = b; name = refl; letter = (and_parts _ (is_letter a) tests.0).1; letter_or_digit = tests.1; solid = solid.1.1 }
+
+-- of another value
+renamed : (f : Field) (value : List ℕ) → IsGood f → IsSolid value → IsGood (field f.name value)
+renamed f value good solid =
+    record { first = good.first; second = good.second; name = good.name; letter = good.letter; letter_or_digit = good.letter_or_digit; solid = solid }
+
+cond-solid : (b : Bool) (value : List ℕ) (o : Option (List ℕ)) (otherwise : List ℕ) → IsSolid value → IsSolid (unwrap_or o otherwise) → IsSolid (unwrap_or (if b then Some value else o) otherwise)
+cond-solid true value o otherwise first second = first
+cond-solid false value o otherwise first second = second
+
+value-solid : (name : List ℕ) (fields : List Field) (otherwise : List ℕ) → AreGood fields → IsSolid otherwise → IsSolid (unwrap_or (value_of name fields) otherwise)
+value-solid name [] otherwise good solid = solid
+value-solid name (f ∷ fields) otherwise good solid = cond-solid (is_called name f) f.value (value_of name fields) otherwise good.0.solid (value-solid name fields otherwise good.1 solid)
+
+good-update : (words : List (List ℕ)) → list_all is_named words ≡ true → AllByRecursion IsSolid words → AreGood (update words)
+unfolding update
+good-update [] named solid = tt
+good-update (word ∷ words) named solid =
+    let tests = and_parts (is_named word) (list_all is_named words) named in
+    let rest = good-update words tests.1 solid.1 in
+    let one = good-word word tests.0 solid.0 in
+    (renamed (field_in word) _ one (value-solid (field_in word).name (update words) (field_in word).value rest one.solid), all-filter IsGood _ (update words) rest)
+
+all-named : (named : Bool) (fields u : List Field) → (if named then unless_too_many fields else Err BadName) ≡ Ok u → named ≡ true
+all-named named fields u is = grind arith
+
+read-named : (words : List (List ℕ)) (u : List Field) → updates.reading words ≡ Ok u → list_all is_named words ≡ true
+unfolding updates.reading
+read-named words u is = all-named (list_all is_named words) (update words) u is
+
+solid-words : (words : List (List ℕ)) → All IsParameter words → AllByRecursion IsSolid words
+solid-words [] all = tt
+solid-words (word ∷ words) all = (from-all word (parameter_tests word (All-head IsParameter word words all)).2, solid-words words (All-tail IsParameter word words all))
+
+pub good-read : (bytes : List ℕ) (line : Reading) (u : List Field) → lines.reading bytes ≡ Ok line → updates.reading line.params ≡ Ok u → AreGood u
+good-read bytes line u reads words =
+    subst AreGood (sym (read-update line.params u words))
+    (good-update line.params (read-named line.params u words) (solid-words line.params (Reads-of bytes line reads).params))
+
+-- ---- what is passed on, and merged
+
+good-if : (b : Bool) (f g : Field) → IsGood f → IsGood g → IsGood (if b then f else g)
+good-if true f g first second = first
+good-if false f g first second = second
+
+good-mapped : (peer : List ℕ) (u : List Field) → AreGood u → AreGood (map (with_address peer) u)
+good-mapped peer [] good = tt
+good-mapped peer (f ∷ u) good = (good-if _ _ f (renamed f (dotted_decimal peer) good.0 (address-solid peer)) good.0, good-mapped peer u good.1)
+
+pub good-clean : (peer : List ℕ) (u : List Field) → AreGood u → AreGood (clean u peer)
+unfolding clean
+good-clean peer u good = good-mapped peer _ (all-filter IsGood _ u good)
+
+good-settled : (u fields : List Field) → AreGood u → AreGood fields → AreGood (map (λ f. field f.name (latest (u ∷ []) f.name f.value)) fields)
+good-settled u [] good all = tt
+good-settled u (f ∷ fields) good all = (renamed f _ all.0 (value-solid f.name u f.value good all.0.solid), good-settled u fields good all.1)
+
+good-merged : (fields u : List Field) → AreGood fields → AreGood u → AreGood (merged_with fields u)
+unfolding merged_with
+good-merged fields u good more =
+    good-settled u _ more (all-filter IsGood _ (fields ++ besides fields u) (all-append IsGood fields (besides fields u) good (all-filter IsGood _ u more)))
+
+-- ---- every line, and every history
+
+good-login : (own : Own) (bytes : List ℕ) (reading : Reading) (u : List Field) → lines.reading bytes ≡ Ok reading → updates.reading reading.params ≡ Ok u → AreGood own.fields
+    → AreGood (user_after own u).fields
+good-login own bytes reading u read words good =
+    subst AreGood (sym (listed-fields own.sid (merged_with own.fields (clean u own.peer)))) (good-merged own.fields _ good (good-clean own.peer u (good-read bytes reading u read words)))
+
+module _ {hub : Sight} {own : Own} {line : PreparedLine} {now : ℕ} where
+  keeps-good : {said : Option Reading} {request : Request} {effect : Effect} → Outcome hub own line now said request effect → ((reading : Reading) → said ≡ Some reading → lines.reading line.bytes ≡ Ok reading)
+      → AreGood own.fields → AreGood (fields_after effect.change own.fields)
+  keeps-good (waits reading u logs account) reads good = good-login own line.bytes reading u (reads reading refl) logs.words good
+  keeps-good (lets_in reading u logs account) reads good = good-login own line.bytes reading u (reads reading refl) logs.words good
+  keeps-good (revises reading u at words none) reads good = good-merged own.fields _ good (good-clean own.peer u (good-read line.bytes reading u (reads reading refl) words))
+  keeps-good _ reads good = good
+
+good-chosen : (same : Bool) (after before : List Field) → (same ≡ true → AreGood after) → AreGood before → AreGood (cond same after before)
+good-chosen true after before own good = own refl
+good-chosen false after before own good = good
+
+good-line : (setup : Configured) (hash : List ℕ → List ℕ) (f : Facts) (c : ℕ) (bytes : List ℕ) (now : ℕ) → AreGood (f.about c).fields
+    → AreGood (fields_after (effect_of_line setup hash f c bytes now).change (f.about c).fields)
+good-line setup hash f c bytes now good =
+    let line : PreparedLine = prepared_line setup hash (f.about c).challenge bytes in
+    keeps-good (outcome (sight_of setup f) (own_of (f.about c)) line now)
+    (λ reading said. (is-accepted (sight_of setup f) (own_of (f.about c)) line now reading said).reads) good
+
+module _ {setup : Configured} {hash : List ℕ → List ℕ} {f : Facts} {caller d : ℕ} where
+  good-after : {call : Call} {a : About} → Becomes setup hash f caller d call a → AreGood (f.about d).fields → AreGood a.fields
+  good-after (Becomes.joins peer challenge now place is) good = tt
+  good-after (Becomes.says c bytes now) good =
+      good-chosen (d == c) _ (f.about d).fields
+      (λ is. subst (λ x. AreGood (f.about x).fields → AreGood (fields_after (effect_of_line setup hash f c bytes now).change (f.about x).fields)) (sym (eqb-true d c is))
+      (good-line setup hash f c bytes now) good) good
+  good-after (Becomes.quits c) good = good-chosen (d == c) (f.about d).fields (f.about d).fields (λ is. good) good
+  good-after _ good = good
+
+pub good_of : (setup : Configured) (hash : List ℕ → List ℕ) (h : List Entry) (c : ℕ) → AreGood (info setup hash h c)
+unfolding facts
+good_of setup hash [] c = tt
+good_of setup hash (e ∷ h) c = good-after (becomes setup hash (facts setup hash h) e.caller c e.call) (good_of setup hash h c)
+
+-- ---- what is told of them
+
+not-type : (f : Field) → is_held_back f ≡ false → is_called client_type_name f ≡ false
+not-type f held = (or-parts _ (is_called client_type_name f) (or-parts _ _ (or-parts _ _ held).0).0).1
+
+pub told-all : (fields : List Field) → AreGood fields → AllByRecursion (λ (f : Field). is_held_back f ≡ false) fields → AllByRecursion IsTold fields
+told-all [] good held = tt
+told-all (f ∷ fields) good held = ((good.0, not-type f held.0), told-all fields good.1 held.1)
+
+-- what is known of a user
+pub told_of_user : (setup : Configured) (hash : List ℕ → List ℕ) (h : List Entry) (c : ℕ) → AllByRecursion IsTold (info setup hash h c)
+told_of_user setup hash h c =
+    told-all (info setup hash h c) (good_of setup hash h c)
+    (all-as (IsPublic (about setup hash h c).peer) (λ (f : Field). is_held_back f ≡ false) (info setup hash h c) (λ f is. is.0) (info_is_public setup hash h c))
+
+-- what is passed on of an update
+pub told-clean : (peer : List ℕ) (bytes : List ℕ) (line : Reading) (u : List Field) → lines.reading bytes ≡ Ok line → updates.reading line.params ≡ Ok u → AllByRecursion IsTold (clean u peer)
+told-clean peer bytes line u reads words = told-all (clean u peer) (good-clean peer u (good-read bytes line u reads words)) (clean-kept u peer)
