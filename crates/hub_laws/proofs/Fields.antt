@@ -121,14 +121,14 @@ good-merged fields u good more =
 good-login : (own : Own) (bytes : List ℕ) (reading : Reading) (u : List Field) → lines.reading bytes ≡ Ok reading → updates.reading reading.params ≡ Ok u → AreGood own.fields
     → AreGood (user_after own u).fields
 good-login own bytes reading u read words good =
-    subst AreGood (sym (listed-fields own.sid (merged_with own.fields (clean u own.peer)))) (good-merged own.fields _ good (good-clean own.peer u (good-read bytes reading u read words)))
+    subst AreGood (sym (listed-fields own.sender.sid (merged_with own.fields (clean u own.sender.peer)))) (good-merged own.fields _ good (good-clean own.sender.peer u (good-read bytes reading u read words)))
 
 module _ {hub : Sight} {own : Own} {line : PreparedLine} {now : ℕ} where
   keeps-good : {said : Option Reading} {request : Request} {effect : Effect} → Outcome hub own line now said request effect → ((reading : Reading) → said ≡ Some reading → lines.reading line.bytes ≡ Ok reading)
       → AreGood own.fields → AreGood (fields_after effect.change own.fields)
   keeps-good (waits reading u logs account) reads good = good-login own line.bytes reading u (reads reading refl) logs.words good
   keeps-good (lets_in reading u logs account) reads good = good-login own line.bytes reading u (reads reading refl) logs.words good
-  keeps-good (revises reading u at words none) reads good = good-merged own.fields _ good (good-clean own.peer u (good-read line.bytes reading u (reads reading refl) words))
+  keeps-good (revises reading u at words none) reads good = good-merged own.fields _ good (good-clean own.sender.peer u (good-read line.bytes reading u (reads reading refl) words))
   keeps-good _ reads good = good
 
 good-chosen : (same : Bool) (after before : List Field) → (same ≡ true → AreGood after) → AreGood before → AreGood (cond same after before)
@@ -138,7 +138,7 @@ good-chosen false after before own good = good
 good-line : (setup : Configured) (hash : List ℕ → List ℕ) (f : Facts) (c : ℕ) (bytes : List ℕ) (now : ℕ) → AreGood (f.about c).fields
     → AreGood (fields_after (effect_of_line setup hash f c bytes now).change (f.about c).fields)
 good-line setup hash f c bytes now good =
-    let line : PreparedLine = prepared_line setup hash (f.about c).challenge bytes in
+    let line : PreparedLine = prepared_line setup hash (f.about c).sender.challenge bytes in
     keeps-good (outcome (sight_of setup f) (own_of (f.about c)) line now)
     (λ reading said. (is-accepted (sight_of setup f) (own_of (f.about c)) line now reading said).reads) good
 
@@ -170,7 +170,7 @@ told-all (f ∷ fields) good held = ((good.0, not-type f held.0), told-all field
 pub told_of_user : (setup : Configured) (hash : List ℕ → List ℕ) (h : List Entry) (c : ℕ) → AllByRecursion IsTold (info setup hash h c)
 told_of_user setup hash h c =
     told-all (info setup hash h c) (good_of setup hash h c)
-    (all-as (IsPublic (about setup hash h c).peer) (λ (f : Field). is_held_back f ≡ false) (info setup hash h c) (λ f is. is.0) (info_is_public setup hash h c))
+    (all-as (IsPublic (about setup hash h c).sender.peer) (λ (f : Field). is_held_back f ≡ false) (info setup hash h c) (λ f is. is.0) (info_is_public setup hash h c))
 
 -- what is passed on of an update
 pub told-clean : (peer : List ℕ) (bytes : List ℕ) (line : Reading) (u : List Field) → lines.reading bytes ≡ Ok line → updates.reading line.params ≡ Ok u → AllByRecursion IsTold (clean u peer)

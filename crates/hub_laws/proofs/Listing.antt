@@ -11,7 +11,7 @@ use Rattle.hub_laws.proofs.Others.{AreOthers}
 use Rattle.hub_laws.proofs.Pieces.{IsTold, other-heard, user-heard}
 
 abbrev pub entry_of : (ℕ → About) → ℕ → Listing
-entry_of about x = (sid_text (about x).sid, (about x).fields)
+entry_of about x = (sid_text (about x).sender.sid, (about x).fields)
 
 abbrev pub entries : (ℕ → About) → List ℕ → List Listing
 entries about cs = map (entry_of about) cs
@@ -74,7 +74,7 @@ spelt-same m n small-m small-n = by-test m n (m == n) _ small-m small-n refl ref
 -- ---- the users with this identifier, by a test of their connections
 
 abbrev pub Named : (ℕ → About) → List ℕ → (ℕ → Bool) → List ℕ → Type 0
-Named about word test cs = (x : ℕ) → has x cs ≡ true → bytes_eq (sid_text (about x).sid) word ≡ test x
+Named about word test cs = (x : ℕ) → has x cs ≡ true → bytes_eq (sid_text (about x).sender.sid) word ≡ test x
 
 named-tail : (about : ℕ → About) (word : List ℕ) (test : ℕ → Bool) (x : ℕ) (cs : List ℕ) → Named about word test (x ∷ cs) → Named about word test cs
 named-tail about word test x cs named d there = named d (tail-has x d cs there)
@@ -96,27 +96,27 @@ has-entries about word test (x ∷ cs) named = ap₂ ◌||◌ (named x (head-has
 
 -- a user with other fields
 abbrev pub renewed : (ℕ → About) → (ℕ → Bool) → List Field → ℕ → Listing
-renewed about test u x = if test x then (sid_text (about x).sid, merged_with (about x).fields u) else entry_of about x
+renewed about test u x = if test x then (sid_text (about x).sender.sid, merged_with (about x).fields u) else entry_of about x
 
 pub updated-entries : (about : ℕ → About) (word : List ℕ) (test : ℕ → Bool) (u : List Field) (cs : List ℕ) → Named about word test cs
     → map (updated_listing word u) (entries about cs) ≡ map (renewed about test u) cs
 updated-entries about word test u [] named = refl
 updated-entries about word test u (x ∷ cs) named =
-    ap₂ (λ (b : Bool) us. (if b then (sid_text (about x).sid, merged_with (about x).fields u) else entry_of about x) ∷ us) (named x (head-has x cs))
+    ap₂ (λ (b : Bool) us. (if b then (sid_text (about x).sender.sid, merged_with (about x).fields u) else entry_of about x) ∷ us) (named x (head-has x cs))
     (updated-entries about word test u cs (named-tail about word test x cs named))
 
 -- ---- those who enter, one after another
 
 -- connections whose identifiers differ
 abbrev pub Differing : (ℕ → About) → List ℕ → Type 0
-Differing about cs = (x y : ℕ) → has x cs ≡ true → has y cs ≡ true → bytes_eq (sid_text (about x).sid) (sid_text (about y).sid) ≡ (x == y)
+Differing about cs = (x y : ℕ) → has x cs ≡ true → has y cs ≡ true → bytes_eq (sid_text (about x).sender.sid) (sid_text (about y).sender.sid) ≡ (x == y)
 
 -- a user who is not listed yet is listed last
-pub listed-last : (about : ℕ → About) (x : ℕ) (fields : List Field) (cs : List ℕ) → Named about (sid_text (about x).sid) (λ y. y == x) cs → has x cs ≡ false
-    → with_user (sid_text (about x).sid) fields (entries about cs) ≡ entries about cs ++ (sid_text (about x).sid, fields) ∷ []
+pub listed-last : (about : ℕ → About) (x : ℕ) (fields : List Field) (cs : List ℕ) → Named about (sid_text (about x).sender.sid) (λ y. y == x) cs → has x cs ≡ false
+    → with_user (sid_text (about x).sender.sid) fields (entries about cs) ≡ entries about cs ++ (sid_text (about x).sender.sid, fields) ∷ []
 listed-last about x fields cs named none =
-    ap (λ b. if b then map (updated_listing (sid_text (about x).sid) fields) (entries about cs) else entries about cs ++ (sid_text (about x).sid, fields) ∷ [])
-    (has-entries about (sid_text (about x).sid) (λ y. y == x) cs named ∙ none)
+    ap (λ b. if b then map (updated_listing (sid_text (about x).sender.sid) fields) (entries about cs) else entries about cs ++ (sid_text (about x).sender.sid, fields) ∷ [])
+    (has-entries about (sid_text (about x).sender.sid) (λ y. y == x) cs named ∙ none)
 
 other-first : (x y : ℕ) (rest : Bool) → (eqb x y || rest) ≡ false → eqb y x ≡ false
 other-first x y rest none = sym (eqb-sym x y (eqb x y) (eqb y x) refl refl) ∙ (or-parts (eqb x y) rest none).0
@@ -144,7 +144,7 @@ welcomed about hub done [] differ once told = ap (entries about) (sym (append-ni
 welcomed about hub done (x ∷ cs) differ once told =
     let again : done ++ (x ∷ cs) ≡ (done ++ x ∷ []) ++ cs = sym (append_assoc done (x ∷ []) cs) in
     ap (λ us. fold heard us (map (line_of hub) (map (user_of about) cs)))
-    (user-heard (about x).sid (about x).fields _ (entries about done) (told x)
+    (user-heard (about x).sender.sid (about x).fields _ (entries about done) (told x)
     ∙ listed-last about x (about x).fields done (λ y there. differ y x (in-front y done (x ∷ cs) there) (in-back x done (x ∷ cs) (head-has x cs))) (fresh-in done cs x once)
     ∙ sym (map-append about done (x ∷ [])))
     ∙ welcomed about hub (done ++ x ∷ []) cs (subst (Differing about) again differ) (ap apart (sym again) ∙ once) told

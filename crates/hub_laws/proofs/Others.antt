@@ -205,7 +205,7 @@ pub record IsStill (own : Own) (effect : Effect) : Type 0 where
 
 -- its sender is shut out
 pub record IsFarewell (own : Own) (effect : Effect) : Type 0 where
-  pub others : effect.others ≡ farewell own.stage own.sid
+  pub others : effect.others ≡ farewell own.stage own.sender.sid
   pub hearers : effect.hearers ≡ Others
   pub change : effect.change ≡ Sender senders.Falls
 
@@ -213,7 +213,7 @@ pub record IsFarewell (own : Own) (effect : Effect) : Type 0 where
 pub record IsEntry (hub : Sight) (own : Own) (effect : Effect) : Type 0 where
   pub others : effect.others ≡ line_by hub own (fields_after effect.change own.fields) ∷ []
   pub hearers : effect.hearers ≡ Others
-  pub welcomes : effect.own ≡ map (line_of hub) hub.users ++ line_by hub own (fields_after effect.change own.fields) ∷ cond (has_feature ucmd own.features) (map menu_line hub.setup.menu) []
+  pub welcomes : effect.own ≡ map (line_of hub) hub.users ++ line_by hub own (fields_after effect.change own.fields) ∷ cond (has_feature ucmd own.sender.features) (map menu_line hub.setup.menu) []
   pub here : stage_after effect.change own.stage ≡ stages.Normal
   pub early : is_early own.stage ≡ true
   pub removes : (sid : ℕ) → is_removed effect.change sid ≡ false
@@ -221,7 +221,7 @@ pub record IsEntry (hub : Sight) (own : Own) (effect : Effect) : Type 0 where
 
 -- it changes the fields of its sender
 pub record IsRevision (own : Own) (effect : Effect) (u : List Field) : Type 0 where
-  pub others : effect.others ≡ line_unless_empty own.sid u
+  pub others : effect.others ≡ line_unless_empty own.sender.sid u
   pub hearers : effect.hearers ≡ Those audiences.All
   pub own_lines : effect.own ≡ []
   pub stage : (s : Stage) → stage_after effect.change s ≡ s
@@ -264,7 +264,7 @@ still-as own effect own-lines others same fields removes none = record {
 }
 
 entry-of : (hub : Sight) (own : Own) (effect : Effect) → effect.others ≡ line_by hub own (fields_after effect.change own.fields) ∷ [] → effect.hearers ≡ Others
-    → effect.own ≡ map (line_of hub) hub.users ++ line_by hub own (fields_after effect.change own.fields) ∷ cond (has_feature ucmd own.features) (map menu_line hub.setup.menu) []
+    → effect.own ≡ map (line_of hub) hub.users ++ line_by hub own (fields_after effect.change own.fields) ∷ cond (has_feature ucmd own.sender.features) (map menu_line hub.setup.menu) []
     → stage_after effect.change own.stage ≡ stages.Normal → is_early own.stage ≡ true → ((sid : ℕ) → is_removed effect.change sid ≡ false) → enters effect.change ≡ true → Tells hub own effect
 entry-of hub own effect others hearers welcomes here early removes brings =
     entry (record { others = others; hearers = hearers; welcomes = welcomes; here = here; early = early; removes = removes; enters = brings })
@@ -284,13 +284,13 @@ removal-as effect act target operator seconds reason is removes others hearers o
   enters = ap enters is;
 }
 
-does-tell : (hub : Sight) (own : Own) (done : Done) → Does hub.users hub.bans own.sid done.others done.change → Tells hub own (effect_for_all done)
+does-tell : (hub : Sight) (own : Own) (done : Done) → Does hub.users hub.bans own.sender.sid done.others done.change → Tells hub own (effect_for_all done)
 does-tell hub own done (kicks nick reason target called) =
-    removal_of target nick called (removal-as (effect_for_all done) (shared.Kick target.sid) target.sid own.sid None reason refl (λ sid. refl) refl refl (other-done, tt))
+    removal_of target nick called (removal-as (effect_for_all done) (shared.Kick target.sid) target.sid own.sender.sid None reason refl (λ sid. refl) refl refl (other-done, tt))
 does-tell hub own done (bans_user nick reason target banned called same room) =
     removal_of target nick called
     (subst (IsRemoval (effect_for_all done)) same
-    (removal-as (effect_for_all done) (shared.Ban banned) banned.sid own.sid (Some banned.ban.seconds) reason refl (λ sid. refl) refl refl (other-done, tt)))
+    (removal-as (effect_for_all done) (shared.Ban banned) banned.sid own.sender.sid (Some banned.ban.seconds) reason refl (λ sid. refl) refl refl (other-done, tt)))
 does-tell hub own done (unbans cid) = nobody (still-as own (effect_for_all done) (other-done, tt) tt refl refl (λ sid. refl) refl)
 does-tell hub own done (sets_topic text) = nobody (still-as own (effect_for_all done) (other-done, tt) (other-topic text, tt) refl refl (λ sid. refl) refl)
 
@@ -302,7 +302,7 @@ module _ {hub : Sight} {own : Own} {line : PreparedLine} {now : ℕ} where
   tells (denies deny) reads = nobody (still-as own _ (other-denial deny, tt) tt refl refl (λ sid. refl) refl)
   tells (shuts_out deny) reads = leaves (record { others = refl; hearers = refl; change = refl })
   tells (greets reading features at is) reads = nobody (record {
-    own_lines = (other-support, (other-identifier own.sid, (other-hub hub.setup hub.topic _, tt)));
+    own_lines = (other-support, (other-identifier own.sender.sid, (other-hub hub.setup hub.topic _, tt)));
     others = tt;
     presence = sym (ap is_present at);
     early = λ is. ap is_early at;
@@ -311,7 +311,7 @@ module _ {hub : Sight} {own : Own} {line : PreparedLine} {now : ℕ} where
     enters = refl;
   })
   tells (waits reading u logs account) reads = nobody (record {
-    own_lines = (other-challenge own.challenge, tt);
+    own_lines = (other-challenge own.sender.challenge, tt);
     others = tt;
     presence = sym (ap is_present logs.at);
     early = λ is. ap is_early logs.at;
@@ -321,13 +321,13 @@ module _ {hub : Sight} {own : Own} {line : PreparedLine} {now : ℕ} where
   })
   tells (lets_in reading u logs account) reads = entry-of hub own _ refl refl refl refl (ap is_early logs.at) (λ sid. refl) refl
   tells (proves reading at asks none) reads = entry-of hub own _ refl refl refl refl (ap is_early at) (λ sid. refl) refl
-  tells (revises reading u at words none) reads = revision_of (clean u own.peer) (record {
+  tells (revises reading u at words none) reads = revision_of (clean u own.sender.peer) (record {
     others = refl;
     hearers = refl;
     own_lines = refl;
     stage = λ s. refl;
     fields = λ fields. refl;
-    told = told-clean own.peer line.bytes reading u (reads reading refl).0 words;
+    told = told-clean own.sender.peer line.bytes reading u (reads reading refl).0 words;
     at = at;
     removes = λ sid. refl;
     enters = refl;
