@@ -1,6 +1,6 @@
 -- What holds of a connection after every history: what its join makes so, what is so of who is shut out, and what its own lines keep.
 use Rattle.std.proofs.Common.{◌≡◌, sym, refl, subst, ℕ, Bool, true, false, ◌==◌, List, [], ◌∷◌, cond}
-use Rattle.hub_laws.proofs.Words.{About, Becomes, Call, Change, Configured, Effect, Entry, Facts, Field, Sender, Stage, becomes, departure, effect_of_line, eqb-true, facts, features_after, fields_after}
+use Rattle.hub_laws.proofs.Words.{About, Becomes, Call, Change, Configured, Effect, Entry, Facts, Field, Sender, Stage, becomes, departure, effect_of_line, eqb-true, facts, features_after, fields_after, own_change}
 use Rattle.hub_laws.proofs.Words.{removed_by, stage_after, stage_next}
 use Rattle.hub_laws.proofs.Words.senders
 use Rattle.hub_laws.proofs.Words.stages
@@ -21,7 +21,7 @@ module _ (setup : Configured) (hash : List ℕ → List ℕ) (P : Stage → List
 
   holds-next : ((features : List (List ℕ)) (fields : List Field) → P stages.Gone features fields) → (removed same : Bool) (change : Change) (a : About) → Holds a
       → (same ≡ true → HoldsAfter change a)
-      → P (stage_next removed same change a.stage) (cond same (features_after change a.sender.features) a.sender.features) (cond same (fields_after change a.fields) a.fields)
+      → P (stage_next removed same change a.stage) (features_after (own_change same change) a.sender.features) (cond same (fields_after change a.fields) a.fields)
   holds-next gone true same change a holds after = gone _ _
   holds-next gone false true change a holds after = after refl
   holds-next gone false false change a holds after = holds
