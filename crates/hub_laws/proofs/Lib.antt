@@ -51,3 +51,5 @@ pub mod Fields
 pub mod Others
 pub mod Listing
 pub mod Lists
+pub mod Types
+pub mod Origins

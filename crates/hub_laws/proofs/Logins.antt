@@ -182,10 +182,10 @@ module _ {setup : Configured} {hash : List ℕ → List ℕ} {h : List Entry} {e
   admitted true is = refl
   admitted false is = refl
 
-own-stage : (c : ℕ) (effect : Effect) (f : Facts) (stage : Stage) → (f.about c).stage ≡ stage → is_present stage ≡ false → (about_after c effect f.about c).stage ≡ stage_after effect.change (f.about c).stage
+pub own-stage : (c : ℕ) (effect : Effect) (f : Facts) (stage : Stage) → (f.about c).stage ≡ stage → is_present stage ≡ false → (about_after c effect f.about c).stage ≡ stage_after effect.change (f.about c).stage
 own-stage c effect f stage at absent = grind arith
 
-line-stage : (setup : Configured) (hash : List ℕ → List ℕ) (h : List Entry) (e : Entry) (c : ℕ) (bytes : List ℕ) (now : ℕ) → e.call ≡ Line c bytes now
+pub line-stage : (setup : Configured) (hash : List ℕ → List ℕ) (h : List Entry) (e : Entry) (c : ℕ) (bytes : List ℕ) (now : ℕ) → e.call ≡ Line c bytes now
     → ((facts setup hash (e ∷ h)).about c).stage ≡ (about_after c (effect_of_line setup hash (facts setup hash h) c bytes now) (facts setup hash h).about c).stage
 unfolding facts after happens
 line-stage setup hash h e c bytes now call = ap (λ call. ((after setup hash (facts setup hash h) e.caller call).about c).stage) call

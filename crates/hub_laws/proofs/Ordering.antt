@@ -129,7 +129,7 @@ not-another stage own line none_of = not-other (names_another own line.from) _ n
 own-name : (own from : ℕ) → names_another own (Some from) ≡ false → from ≡ own
 own-name own from is = eqb-true from own (not-false (from == own) is)
 
-from-own : (hub : Sight) (own : Own) (line : PreparedLine) (now : ℕ) (reading : Reading) → IsAccepted hub own line now reading
+pub from-own : (hub : Sight) (own : Own) (line : PreparedLine) (now : ℕ) (reading : Reading) → IsAccepted hub own line now reading
     → is_for_users (request_of stages.Normal reading.kind reading.command) ≡ true → reading.from ≡ Some own.sender.sid
 from-own hub own line now reading is asks =
     let reads = Reads-of line.bytes reading is.reads in

@@ -76,11 +76,11 @@ other-done : IsOther done_line
 unfolding done_line
 other-done = starting 73 83 84 65 _ _ refl (refl, (refl, (refl, (refl, tt)))) refl refl
 
-record IsStatus (text : List ℕ) : Type 0 where
-  rest : List ℕ
-  is : text ≡ 73 ∷ 83 ∷ 84 ∷ 65 ∷ rest
+pub record IsStatus (text : List ℕ) : Type 0 where
+  pub rest : List ℕ
+  pub is : text ≡ 73 ∷ 83 ∷ 84 ∷ 65 ∷ rest
 
-status : (deny : Deny) → IsStatus (denial_text deny)
+pub status : (deny : Deny) → IsStatus (denial_text deny)
 unfolding denial_text
 status denials.Protocol = record { rest = _; is = refl }
 status denials.WrongSid = record { rest = _; is = refl }
@@ -116,7 +116,7 @@ other-denial deny =
 
 -- ---- messages of users
 
-abbrev is_for_users : Request → Bool
+abbrev pub is_for_users : Request → Bool
 is_for_users requests.Message = true
 is_for_users requests.Search = true
 is_for_users request = false

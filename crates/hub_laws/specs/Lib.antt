@@ -29,3 +29,5 @@ pub mod Intervals
 pub mod Commands
 pub mod Logins
 pub mod Lists
+pub mod Types
+pub mod Origins

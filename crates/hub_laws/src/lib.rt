@@ -11,5 +11,5 @@ pub use laws::{
 };
 pub use users_laws::{
     command_laws, greeting_laws, hearing_laws, limit_laws, list_laws, login_laws, message_laws,
-    outsider_laws, owner_laws, refusal_laws, search_laws,
+    origin_laws, outsider_laws, owner_laws, refusal_laws, search_laws,
 };

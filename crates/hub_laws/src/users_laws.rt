@@ -5,6 +5,7 @@ ghost use Rattle.hub_laws.specs.Hearing.{AllHearInOneOrder, AllHearTheSame};
 ghost use Rattle.hub_invariants.specs.Promises.{FewAreOpen};
 ghost use Rattle.hub_laws.specs.Holding.{BansAreFew};
 ghost use Rattle.hub_laws.specs.Limits.{FewLinesWait, UsersAreWellFormed};
+ghost use Rattle.hub_laws.specs.Types.{OperatorsHaveAccounts};
 ghost use Rattle.hub_laws.specs.Outsiders.{OutsidersHearNothing};
 ghost use Rattle.hub_laws.specs.Owners.{CidsAreShown};
 ghost use Rattle.hub_laws.specs.Refusals.{RefusalsAreToldAlone};
@@ -13,15 +14,17 @@ ghost use Rattle.hub_laws.specs.Intervals.{SearchesAreAccepted, SearchesAreApart
 ghost use Rattle.hub_laws.specs.Commands.{BansAreCarriedOut, KicksAreCarriedOut, TopicsAreCarriedOut, UnbansAreCarriedOut};
 ghost use Rattle.hub_laws.specs.Logins.{LoginsAreAccepted, PasswordsAreAccepted};
 ghost use Rattle.hub_laws.specs.Lists.{AllListTheSame};
+ghost use Rattle.hub_laws.specs.Origins.{LinesHaveOrigins};
 
 /// Says what stays within limits: after every call at most 1,024 lines and 1 MiB wait for a connection, no more connections are open
 /// than the hub admits, and at most 1,024 client identifiers are banned. Whoever is present has a nick, the features BASE and
-/// TIGR, and at most 40 fields.
+/// TIGR, and at most 40 fields; and is shown as an operator (CT4) only under the nick of an operator's account.
 pub fn limit_laws()
     ensures waiting { FewLinesWait }
     ensures open { FewAreOpen }
     ensures bans { BansAreFew }
     ensures users { UsersAreWellFormed }
+    ensures operators { OperatorsHaveAccounts }
 {}
 
 /// Says that nobody outside hears: a connection whose user is not present is owed nothing by the calls of others.
@@ -86,4 +89,10 @@ pub fn login_laws()
 /// IQUI, one after another, comes to exactly those who are present, in order of entry, with their fields. So two list the same.
 pub fn list_laws()
     ensures { AllListTheSame }
+{}
+
+/// Says that no line is forged: each that a connection is owed is of the type I, which a hub alone sends; or is a BINF that names the
+/// user whose entry or update it tells; or is a message of a user, byte for byte, of the type B, D, E or F, under its own SID.
+pub fn origin_laws()
+    ensures { LinesHaveOrigins }
 {}

@@ -2,6 +2,7 @@ use Rattle.hub_laws.proofs.Limits.{few_lines_wait}
 use Rattle.hub_laws.proofs.Words.{few_are_open}
 use Rattle.hub_laws.proofs.Banning.{bans_are_few}
 use Rattle.hub_laws.proofs.Limits.{users_are_well_formed}
+use Rattle.hub_laws.proofs.Types.{operators_have_accounts}
 use Rattle.hub_laws.proofs.users_laws.limit_laws.Goals as goal
 
 pub returns-clause-waiting : goal.returns-clause-waiting
@@ -15,3 +16,6 @@ returns-clause-bans c = bans_are_few
 
 pub returns-clause-users : goal.returns-clause-users
 returns-clause-users c = users_are_well_formed
+
+pub returns-clause-operators : goal.returns-clause-operators
+returns-clause-operators c = operators_have_accounts
