@@ -53,3 +53,4 @@ pub mod Listing
 pub mod Lists
 pub mod Types
 pub mod Origins
+pub mod Playing
