@@ -54,18 +54,18 @@ module _ (setup : Configured) (hash : List ℕ → List ℕ) (h : List Entry) (s
   absent-from : (x : ℕ) → is_present (f.about x).stage ≡ false → has x f.present ≡ false
   absent-from x absent = sound.entered x ∙ absent
 
-  by-number : (x y : ℕ) (equal same : Bool) → has x f.opened ≡ true → has y f.opened ≡ true → ((f.about x).sid == (f.about y).sid) ≡ equal → (x == y) ≡ same → equal ≡ same
-  by-number x y equal true open-x open-y is same = sym is ∙ eq-eqb _ _ (ap (λ z. (f.about z).sid) (eqb-true x y same))
+  by-number : (x y : ℕ) (equal same : Bool) → has x f.opened ≡ true → has y f.opened ≡ true → ((f.about x).sender.sid == (f.about y).sender.sid) ≡ equal → (x == y) ≡ same → equal ≡ same
+  by-number x y equal true open-x open-y is same = sym is ∙ eq-eqb _ _ (ap (λ z. (f.about z).sender.sid) (eqb-true x y same))
   by-number x y true false open-x open-y is same =
-      absurd (false≢true (sym same ∙ eq-eqb x y (sids_differ setup hash h small x y open-x open-y (eqb-true (f.about x).sid (f.about y).sid is))))
+      absurd (false≢true (sym same ∙ eq-eqb x y (sids_differ setup hash h small x y open-x open-y (eqb-true (f.about x).sender.sid (f.about y).sender.sid is))))
   by-number x y false false open-x open-y is same = refl
 
   differ : Differing f.about f.opened
   differ x y open-x open-y =
-      spelt-same (f.about x).sid (f.about y).sid (sids_are_given setup hash h small x open-x).1 (sids_are_given setup hash h small y open-y).1
+      spelt-same (f.about x).sender.sid (f.about y).sender.sid (sids_are_given setup hash h small x open-x).1 (sids_are_given setup hash h small y open-y).1
       ∙ by-number x y _ (x == y) open-x open-y refl refl
 
-  named : (c : ℕ) → has c f.opened ≡ true → Named f.about (sid_text (f.about c).sid) (λ x. x == c) f.present
+  named : (c : ℕ) → has c f.opened ≡ true → Named f.about (sid_text (f.about c).sender.sid) (λ x. x == c) f.present
   named c open-c x there = differ x c (present-open x there) open-c
 
   apart-from : (c x : ℕ) → is_present (f.about c).stage ≡ false → has x f.present ≡ true → (x == c) ≡ true → ⊥
@@ -98,10 +98,10 @@ module _ (setup : Configured) (hash : List ℕ → List ℕ) (h : List Entry) (s
     still-entries : IsStill own effect → entries afterwards present_then ≡ entries f.about f.present
     still-entries still =
         ap (entries afterwards) (all-stay still.enters (λ x there.
-        next-present (is_removed effect.change (f.about x).sid) (x == c) effect.change (f.about x).stage (still.removes (f.about x).sid) (present-stage x there)
+        next-present (is_removed effect.change (f.about x).sender.sid) (x == c) effect.change (f.about x).stage (still.removes (f.about x).sender.sid) (present-stage x there)
         (λ same. at-sender (λ s. is_present s ≡ true → is_present (stage_after effect.change s) ≡ true) x same (λ here. still.presence ∙ here) (present-stage x there))))
         ∙ map-same (entry_of afterwards) (entry_of f.about) f.present (λ x there.
-        ap (λ fields. (sid_text (f.about x).sid, fields)) (chosen-same (x == c) (fields_after effect.change (f.about x).fields) (f.about x).fields
+        ap (λ fields. (sid_text (f.about x).sender.sid, fields)) (chosen-same (x == c) (fields_after effect.change (f.about x).fields) (f.about x).fields
         (λ same. subst (λ z. is_present (f.about z).stage ≡ true → fields_after effect.change (f.about z).fields ≡ (f.about z).fields) (sym (eqb-true x c same)) still.fields (present-stage x there))))
 
     still-step : IsStill own effect → (d : ℕ) → StepBy f c effect d
@@ -124,27 +124,27 @@ module _ (setup : Configured) (hash : List ℕ → List ℕ) (h : List Entry) (s
     left-entries : IsFarewell own effect → entries afterwards present_then ≡ entries f.about (filter (λ x. not (x == c)) f.present)
     left-entries bye =
         let stage_is : (x : ℕ) → is_present (afterwards x).stage ≡ (not (x == c) && is_present (f.about x).stage) =
-        λ x. falls-present (is_removed effect.change (f.about x).sid) (x == c) effect.change (f.about x).stage (f.about x).sid bye.change refl in
+        λ x. falls-present (is_removed effect.change (f.about x).sender.sid) (x == c) effect.change (f.about x).stage (f.about x).sender.sid bye.change refl in
         ap (entries afterwards) (ap₂ (λ xs b. xs ++ cond b (c ∷ []) [])
         (filter-same (λ x. is_present (afterwards x).stage) (λ x. not (x == c)) f.present
         (λ x there. stage_is x ∙ ap (λ b. not (x == c) && b) (present-stage x there) ∙ and-true (not (x == c)))) (ap enters bye.change)
         ∙ append-nil (filter (λ x. not (x == c)) f.present))
         ∙ map-same (entry_of afterwards) (entry_of f.about) (filter (λ x. not (x == c)) f.present) (λ x there.
-        ap (λ fields. (sid_text (f.about x).sid, fields)) (chosen-same (x == c) (fields_after effect.change (f.about x).fields) (f.about x).fields
+        ap (λ fields. (sid_text (f.about x).sender.sid, fields)) (chosen-same (x == c) (fields_after effect.change (f.about x).fields) (f.about x).fields
         (λ same. ap (λ change. fields_after change (f.about x).fields) bye.change)))
 
     left-heard : (here : Bool) → is_present (f.about c).stage ≡ here
-        → fold heard (entries f.about f.present) (cond here (quit_line (f.about c).sid ∷ []) []) ≡ entries f.about (filter (λ x. not (x == c)) f.present)
+        → fold heard (entries f.about f.present) (cond here (quit_line (f.about c).sender.sid ∷ []) []) ≡ entries f.about (filter (λ x. not (x == c)) f.present)
     left-heard true here =
-        quit-heard (f.about c).sid (entries f.about f.present)
-        ∙ without-entries f.about (sid_text (f.about c).sid) (λ x. x == c) f.present (named c (sound.are_open c (not-over (f.about c).stage here)))
+        quit-heard (f.about c).sender.sid (entries f.about f.present)
+        ∙ without-entries f.about (sid_text (f.about c).sender.sid) (λ x. x == c) f.present (named c (sound.are_open c (not-over (f.about c).stage here)))
     left-heard false absent =
         ap (entries f.about) (sym (all-kept (λ x. not (x == c)) f.present (λ x there. ap not (not-same (x == c) (apart-from c x absent there)))))
 
     left-step : IsFarewell own effect → (d : ℕ) → StepBy f c effect d
     left-step bye d =
         let stage_is : is_present (afterwards d).stage ≡ (not (d == c) && is_present (f.about d).stage) =
-        falls-present (is_removed effect.change (f.about d).sid) (d == c) effect.change (f.about d).stage (f.about d).sid bye.change refl in
+        falls-present (is_removed effect.change (f.about d).sender.sid) (d == c) effect.change (f.about d).stage (f.about d).sender.sid bye.change refl in
         record {
           here = λ there was.
               let other = not-first (d == c) _ (sym stage_is ∙ there) in
@@ -158,23 +158,23 @@ module _ (setup : Configured) (hash : List ℕ → List ℕ) (h : List Entry) (s
 
     -- ---- an operator shuts a user out
 
-    removed-entries : (target : ℕ) → IsRemoval effect target → entries afterwards present_then ≡ entries f.about (filter (λ x. not ((f.about x).sid == target)) f.present)
+    removed-entries : (target : ℕ) → IsRemoval effect target → entries afterwards present_then ≡ entries f.about (filter (λ x. not ((f.about x).sender.sid == target)) f.present)
     removed-entries target removal =
         ap (entries afterwards) (ap₂ (λ xs b. xs ++ cond b (c ∷ []) [])
-        (filter-same (λ x. is_present (afterwards x).stage) (λ x. not ((f.about x).sid == target)) f.present
-        (λ x there. gone-present (is_removed effect.change (f.about x).sid) (x == c) effect.change (f.about x).stage (removal.stage (f.about x).stage) (present-stage x there)
-        ∙ ap not (removal.removes (f.about x).sid))) removal.enters
-        ∙ append-nil (filter (λ x. not ((f.about x).sid == target)) f.present))
-        ∙ map-same (entry_of afterwards) (entry_of f.about) (filter (λ x. not ((f.about x).sid == target)) f.present) (λ x there.
-        ap (λ fields. (sid_text (f.about x).sid, fields)) (chosen-same (x == c) (fields_after effect.change (f.about x).fields) (f.about x).fields
+        (filter-same (λ x. is_present (afterwards x).stage) (λ x. not ((f.about x).sender.sid == target)) f.present
+        (λ x there. gone-present (is_removed effect.change (f.about x).sender.sid) (x == c) effect.change (f.about x).stage (removal.stage (f.about x).stage) (present-stage x there)
+        ∙ ap not (removal.removes (f.about x).sender.sid))) removal.enters
+        ∙ append-nil (filter (λ x. not ((f.about x).sender.sid == target)) f.present))
+        ∙ map-same (entry_of afterwards) (entry_of f.about) (filter (λ x. not ((f.about x).sender.sid == target)) f.present) (λ x there.
+        ap (λ fields. (sid_text (f.about x).sender.sid, fields)) (chosen-same (x == c) (fields_after effect.change (f.about x).fields) (f.about x).fields
         (λ same. removal.fields (f.about x).fields)))
 
     removed-step : (user : Listed) (nick : List ℕ) → user_called (map (user_of f.about) f.present) nick ≡ Some user → IsRemoval effect user.sid → (d : ℕ) → StepBy f c effect d
     removed-step user nick called removal d =
         let found = found-here f.about (key_of_points nick) f.present user called in
         let range : user.sid < sid_count = subst (λ n. n < sid_count) found.2 (sids_are_given setup hash h small found.0 (present-open found.0 found.1)).1 in
-        let word : Named f.about (sid_text user.sid) (λ x. (f.about x).sid == user.sid) f.present =
-        λ x there. spelt-same (f.about x).sid user.sid (sids_are_given setup hash h small x (present-open x there)).1 range in
+        let word : Named f.about (sid_text user.sid) (λ x. (f.about x).sender.sid == user.sid) f.present =
+        λ x there. spelt-same (f.about x).sender.sid user.sid (sids_are_given setup hash h small x (present-open x there)).1 range in
         let own-quiet : (users : List Listing) → fold heard users (cond (d == c) effect.own []) ≡ users =
         λ users. others-heard users _ (others-if (d == c) effect.own removal.own_lines) in
         record {
@@ -182,7 +182,7 @@ module _ (setup : Configured) (hash : List ℕ → List ℕ) (h : List Entry) (s
               ap (fold heard (entries f.about f.present)) (owes-to-all (d == c) effect (f.about d) removal.hearers was ∙ ap (λ ls. ls ++ cond (d == c) effect.own []) removal.others)
               ∙ own-quiet (heard (entries f.about f.present) (removal_line user.sid removal.operator removal.seconds removal.reason))
               ∙ removal-heard user.sid removal.operator removal.seconds removal.reason (entries f.about f.present)
-              ∙ without-entries f.about (sid_text user.sid) (λ x. (f.about x).sid == user.sid) f.present word
+              ∙ without-entries f.about (sid_text user.sid) (λ x. (f.about x).sender.sid == user.sid) f.present word
               ∙ sym (removed-entries user.sid removal);
           enters = λ there was. absurd (false≢true (sym was ∙ before-present (removed_by effect (f.about d)) (d == c) effect.change (f.about d).stage
               (λ same here. ap is_present (sym (removal.stage (f.about d).stage)) ∙ here) there));
@@ -196,27 +196,27 @@ module _ (setup : Configured) (hash : List ℕ → List ℕ) (h : List Entry) (s
     revised-entries : (u : List Field) → IsRevision own effect u → entries afterwards present_then ≡ map (renewed f.about (λ x. x == c) u) f.present
     revised-entries u revision =
         ap (entries afterwards) (all-stay revision.enters (λ x there.
-        next-present (is_removed effect.change (f.about x).sid) (x == c) effect.change (f.about x).stage (revision.removes (f.about x).sid) (present-stage x there)
+        next-present (is_removed effect.change (f.about x).sender.sid) (x == c) effect.change (f.about x).stage (revision.removes (f.about x).sender.sid) (present-stage x there)
         (λ same. ap is_present (revision.stage (f.about x).stage) ∙ present-stage x there)))
         ∙ map-same (entry_of afterwards) (renewed f.about (λ x. x == c) u) f.present (λ x there. renewed-as (x == c) (f.about x) effect.change u (revision.fields (f.about x).fields))
 
     revised-heard : (u : List Field) → IsRevision own effect u → (none : Bool) → (length u == 0) ≡ none
-        → fold heard (entries f.about f.present) (cond none [] (update_line (f.about c).sid u ∷ [])) ≡ map (renewed f.about (λ x. x == c) u) f.present
+        → fold heard (entries f.about f.present) (cond none [] (update_line (f.about c).sender.sid u ∷ [])) ≡ map (renewed f.about (λ x. x == c) u) f.present
     revised-heard u revision true none =
         map-same (entry_of f.about) (renewed f.about (λ x. x == c) u) f.present (λ x there. sym (renewed-none (x == c) (f.about x) u (no-length u none)))
     revised-heard u revision false some =
         let open-c : has c f.opened ≡ true = sound.are_open c (not-over (f.about c).stage (ap is_present revision.at)) in
-        update-heard (f.about c).sid u (entries f.about f.present) revision.told
-        ∙ ap (λ b. if b then map (updated_listing (sid_text (f.about c).sid) u) (entries f.about f.present) else entries f.about f.present ++ (sid_text (f.about c).sid, u) ∷ [])
-        (has-entries f.about (sid_text (f.about c).sid) (λ x. x == c) f.present (named c open-c) ∙ sound.entered c ∙ ap is_present revision.at)
-        ∙ updated-entries f.about (sid_text (f.about c).sid) (λ x. x == c) u f.present (named c open-c)
+        update-heard (f.about c).sender.sid u (entries f.about f.present) revision.told
+        ∙ ap (λ b. if b then map (updated_listing (sid_text (f.about c).sender.sid) u) (entries f.about f.present) else entries f.about f.present ++ (sid_text (f.about c).sender.sid, u) ∷ [])
+        (has-entries f.about (sid_text (f.about c).sender.sid) (λ x. x == c) f.present (named c open-c) ∙ sound.entered c ∙ ap is_present revision.at)
+        ∙ updated-entries f.about (sid_text (f.about c).sender.sid) (λ x. x == c) u f.present (named c open-c)
 
     revised-step : (u : List Field) → IsRevision own effect u → (d : ℕ) → StepBy f c effect d
     revised-step u revision d = record {
       here = λ there was.
           ap (fold heard (entries f.about f.present)) (owes-to-all (d == c) effect (f.about d) revision.hearers was
-          ∙ ap₂ (λ ls own. ls ++ cond (d == c) own []) revision.others revision.own_lines ∙ ap (λ ls. line_unless_empty (f.about c).sid u ++ ls) (chosen-same (d == c) [] [] (λ same. refl))
-          ∙ append-nil (line_unless_empty (f.about c).sid u))
+          ∙ ap₂ (λ ls own. ls ++ cond (d == c) own []) revision.others revision.own_lines ∙ ap (λ ls. line_unless_empty (f.about c).sender.sid u ++ ls) (chosen-same (d == c) [] [] (λ same. refl))
+          ∙ append-nil (line_unless_empty (f.about c).sender.sid u))
           ∙ revised-heard u revision (length u == 0) refl ∙ sym (revised-entries u revision);
       enters = λ there was. absurd (false≢true (sym was ∙ before-present (removed_by effect (f.about d)) (d == c) effect.change (f.about d).stage
           (λ same here. ap is_present (sym (revision.stage (f.about d).stage)) ∙ here) there));
@@ -233,24 +233,24 @@ module _ (setup : Configured) (hash : List ℕ → List ℕ) (h : List Entry) (s
     abbrev fields_then : List Field
     fields_then = fields_after effect.change (f.about c).fields
 
-    entered-entries : IsEntry (sight_of setup f) own effect → entries afterwards present_then ≡ entries f.about f.present ++ (sid_text (f.about c).sid, fields_then) ∷ []
+    entered-entries : IsEntry (sight_of setup f) own effect → entries afterwards present_then ≡ entries f.about f.present ++ (sid_text (f.about c).sender.sid, fields_then) ∷ []
     entered-entries comes =
         let absent = early-absent (f.about c).stage comes.early in
         ap (entries afterwards) (ap₂ (λ xs b. xs ++ cond b (c ∷ []) [])
         (all-kept (λ x. is_present (afterwards x).stage) f.present (λ x there.
-        next-present (is_removed effect.change (f.about x).sid) (x == c) effect.change (f.about x).stage (comes.removes (f.about x).sid) (present-stage x there)
+        next-present (is_removed effect.change (f.about x).sender.sid) (x == c) effect.change (f.about x).stage (comes.removes (f.about x).sender.sid) (present-stage x there)
         (λ same. absurd (apart-from c x absent there same)))) comes.enters)
         ∙ map-append afterwards f.present (c ∷ [])
-        ∙ ap₂ (λ us fields. us ++ (sid_text (f.about c).sid, fields) ∷ [])
+        ∙ ap₂ (λ us fields. us ++ (sid_text (f.about c).sender.sid, fields) ∷ [])
         (map-same (entry_of afterwards) (entry_of f.about) f.present (λ x there.
-        ap (λ fields. (sid_text (f.about x).sid, fields)) (chosen-same (x == c) (fields_after effect.change (f.about x).fields) (f.about x).fields
+        ap (λ fields. (sid_text (f.about x).sender.sid, fields)) (chosen-same (x == c) (fields_after effect.change (f.about x).fields) (f.about x).fields
         (λ same. absurd (apart-from c x absent there same)))))
         (ap (λ b. cond b (fields_after effect.change (f.about c).fields) (f.about c).fields) (eq-eqb c c refl))
 
     entered-line : IsEntry (sight_of setup f) own effect → AllByRecursion IsTold fields_then
-        → heard (entries f.about f.present) (line_by (sight_of setup f) own fields_then) ≡ entries f.about f.present ++ (sid_text (f.about c).sid, fields_then) ∷ []
+        → heard (entries f.about f.present) (line_by (sight_of setup f) own fields_then) ≡ entries f.about f.present ++ (sid_text (f.about c).sender.sid, fields_then) ∷ []
     entered-line comes told =
-        user-heard (f.about c).sid fields_then _ (entries f.about f.present) told
+        user-heard (f.about c).sender.sid fields_then _ (entries f.about f.present) told
         ∙ listed-last f.about c fields_then f.present (named c (sound.are_open c (early-open (f.about c).stage comes.early)))
         (absent-from c (early-absent (f.about c).stage comes.early))
 
@@ -258,14 +258,14 @@ module _ (setup : Configured) (hash : List ℕ → List ℕ) (h : List Entry) (s
     menus [] = tt
     menus (item ∷ lines) = (other-menu item, menus lines)
 
-    entered-welcome : IsEntry (sight_of setup f) own effect → AllByRecursion IsTold fields_then → fold heard [] effect.own ≡ entries f.about f.present ++ (sid_text (f.about c).sid, fields_then) ∷ []
+    entered-welcome : IsEntry (sight_of setup f) own effect → AllByRecursion IsTold fields_then → fold heard [] effect.own ≡ entries f.about f.present ++ (sid_text (f.about c).sender.sid, fields_then) ∷ []
     entered-welcome comes told =
         ap (fold heard []) comes.welcomes
         ∙ fold-append heard [] (map (line_of (sight_of setup f)) (map (user_of f.about) f.present)) _
-        ∙ ap (λ us. fold heard us (line_by (sight_of setup f) own fields_then ∷ cond (has_feature ucmd (f.about c).features) (map menu_line setup.menu) []))
+        ∙ ap (λ us. fold heard us (line_by (sight_of setup f) own fields_then ∷ cond (has_feature ucmd (f.about c).sender.features) (map menu_line setup.menu) []))
         (welcomed f.about (sight_of setup f) [] f.present (λ x y there-x there-y. differ x y (present-open x there-x) (present-open y there-y)) sound.present_once (told_of_user setup hash h))
-        ∙ ap (λ us. fold heard us (cond (has_feature ucmd (f.about c).features) (map menu_line setup.menu) [])) (entered-line comes told)
-        ∙ others-heard _ _ (others-if (has_feature ucmd (f.about c).features) (map menu_line setup.menu) (menus setup.menu))
+        ∙ ap (λ us. fold heard us (cond (has_feature ucmd (f.about c).sender.features) (map menu_line setup.menu) [])) (entered-line comes told)
+        ∙ others-heard _ _ (others-if (has_feature ucmd (f.about c).sender.features) (map menu_line setup.menu) (menus setup.menu))
 
     entered-step : IsEntry (sight_of setup f) own effect → AllByRecursion IsTold fields_then → (d : ℕ) → StepBy f c effect d
     entered-step comes told d =
@@ -362,10 +362,10 @@ module _ (setup : Configured) (hash : List ℕ → List ℕ) (h : List Entry) (s
       let f : Facts = facts setup hash h in
       let effect : Effect = effect_of_line setup hash f c bytes now in
       let e : Entry = record { caller = caller; call = Line c bytes now; reply = Left } in
-      step-by setup hash h small c effect (line-tells (sight_of setup f) (own_of (f.about c)) (prepared_line setup hash (f.about c).challenge bytes) now)
+      step-by setup hash h small c effect (line-tells (sight_of setup f) (own_of (f.about c)) (prepared_line setup hash (f.about c).sender.challenge bytes) now)
       (subst (AllByRecursion IsTold) (ap (λ b. cond b (fields_after effect.change (f.about c).fields) (f.about c).fields) (eq-eqb c c refl)) (told_of_user setup hash (e ∷ h) c)) d
 
-  quit-step : (c d : ℕ) → StepBy (facts setup hash h) c (departure ((facts setup hash h).about c).stage ((facts setup hash h).about c).sid) d
+  quit-step : (c d : ℕ) → StepBy (facts setup hash h) c (departure ((facts setup hash h).about c).stage ((facts setup hash h).about c).sender.sid) d
   quit-step c d = left-step setup hash h small c _ (record { others = refl; hearers = refl; change = refl }) d
 
   next : (caller : ℕ) (call : Call) → ((d : ℕ) → Lists (facts setup hash h).about (facts setup hash h).present ((facts setup hash h).about d)) → (d : ℕ)
@@ -379,7 +379,7 @@ module _ (setup : Configured) (hash : List ℕ → List ℕ) (h : List Entry) (s
       lists-next f.about (about_after c effect f.about) f.present (present_after c effect f.about f.present) d (owes (d == c) effect (f.about d)) refl refl (line-step caller c bytes now d) (lists d)
   next caller (Quit c) lists d =
       let f : Facts = facts setup hash h in
-      let effect : Effect = departure (f.about c).stage (f.about c).sid in
+      let effect : Effect = departure (f.about c).stage (f.about c).sender.sid in
       lists-next f.about (about_after c effect f.about) f.present (present_after c effect f.about f.present) d (owes (d == c) effect (f.about d)) refl refl (quit-step c d) (lists d)
   next caller (Take c count) lists d =
       let f : Facts = facts setup hash h in

@@ -161,7 +161,7 @@ module _ (setup : Configured) (hash : List ℕ → List ℕ) (h : List Entry) (e
     own = own_of (f.about c)
 
     abbrev line : PreparedLine
-    line = prepared_line setup hash (f.about c).challenge bytes
+    line = prepared_line setup hash (f.about c).sender.challenge bytes
 
     abbrev said : Option Reading
     said = accepted_line (sight_of setup f) own line now
@@ -175,9 +175,9 @@ module _ (setup : Configured) (hash : List ℕ → List ℕ) (h : List Entry) (e
         let accepts = is-accepted (sight_of setup f) own line now reading is in
         let users = users-only reading.kind reading.command asks-here in
         of_message c bytes now reading call is (from-own (sight_of setup f) own line now reading accepts asks-here) users.kind_is users.command_is
-        (ap (λ (text : List ℕ). text ++ 10 ∷ []) ((Reads-of line.bytes reading accepts.reads).text ∙ prepared-bytes setup hash (f.about c).challenge bytes))
+        (ap (λ (text : List ℕ). text ++ 10 ∷ []) ((Reads-of line.bytes reading accepts.reads).text ∙ prepared-bytes setup hash (f.about c).sender.challenge bytes))
 
-    does-speak : (done : Done) → Does (sight_of setup f).users f.bans own.sid done.others done.change → Speaks (effect_for_all done)
+    does-speak : (done : Done) → Does (sight_of setup f).users f.bans own.sender.sid done.others done.change → Speaks (effect_for_all done)
     does-speak done (kicks nick reason target called) = record { own = (of-done, tt); others = (of-removal _ _ _ _, tt) }
     does-speak done (bans_user nick reason target banned called same room) = record { own = (of-done, tt); others = (of-removal _ _ _ _, tt) }
     does-speak done (unbans cid) = record { own = (of-done, tt); others = tt }
@@ -187,14 +187,14 @@ module _ (setup : Configured) (hash : List ℕ → List ℕ) (h : List Entry) (e
         → ((reading : Reading) → saying ≡ Some reading → (said ≡ Some reading) × (request_of own.stage reading.kind reading.command ≡ request)) → SpeaksOr own effect
     speaks quiet reads = inr (record { own = tt; others = tt })
     speaks (denies deny) reads = inr (record { own = (of-denial deny, tt); others = tt })
-    speaks (shuts_out deny) reads = inr (record { own = (of-denial deny, tt); others = of-farewell (is_present own.stage) own.sid })
+    speaks (shuts_out deny) reads = inr (record { own = (of-denial deny, tt); others = of-farewell (is_present own.stage) own.sender.sid })
     speaks (greets reading features at is) reads =
-        inr (record { own = (of-support, (of-identifier own.sid, (of-hub f.topic _, tt))); others = tt })
-    speaks (waits reading u logs account) reads = inr (record { own = (of-challenge own.challenge, tt); others = tt })
+        inr (record { own = (of-support, (of-identifier own.sender.sid, (of-hub f.topic _, tt))); others = tt })
+    speaks (waits reading u logs account) reads = inr (record { own = (of-challenge own.sender.challenge, tt); others = tt })
     speaks (lets_in reading u logs account) reads = inl (ap is_present logs.at, refl)
     speaks (proves reading at asks none) reads = inl (ap is_present at, refl)
     speaks (revises reading u at words none) reads =
-        inr (record { own = tt; others = unless-empty own.sid (clean u own.peer) _ (of_update c bytes now (clean u own.peer) call at refl) })
+        inr (record { own = tt; others = unless-empty own.sender.sid (clean u own.sender.peer) _ (of_update c bytes now (clean u own.sender.peer) call at refl) })
     speaks (learns reading features at is) reads = inr (record { own = tt; others = tt })
     speaks (acts reading done at operator does) reads = inr (does-speak done does)
     speaks (chats reading at) reads = inr (record { own = tt; others = tt })
@@ -249,7 +249,7 @@ module _ (setup : Configured) (hash : List ℕ → List ℕ) (h : List Entry) (e
       by-call (Take c count) is = subst (λ call. Has (share setup hash f d call)) (sym is) tt
       by-call (Quit c) is =
           subst (λ call. Has (share setup hash f d call)) (sym is)
-          (owes-has (d == c) (departure (f.about c).stage (f.about c).sid) (f.about d) (record { own = tt; others = of-farewell (is_present (f.about c).stage) (f.about c).sid }))
+          (owes-has (d == c) (departure (f.about c).stage (f.about c).sender.sid) (f.about d) (record { own = tt; others = of-farewell (is_present (f.about c).stage) (f.about c).sender.sid }))
       by-call (Line c bytes now) is = by-speaking c bytes now is (line-speaks c bytes now is)
         where
           by-speaking : (c : ℕ) (bytes : List ℕ) (now : ℕ) → e.call ≡ Line c bytes now → SpeaksOr (own_of (f.about c)) (effect_of_line setup hash f c bytes now) → Has (share setup hash f d e.call)

@@ -83,13 +83,13 @@ merged-nothing fields = ap (settled_fields ([] ∷ [])) (append-nil fields) ∙ 
 abbrev pub listed_as : ℕ → List Field → Listing
 listed_as sid fields = (sid_text sid, fields)
 
-pub renewed-none : (same : Bool) (a : About) (u : List Field) → u ≡ [] → (if same then listed_as a.sid (merged_with a.fields u) else listed_as a.sid a.fields) ≡ listed_as a.sid a.fields
-renewed-none true a u none = ap (listed_as a.sid) (ap (merged_with a.fields) none ∙ merged-nothing a.fields)
+pub renewed-none : (same : Bool) (a : About) (u : List Field) → u ≡ [] → (if same then listed_as a.sender.sid (merged_with a.fields u) else listed_as a.sender.sid a.fields) ≡ listed_as a.sender.sid a.fields
+renewed-none true a u none = ap (listed_as a.sender.sid) (ap (merged_with a.fields) none ∙ merged-nothing a.fields)
 renewed-none false a u none = refl
 
 pub renewed-as : (same : Bool) (a : About) (change : Change) (u : List Field) → fields_after change a.fields ≡ merged_with a.fields u
-    → listed_as a.sid (cond same (fields_after change a.fields) a.fields) ≡ (if same then listed_as a.sid (merged_with a.fields u) else listed_as a.sid a.fields)
-renewed-as true a change u is = ap (listed_as a.sid) is
+    → listed_as a.sender.sid (cond same (fields_after change a.fields) a.fields) ≡ (if same then listed_as a.sender.sid (merged_with a.fields u) else listed_as a.sender.sid a.fields)
+renewed-as true a change u is = ap (listed_as a.sender.sid) is
 renewed-as false a change u is = refl
 
 -- ---- shares
