@@ -5,7 +5,7 @@
 mod ending;
 
 use clap::error::ErrorKind;
-use clap::{Arg, ArgAction, ArgMatches, Command};
+use clap::{Arg, ArgAction, ArgMatches, Command, value_parser};
 use ending::Ending;
 use flushed_writes::write_and_flush;
 use history_check::report_history;
@@ -56,7 +56,19 @@ fn command<'a>(alloc: Global) -> Result<Command<'a>, AllocError> {
         .about("Says whether a written history of a hub is legal")
         .after_help(STATUSES)
         .arg(file(alloc, "SETTINGS", "The settings file of the hub"))?
-        .arg(file(alloc, "HISTORY", "The written history"))
+        .arg(file(alloc, "HISTORY", "The written history"))?
+        .arg(opened(alloc))
+}
+
+/// The option that says when the hub was opened.
+fn opened<'a>(alloc: Global) -> Arg<'a> {
+    Arg::new(alloc, "opened")
+        .long("opened")
+        .value_name("SECONDS")
+        .action(ArgAction::Set)
+        .value_parser(value_parser!(u64))
+        .default_value("0")
+        .help("The moment at which the hub was opened: answers to PING count from it")
 }
 
 fn file<'a>(alloc: Global, name: &'a str, help: &'a str) -> Arg<'a> {
@@ -76,7 +88,8 @@ fn words(rt: &HostRuntime, alloc: Global) -> Result<Vec<String>, Ending> {
 }
 
 fn run_matches(rt: &HostRuntime, alloc: Global, matches: &ArgMatches<'_>) -> Result<bool, Ending> {
-    let settings = settings_of(rt, alloc, word_of(matches, "SETTINGS"))?;
+    let opened = matches.get_one::<u64>("opened").unwrap_or(0);
+    let settings = settings_of(rt, alloc, word_of(matches, "SETTINGS"), opened)?;
     let history = read(rt, word_of(matches, "HISTORY"), Ending::File)?;
     let mut report = report(rt, alloc, &settings, &history)?;
     let is_legal = report.as_slice() == b"legal".as_slice();
@@ -90,16 +103,18 @@ fn word_of<'a>(matches: &ArgMatches<'a>, name: &str) -> &'a str {
     matches.get_str(name).unwrap_or("")
 }
 
+/// Reads the settings of a hub that was opened at this moment.
 fn settings_of<R: Files + AllocGlobal>(
     rt: &R,
     alloc: Global,
     path: &str,
+    opened: u64,
 ) -> Result<Settings, Ending> {
     let bytes = read(rt, path, Ending::File)?;
     let Ok(text) = str::from_utf8(&bytes) else {
         return Err(Ending::Settings);
     };
-    match read_settings(alloc, text, 0) {
+    match read_settings(alloc, text, opened) {
         Ok(settings) => Ok(settings),
         Err(SettingsFault::Memory) => Err(Ending::Memory),
         Err(_) => Err(Ending::Settings),
