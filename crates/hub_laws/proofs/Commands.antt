@@ -7,10 +7,10 @@ use Rattle.operator_acts.specs.Bans.{left_of, left_of_bans}
 use Rattle.operator_acts.specs.declared.act.Act.{Act}
 use Rattle.operator_acts.proofs.Entries.{ban_on-with_ban, ban_on-without_ban, equal-bytes}
 use Rattle.hub_rules.specs.Acts.{answer_of, ban, banned_for, if_present, kick, removal, topic}
-use Rattle.hub_laws.proofs.Words.{About, Configured, Done, Effect, Entry, Facts, Hub, IsAddressed, Kind, Listed, Own, PreparedLine, Reading, Sight, about_after, accepted_effect}
+use Rattle.hub_laws.proofs.Words.{About, Configured, Done, Effect, Entry, Facts, IsAddressed, Kind, Listed, Own, PreparedLine, Reading, Sight, about_after, accepted_effect}
 use Rattle.hub_laws.proofs.Words.{act_denied, act_effect, after, ban_on, bytes_eq-Decides, cid_in, denial_of, effect_for_all, effect_of_line}
 use Rattle.hub_laws.proofs.Words.{eq-eqb, facts, false≢true, happens, has, has_key, is_command, is_full, is_operator, is_present, key_in, key_of_points, listed_user}
-use Rattle.hub_laws.proofs.Words.{most_users, or-true, own_of, prepared_line, present_are_users, request_at, request_denied, request_of, sid, sight_of, stage, text_in}
+use Rattle.hub_laws.proofs.Words.{most_users, or-true, own_of, prepared_line, present_are_users, request_at, request_denied, request_of, sight_of, text_in}
 use Rattle.hub_laws.proofs.Words.{user_by_key, user_called, user_of}
 use Rattle.hub_laws.proofs.Words.{Ban, eqb-true, is_removed, stage_next, with_ban, without_ban}
 use Rattle.hub_laws.proofs.Words.denials

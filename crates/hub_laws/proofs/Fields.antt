@@ -1,12 +1,17 @@
--- After every history the fields of a user can be printed as words: names of two characters, and values without blanks and line feeds.
-use Rattle.std.proofs.Common.{◌≡◌, sym, refl, subst, ℕ, Bool, true, false, ◌==◌, List, [], ◌∷◌, ◌++◌, map, cond, All, Option, Some, Ok, Err, unwrap_or, arith}
+-- After every history the fields of a user can be printed as words: names of two characters, and values that spell texts.
+use Rattle.std.proofs.Common.{◌≡◌, ◌∙◌, sym, ap, refl, subst, ℕ, Bool, true, false, ◌==◌, List, [], ◌∷◌, ◌++◌, length, map, cond, ◌&&◌, Option, Some, Ok, Err, unwrap_or, arith}
 use Rattle.std.specs.Prelude.{if◌then◌else◌}
 use Rattle.std.specs.Fmt.{digits}
 use Rattle.std.specs.List.{join_with_byte}
-use Rattle.std.proofs.lemmas.List.Elements.{All-head, All-tail}
-use Rattle.adc_line.specs.Grammar.{IsParameter}
-use Rattle.adc_line.specs.Header.{is_letter, is_letter_or_digit}
-use Rattle.adc_line.proofs.GrammarLemmas.{parameter_tests}
+use Rattle.std.specs.Str.{IsUtf8}
+use Rattle.std.proofs.Math.Seq.{take-append_seam}
+use Rattle.std.proofs.lemmas.Str.{IsCharBoundary-at_seam, IsUtf8-append, IsUtf8-take}
+use Rattle.adc_line.specs.Escapes.{backslash, ends_escape, is_escaped}
+use Rattle.adc_line.specs.Grammar.{IsParameter, Reads}
+use Rattle.adc_line.specs.Header.{is_letter, is_letter_or_digit, letter}
+use Rattle.adc_line.proofs.EscapeLaws.{escaped-unescaped}
+use Rattle.adc_line.proofs.EscapeLemmas.{plain_is_no_backslash, utf8_behind}
+use Rattle.adc_line.proofs.GrammarLemmas.{escaped_is_spelt, parameter_tests}
 use Rattle.inf_fields.specs.Cleaning.{dotted_decimal}
 use Rattle.inf_fields.specs.FieldNames.{client_type_name}
 use Rattle.inf_fields.specs.Updates.{before, field_in, is_named, unless_too_many, update}
@@ -19,7 +24,7 @@ use Rattle.hub_laws.proofs.Words.updates
 use Rattle.hub_laws.proofs.Clearing.{listed-fields}
 use Rattle.hub_laws.proofs.Naming.{read-update}
 use Rattle.hub_laws.proofs.Ordering.{is-accepted}
-use Rattle.hub_laws.proofs.Pieces.{IsGood, IsSolid, IsTold, from-all, is_gap, onto-solid}
+use Rattle.hub_laws.proofs.Pieces.{IsGood, IsPlain, IsSpelt, IsTold, IsValue, blank-utf8, from-all, is_gap, letter-digit-plain, letter-plain, is_plain_byte, onto-plain, plain-small, plain-special, plain-spelt, plain-utf8, to-all}
 use Rattle.hub_laws.proofs.Public.{info_is_public}
 use Rattle.hub_laws.specs.Secrets.{IsPublic}
 use Rattle.hub_rules.specs.History.{about}
@@ -30,52 +35,91 @@ AreGood fields = AllByRecursion IsGood fields
 
 -- ---- addresses
 
-joined-solid : (words : List (List ℕ)) → AllByRecursion IsSolid words → IsSolid (join_with_byte 46 words)
-joined-solid [] all = tt
-joined-solid (word ∷ []) all = all.0
-joined-solid (word ∷ next ∷ words) all = all-append (λ b. is_gap b ≡ false) word (46 ∷ join_with_byte 46 (next ∷ words)) all.0 (refl, joined-solid (next ∷ words) all.1)
+joined-plain : (words : List (List ℕ)) → AllByRecursion IsPlain words → IsPlain (join_with_byte 46 words)
+joined-plain [] all = tt
+joined-plain (word ∷ []) all = all.0
+joined-plain (word ∷ next ∷ words) all =
+    all-append (λ b. is_plain_byte b ≡ true) word (46 ∷ join_with_byte 46 (next ∷ words)) all.0 (refl, joined-plain (next ∷ words) all.1)
 
-decimals-solid : (peer : List ℕ) → AllByRecursion IsSolid (map (λ n. digits 10 false n) peer)
+decimals-plain : (peer : List ℕ) → AllByRecursion IsPlain (map (λ n. digits 10 false n) peer)
 unfolding digits
-decimals-solid [] = tt
-decimals-solid (n ∷ peer) = (onto-solid 64 n [] tt, decimals-solid peer)
+decimals-plain [] = tt
+decimals-plain (n ∷ peer) = (onto-plain 64 n [] tt, decimals-plain peer)
 
-address-solid : (peer : List ℕ) → IsSolid (dotted_decimal peer)
+pub address-plain : (peer : List ℕ) → IsPlain (dotted_decimal peer)
 unfolding dotted_decimal
-address-solid peer = joined-solid _ (decimals-solid peer)
+address-plain peer = joined-plain _ (decimals-plain peer)
 
 -- ---- what words say
 
+escaped-tail : (b : ℕ) (word : List ℕ) → (b == backslash) ≡ false → is_escaped (b ∷ word) ≡ true → is_escaped word ≡ true
+unfolding is_escaped
+escaped-tail b [] plain is = refl
+escaped-tail b (c ∷ word) plain is = sym (ap (λ x. cond x (ends_escape c && is_escaped word) (is_escaped (c ∷ word))) plain) ∙ is
+
+-- what stands behind a name spells a text, too
+value-spelt : (a b : ℕ) (value : List ℕ) → is_letter a ≡ true → is_letter_or_digit b ≡ true → IsParameter (a ∷ b ∷ value) → IsSpelt value
+value-spelt a b value letter other is =
+    let tests = parameter_tests (a ∷ b ∷ value) is in
+    let solid = from-all (λ x. is_gap x ≡ false) (a ∷ b ∷ value) tests.2 in
+    let escaped =
+    escaped-tail b value (plain_is_no_backslash b (plain-special b (letter-digit-plain b other))) (escaped-tail a (b ∷ value) (plain_is_no_backslash a (plain-special a (letter-plain a letter))) tests.1) in
+    let text = escaped_is_spelt value escaped (to-all (λ x. is_gap x ≡ false) value solid.1.1) in
+    (text.0, sym (escaped-unescaped value text.0 text.1))
+
 -- a word that has a name makes a field that can be printed
-good-word : (word : List ℕ) → is_named word ≡ true → IsSolid word → IsGood (field_in word)
+good-word : (word : List ℕ) → is_named word ≡ true → IsParameter word → IsUtf8 word → IsGood (field_in word)
 unfolding is_named
-good-word [] named solid = absurd (false≢true named)
-good-word (a ∷ []) named solid = absurd (false≢true named)
-good-word (a ∷ b ∷ value) named solid =
+good-word [] named is utf8 = absurd (false≢true named)
+good-word (a ∷ []) named is utf8 = absurd (false≢true named)
+good-word (a ∷ b ∷ value) named is utf8 =
     let tests = and_parts _ (is_letter_or_digit b) named in
-    record { first = a; second = b; name = refl; letter = (and_parts _ (is_letter a) tests.0).1; letter_or_digit = tests.1; solid = solid.1.1 }
+    let named-by = (and_parts _ (is_letter a) tests.0).1 in
+    let behind = utf8_behind (a ∷ b ∷ value) (a ∷ []) value b utf8 refl (plain-small b (letter-digit-plain b tests.1)) in
+    record { first = a; second = b; name = refl; letter = named-by; letter_or_digit = tests.1; value = record { spelt = value-spelt a b value named-by tests.1 is; utf8 = behind } }
+
+-- the words of a text are texts
+words-utf8 : (word : List ℕ) (words : List (List ℕ)) → IsUtf8 (join_with_byte 32 (word ∷ words)) → AllByRecursion IsUtf8 (word ∷ words)
+words-utf8 word [] utf8 = (utf8, tt)
+words-utf8 word (next ∷ words) utf8 =
+    let more : List ℕ = join_with_byte 32 (next ∷ words) in
+    let rest = utf8_behind (word ++ 32 ∷ more) word more 32 utf8 refl (omega arith) in
+    let seam = IsCharBoundary-at_seam (word ++ 32 ∷ more) word (32 ∷ more) refl (IsUtf8-append (32 ∷ []) more blank-utf8 rest) in
+    (subst IsUtf8 (take-append_seam word (32 ∷ more)) (IsUtf8-take (word ++ 32 ∷ more) (length word) utf8 seam), words-utf8 next words rest)
+
+all-later : {X : Type 0} (P : X → Type 0) (xs ys : List X) → AllByRecursion P (xs ++ ys) → AllByRecursion P ys
+all-later P [] ys all = all
+all-later P (x ∷ xs) ys all = all-later P xs ys all.1
+
+params-utf8 : (bytes : List ℕ) (line : Reading) → Reads bytes line → AllByRecursion IsUtf8 line.params
+params-utf8 bytes line is =
+    all-later IsUtf8 ((letter line.kind ∷ line.command) ∷ is.addresses) line.params
+    (words-utf8 (letter line.kind ∷ line.command) (is.addresses ++ line.params) (subst IsUtf8 is.spelt is.utf8))
+
+plain-value : (word : List ℕ) → IsPlain word → IsValue word
+plain-value word plain = record { spelt = plain-spelt word plain; utf8 = plain-utf8 word plain }
 
 -- of another value
-renamed : (f : Field) (value : List ℕ) → IsGood f → IsSolid value → IsGood (field f.name value)
-renamed f value good solid =
-    record { first = good.first; second = good.second; name = good.name; letter = good.letter; letter_or_digit = good.letter_or_digit; solid = solid }
+renamed : (f : Field) (value : List ℕ) → IsGood f → IsValue value → IsGood (field f.name value)
+renamed f value good is =
+    record { first = good.first; second = good.second; name = good.name; letter = good.letter; letter_or_digit = good.letter_or_digit; value = is }
 
-cond-solid : (b : Bool) (value : List ℕ) (o : Option (List ℕ)) (otherwise : List ℕ) → IsSolid value → IsSolid (unwrap_or o otherwise) → IsSolid (unwrap_or (if b then Some value else o) otherwise)
-cond-solid true value o otherwise first second = first
-cond-solid false value o otherwise first second = second
+cond-value : (b : Bool) (value : List ℕ) (o : Option (List ℕ)) (otherwise : List ℕ) → IsValue value → IsValue (unwrap_or o otherwise) → IsValue (unwrap_or (if b then Some value else o) otherwise)
+cond-value true value o otherwise first second = first
+cond-value false value o otherwise first second = second
 
-value-solid : (name : List ℕ) (fields : List Field) (otherwise : List ℕ) → AreGood fields → IsSolid otherwise → IsSolid (unwrap_or (value_of name fields) otherwise)
-value-solid name [] otherwise good solid = solid
-value-solid name (f ∷ fields) otherwise good solid = cond-solid (is_called name f) f.value (value_of name fields) otherwise good.0.solid (value-solid name fields otherwise good.1 solid)
+chosen-value : (name : List ℕ) (fields : List Field) (otherwise : List ℕ) → AreGood fields → IsValue otherwise → IsValue (unwrap_or (value_of name fields) otherwise)
+chosen-value name [] otherwise good is = is
+chosen-value name (f ∷ fields) otherwise good is = cond-value (is_called name f) f.value (value_of name fields) otherwise good.0.value (chosen-value name fields otherwise good.1 is)
 
-good-update : (words : List (List ℕ)) → list_all is_named words ≡ true → AllByRecursion IsSolid words → AreGood (update words)
+good-update : (words : List (List ℕ)) → list_all is_named words ≡ true → AllByRecursion IsParameter words → AllByRecursion IsUtf8 words → AreGood (update words)
 unfolding update
-good-update [] named solid = tt
-good-update (word ∷ words) named solid =
+good-update [] named spelt utf8 = tt
+good-update (word ∷ words) named spelt utf8 =
     let tests = and_parts (is_named word) (list_all is_named words) named in
-    let rest = good-update words tests.1 solid.1 in
-    let one = good-word word tests.0 solid.0 in
-    (renamed (field_in word) _ one (value-solid (field_in word).name (update words) (field_in word).value rest one.solid), all-filter IsGood _ (update words) rest)
+    let rest = good-update words tests.1 spelt.1 utf8.1 in
+    let one = good-word word tests.0 spelt.0 utf8.0 in
+    (renamed (field_in word) _ one (chosen-value (field_in word).name (update words) (field_in word).value rest one.value), all-filter IsGood _ (update words) rest)
 
 all-named : (named : Bool) (fields u : List Field) → (if named then unless_too_many fields else Err BadName) ≡ Ok u → named ≡ true
 all-named named fields u is = grind arith
@@ -84,14 +128,11 @@ read-named : (words : List (List ℕ)) (u : List Field) → updates.reading word
 unfolding updates.reading
 read-named words u is = all-named (list_all is_named words) (update words) u is
 
-solid-words : (words : List (List ℕ)) → All IsParameter words → AllByRecursion IsSolid words
-solid-words [] all = tt
-solid-words (word ∷ words) all = (from-all word (parameter_tests word (All-head IsParameter word words all)).2, solid-words words (All-tail IsParameter word words all))
-
 pub good-read : (bytes : List ℕ) (line : Reading) (u : List Field) → lines.reading bytes ≡ Ok line → updates.reading line.params ≡ Ok u → AreGood u
 good-read bytes line u reads words =
+    let is : Reads bytes line = Reads-of bytes line reads in
     subst AreGood (sym (read-update line.params u words))
-    (good-update line.params (read-named line.params u words) (solid-words line.params (Reads-of bytes line reads).params))
+    (good-update line.params (read-named line.params u words) (from-all IsParameter line.params is.params) (params-utf8 bytes line is))
 
 -- ---- what is passed on, and merged
 
@@ -101,7 +142,7 @@ good-if false f g first second = second
 
 good-mapped : (peer : List ℕ) (u : List Field) → AreGood u → AreGood (map (with_address peer) u)
 good-mapped peer [] good = tt
-good-mapped peer (f ∷ u) good = (good-if _ _ f (renamed f (dotted_decimal peer) good.0 (address-solid peer)) good.0, good-mapped peer u good.1)
+good-mapped peer (f ∷ u) good = (good-if _ _ f (renamed f (dotted_decimal peer) good.0 (plain-value (dotted_decimal peer) (address-plain peer))) good.0, good-mapped peer u good.1)
 
 pub good-clean : (peer : List ℕ) (u : List Field) → AreGood u → AreGood (clean u peer)
 unfolding clean
@@ -109,7 +150,7 @@ good-clean peer u good = good-mapped peer _ (all-filter IsGood _ u good)
 
 good-settled : (u fields : List Field) → AreGood u → AreGood fields → AreGood (map (λ f. field f.name (latest (u ∷ []) f.name f.value)) fields)
 good-settled u [] good all = tt
-good-settled u (f ∷ fields) good all = (renamed f _ all.0 (value-solid f.name u f.value good all.0.solid), good-settled u fields good all.1)
+good-settled u (f ∷ fields) good all = (renamed f _ all.0 (chosen-value f.name u f.value good all.0.value), good-settled u fields good all.1)
 
 good-merged : (fields u : List Field) → AreGood fields → AreGood u → AreGood (merged_with fields u)
 unfolding merged_with

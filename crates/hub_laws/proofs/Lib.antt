@@ -54,3 +54,8 @@ pub mod Lists
 pub mod Types
 pub mod Origins
 pub mod Playing
+pub mod Statuses
+pub mod Sources
+pub mod Written
+pub mod HubLines
+pub mod Forms

@@ -1,5 +1,5 @@
 -- After every history, each user who is present and does not lag lists those who are present.
-use Rattle.std.proofs.Common.{◌≡◌, ◌∙◌, sym, ap, ap₂, refl, subst, ℕ, Some, ◌+◌, ◌<◌, ◌≤◌, Bool, true, false, not, ◌&&◌, ◌==◌, List, [], ◌∷◌, ◌++◌, append-nil, map, filter, fold, length, cond, arith}
+use Rattle.std.proofs.Common.{◌≡◌, ◌∙◌, sym, ap, ap₂, refl, subst, ℕ, Some, ◌+◌, ◌<◌, ◌≤◌, Bool, true, false, not, ◌&&◌, ◌==◌, List, [], ◌∷◌, ◌++◌, append-nil, map, filter, fold, length, cond}
 use Rattle.std.proofs.Math.Bool.{and-true}
 use Rattle.std.specs.Prelude.{if◌then◌else◌}
 use Rattle.adc_base32.specs.Sids.{sid_text}
@@ -7,7 +7,7 @@ use Rattle.hub_rules.specs.Shares.{lags_with, owed_with}
 use Rattle.hub_laws.proofs.Words.{About, AllByRecursion, Call, Configured, Effect, Entry, Facts, Field, Join, Line, Listed, Own, Quit, Sound, Stage, Take}
 use Rattle.hub_laws.proofs.Words.{about_after, after, departure, effect_of_line, enters, eq-eqb, eqb-true, facts, false≢true, fields_after, happens, has, has_feature, has_joins, has_place}
 use Rattle.hub_laws.proofs.Words.{is_present, is_removed, line_of, line_unless_empty, menu_line, most_users, newcomer, next_sid, not-over, own_of, owes, prepared_line, present_after, quit_line}
-use Rattle.hub_laws.proofs.Words.{removed_by, share, sid, sids_are_given, sids_differ, sight_of, sound_of, stage, stage_after, take-facts, taken_by, ucmd, user_of, with_connection, without_connection}
+use Rattle.hub_laws.proofs.Words.{removed_by, share, sid, sids_are_given, sids_differ, sight_of, sound_of, stage_after, take-facts, taken_by, ucmd, user_of, with_connection, without_connection}
 use Rattle.hub_laws.proofs.Words.{absent-newcomer, fold-append, key_of_points, removal_line, user_called}
 use Rattle.hub_rules.specs.Configured.{MenuEntry}
 use Rattle.hub_rules.specs.Texts.{update_line}

@@ -143,7 +143,7 @@ talk kinds.Hub command asks = record { no_entry = λ same is. apart 72 66 refl s
 talk kinds.Client command asks = record { no_entry = λ same is. apart 67 66 refl same; no_hub = apart 67 73 refl }
 talk kinds.Udp command asks = record { no_entry = λ same is. apart 85 66 refl same; no_hub = apart 85 73 refl }
 
-letter-of : (kind : Kind) → is_gap (letter kind) ≡ false
+pub letter-of : (kind : Kind) → is_gap (letter kind) ≡ false
 letter-of kinds.Broadcast = refl
 letter-of kinds.Info = refl
 letter-of kinds.Direct = refl

@@ -1,15 +1,21 @@
 -- The words of the lines by which a hub tells of users, and the first word of each other line.
-use Rattle.std.proofs.Common.{◌≡◌, ◌∙◌, sym, ap, ap₂, refl, subst, ℕ, zero, suc, ◌+◌, ◌/◌, ◌%◌, Bool, true, false, not, ◌||◌, ◌==◌, List, [], ◌∷◌, ◌++◌, append_assoc, append-nil, map, filter, cond, All, nat_lt, arith}
+use Rattle.std.proofs.Common.{◌≡◌, ◌∙◌, sym, ap, ap₂, refl, subst, ℕ, zero, suc, ◌+◌, ◌/◌, ◌%◌, ◌<◌, Bool, true, false, not, ◌&&◌, ◌||◌, ◌==◌, List, [], ◌∷◌, ◌++◌, append_assoc, append-nil, map, filter, cond, All, nat_lt, arith}
 use Rattle.std.specs.Prelude.{Option, Some, None, codes, if◌then◌else◌}
 use Rattle.std.specs.Fmt.{digits_onto}
 use Rattle.std.specs.List.{onto_first}
+use Rattle.std.specs.Str.{IsAscii, IsUtf8}
+use Rattle.std.proofs.lemmas.Str.{IsUtf8-from_ascii}
 use Rattle.std.proofs.lemmas.List.Elements.{All-nil, All-cons, All-head, All-tail}
 use Rattle.std.proofs.lemmas.List.Splits.{slice_split_at, slice_split-cons_no}
 use Rattle.adc_base32.specs.Digits.{digit_of}
 use Rattle.adc_base32.specs.Sids.{sid_text}
+use Rattle.adc_line.specs.Escapes.{escaped_text, is_special}
 use Rattle.adc_line.specs.Frames.{is_lf}
 use Rattle.adc_line.specs.Header.{is_letter, is_letter_or_digit}
 use Rattle.adc_line.specs.Words.{is_blank}
+use Rattle.adc_line.proofs.EscapeLaws.{read_back}
+use Rattle.adc_line.proofs.EscapeLemmas.{escaped-cons, escaped-nil, escaped_byte-plain}
+use Rattle.adc_line.proofs.GrammarLemmas.{spelt_is_escaped}
 use Rattle.inf_fields.specs.Field.{printed_fields}
 use Rattle.inf_fields.specs.FieldNames.{client_type_name}
 use Rattle.inf_fields.specs.Updates.{field_in, is_named}
@@ -25,13 +31,13 @@ is_gap b = is_blank b || is_lf b
 abbrev pub IsSolid : List ℕ → Type 0
 IsSolid word = AllByRecursion (λ b. is_gap b ≡ false) word
 
-to-all : (word : List ℕ) → IsSolid word → All (λ b. is_gap b ≡ false) word
-to-all [] solid = All-nil (λ b. is_gap b ≡ false)
-to-all (b ∷ word) solid = All-cons (λ x. is_gap x ≡ false) b word solid.0 (to-all word solid.1)
+pub to-all : {X : Type 0} (P : X → Type 0) (xs : List X) → AllByRecursion P xs → All P xs
+to-all P [] all = All-nil P
+to-all P (x ∷ xs) all = All-cons P x xs all.0 (to-all P xs all.1)
 
-pub from-all : (word : List ℕ) → All (λ b. is_gap b ≡ false) word → IsSolid word
-from-all [] all = tt
-from-all (b ∷ word) all = (All-head (λ x. is_gap x ≡ false) b word all, from-all word (All-tail (λ x. is_gap x ≡ false) b word all))
+pub from-all : {X : Type 0} (P : X → Type 0) (xs : List X) → All P xs → AllByRecursion P xs
+from-all P [] all = tt
+from-all P (x ∷ xs) all = (All-head P x xs all, from-all P xs (All-tail P x xs all))
 
 pub letter-solid : (c : ℕ) → is_letter c ≡ true → is_gap c ≡ false
 letter-solid c is = grind arith
@@ -46,42 +52,99 @@ digit-solid value = grind arith
 pub sid-solid : (n : ℕ) → IsSolid (sid_text n)
 sid-solid n = (digit-solid (n / 32768), (digit-solid (n / 1024 % 32), (digit-solid (n / 32 % 32), (digit-solid (n % 32), tt))))
 
+-- ---- spellings
+
+-- a word that spells a text, the empty one too
+abbrev pub IsSpelt : List ℕ → Type 0
+IsSpelt word = (text : List ℕ) × (word ≡ escaped_text text)
+
+pub spelt-solid : (word : List ℕ) → IsSpelt word → IsSolid word
+spelt-solid word spelt = from-all (λ b. is_gap b ≡ false) word (spelt_is_escaped word spelt.0 (read_back word spelt.0 spelt.1)).1
+
+-- ASCII that stands for itself
+abbrev pub is_plain_byte : ℕ → Bool
+is_plain_byte b = nat_lt b 128 && not (is_special b)
+
+abbrev pub IsPlain : List ℕ → Type 0
+IsPlain word = AllByRecursion (λ b. is_plain_byte b ≡ true) word
+
+pub letter-plain : (c : ℕ) → is_letter c ≡ true → is_plain_byte c ≡ true
+letter-plain c is = grind arith
+
+pub letter-digit-plain : (c : ℕ) → is_letter_or_digit c ≡ true → is_plain_byte c ≡ true
+letter-digit-plain c is = grind arith
+
+pub plain-special : (b : ℕ) → is_plain_byte b ≡ true → is_special b ≡ false
+plain-special b is = grind arith
+
+pub plain-small : (b : ℕ) → is_plain_byte b ≡ true → b < 128
+plain-small b is = grind arith
+
+plain-ascii : (word : List ℕ) → IsPlain word → IsAscii word
+plain-ascii [] plain i = omega arith
+plain-ascii (b ∷ word) plain zero = plain-small b plain.0
+plain-ascii (b ∷ word) plain (suc i) = plain-ascii word plain.1 i
+
+pub plain-utf8 : (word : List ℕ) → IsPlain word → IsUtf8 word
+plain-utf8 word plain = IsUtf8-from_ascii word (plain-ascii word plain)
+
+pub blank-utf8 : IsUtf8 (32 ∷ [])
+blank-utf8 = IsUtf8-from_ascii (32 ∷ []) only
+  where
+    only : IsAscii (32 ∷ [])
+    only zero = omega arith
+    only (suc i) = omega arith
+
+pub plain-before : (run word : List ℕ) → IsPlain run → IsSpelt word → IsSpelt (run ++ word)
+plain-before [] word plain spelt = spelt
+plain-before (b ∷ run) word plain spelt =
+    let rest = plain-before run word plain.1 spelt in
+    (b ∷ rest.0, ap (λ (bs : List ℕ). b ∷ bs) rest.1 ∙ sym (escaped-cons b rest.0 ∙ ap (λ (bs : List ℕ). bs ++ escaped_text rest.0) (escaped_byte-plain b (plain-special b plain.0))))
+
+pub plain-spelt : (word : List ℕ) → IsPlain word → IsSpelt word
+plain-spelt word plain = subst IsSpelt (append-nil word) (plain-before word [] plain ([], sym escaped-nil))
+
 -- ---- numbers
 
-glyph-solid : (d : ℕ) → is_gap (if nat_lt d 10 then 48 + d else 87 + d) ≡ false
-glyph-solid d = grind arith
+glyph-plain : (n : ℕ) → is_plain_byte (if nat_lt (n % 10) 10 then 48 + n % 10 else 87 + n % 10) ≡ true
+glyph-plain n = grind arith
 
-onto-cond : (b : Bool) (xs ys : List ℕ) → IsSolid xs → IsSolid ys → IsSolid (if b then xs else ys)
+onto-cond : (b : Bool) (xs ys : List ℕ) → IsPlain xs → IsPlain ys → IsPlain (if b then xs else ys)
 onto-cond true xs ys first second = first
 onto-cond false xs ys first second = second
 
-pub onto-solid : (k n : ℕ) (acc : List ℕ) → IsSolid acc → IsSolid (digits_onto k 10 false n acc)
-onto-solid zero n acc solid = solid
-onto-solid (suc k) n acc solid =
-    onto-cond (n / 10 == 0) _ _ (glyph-solid (n % 10), solid) (onto-solid k (n / 10) _ (glyph-solid (n % 10), solid))
+pub onto-plain : (k n : ℕ) (acc : List ℕ) → IsPlain acc → IsPlain (digits_onto k 10 false n acc)
+onto-plain zero n acc plain = plain
+onto-plain (suc k) n acc plain =
+    onto-cond (n / 10 == 0) _ _ (glyph-plain n, plain) (onto-plain k (n / 10) _ (glyph-plain n, plain))
 
 -- ---- words, one after another
 
 pub cut : (word : List ℕ) (gap : ℕ) (rest : List ℕ) → IsSolid word → is_gap gap ≡ true → pieces (word ++ gap ∷ rest) ≡ word ∷ pieces rest
-cut word gap rest solid is = slice_split_at is_gap word gap rest (to-all word solid) is
+cut word gap rest solid is = slice_split_at is_gap word gap rest (to-all (λ b. is_gap b ≡ false) word solid) is
 
 -- ---- fields
 
--- a field that can be printed: a name of two characters, and a value without blanks and line feeds
+-- a value that spells a text
+pub record IsValue (value : List ℕ) : Type 0 where
+  pub spelt : IsSpelt value
+  pub utf8 : IsUtf8 value
+
+-- a field that can be printed: a name of two characters, and such a value
 pub record IsGood (f : Field) : Type 0 where
   pub first : ℕ
   pub second : ℕ
   pub name : f.name ≡ first ∷ second ∷ []
   pub letter : is_letter first ≡ true
   pub letter_or_digit : is_letter_or_digit second ≡ true
-  pub solid : IsSolid f.value
+  pub value : IsValue f.value
 
 abbrev pub word_of : Field → List ℕ
 word_of f = f.name ++ f.value
 
 pub word-solid : (f : Field) → IsGood f → IsSolid (word_of f)
 word-solid f good = subst (λ (name : List ℕ). IsSolid (name ++ f.value)) (sym good.name)
-    (letter-solid good.first good.letter, (letter-digit-solid good.second good.letter_or_digit, good.solid))
+    (letter-solid good.first good.letter, (letter-digit-solid good.second good.letter_or_digit, spelt-solid f.value good.value.spelt))
 
 named-word : (a b : ℕ) (value : List ℕ) → is_letter a ≡ true → is_letter_or_digit b ≡ true → is_named (a ∷ b ∷ value) ≡ true
 unfolding is_named

@@ -6,7 +6,7 @@ use Rattle.hub_rules.specs.Shares.{lags_with, owed_with}
 use Rattle.hub_laws.proofs.Words.{About, Change, Effect, Field, Others, Sender, Stage, Those}
 use Rattle.hub_laws.proofs.Words.{after, false≢true, fields_after, hears_those}
 use Rattle.hub_laws.proofs.Words.{holds_words, is_over, is_present, is_removed, merged_with, owes}
-use Rattle.hub_laws.proofs.Words.{settled_fields, sid, stage, stage_after, stage_next}
+use Rattle.hub_laws.proofs.Words.{settled_fields, sid, stage_after, stage_next}
 use Rattle.hub_laws.proofs.Words.audiences
 use Rattle.hub_laws.proofs.Words.senders
 use Rattle.hub_laws.proofs.Words.stages

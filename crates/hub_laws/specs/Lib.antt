@@ -31,3 +31,4 @@ pub mod Logins
 pub mod Lists
 pub mod Types
 pub mod Origins
+pub mod Forms

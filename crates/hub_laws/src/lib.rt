@@ -10,6 +10,6 @@ pub use laws::{
     secret_laws, take_laws,
 };
 pub use users_laws::{
-    command_laws, greeting_laws, hearing_laws, limit_laws, list_laws, login_laws, message_laws,
-    origin_laws, outsider_laws, owner_laws, refusal_laws, search_laws,
+    command_laws, form_laws, greeting_laws, hearing_laws, limit_laws, list_laws, login_laws,
+    message_laws, origin_laws, outsider_laws, owner_laws, refusal_laws, search_laws,
 };

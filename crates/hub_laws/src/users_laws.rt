@@ -4,6 +4,7 @@ ghost use Rattle.hub_laws.specs.Greetings.{NewcomersHearTheTopic};
 ghost use Rattle.hub_laws.specs.Hearing.{AllHearInOneOrder, AllHearTheSame};
 ghost use Rattle.hub_invariants.specs.Promises.{FewAreOpen};
 ghost use Rattle.hub_laws.specs.Holding.{BansAreFew};
+ghost use Rattle.hub_laws.specs.Forms.{LinesAreMessages, LinesEndOnce};
 ghost use Rattle.hub_laws.specs.Limits.{FewLinesWait, UsersAreWellFormed};
 ghost use Rattle.hub_laws.specs.Types.{OperatorsHaveAccounts};
 ghost use Rattle.hub_laws.specs.Outsiders.{OutsidersHearNothing};
@@ -95,4 +96,13 @@ pub fn list_laws()
 /// user whose entry or update it tells; or is a message of a user, byte for byte, of the type B, D, E or F, under its own SID.
 pub fn origin_laws()
     ensures { LinesHaveOrigins }
+{}
+
+/// Says that each line that a connection is owed is one line of the protocol's grammar: one line feed ends it. A user's message of the
+/// type B, D, E or F meets the whole grammar. A line of the hub is words with one blank between each two: its type and command, a BINF's
+/// SID, and parameters that spell texts; a BINF is UTF-8 too. Two lines have an empty word: a menu's entry without a name, and an empty
+/// challenge. No hub that settings make has such an entry, and joins give challenges of 24 bytes (ADC 1.0, "Message syntax").
+pub fn form_laws()
+    ensures ends { LinesEndOnce }
+    ensures messages { LinesAreMessages }
 {}
