@@ -1,2 +1,3 @@
-pub mod Asking
-pub mod Messages
+mod Asking
+mod Messages
+mod Supporting

@@ -1,4 +1,9 @@
+pub mod Entries
+pub mod Fields
 pub mod Identities
 pub mod Requests
 pub mod Roles
+pub mod Sayings
+pub mod Statuses
 pub mod Unanswered
+pub mod Users

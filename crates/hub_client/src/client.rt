@@ -1,8 +1,9 @@
-ghost use Rattle.std.specs.Prelude.{◌++◌, ◌∷◌, [], OnOk};
+ghost use Rattle.std.specs.Prelude.{◌≡◌, ◌++◌, ◌∷◌, ℕ, [], codes, IfErr, IfOk, IfSome, IsFalse, IsTrue, OnOk};
 ghost use Rattle.std.specs.Io.KnownBytes.{Appends};
+ghost use Rattle.hub_client.specs.Entries.{Enters, IsAnswer, IsEntry, IsInfo, IsRefusal, IsSentAway, IsSuccess, IsUserLine, TellsOf};
 
 use crate::fault::{ClientFault, not_adc, unanswered};
-use crate::fields::field_after;
+use crate::fields::field_among;
 use crate::login::support_line;
 use crate::status::Status;
 use crate::user::Who;
@@ -62,16 +63,15 @@ impl<S: Read + Write> Client<S> {
         let mut sid = None;
         for _line in 0..u64::MAX {
             let line = self.hear()?;
-            match (line.kind(), line.command()) {
-                (Kind::Info, [b'S', b'I', b'D']) => sid = sid_in(&line),
-                (Kind::Info, [b'S', b'T', b'A']) => self.check(&line)?,
-                (Kind::Info, [b'I', b'N', b'F']) => {
-                    let Some(sid) = sid else {
-                        return Err(ClientFault::NotAdc);
-                    };
-                    return Ok(Welcome { sid, hub: line });
-                }
-                _ => {}
+            if is_info(&line, *b"SID") {
+                sid = sid_in(&line);
+            } else if is_info(&line, *b"STA") {
+                success_in(self.alloc, &line)?;
+            } else if is_info(&line, *b"INF") {
+                let Some(sid) = sid else {
+                    return Err(ClientFault::NotAdc);
+                };
+                return Ok(Welcome { sid, hub: line });
             }
         }
         Err(ClientFault::Closed)
@@ -82,16 +82,11 @@ impl<S: Read + Write> Client<S> {
         say(self.alloc, &mut self.stream, login)?;
         for _line in 0..u64::MAX {
             let line = self.hear()?;
-            match (line.kind(), line.command()) {
-                (Kind::Info, [b'G', b'P', b'A']) => return challenge_in(&line),
-                (Kind::Info, [b'S', b'T', b'A']) => self.check(&line)?,
-                (Kind::Broadcast, [b'I', b'N', b'F']) => {
-                    if line.from() == Some(sid) {
-                        return Ok(Entry::Inside);
-                    }
-                    self.users.push(line)?;
-                }
-                _ => {}
+            if let Some(entry) = entry_in(self.alloc, &line, sid)? {
+                return Ok(entry);
+            }
+            if is_user(&line) {
+                self.users.push(line)?;
             }
         }
         Err(ClientFault::Closed)
@@ -109,17 +104,13 @@ impl<S: Read + Write> Client<S> {
         say(self.alloc, &mut self.stream, line)?;
         for _line in 0..u64::MAX {
             let line = self.hear().map_err(unanswered)?;
-            match (line.kind(), line.command()) {
-                (Kind::Info, [b'S', b'T', b'A']) => {
-                    let status = Status::read(self.alloc, &line)?;
-                    if status.is_success() {
-                        return Ok(status);
-                    }
-                    return Err(ClientFault::Refused(status));
-                }
-                (Kind::Info, [b'Q', b'U', b'I']) => self.gone.push(line)?,
-                (Kind::Broadcast, [b'I', b'N', b'F']) => self.users.push(line)?,
-                _ => {}
+            if let Some(status) = answer_in(self.alloc, &line)? {
+                return Ok(status);
+            }
+            if is_info(&line, *b"QUI") {
+                self.gone.push(line)?;
+            } else if is_user(&line) {
+                self.users.push(line)?;
             }
         }
         Err(ClientFault::Closed)
@@ -143,8 +134,8 @@ impl<S: Read + Write> Client<S> {
             if heard.text() == line.text() {
                 return Ok(());
             }
-            if heard.kind() == Kind::Info && heard.command() == *b"STA" {
-                self.check(&heard)?;
+            if is_info(&heard, *b"STA") {
+                success_in(self.alloc, &heard)?;
             }
         }
         Err(ClientFault::Closed)
@@ -173,31 +164,93 @@ impl<S: Read + Write> Client<S> {
             Err(error) => Err(error.into()),
         }
     }
+}
 
-    /// Refused where a status message says that something went wrong.
-    fn check(&self, line: &Line) -> Result<(), ClientFault> {
-        let status = Status::read(self.alloc, line)?;
-        if status.is_success() {
-            return Ok(());
-        }
-        Err(ClientFault::Refused(status))
+/// Tests whether a line is of the type I and has this command.
+fn is_info(line: &Line, command: [u8; 3]) -> bool
+    ensures yes { IsTrue result → IsInfo line.now command }
+    ensures no { IsFalse result → IsInfo line.now command → ⊥ }
+{
+    line.kind() == Kind::Info && line.command() == command
+}
+
+/// Tests whether a line tells of a user.
+fn is_user(line: &Line) -> bool
+    ensures yes { IsTrue result → IsUserLine line.now }
+    ensures no { IsFalse result → IsUserLine line.now → ⊥ }
+{
+    line.kind() == Kind::Broadcast && line.command() == *b"INF"
+}
+
+/// Tests whether a line tells of the user of this session identifier.
+fn is_of(line: &Line, sid: Sid) -> bool
+    ensures yes { IsTrue result → TellsOf line.now sid }
+    ensures no { IsFalse result → TellsOf line.now sid → ⊥ }
+{
+    is_user(line) && line.from() == Some(sid)
+}
+
+/// Returns how far the client of this session identifier came, if a line says so; `None` if the line says nothing of that.
+///
+/// Refused: `Refused` with the status of a failure that the line is; `NotAdc`; `Memory`.
+fn entry_in(alloc: Global, line: &Line, sid: Sid) -> Result<Option<Entry>, ClientFault>
+    ensures entry { IfOk result (λ entry. IsEntry line.now sid entry) }
+    ensures refused { IfErr result (λ fault. IsRefusal line.now fault) }
+{
+    if is_info(line, *b"GPA") {
+        return Ok(Some(challenge_in(line)?));
     }
+    if is_info(line, *b"STA") {
+        success_in(alloc, line)?;
+        return Ok(None);
+    }
+    Ok(is_of(line, sid).then_some(Entry::Inside))
+}
+
+/// Returns the status of a success that a line is; `None` if it is no status. Refused as [`success_in`] says.
+fn answer_in(alloc: Global, line: &Line) -> Result<Option<Status>, ClientFault>
+    ensures answer { IfOk result (λ status. IsAnswer line.now status) }
+    ensures refused { IfErr result (λ fault. IsRefusal line.now fault) }
+{
+    if is_info(line, *b"STA") {
+        return Ok(Some(success_in(alloc, line)?));
+    }
+    Ok(None)
+}
+
+/// Returns the status that a line is. Refused: `Refused` with a status of a failure; `NotAdc` if it is none; `Memory`.
+fn success_in(alloc: Global, line: &Line) -> Result<Status, ClientFault>
+    requires { IsInfo line.now (codes "STA") }
+    ensures success { IfOk result (λ status. IsSuccess line.now status) }
+    ensures refused { IfErr result (λ fault. IsRefusal line.now fault) }
+{
+    let status = Status::read(alloc, line)?;
+    if status.is_success() {
+        return Ok(status);
+    }
+    Err(ClientFault::Refused(status))
 }
 
 fn sid_in(line: &Line) -> Option<Sid> {
     Sid::parse(line.params().next()?.as_bytes())
 }
 
-/// The session identifier of whom this operator sent away, where a message of the type QUI says so.
-fn sent_away_by(line: &Line, operator: Sid) -> Option<Sid> {
-    let by = Sid::parse(field_after(line, 1, "ID")?.as_bytes())?;
-    if by != operator {
-        return None;
-    }
-    sid_in(line)
+/// Returns the session identifier of whom this operator sent away, if a message of the type QUI says so.
+fn sent_away_by(line: &Line, operator: Sid) -> Option<Sid>
+    ensures { IfSome result (λ sid. IsSentAway line.now sid operator) }
+{
+    let mut words = line.params();
+    let gone = Sid::parse(words.next()?.as_bytes())?;
+    let by = Sid::parse(field_among(words, "ID")?.as_bytes())?;
+    (by == operator).then_some(gone)
 }
 
-fn challenge_in(line: &Line) -> Result<Entry, ClientFault> {
+/// Returns the challenge that the hub sends. Refused: `NotAdc` if it sends none.
+fn challenge_in(line: &Line) -> Result<Entry, ClientFault>
+    requires { IsInfo line.now (codes "GPA") }
+    ensures challenge { IfOk result (λ entry. (sid : ℕ) → Enters line.now sid entry) }
+    ensures refused { IfErr result (λ fault. fault ≡ ClientFault.NotAdc) }
+{
     let word = line.params().next().unwrap_or("");
     match decode24(word.as_bytes()) {
         Ok(bytes) => Ok(Entry::Challenged(bytes)),

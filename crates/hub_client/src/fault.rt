@@ -1,5 +1,7 @@
-ghost use Rattle.std.specs.Prelude.{◌≡◌};
+ghost use Rattle.std.specs.Prelude.{◌≡◌, ◌≢◌, ◌⊎◌, true};
+ghost use Rattle.adc_line.specs.declared.fault.LineFault.TheVariants as lines;
 ghost use Rattle.hub_client.specs.Unanswered.{unanswered};
+ghost use Rattle.hub_client.specs.declared.fault.ClientFault.TheVariants.{Memory, NotAdc, Unsayable};
 
 use crate::status::Status;
 use adc_line::{FrameFault, LineFault, UnescapeFault};
@@ -37,18 +39,24 @@ pub enum ClientFault {
 }
 
 impl From<AllocError> for ClientFault {
+    ghost from_gives = { λ _ fault. fault ≡ Memory };
+
     fn from(_: AllocError) -> ClientFault {
         ClientFault::Memory
     }
 }
 
 impl<T: Drop> From<AllocFailed<T>> for ClientFault {
+    ghost from_gives = { λ _ fault. fault ≡ Memory };
+
     fn from(_: AllocFailed<T>) -> ClientFault {
         ClientFault::Memory
     }
 }
 
 impl From<FrameFault> for ClientFault {
+    ghost from_gives = { λ _ fault. fault ≡ Memory };
+
     fn from(_: FrameFault) -> ClientFault {
         ClientFault::Memory
     }
@@ -65,7 +73,10 @@ impl From<io::Error> for ClientFault {
 }
 
 /// Gives the fault of a line that was to be sent and is none.
-pub(crate) fn unsayable(fault: LineFault) -> ClientFault {
+pub(crate) fn unsayable(fault: LineFault) -> ClientFault
+    ensures memory { fault ≡ lines.Memory → result ≡ Memory }
+    ensures other { fault ≢ lines.Memory → result ≡ Unsayable }
+{
     match fault {
         LineFault::Memory => ClientFault::Memory,
         _ => ClientFault::Unsayable,
@@ -73,7 +84,10 @@ pub(crate) fn unsayable(fault: LineFault) -> ClientFault {
 }
 
 /// Gives the fault of a line that came and is none.
-pub(crate) fn not_adc(fault: LineFault) -> ClientFault {
+pub(crate) fn not_adc(fault: LineFault) -> ClientFault
+    ensures memory { fault ≡ lines.Memory → result ≡ Memory }
+    ensures other { fault ≢ lines.Memory → result ≡ NotAdc }
+{
     match fault {
         LineFault::Memory => ClientFault::Memory,
         _ => ClientFault::NotAdc,
@@ -81,6 +95,8 @@ pub(crate) fn not_adc(fault: LineFault) -> ClientFault {
 }
 
 impl From<UnescapeFault> for ClientFault {
+    ghost from_gives = { λ _ fault. (fault ≡ Memory) ⊎ (fault ≡ NotAdc) };
+
     fn from(fault: UnescapeFault) -> ClientFault {
         match fault {
             UnescapeFault::Memory => ClientFault::Memory,

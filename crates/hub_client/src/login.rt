@@ -1,10 +1,16 @@
+ghost use Rattle.std.specs.Prelude.{◌≡◌, IfOk, IfErr};
+ghost use Rattle.adc_line.specs.Grammar.{Reads};
+ghost use Rattle.adc_line.specs.Lines.{Reading};
+ghost use Rattle.hub_client.specs.Requests.{nick_bytes};
+ghost use Rattle.hub_client.specs.Sayings.{chat_text, identifiers_text, login_text, password_text, support_text};
+
 use crate::fault::{ClientFault, unsayable};
 use crate::nick_text::NickText;
 use adc_base32::{Sid, encode24};
 use adc_ids::Cid;
 use adc_line::{Line, escape};
 use session_hash::SessionHash;
-use std::alloc::Global;
+use std::alloc::{AllocError, Global};
 
 /// The identity of a client: a private identifier and the client identifier that is its hash.
 #[derive(Clone, Copy)]
@@ -27,23 +33,39 @@ impl Identity {
     }
 }
 
-/// The first message of a client, which a hub list's pinger extends.
-pub fn support_line(alloc: Global, pinger: bool) -> Result<Line, ClientFault> {
+/// Makes the first message of a client, which a hub list's pinger extends. Refused only when memory runs out.
+pub fn support_line(alloc: Global, pinger: bool) -> Result<Line, ClientFault>
+    ensures exact { IfOk result (λ line. line.text ≡ support_text pinger) }
+    ensures refused { IfErr result (λ fault. fault ≡ ClientFault.Memory) }
+{
     let text = if pinger {
         "HSUP ADBASE ADTIGR ADPING"
     } else {
         "HSUP ADBASE ADTIGR"
     };
-    Line::parse(alloc, text.as_bytes()).map_err(unsayable)
+    message_of(alloc, text.as_bytes())
 }
 
-/// The message by which a client that shares nothing logs in.
+/// Makes the message by which a client that shares nothing logs in.
 pub fn login_line(
     alloc: Global,
     sid: Sid,
     identity: &Identity,
     nick: &NickText<'_>,
-) -> Result<Line, ClientFault> {
+) -> Result<Line, ClientFault>
+    ensures { IfOk result (λ line. line.text ≡ login_text sid identity.now.cid identity.now.private (nick_bytes nick.now)) }
+{
+    let mut line = identifiers(alloc, sid, identity)?;
+    line.extend_from_slice(b" NI")?;
+    line.extend_from_slice(escape(alloc, nick.as_str())?.as_bytes())?;
+    line.extend_from_slice(b" SS0 SF0 VEadc-hubctl\\s1.0")?;
+    message_of(alloc, &line)
+}
+
+/// Makes the front of a login, with the three identifiers of the client.
+fn identifiers(alloc: Global, sid: Sid, identity: &Identity) -> Result<Vec<u8>, AllocError>
+    ensures { IfOk result (λ line. line.items ≡ identifiers_text sid identity.now.cid identity.now.private) }
+{
     let mut line = Vec::new(alloc);
     line.extend_from_slice(b"BINF ")?;
     line.extend_from_slice(&sid.text())?;
@@ -51,34 +73,46 @@ pub fn login_line(
     line.extend_from_slice(&identity.cid.text())?;
     line.extend_from_slice(b" PD")?;
     line.extend_from_slice(&encode24(&identity.private))?;
-    line.extend_from_slice(b" NI")?;
-    line.extend_from_slice(escape(alloc, nick.as_str())?.as_bytes())?;
-    line.extend_from_slice(b" SS0 SF0 VEadc-hubctl\\s1.0")?;
-    Line::parse(alloc, &line).map_err(unsayable)
+    Ok(line)
 }
 
-/// The answer to a challenge.
+/// Makes the answer to a challenge: the digest of the password with the challenge behind it.
 pub fn password_line<H: SessionHash>(
     alloc: Global,
     hash: &H,
     password: &str,
     challenge: &[u8; 24],
-) -> Result<Line, ClientFault> {
+) -> Result<Line, ClientFault>
+    ensures { IfOk result (λ line. line.text ≡ password_text (H.digest_of hash.now) password.now challenge.now) }
+{
     let mut secret = Vec::new(alloc);
     secret.extend_from_slice(password.as_bytes())?;
     secret.extend_from_slice(challenge)?;
     let mut line = Vec::new(alloc);
     line.extend_from_slice(b"HPAS ")?;
     line.extend_from_slice(&encode24(&hash.digest(&secret)))?;
-    Line::parse(alloc, &line).map_err(unsayable)
+    message_of(alloc, &line)
 }
 
-/// The message that says a text to all who are present. Refused: `Unsayable` where the text is empty or too long.
-pub fn chat_line(alloc: Global, sid: Sid, text: &str) -> Result<Line, ClientFault> {
+/// Makes the message that says a text to all who are present. Refused: `Unsayable` if the text is empty or too long; `Memory`.
+pub fn chat_line(alloc: Global, sid: Sid, text: &str) -> Result<Line, ClientFault>
+    ensures { IfOk result (λ line. line.text ≡ chat_text sid text.now) }
+{
     let mut line = Vec::new(alloc);
     line.extend_from_slice(b"BMSG ")?;
     line.extend_from_slice(&sid.text())?;
     line.extend_from_slice(b" ")?;
     line.extend_from_slice(escape(alloc, text)?.as_bytes())?;
-    Line::parse(alloc, &line).map_err(unsayable)
+    message_of(alloc, &line)
+}
+
+/// Makes the message with these bytes. Refused: `Unsayable` if they are none of the grammar; `Memory`.
+fn message_of(alloc: Global, bytes: &[u8]) -> Result<Line, ClientFault>
+    ensures text { IfOk result (λ line. line.text ≡ bytes.now) }
+    ensures refused { (line : Reading) → Reads bytes.now line → IfErr result (λ fault. fault ≡ ClientFault.Memory) }
+{
+    match Line::parse(alloc, bytes) {
+        Ok(line) => Ok(line),
+        Err(fault) => Err(unsayable(fault)),
+    }
 }

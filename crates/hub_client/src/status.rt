@@ -1,6 +1,9 @@
+ghost use Rattle.std.specs.Prelude.{◌≡◌, ◌⊎◌, IfErr, IfOk};
+ghost use Rattle.hub_client.specs.Statuses.{IsStatus, is_well, refusal_by};
+
 use crate::fault::ClientFault;
-use crate::fields::field_after;
-use adc_line::{Line, unescape};
+use crate::fields::{field_among, field_text_among};
+use adc_line::{Line, Words, unescape};
 use std::alloc::Global;
 use std::fmt;
 
@@ -26,44 +29,54 @@ pub enum Refusal {
     Other,
 }
 
-/// The parameters of a status without a name: its number and its text.
-const NAMELESS: usize = 2;
-
 impl Status {
-    /// Reads what a message of the type STA says. Refused: `NotAdc` where it says no status.
-    pub(crate) fn read(alloc: Global, line: &Line) -> Result<Status, ClientFault> {
+    /// Reads a message of the type STA. Refused: `NotAdc` if it has no status; `Memory`.
+    pub(crate) fn read(alloc: Global, line: &Line) -> Result<Status, ClientFault>
+        ensures status { IfOk result (λ status. IsStatus line.now.params status) }
+        ensures refused { IfErr result (λ fault. (fault ≡ ClientFault.Memory) ⊎ (fault ≡ ClientFault.NotAdc)) }
+    {
         let mut words = line.params();
         let Some([severity, tens, ones]) = words.next().map(|word| word.as_bytes()) else {
             return Err(ClientFault::NotAdc);
         };
         let text = unescape(alloc, words.next().unwrap_or(""))?;
-        let mut about = String::new(alloc);
-        for name in ["FC", "FM", "FB", "I4"] {
-            if let Some(value) = field_after(line, NAMELESS, name) {
-                about = unescape(alloc, value)?;
-            }
-        }
         Ok(Status {
             number: [*severity, *tens, *ones],
             text,
-            about,
-            seconds: unescape(alloc, field_after(line, NAMELESS, "TL").unwrap_or(""))?,
+            about: about(alloc, words)?,
+            seconds: field_text_among(alloc, words, "TL")?,
         })
     }
 
-    /// Tests whether it says that all is well.
-    pub fn is_success(&self) -> bool {
+    /// Tests whether it is a success, by its severity.
+    pub fn is_success(&self) -> bool
+        ensures { result ≡ is_well self.now.number }
+    {
         self.number[0] == b'0'
     }
 
-    /// Gives the meaning of the status, where it is a refusal.
-    pub fn refusal(&self) -> Refusal {
+    /// Returns the meaning of the status as a refusal.
+    pub fn refusal(&self) -> Refusal
+        ensures { result ≡ refusal_by self.now.number }
+    {
         match self.number {
             [_, b'2', b'3'] => Refusal::Password,
             [_, b'3', b'1' | b'2'] => Refusal::Banned,
             _ => Refusal::Other,
         }
     }
+}
+
+/// Returns the subject of a status: the text of its field `I4`, `FB`, `FM` or `FC`, the first of these that it has.
+fn about(alloc: Global, words: Words<'_>) -> Result<String, ClientFault>
+    ensures { IfErr result (λ fault. (fault ≡ ClientFault.Memory) ⊎ (fault ≡ ClientFault.NotAdc)) }
+{
+    for name in ["I4", "FB", "FM", "FC"] {
+        if let Some(value) = field_among(words, name) {
+            return Ok(unescape(alloc, value)?);
+        }
+    }
+    Ok(String::new(alloc))
 }
 
 impl fmt::Display for Status {

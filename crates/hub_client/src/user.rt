@@ -1,8 +1,13 @@
+ghost use Rattle.std.specs.Prelude.{IfOk};
+ghost use Rattle.std.specs.Option.{option_copied};
+ghost use Rattle.std.specs.String.{string_bytes};
+ghost use Rattle.hub_client.specs.Users.{AreBits, IsAddress, IsRole, IsUser};
+
 use crate::fault::ClientFault;
 use crate::fields::{field, field_text};
 use crate::role::Role;
 use adc_base32::Sid;
-use adc_line::Line;
+use adc_line::{Line, unescape};
 use std::alloc::Global;
 
 /// A user as others see it.
@@ -23,27 +28,41 @@ pub struct User {
 }
 
 impl User {
-    /// Reads what a message of the type INF says of a user.
-    pub fn read(alloc: Global, line: &Line) -> Result<User, ClientFault> {
-        let ip = if field(line, "I4").is_some() {
-            "I4"
-        } else {
-            "I6"
-        };
+    /// Reads a message of the type INF.
+    pub fn read(alloc: Global, line: &Line) -> Result<User, ClientFault>
+        ensures { IfOk result (λ user. IsUser line.now.params user) }
+    {
         Ok(User {
             nick: field_text(alloc, line, "NI")?,
             cid: field_text(alloc, line, "ID")?,
-            role: Role::of(client_type(line)),
-            address: field_text(alloc, line, ip)?,
+            role: role(line),
+            address: address(alloc, line)?,
             share: field_text(alloc, line, "SS")?,
             description: field_text(alloc, line, "DE")?,
         })
     }
 }
 
-/// The bits of a client type; 0 where there are none that can be read.
-fn client_type(line: &Line) -> u32 {
-    match field(line, "CT") {
+fn address(alloc: Global, line: &Line) -> Result<String, ClientFault>
+    ensures { IfOk result (λ text. IsAddress line.now.params (string_bytes text)) }
+{
+    match field(line, "I4") {
+        Some(value) => Ok(unescape(alloc, value)?),
+        None => field_text(alloc, line, "I6"),
+    }
+}
+
+fn role(line: &Line) -> Role
+    ensures { IsRole line.now.params result }
+{
+    Role::of(bits_of(field(line, "CT")))
+}
+
+/// Returns the bits of a client type; 0 if there are none, or none that are a number of 32 bits.
+fn bits_of(digits: Option<&str>) -> u32
+    ensures { AreBits (option_copied digits.entry) result }
+{
+    match digits {
         Some(digits) => digits.parse::<u32>().unwrap_or(0),
         None => 0,
     }

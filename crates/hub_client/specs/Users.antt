@@ -1,0 +1,37 @@
+-- A user, by the parameters of a message of the type INF (ADC 1.0, "INF").
+use Rattle.std.specs.Prelude.{◌≡◌, ℕ, ◌<◌, ◌^◌, List, codes, Option, Some, None}
+use Rattle.std.specs.Str.Parse.{IsNumeral, digits_value, without_leading_plus}
+use Rattle.std.specs.String.{string_bytes}
+use Rattle.adc_line.specs.Escapes.{unescaped_text}
+use Rattle.hub_client.specs.Fields.{IsField, IsFieldText}
+use Rattle.hub_client.specs.Roles.{role_of}
+use Rattle.hub_client.specs.declared.role.Role.{Role}
+use Rattle.hub_client.specs.declared.user.User.{User}
+
+-- decimal digits of a number of 32 bits
+abbrev pub IsNumber : List ℕ → Type 0
+IsNumber digits = IsNumeral 10 (without_leading_plus digits) × (digits_value 10 (without_leading_plus digits) < 2 ^ 32)
+
+-- the bits of a client type: 0 if none are there, or none that are a number
+abbrev pub AreBits : Option (List ℕ) → ℕ → Type 0
+AreBits None bits = bits ≡ 0
+AreBits (Some digits) bits = (IsNumber digits → bits ≡ digits_value 10 (without_leading_plus digits)) × ((IsNumber digits → ⊥) → bits ≡ 0)
+
+abbrev pub IsRole : List (List ℕ) → Role → Type 0
+IsRole params role = (value : Option (List ℕ)) × (bits : ℕ) × IsField (codes "CT") params value × AreBits value bits × (role ≡ role_of bits)
+
+-- the address of IPv4 if there is one, and else of IPv6
+abbrev pub IsAddressBeside : List (List ℕ) → Option (List ℕ) → List ℕ → Type 0
+IsAddressBeside params (Some value) text = unescaped_text value ≡ Some text
+IsAddressBeside params None text = IsFieldText (codes "I6") params text
+
+abbrev pub IsAddress : List (List ℕ) → List ℕ → Type 0
+IsAddress params text = (value : Option (List ℕ)) × IsField (codes "I4") params value × IsAddressBeside params value text
+
+pub record IsUser (params : List (List ℕ)) (user : User) : Type 0 where
+  pub nick : IsFieldText (codes "NI") params (string_bytes user.nick)
+  pub cid : IsFieldText (codes "ID") params (string_bytes user.cid)
+  pub role : IsRole params user.role
+  pub address : IsAddress params (string_bytes user.address)
+  pub share : IsFieldText (codes "SS") params (string_bytes user.share)
+  pub description : IsFieldText (codes "DE") params (string_bytes user.description)
