@@ -80,41 +80,41 @@ abbrev pub request_in : Own → Option Reading → Request
 request_in own None = requests.Nothing
 request_in own (Some reading) = request_of own.stage reading.kind reading.command
 
--- what a command does that is carried out, by what it changes
-pub data Does (users : List Listed) (bans : List (List ℕ × Ban)) (operator : ℕ) : List (List ℕ) → HubChange → Type 0 where
+-- what an act does that is carried out, by what it changes
+pub data Does (users : List Listed) (bans : List (List ℕ × Ban)) (operator : ℕ) : Act → List (List ℕ) → HubChange → Type 0 where
   kicks : (nick reason : List ℕ) (target : Listed) → user_called users nick ≡ Some target
-      → Does users bans operator (removal_line target.sid operator None reason ∷ []) (shared.Kick target.sid)
-  bans_user : (nick : List ℕ) (reason : List ℕ) (target : Listed) (banned : Banned) → user_called users nick ≡ Some target → banned.sid ≡ target.sid
+      → Does users bans operator (commands.Kick nick reason) (removal_line target.sid operator None reason ∷ []) (shared.Kick target.sid)
+  bans_user : {seconds : ℕ} (nick : List ℕ) (reason : List ℕ) (target : Listed) (banned : Banned) → user_called users nick ≡ Some target → banned.sid ≡ target.sid
       → is_full bans banned.cid ≡ false
-      → Does users bans operator (removal_line banned.sid operator (Some banned.ban.seconds) reason ∷ []) (shared.Ban banned)
-  unbans : (cid : List ℕ) → Does users bans operator [] (shared.Unban cid)
-  sets_topic : (text : List ℕ) → Does users bans operator (topic_line text ∷ []) (shared.Topic text)
+      → Does users bans operator (commands.Ban nick seconds reason) (removal_line banned.sid operator (Some banned.ban.seconds) reason ∷ []) (shared.Ban banned)
+  unbans : (cid : List ℕ) → Does users bans operator (commands.Unban cid) [] (shared.Unban cid)
+  sets_topic : (text : List ℕ) → Does users bans operator (commands.Topic text) (topic_line text ∷ []) (shared.Topic text)
 
-abbrev pub DoesIt : List Listed → List (List ℕ × Ban) → ℕ → Result Done Deny → Type 0
-DoesIt users bans operator (Ok done) = Does users bans operator done.others done.change
-DoesIt users bans operator (Err deny) = Unit {0}
+abbrev pub DoesIt : List Listed → List (List ℕ × Ban) → ℕ → Act → Result Done Deny → Type 0
+DoesIt users bans operator act (Ok done) = Does users bans operator act done.others done.change
+DoesIt users bans operator act (Err deny) = Unit {0}
 
-if-present : (users : List Listed) (bans : List (List ℕ × Ban)) (operator : ℕ) (found : Option Listed) (command : Listed → Result Done Deny)
-    → ((user : Listed) → found ≡ Some user → DoesIt users bans operator (command user)) → DoesIt users bans operator (if_present found command)
-if-present users bans operator found command each = grind arith
+if-present : (users : List Listed) (bans : List (List ℕ × Ban)) (operator : ℕ) (act : Act) (found : Option Listed) (command : Listed → Result Done Deny)
+    → ((user : Listed) → found ≡ Some user → DoesIt users bans operator act (command user)) → DoesIt users bans operator act (if_present found command)
+if-present users bans operator act found command each = grind arith
 
-if-room : (users : List Listed) (bans : List (List ℕ × Ban)) (operator : ℕ) (nick reason : List ℕ) (target : Listed) (banned : Banned) → user_called users nick ≡ Some target
+if-room : (users : List Listed) (bans : List (List ℕ × Ban)) (operator seconds : ℕ) (nick reason : List ℕ) (target : Listed) (banned : Banned) → user_called users nick ≡ Some target
     → banned.sid ≡ target.sid → (full : Bool) → is_full bans banned.cid ≡ full
-    → DoesIt users bans operator (if full then Err denials.BansFull else Ok (removal operator reason banned))
-if-room users bans operator nick reason target banned called same true is = tt
-if-room users bans operator nick reason target banned called same false is = bans_user nick reason target banned called same is
+    → DoesIt users bans operator (commands.Ban nick seconds reason) (if full then Err denials.BansFull else Ok (removal operator reason banned))
+if-room users bans operator seconds nick reason target banned called same true is = tt
+if-room users bans operator seconds nick reason target banned called same false is = bans_user nick reason target banned called same is
 
 if-held : (users : List Listed) (bans : List (List ℕ × Ban)) (operator : ℕ) (cid : List ℕ) (is_held : Bool)
-    → DoesIt users bans operator (if is_held then Ok (record { others = []; change = shared.Unban cid }) else Err denials.NoBan)
+    → DoesIt users bans operator (commands.Unban cid) (if is_held then Ok (record { others = []; change = shared.Unban cid }) else Err denials.NoBan)
 if-held users bans operator cid true = unbans cid
 if-held users bans operator cid false = tt
 
-does : (users : List Listed) (bans : List (List ℕ × Ban)) (operator now : ℕ) (act : Act) → DoesIt users bans operator (answer_of users bans operator now act)
+does : (users : List Listed) (bans : List (List ℕ × Ban)) (operator now : ℕ) (act : Act) → DoesIt users bans operator act (answer_of users bans operator now act)
 does users bans operator now (commands.Kick nick reason) =
-    if-present users bans operator (user_called users nick) _ (λ user called. kicks nick reason user called)
+    if-present users bans operator (commands.Kick nick reason) (user_called users nick) _ (λ user called. kicks nick reason user called)
 does users bans operator now (commands.Ban nick seconds reason) =
-    if-present users bans operator (user_called users nick) _ (λ user called.
-    if-room users bans operator nick reason user (banned_for seconds now user) called refl (is_full bans (banned_for seconds now user).cid) refl)
+    if-present users bans operator (commands.Ban nick seconds reason) (user_called users nick) _ (λ user called.
+    if-room users bans operator seconds nick reason user (banned_for seconds now user) called refl (is_full bans (banned_for seconds now user).cid) refl)
 does users bans operator now (commands.Unban cid) = if-held users bans operator cid (is_some (ban_on bans cid))
 does users bans operator now (commands.Topic text) = sets_topic text
 
@@ -144,7 +144,8 @@ pub data Outcome (hub : Sight) (own : Own) (line : PreparedLine) (now : ℕ) : O
       → Outcome hub own line now (Some reading) requests.Update (update_effect own (clean u own.sender.peer))
   learns : (reading : Reading) (features : List (List ℕ)) → own.stage ≡ stages.Normal → support_after own.sender.features reading.params ≡ Ok features
       → Outcome hub own line now (Some reading) requests.Support (effects.learns (Ok features))
-  acts : (reading : Reading) (done : Done) → own.stage ≡ stages.Normal → is_operator hub own ≡ true → Does hub.users hub.bans own.sender.sid done.others done.change
+  acts : {act : Act} (reading : Reading) (done : Done) → own.stage ≡ stages.Normal → is_operator hub own ≡ true → act_at (text_in reading.params) ≡ Some act
+      → Does hub.users hub.bans own.sender.sid act done.others done.change
       → Outcome hub own line now (Some reading) requests.Act (effect_for_all done)
   chats : (reading : Reading) → own.stage ≡ stages.Normal → Outcome hub own line now (Some reading) requests.Act nothing
   searches : (reading : Reading) → own.stage ≡ stages.Normal → Outcome hub own line now (Some reading) requests.Search (passes_on hub reading (Sender (senders.Searches now)))
@@ -189,22 +190,22 @@ module _ (hub : Sight) (own : Own) (line : PreparedLine) (now : ℕ) where
   by-update reading at (Ok u) words none = revises reading u at words none
   by-update reading at (Err fault) words none = absurd (some-none none)
 
-  by-answer : (reading : Reading) → own.stage ≡ stages.Normal → is_operator hub own ≡ true → (answer : Result Done Deny) → DoesIt hub.users hub.bans own.sender.sid answer
-      → result_err answer ≡ None → Has (Some reading) requests.Act (effect_by answer)
-  by-answer reading at operator (Ok done) it none = acts reading done at operator it
-  by-answer reading at operator (Err deny) it none = absurd (some-none none)
+  by-answer : (reading : Reading) (act : Act) → own.stage ≡ stages.Normal → is_operator hub own ≡ true → act_at (text_in reading.params) ≡ Some act → (answer : Result Done Deny)
+      → DoesIt hub.users hub.bans own.sender.sid act answer → result_err answer ≡ None → Has (Some reading) requests.Act (effect_by answer)
+  by-answer reading act at operator asks (Ok done) it none = acts reading done at operator asks it
+  by-answer reading act at operator asks (Err deny) it none = absurd (some-none none)
 
-  by-command : (reading : Reading) → own.stage ≡ stages.Normal → is_operator hub own ≡ true → (act : Option Act) → result_err (answer_to hub own now act) ≡ None
-      → Has (Some reading) requests.Act (effect_by (answer_to hub own now act))
-  by-command reading at operator None none = absurd (some-none none)
-  by-command reading at operator (Some act) none = by-answer reading at operator _ (does hub.users hub.bans own.sender.sid now act) none
+  by-command : (reading : Reading) → own.stage ≡ stages.Normal → is_operator hub own ≡ true → (act : Option Act) → act_at (text_in reading.params) ≡ act
+      → result_err (answer_to hub own now act) ≡ None → Has (Some reading) requests.Act (effect_by (answer_to hub own now act))
+  by-command reading at operator None asks none = absurd (some-none none)
+  by-command reading at operator (Some act) asks none = by-answer reading act at operator asks _ (does hub.users hub.bans own.sender.sid now act) none
 
   by-operator : (reading : Reading) → own.stage ≡ stages.Normal → (command operator : Bool) → is_operator hub own ≡ operator
       → (if not command then None else if not operator then Some (denials.Access (codes "HMSG")) else result_err (answer_to hub own now (act_at (text_in reading.params)))) ≡ None
       → Has (Some reading) requests.Act (if not command then nothing else effect_by (answer_to hub own now (act_at (text_in reading.params))))
   by-operator reading at false operator is none = chats reading at
   by-operator reading at true false is none = absurd (some-none none)
-  by-operator reading at true true is none = by-command reading at is (act_at (text_in reading.params)) none
+  by-operator reading at true true is none = by-command reading at is (act_at (text_in reading.params)) refl none
 
   by-act : (reading : Reading) → own.stage ≡ stages.Normal → act_denied hub own now reading.params ≡ None → Has (Some reading) requests.Act (act_effect hub own now reading.params)
   unfolding act_denied act_effect

@@ -112,7 +112,7 @@ module _ {hub : Sight} {own : Own} {line : PreparedLine} {now : ℕ} where
       record { change = (logs.at, ap entrant (sym (listed-fields own.sender.sid (merged_with own.fields (clean u own.sender.peer))))); routed = tt }
   suits-outcome (proves reading at asks none) infs known = record { change = at; routed = tt }
   suits-outcome (revises reading u at words none) infs known = record { change = (at, refl, suits-revised hub own infs u known none); routed = routed-all }
-  suits-outcome (acts reading done at operator does) infs known = record { change = tt; routed = routed-all }
+  suits-outcome (acts reading done at operator asks does) infs known = record { change = tt; routed = routed-all }
   suits-outcome (searches reading at) infs known = record { change = tt; routed = routed-audience reading (is_target_here hub reading.target) }
   suits-outcome (passes reading at) infs known = record { change = tt; routed = routed-audience reading (is_target_here hub reading.target) }
   suits-outcome _ infs known = record { change = tt; routed = tt }

@@ -1,6 +1,6 @@
 -- After every history the bans are few, and on one client identifier each.
 use Rattle.std.proofs.Common.{◌≡◌, sym, subst, ℕ, false, ◌&&◌, List, [], ◌∷◌, Option}
-use Rattle.hub_laws.proofs.Words.{Ban, Call, Change, Configured, Does, Effect, Entry, Facts, Hub, HubChange, Join, Line, Listed, Outcome, Own, PreparedLine, Quit, Reading, Request, Sight, Take}
+use Rattle.hub_laws.proofs.Words.{Act, Ban, Call, Change, Configured, Does, Effect, Entry, Facts, Hub, HubChange, Join, Line, Listed, Outcome, Own, PreparedLine, Quit, Reading, Request, Sight, Take}
 use Rattle.hub_laws.proofs.Words.{acts, after, bans_after, bans_user, effect_of_line, facts, happens, has_joins, has_place, is_full, line-outcome, without_connection}
 use Rattle.hub_laws.proofs.Words.shared
 use Rattle.hub_laws.specs.Holding.{BansAreApart, BansAreFew}
@@ -12,14 +12,14 @@ abbrev HasRoom : List (List ℕ × Ban) → Change → Type 0
 HasRoom bans (Hub (shared.Ban banned)) = is_full bans banned.cid ≡ false
 HasRoom bans change = Unit {0}
 
-room-act : {users : List Listed} {bans : List (List ℕ × Ban)} {operator : ℕ} {others : List (List ℕ)} {change : HubChange} → Does users bans operator others change
+room-act : {users : List Listed} {bans : List (List ℕ × Ban)} {operator : ℕ} {act : Act} {others : List (List ℕ)} {change : HubChange} → Does users bans operator act others change
     → HasRoom bans (Hub change)
 room-act (bans_user nick reason target banned called same room) = room
 room-act _ = tt
 
 module _ {hub : Sight} {own : Own} {line : PreparedLine} {now : ℕ} where
   room : {said : Option Reading} {request : Request} {effect : Effect} → Outcome hub own line now said request effect → HasRoom hub.bans effect.change
-  room (acts reading done at operator does) = room-act does
+  room (acts reading done at operator asks does) = room-act does
   room _ = tt
 
 -- ---- every call

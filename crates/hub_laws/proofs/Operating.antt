@@ -18,7 +18,7 @@ may_act hub own = is_present own.stage && is_operator hub own
 
 module _ {hub : Sight} {own : Own} {line : PreparedLine} {now : ℕ} where
   operator-acts : {said : Option Reading} {request : Request} {effect : Effect} → Outcome hub own line now said request effect → may_act hub own ≡ false → is_act effect.change ≡ false
-  operator-acts (acts reading done at operator does) none_of = absurd (false≢true (sym none_of ∙ ap₂ (λ (s : Stage) b. is_present s && b) at operator))
+  operator-acts (acts reading done at operator asks does) none_of = absurd (false≢true (sym none_of ∙ ap₂ (λ (s : Stage) b. is_present s && b) at operator))
   operator-acts _ none_of = refl
 
 same-call : (setup : Configured) (hash : List ℕ → List ℕ) (h : List Entry) (call : Call) → is_of_operator setup hash h call ≡ false

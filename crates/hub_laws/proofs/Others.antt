@@ -9,7 +9,7 @@ use Rattle.login_state.specs.Denials.{denial_line, denial_text}
 use Rattle.login_state.specs.declared.deny.Severity.TheVariants.{Fatal, Recoverable}
 use Rattle.hub_rules.specs.Configured.{Configured, MenuEntry}
 use Rattle.hub_rules.specs.Texts.{challenge_line, done_line, hub_line, identifier_line, menu_line, support_line, topic_line}
-use Rattle.hub_laws.proofs.Words.{AllByRecursion, Deny, Does, Effect, Field, Hub, HubChange, Kind, Listed, Others, Outcome, Own, PreparedLine, Reading, Reads-of, Request, Sender, Sight, Stage, Those}
+use Rattle.hub_laws.proofs.Words.{Act, AllByRecursion, Deny, Does, Effect, Field, Hub, HubChange, Kind, Listed, Others, Outcome, Own, PreparedLine, Reading, Reads-of, Request, Sender, Sight, Stage, Those}
 use Rattle.hub_laws.proofs.Words.{Done, effect_for_all, eq-eqb, user_called, acts, bans_user, bytes_eq, bytes_eq-Decides, chats, clean, denies, enters, false≢true, farewell, fields_after, greets, has_feature, ignores, is_present, is_removed, kicks}
 use Rattle.hub_laws.proofs.Words.{learns, lets_in, line_effect, line_of, line_unless_empty, listed_user, merged_with, outcome, passes, proves, quiet, removal_line, request_at, request_in, request_of, revises, searches, sets_topic, shuts_out}
 use Rattle.hub_laws.proofs.Words.{stage_after, ucmd, unbans, waits, with_line_feed}
@@ -284,7 +284,7 @@ removal-as effect act target operator seconds reason is removes others hearers o
   enters = ap enters is;
 }
 
-does-tell : (hub : Sight) (own : Own) (done : Done) → Does hub.users hub.bans own.sender.sid done.others done.change → Tells hub own (effect_for_all done)
+does-tell : {act : Act} (hub : Sight) (own : Own) (done : Done) → Does hub.users hub.bans own.sender.sid act done.others done.change → Tells hub own (effect_for_all done)
 does-tell hub own done (kicks nick reason target called) =
     removal_of target nick called (removal-as (effect_for_all done) (shared.Kick target.sid) target.sid own.sender.sid None reason refl (λ sid. refl) refl refl (other-done, tt))
 does-tell hub own done (bans_user nick reason target banned called same room) =
@@ -333,7 +333,7 @@ module _ {hub : Sight} {own : Own} {line : PreparedLine} {now : ℕ} where
     enters = refl;
   })
   tells (learns reading features at is) reads = nobody (still-as own _ tt tt refl refl (λ sid. refl) refl)
-  tells (acts reading done at operator does) reads = does-tell hub own done does
+  tells (acts reading done at operator asks does) reads = does-tell hub own done does
   tells (chats reading at) reads = nobody (still-as own _ tt tt refl refl (λ sid. refl) refl)
   tells (searches reading at) reads =
       let read = reads reading refl in

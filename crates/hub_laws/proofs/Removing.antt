@@ -1,14 +1,14 @@
 -- The lines owed by a kick or a ban, where its line stands, and when the nick is another's.
 use Rattle.std.proofs.Common.{◌≡◌, ◌∙◌, sym, ap, refl, subst, ℕ, ◌≤◌, Bool, true, false, ◌⊎◌, inl, inr, ◌==◌, List, [], ◌∷◌, ◌++◌, map, append-nil, append_assoc, Option, Some, arith}
 use Rattle.hub_invariants.specs.Promises.{is_in}
-use Rattle.hub_laws.proofs.Words.{About, Ban, Call, Change, Configured, Does, Done, Effect, Entry, Facts, Hub, HubChange, Line, Listed, Outcome, Own, PreparedLine, Reading, Request, Sight, Stage}
+use Rattle.hub_laws.proofs.Words.{About, Act, Ban, Call, Change, Configured, Does, Done, Effect, Entry, Facts, Hub, HubChange, Line, Listed, Outcome, Own, PreparedLine, Reading, Request, Sight, Stage}
 use Rattle.hub_laws.proofs.Words.{acts, after, all_fit, bans_user, bytes_eq, bytes_eq-Decides, change_of, cond, done_line, effect_for_all, eq-eqb, eqb-true, facts, false≢true, happens, has_key}
 use Rattle.hub_laws.proofs.Words.{if◌then◌else◌, info, is-normal, is_present, is_removed, key_in, key_of_points, kicks, lags, line-outcome, lines_owed, listed-sid, most_users, or-true}
 use Rattle.hub_laws.proofs.Words.{present_are_users, removal_line, share, sid, stage, user_by_key, user_called, user_of}
 use Rattle.hub_laws.proofs.Words.stages
 use Rattle.hub_laws.specs.Ordering.{lines_added}
 use Rattle.hub_laws.specs.Removing.{HasNick, NamesakesComeLater, OnlyUsersAreRemoved, RemovalsAreHeard, RemovalsComeFirst, Removes, TakesNick, seconds_of}
-use Rattle.hub_laws.specs.Telling.{news_of}
+use Rattle.hub_laws.specs.Telling.{news_of, reason_of}
 use Rattle.hub_laws.proofs.Apart.{nicks_differ}
 use Rattle.hub_laws.proofs.Lagging.{lag_is_the_first}
 use Rattle.hub_laws.proofs.Ordering.{added-is, not-false, owed_grows}
@@ -32,11 +32,9 @@ removals_are_heard setup hash h e c removes =
       told.0,
       told.1,
       told.2,
-      told.3,
-      told.4,
-      λ d here. told.5 d
-          ∙ ap (λ (s : Stage). cond (is_present s) (news_of act.0 (sid setup hash h told.0) told.3) [] ++ cond (d == told.0) (done_line ∷ []) []) here
-          ∙ ap (λ ls. ls ++ cond (d == told.0) (done_line ∷ []) []) (news-by change act.0 (sid setup hash h c) (sid setup hash h told.0) told.3 act.1 removes.named),
+      λ d here. told.3 d
+          ∙ ap (λ (s : Stage). cond (is_present s) (news_of act.0 (sid setup hash h told.0) (reason_of told.1)) [] ++ cond (d == told.0) (done_line ∷ []) []) here
+          ∙ ap (λ ls. ls ++ cond (d == told.0) (done_line ∷ []) []) (news-by change act.0 (sid setup hash h c) (sid setup hash h told.0) (reason_of told.1) act.1 removes.named),
     )
 
 -- ---- where it stands
@@ -63,9 +61,10 @@ removals_come_first setup hash later earlier e c d removes here fine =
     let told = removals_are_heard setup hash earlier e c removes in
     let on = grows-on setup hash later (e ∷ earlier) d in (
       told.0,
-      told.3,
+      told.1,
       on.0,
-      on.1 ∙ ap (λ ls. ls ++ on.0) (owed-last setup hash earlier e d fine ∙ ap (λ ls. lines_owed setup hash earlier d ++ ls) (told.5 d here)),
+      told.2,
+      on.1 ∙ ap (λ ls. ls ++ on.0) (owed-last setup hash earlier e d fine ∙ ap (λ ls. lines_owed setup hash earlier d ++ ls) (told.3 d here)),
     )
 
 -- ---- who is named
@@ -92,14 +91,14 @@ abbrev NamesUser : List Listed → Effect → Type 0
 NamesUser users effect =
     (named : ℕ) → is_removed effect.change named ≡ true → (target : Listed) × (nick : List ℕ) × (user_called users nick ≡ Some target) × (target.sid ≡ named)
 
-names-act : {users : List Listed} {bans : List (List ℕ × Ban)} {operator : ℕ} (done : Done) → Does users bans operator done.others done.change → NamesUser users (effect_for_all done)
+names-act : {users : List Listed} {bans : List (List ℕ × Ban)} {operator : ℕ} {act : Act} (done : Done) → Does users bans operator act done.others done.change → NamesUser users (effect_for_all done)
 names-act done (kicks nick reason target called) named is = (target, nick, called, sym (eqb-true named target.sid is))
 names-act done (bans_user nick reason target banned called same room) named is = (target, nick, called, sym same ∙ sym (eqb-true named banned.sid is))
 names-act done _ named is = absurd (false≢true is)
 
 module _ {hub : Sight} {own : Own} {line : PreparedLine} {now : ℕ} where
   names : {said : Option Reading} {request : Request} {effect : Effect} → Outcome hub own line now said request effect → NamesUser hub.users effect
-  names (acts reading done at operator does) named is = names-act done does named is
+  names (acts reading done at operator asks does) named is = names-act done does named is
   names _ named is = absurd (false≢true is)
 
 call-names : (setup : Configured) (hash : List ℕ → List ℕ) (f : Facts) (call : Call) (named : ℕ) → is_removed (change_of setup hash f call) named ≡ true

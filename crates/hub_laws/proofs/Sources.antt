@@ -13,7 +13,7 @@ use Rattle.hub_rules.specs.Configured.{MenuEntry}
 use Rattle.hub_rules.specs.Effects.{ping_of}
 use Rattle.hub_rules.specs.History.{about}
 use Rattle.hub_rules.specs.Texts.{challenge_line, done_line, hub_line, identifier_line, menu_line, removal_line, support_line, topic_line, update_line}
-use Rattle.hub_laws.proofs.Words.{About, AllByRecursion, Becomes, Call, Configured, Deny, Does, Done, Effect, Entry, Facts, Field, Join, Kind, Line, Listed, Outcome, Own, PreparedLine, Quit, Reading, Reads-of, Request, Stage, Take}
+use Rattle.hub_laws.proofs.Words.{Act, About, AllByRecursion, Becomes, Call, Configured, Deny, Does, Done, Effect, Entry, Facts, Field, Join, Kind, Line, Listed, Outcome, Own, PreparedLine, Quit, Reading, Reads-of, Request, Stage, Take}
 use Rattle.hub_laws.proofs.Words.{accepted_line, acts, bans_user, becomes, bytes_eq, chats, clean, denies, departure, effect_for_all, effect_of_line, eqb-true, facts, false≢true, greets}
 use Rattle.hub_laws.proofs.Words.{has, ignores, is-normal, is_present, key_of_points, kicks, learns, lets_in, outcome, owes, own_of, passes, prepared_line, present_are_users, proves, quiet, quit_line}
 use Rattle.hub_laws.proofs.Words.{request_at, request_in, request_of, revises, searches, sets_topic, share, shuts_out, sid, sight_of, stage, stage_after, unbans, user_called, waits, with_line_feed}
@@ -196,7 +196,7 @@ module _ (setup : Configured) (hash : List ℕ → List ℕ) (h : List Entry) (e
         (from_message c bytes now reading call is (subst (λ (bs : List ℕ). Reads bs reading) same reads)
         (from-own (sight_of setup f) own line now reading accepts asks-here) users.kind_is users.command_is)
 
-    does-speak : (done : Done) → Does (sight_of setup f).users f.bans own.sender.sid done.others done.change → Speaks c (effect_for_all done)
+    does-speak : {act : Act} (done : Done) → Does (sight_of setup f).users f.bans own.sender.sid act done.others done.change → Speaks c (effect_for_all done)
     does-speak done (kicks nick reason target called) =
         record { own = λ same. (from_done, tt); others = (from_removal _ _ _ _ (small-target nick target called) (small-sid setup hash h c), tt) }
     does-speak done (bans_user nick reason target banned called same room) = record {
@@ -232,7 +232,7 @@ module _ (setup : Configured) (hash : List ℕ → List ℕ) (h : List Entry) (e
               (from_update c bytes now (clean u own.sender.peer) call at (told-clean own.sender.peer line.bytes reading u accepts.reads words));
         })
     speaks (learns reading features at is) reads = inr (record { own = λ same. tt; others = tt })
-    speaks (acts reading done at operator does) reads = inr (does-speak done does)
+    speaks (acts reading done at operator asks does) reads = inr (does-speak done does)
     speaks (chats reading at) reads = inr (record { own = λ same. tt; others = tt })
     speaks (searches reading at) reads =
         let read = reads.0 reading refl in inr (record { own = λ same. tt; others = (sent reading read.0 at (ap is_for_users read.1), tt) })

@@ -13,7 +13,7 @@ module _ {hub : Sight} {own : Own} {line : PreparedLine} {now : ℕ} where
   unheard (lets_in reading u logs account) away still = absurd (false≢true (sym still))
   unheard (proves reading at asks none) away still = absurd (false≢true (sym still))
   unheard (revises reading u at words none) away still = absurd (false≢true (sym away ∙ ap is_present at))
-  unheard (acts reading done at operator does) away still = absurd (false≢true (sym away ∙ ap is_present at))
+  unheard (acts reading done at operator asks does) away still = absurd (false≢true (sym away ∙ ap is_present at))
   unheard (searches reading at) away still = absurd (false≢true (sym away ∙ ap is_present at))
   unheard (passes reading at) away still = absurd (false≢true (sym away ∙ ap is_present at))
   unheard _ away still = refl

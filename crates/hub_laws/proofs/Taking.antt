@@ -1,7 +1,7 @@
 -- Whatever is decided of a line, the table of users and the list of bans take it.
 use Rattle.std.proofs.Common.{◌≡◌, ◌∙◌, sym, ap, refl, subst, ℕ, Bool, false, not, ◌&&◌, List, [], ◌∷◌, ◌++◌, Option, Some, None, Ok, arith}
 use Rattle.user_table.specs.Changes.{cid_taken, given_key, held_by_other, is_other, nick_taken, users_after_entry, users_after_update}
-use Rattle.hub_laws.proofs.Words.{Ban, Does, Effect, Field, Hub, HubChange, Listed, Outcome, Own, PreparedLine, Reading, Request, Sight, Unclaimed, acts, another_has_key, bans_user, changed_key}
+use Rattle.hub_laws.proofs.Words.{Act, Ban, Does, Effect, Field, Hub, HubChange, Listed, Outcome, Own, PreparedLine, Reading, Request, Sight, Unclaimed, acts, another_has_key, bans_user, changed_key}
 use Rattle.hub_laws.proofs.Words.{chars, clean, cond, digest_given, facts, find, given-after, has_key, has_sid, infs, is_full, key_in, key_of, lets_in, list_any, listed_user, login-free, meaning}
 use Rattle.hub_laws.proofs.Words.{merged_fields, nick_name, option_map, or-parts, outcome, own_of, password-free, prepared_line, proves, revises, revision, sight_of, told_of, unwrap_or}
 use Rattle.hub_laws.proofs.Words.{update-free, update_denied, user_after, user_by_key, value_or_empty, with_update}
@@ -60,8 +60,8 @@ takes-update hub own infs u known none = grind (arith, held-by, revised-key, upd
 
 -- ---- bans
 
-takes-act : {users : List Listed} {bans : List (List ℕ × Ban)} {operator : ℕ} {others : List (List ℕ)} {change : HubChange} → (hub : Sight) (own : Own) → hub.bans ≡ bans
-    → Does users bans operator others change → IsTaken hub own (Hub change)
+takes-act : {users : List Listed} {bans : List (List ℕ × Ban)} {operator : ℕ} {act : Act} {others : List (List ℕ)} {change : HubChange} → (hub : Sight) (own : Own) → hub.bans ≡ bans
+    → Does users bans operator act others change → IsTaken hub own (Hub change)
 takes-act hub own same (bans_user nick reason target banned called is room) = subst (λ bs. is_full bs banned.cid ≡ false) (sym same) room
 takes-act hub own same _ = tt
 
@@ -74,7 +74,7 @@ module _ {hub : Sight} {own : Own} {line : PreparedLine} {now : ℕ} where
   takes (proves reading at asks none) infs known =
       free-enters hub (listed_user own.sender.sid own.fields) (password-free hub own now (digest_given reading.params) (listed_user own.sender.sid own.fields) none)
   takes (revises reading u at words none) infs known = takes-update hub own infs u known none
-  takes (acts reading done at operator does) infs known = takes-act hub own refl does
+  takes (acts reading done at operator asks does) infs known = takes-act hub own refl does
   takes _ infs known = tt
 
 pub decided_is_taken : DecidedIsTaken

@@ -23,6 +23,7 @@ pub use Rattle.hub_invariants.proofs.Sound.{stage_next}
 pub use Rattle.hub_invariants.proofs.Suits.{listed-sid}
 pub use Rattle.hub_invariants.proofs.Tidy.{Tidy, is_unnamed, tidy_of}
 pub use Rattle.hub_rules.proofs.Merges.{given-after}
+pub use Rattle.operator_acts.specs.declared.act.Act.{Act}
 pub use Rattle.hub_rules.specs.Accounts.{operates}
 unfoldable pub use Rattle.hub_rules.specs.Accounts.{account_with}
 pub use Rattle.hub_rules.specs.Acts.{Done, answer_to, effect_by, effect_for_all, is_command, is_operator, text_in, user_called}
