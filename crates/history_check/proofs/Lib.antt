@@ -1,5 +1,12 @@
+pub mod Bytes
 pub mod Finding
+pub mod Grammar
+pub mod Histories
 pub mod Joining
 pub mod Judging
 pub mod Keeping
+pub mod Lines
 pub mod Making
+pub mod Parts
+pub mod Reporting
+pub mod Splitting

@@ -1,5 +1,5 @@
 -- A written history, as the rules have it.
-use Rattle.std.specs.Prelude.{List, [], ◌∷◌}
+use Rattle.std.specs.Prelude.{List, [], ◌∷◌, map}
 use Rattle.history_check.specs.declared.written.Call as written_call
 use Rattle.history_check.specs.declared.written.Call.TheVariants as calls
 use Rattle.history_check.specs.declared.written.Reply as written_reply
@@ -27,6 +27,10 @@ reply_of (replies.Took bytes lines ended) = Took bytes.items lines ended
 
 abbrev pub entry_of : written.Entry → Entry
 entry_of e = record { caller = e.caller; call = call_of e.call; reply = reply_of e.reply }
+
+-- the entries, oldest first
+abbrev pub entries_of : List written.Entry → List Entry
+entries_of es = map entry_of es
 
 -- the history, newest first, that entries make which are written one after another behind another history
 unfoldable pub history_of : List written.Entry → List Entry → List Entry

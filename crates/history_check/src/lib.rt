@@ -2,6 +2,9 @@
 #![tactic(auto)]
 
 mod check;
+mod entries;
+mod escapes;
+mod laws;
 mod reading;
 mod report;
 mod words;
@@ -9,6 +12,7 @@ mod written;
 
 pub use check::{Demand, Judgement, check_history};
 pub use hub_core::Verdict;
+pub use laws::{judging_laws, text_laws};
 pub use reading::{ReadFault, Written, read_history};
 pub use report::report_history;
 pub use written::{Call, Entry, LineCount, Reply};

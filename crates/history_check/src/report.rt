@@ -1,3 +1,11 @@
+//! Reports on a written history.
+
+ghost use Rattle.std.specs.Prelude.{◌≡◌, ◌++◌, ◌<◌, ◌↔◌, List, codes, IfOk, OnOk};
+ghost use Rattle.std.specs.Arc.{arc_value};
+ghost use Rattle.history_check.specs.Reported.{IsLegalText, Reports, demand_text, judgement_text, line_text, reply_text, written_byte, written_bytes};
+ghost use Rattle.history_check.specs.Text.{hex_digit};
+ghost use Rattle.history_check.specs.Written.{reply_of};
+
 use crate::check::{Demand, Judgement, check_history};
 use crate::reading::{ReadFault, read_history};
 use crate::written::Reply;
@@ -6,34 +14,47 @@ use session_hash::SessionHash;
 use std::alloc::{AllocError, Global};
 use std::sync::Arc;
 
-/// Says of a written history `legal`, or which line is not and what the rules demand there, as text without a line feed.
+/// Reports `legal` on a written history, or the first line that is at fault and what the rules demand there, without a
+/// line feed.
 ///
-/// Refused only where memory runs out.
+/// Fails only if an allocation fails.
 pub fn report_history<H: SessionHash>(
     alloc: Global,
     setup: Arc<Setup>,
     hash: &H,
     text: &[u8],
-) -> Result<Vec<u8>, AllocError> {
+) -> Result<Vec<u8>, AllocError>
+    ensures reports { IfOk result (λ report. Reports (arc_value setup) (H.digest_of hash.now) text.now report.items) }
+    ensures legal { IfOk result (λ report. (report.items ≡ codes "legal") ↔ IsLegalText (arc_value setup) (H.digest_of hash.now) text.now) }
+{
     let written = match read_history(alloc, text) {
         Ok(written) => written,
         Err(ReadFault::Memory) => return Err(AllocError),
         Err(ReadFault::Line(number)) => return tell_line(alloc, number, "is no entry"),
     };
-    match check_history(alloc, setup, hash, &written.entries)? {
+    let judgement = check_history(alloc, setup, hash, &written.entries)?;
+    tell_judgement(alloc, &written.lines, &judgement)
+}
+
+fn tell_judgement(
+    alloc: Global,
+    lines: &[usize],
+    judgement: &Judgement,
+) -> Result<Vec<u8>, AllocError>
+    ensures { IfOk result (λ text. text.items ≡ judgement_text lines.now judgement.now) }
+{
+    match judgement {
         Judgement::Legal => Vec::from_slice(alloc, b"legal"),
         Judgement::Fault(place, demand) => {
-            let number = written.lines.get(place).copied().unwrap_or(0);
-            tell_fault(alloc, number, &demand)
+            let number = lines.get(*place).copied().unwrap_or(0);
+            tell_demand(alloc, number, demand)
         }
     }
 }
 
-fn tell_line(alloc: Global, number: usize, what: &str) -> Result<Vec<u8>, AllocError> {
-    Ok(format!(in alloc; "line {number} {what}")?.into_bytes())
-}
-
-fn tell_fault(alloc: Global, number: usize, demand: &Demand) -> Result<Vec<u8>, AllocError> {
+fn tell_demand(alloc: Global, number: usize, demand: &Demand) -> Result<Vec<u8>, AllocError>
+    ensures { IfOk result (λ text. text.items ≡ line_text number (demand_text demand.now)) }
+{
     match demand {
         Demand::NoCall => tell_line(alloc, number, "may not be called there"),
         Demand::Gives(reply) => {
@@ -44,9 +65,20 @@ fn tell_fault(alloc: Global, number: usize, demand: &Demand) -> Result<Vec<u8>, 
     }
 }
 
-fn append_reply(text: &mut Vec<u8>, alloc: Global, reply: &Reply) -> Result<(), AllocError> {
+#[tactic(auto, unfolding(crate::specs::Reported::line_text))]
+fn tell_line(alloc: Global, number: usize, what: &str) -> Result<Vec<u8>, AllocError>
+    ensures { IfOk result (λ text. text.items ≡ line_text number what.now) }
+{
+    Ok(format!(in alloc; "line {number} {what}")?.into_bytes())
+}
+
+#[tactic(auto, unfolding(crate::specs::Reported::reply_text))]
+fn append_reply(text: &mut Vec<u8>, alloc: Global, reply: &Reply) -> Result<(), AllocError>
+    ensures { OnOk result (text.new.items ≡ text.old.items ++ reply_text (reply_of reply.now)) }
+{
     match reply {
         Reply::Joined(number) => {
+            let number = *number;
             text.extend_from_slice(format!(in alloc; "joined {number}")?.as_bytes())
         }
         Reply::Full => text.extend_from_slice(b"full"),
@@ -55,22 +87,43 @@ fn append_reply(text: &mut Vec<u8>, alloc: Global, reply: &Reply) -> Result<(), 
         Reply::Said(Verdict::Ended) => text.extend_from_slice(b"ended"),
         Reply::Left => text.extend_from_slice(b"left"),
         Reply::Took(bytes, lines, ended) => {
+            let lines = *lines;
             let end = if *ended { "over" } else { "more" };
             text.extend_from_slice(format!(in alloc; "{lines} {end} ")?.as_bytes())?;
-            append_bytes(text, alloc, bytes)
+            append_bytes(text, bytes)
         }
     }
 }
 
 /// Appends bytes as a history has them.
-fn append_bytes(text: &mut Vec<u8>, alloc: Global, bytes: &[u8]) -> Result<(), AllocError> {
+#[tactic(auto, unfolding(crate::specs::Reported::written_bytes))]
+fn append_bytes(text: &mut Vec<u8>, bytes: &[u8]) -> Result<(), AllocError>
+    ensures { OnOk result (text.new.items ≡ text.old.items ++ written_bytes bytes.now) }
+{
     for byte in bytes {
-        if *byte < b' ' || *byte == b'%' {
-            text.push(b'%')?;
-            text.extend_from_slice(hex::encode_upper(alloc, [*byte])?.as_bytes())?;
-        } else {
-            text.push(*byte)?;
-        }
+        append_byte(text, *byte)?;
     }
     Ok(())
+}
+
+fn append_byte(text: &mut Vec<u8>, byte: u8) -> Result<(), AllocError>
+    ensures { OnOk result (text.new.items ≡ text.old.items ++ written_byte byte) }
+{
+    if byte < b' ' || byte == b'%' {
+        text.extend_from_slice(&[b'%', digit(byte / 16), digit(byte % 16)])
+    } else {
+        text.extend_from_slice(&[byte])
+    }
+}
+
+/// Returns the hexadecimal digit of a value.
+fn digit(value: u8) -> u8
+    requires { value < 16 }
+    ensures { result ≡ hex_digit value }
+{
+    if value < 10 {
+        b'0' + value
+    } else {
+        b'A' + (value - 10)
+    }
 }

@@ -1,22 +1,28 @@
-// The words of a written line.
+//! The words of a written line.
+
+ghost use Rattle.std.specs.Prelude.{◌≡◌};
+ghost use Rattle.history_check.specs.Reading.{behind_word, first_word, read_address, read_number};
+
+use std::net::Ipv4Addr;
 use std::str;
 
-/// Takes the next word of a line, up to a blank, off it.
-pub(crate) fn word<'a>(rest: &mut &'a [u8]) -> &'a [u8] {
-    let line = *rest;
-    let end = line
-        .iter()
-        .position(|byte| *byte == b' ')
-        .unwrap_or(line.len());
-    let (word, behind) = line.split_at(end);
-    *rest = behind.get(1..).unwrap_or(b"");
-    word
+/// Splits a text at its first blank: the word before it and what follows it, nothing if there is no blank.
+pub(crate) fn word(text: &[u8]) -> (&[u8], &[u8])
+    ensures word { result.0.now ≡ first_word text.now }
+    ensures behind { result.1.now ≡ behind_word text.now }
+{
+    match text.iter().position(|byte| *byte == b' ') {
+        Some(end) => (&text[..end], &text[end + 1..]),
+        None => (text, b""),
+    }
 }
 
-/// Reads a number, in decimal digits, below 18,446,744,073,709,551,616.
-pub(crate) fn number(word: &[u8]) -> Option<u64> {
-    // A sign would be read too.
-    if !word.iter().all(|byte| byte.is_ascii_digit()) {
+/// Reads a number below 18,446,744,073,709,551,616 from its decimal digits.
+pub(crate) fn number(word: &[u8]) -> Option<u64>
+    ensures { result ≡ read_number word.now }
+{
+    // A plus would be read too.
+    if word.starts_with(b"+") {
         return None;
     }
     match str::from_utf8(word) {
@@ -25,14 +31,12 @@ pub(crate) fn number(word: &[u8]) -> Option<u64> {
     }
 }
 
-/// Reads a byte, in two hexadecimal digits, whose letters are capitals.
-pub(crate) fn byte_of(digits: &[u8]) -> Option<u8> {
-    if digits.iter().any(|byte| byte.is_ascii_lowercase()) {
-        return None;
-    }
-    let mut bytes = [0];
-    match hex::decode_to_slice(digits, &mut bytes) {
-        Ok(()) => Some(bytes[0]),
+/// Reads an IPv4 address.
+pub(crate) fn address(word: &[u8]) -> Option<[u8; 4]>
+    ensures { result ≡ read_address word.now }
+{
+    match Ipv4Addr::parse_ascii(word) {
+        Ok(address) => Some(address.octets()),
         Err(_) => None,
     }
 }
