@@ -1,5 +1,5 @@
 -- The texts of warnings.
-use Rattle.std.specs.Prelude.{ℕ, ◌/◌, ◌%◌, List, ◌++◌, codes, Option, Some, None}
+use Rattle.std.specs.Prelude.{ℕ, ◌/◌, ◌%◌, Bool, List, [], ◌∷◌, ◌++◌, codes, Option, Some, None, if◌then◌else◌}
 use Rattle.std.specs.declared.net.socket_addr.SocketAddrV4.{SocketAddrV4}
 use Rattle.std.specs.Net.Text.{socket_v4_text, socket_text}
 use Rattle.jiff_core.specs.declared.civil.date.Date.{Date}
@@ -46,6 +46,10 @@ priority_text levels.Warn = codes "<4>"
 priority_text levels.Info = codes "<6>"
 priority_text levels.Debug = codes "<7>"
 priority_text levels.Trace = codes "<7>"
+
+-- a line of the journal: the end of the one before, if that was torn, the priority, the words, and its own end
+abbrev pub journal_line : Bool → List ℕ → List ℕ → List ℕ
+journal_line is_torn priority words = (if is_torn then 10 ∷ [] else []) ++ (priority ++ (words ++ 10 ∷ []))
 
 -- what follows the time of a warning: the peer where it is known, and the cause
 abbrev pub of_peer : Option SocketAddrV4 → List ℕ → List ℕ

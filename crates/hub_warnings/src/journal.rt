@@ -1,5 +1,6 @@
-ghost use Rattle.std.specs.Prelude.{◌≡◌, true, [], Some};
-ghost use Rattle.hub_warnings.specs.Texts.{priority_text};
+ghost use Rattle.std.specs.Prelude.{◌≡◌, true, false, [], Some, IfSome};
+ghost use Rattle.std.specs.Io.KnownBytes.{Appends};
+ghost use Rattle.hub_warnings.specs.Texts.{journal_line, priority_text};
 
 use log::kv::Source;
 use log::span::Spans;
@@ -51,7 +52,11 @@ impl<R: Wait, W: Write> Journal<R, W> {
 }
 
 impl<W: Write> Out<W> {
-    fn line<D: Display>(&mut self, priority: &str, text: &D) {
+    // A line that was written whole stands behind the end of the one that was torn.
+    fn line<D: Display>(&mut self, priority: &str, text: &D)
+        ensures whole { self.new.is_torn ≡ false → IfSome (D.output text.now) (λ words.
+            Appends (W.contents self.old.writer) (W.contents self.new.writer) (journal_line self.old.is_torn priority.now words)) }
+    {
         if self.is_torn && self.writer.write_all(b"\n").is_err() {
             return;
         }
