@@ -1,2 +1,9 @@
+pub mod Allowances
+pub mod FaultWords
+pub mod Faults
+pub mod Findings
+pub mod MenuTexts
+pub mod Places
 pub mod Reports
+pub mod Statements
 pub mod Summaries

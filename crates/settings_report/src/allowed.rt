@@ -1,3 +1,5 @@
+ghost use Rattle.settings_report.specs.Allowances.{IsAllowedFor};
+
 use hub_settings::{KEYS, Kind};
 use std::fmt;
 
@@ -72,7 +74,9 @@ pub(crate) const CONTENT: Allowed = Allowed::Words("a text, or separator = true"
 pub(crate) const NO_TEXT: Allowed = Allowed::Words("no text beside separator = true");
 
 /// Gives what may stand at a key of this kind.
-pub(crate) fn allowed_for(kind: Kind) -> Allowed {
+pub(crate) fn allowed_for(kind: Kind) -> Allowed
+    ensures { IsAllowedFor kind result }
+{
     match kind {
         Kind::SomeText(_) => SOME_TEXT,
         Kind::Text(_) => TEXT,

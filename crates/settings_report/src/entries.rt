@@ -1,3 +1,16 @@
+ghost use Rattle.std.specs.Prelude.{◌≡◌, ◌↔◌, IfOk, IfSome, IsSome, Some, None, codes, is_some, length, map, ◌≤◌};
+ghost use Rattle.std.specs.Option.{option_and_then, option_map};
+ghost use Rattle.toml.specs.Data.{as_str, get, get_member};
+ghost use Rattle.toml.specs.View.{array_view, items_view, table_view, view};
+ghost use Rattle.hub_settings.specs.Kinds.{Accounts, kind_seen};
+ghost use Rattle.hub_settings.specs.Lists.{context_from, item_in, text_at};
+ghost use Rattle.hub_settings.specs.Settings.{kind_of};
+ghost use Rattle.hub_settings.specs.Unknown.{first_unknown, is_among};
+ghost use Rattle.hub_settings.specs.Values.{not_empty, truth_of};
+ghost use Rattle.settings_report.specs.FaultWords.{IsConcealed};
+ghost use Rattle.settings_report.specs.Findings.{ConcealsAccount, HidesPasswords, IsFlawIn, IsFlawOf, IsWhatStands, text_of};
+ghost use Rattle.settings_report.specs.Findings.{IsFoundAmong, IsFoundIn, IsFoundInList};
+
 use crate::allowed::{self, Allowed, allowed_for};
 use crate::findings::{Finding, Found};
 use adc_ids::{Nick, NickFault};
@@ -15,7 +28,9 @@ struct Flaw<'a> {
 }
 
 impl<'a> Flaw<'a> {
-    fn at(inner: &'a str, found: Found<'a>, allowed: Allowed) -> Flaw<'a> {
+    fn at(inner: &'a str, found: Found<'a>, allowed: Allowed) -> Flaw<'a>
+        ensures { result ≡ record { inner = Some inner.entry; found = found.entry; allowed = allowed } }
+    {
         Flaw {
             inner: Some(inner),
             found,
@@ -23,7 +38,13 @@ impl<'a> Flaw<'a> {
         }
     }
 
-    fn in_entry(self, key: &'a str, entry: usize) -> Finding<'a> {
+    fn in_entry(self, key: &'a str, entry: usize) -> Finding<'a>
+        ensures key { result.key ≡ key.entry }
+        ensures entry { result.entry ≡ Some entry }
+        ensures inner { result.inner ≡ self.entry.inner }
+        ensures found { result.found ≡ self.entry.found }
+        ensures allowed { result.allowed ≡ self.entry.allowed }
+    {
         Finding {
             key,
             entry: Some(entry),
@@ -39,61 +60,118 @@ pub(crate) fn finding_at<'a>(
     alloc: Global,
     table: &'a Table,
     key: &'a str,
-) -> Result<Finding<'a>, AllocError> {
-    let (value, kind) = (table.get(key), kind_of(key));
-    let found = match (value, kind) {
-        (Some(_), None) => Found::Unknown,
-        (Some(value), Some(Kind::Accounts)) => Found::Secret(value),
-        (Some(value), Some(_)) => Found::Value(value),
-        (None, _) => Found::Nothing,
-    };
-    if let Some(items) = value.and_then(Value::as_array) {
-        let in_list = match kind {
-            Some(Kind::Accounts) => account_finding(alloc, items)?,
-            Some(Kind::Commands) => command_finding(items),
-            _ => None,
-        };
-        if let Some(finding) = in_list {
-            return Ok(finding);
-        }
+) -> Result<Finding<'a>, AllocError>
+    ensures key { IfOk result (λ finding. finding.key.now ≡ key.entry.now) }
+    ensures stands { IfOk result (IsFoundIn (table_view table.entry.now)) }
+    ensures hides { IfOk result HidesPasswords }
+    ensures unknown { IfOk result (λ finding. kind_of key.entry.now ≡ None → IsConcealed finding.found) }
+{
+    let (value, kind) = (value_at(table, key), kind_of(key));
+    if let Some(finding) = finding_in_list(alloc, key, value, kind)? {
+        return Ok(finding);
     }
     Ok(Finding {
         key,
         entry: None,
         inner: None,
-        found,
+        found: found_of_kind(value, kind),
         allowed: kind.map_or(Allowed::Keys, allowed_for),
     })
 }
 
+/// What stands at a key of this kind. A list of accounts is not shown, nor what stands at a key that is none.
+fn found_of_kind<'a>(value: Option<&'a Value>, kind: Option<Kind>) -> Found<'a>
+    ensures stands { IsWhatStands (option_map (λ value. view value.now) value.entry) result }
+    ensures accounts { option_map kind_seen kind ≡ Some Accounts → IsConcealed result }
+    ensures unknown { option_map kind_seen kind ≡ None → IsConcealed result }
+{
+    match (value, kind) {
+        (Some(_), None) => Found::Unknown,
+        (Some(value), Some(Kind::Accounts)) => Found::Secret(value),
+        (Some(value), Some(_)) => Found::Value(value),
+        (None, _) => Found::Nothing,
+    }
+}
+
+/// The first fault in the list that stands at a key of this kind.
+fn finding_in_list<'a>(
+    alloc: Global,
+    key: &'a str,
+    value: Option<&'a Value>,
+    kind: Option<Kind>,
+) -> Result<Option<Finding<'a>>, AllocError>
+    ensures key { IfOk result (λ found. IfSome found (λ finding. finding.key.now ≡ key.entry.now)) }
+    ensures stands { IfOk result (λ found. IfSome found (IsFoundInList (option_map (λ value. view value.now) value.entry))) }
+    ensures accounts { option_map kind_seen kind ≡ Some Accounts
+        → IfOk result (λ found. IfSome found (λ finding. ConcealsAccount (text_of finding.inner) finding.found)) }
+    ensures unknown { option_map kind_seen kind ≡ None → IfOk result (λ found. found ≡ None) }
+{
+    let Some(value) = value else {
+        return Ok(None);
+    };
+    let Some(items) = value.as_array() else {
+        return Ok(None);
+    };
+    match kind {
+        Some(Kind::Accounts) => account_finding(alloc, key, items),
+        Some(Kind::Commands) => Ok(command_finding(key, items)),
+        _ => Ok(None),
+    }
+}
+
 fn account_finding<'a>(
     alloc: Global,
+    key: &'a str,
     items: &'a Vec<Value>,
-) -> Result<Option<Finding<'a>>, AllocError> {
+) -> Result<Option<Finding<'a>>, AllocError>
+    ensures key { IfOk result (λ found. IfSome found (λ finding. finding.key.now ≡ key.entry.now)) }
+    ensures stands { IfOk result (λ found. IfSome found (IsFoundAmong (array_view items.entry.now))) }
+    ensures hides { IfOk result (λ found. IfSome found (λ finding. ConcealsAccount (text_of finding.inner) finding.found)) }
+{
     for (entry, item) in items.iter().enumerate() {
         if let Some(flaw) = account_flaw(alloc, item)? {
-            return Ok(Some(flaw.in_entry("account", entry)));
+            return Ok(Some(flaw.in_entry(key, entry)));
         }
     }
-    if items.len() > MOST_ACCOUNTS {
-        let flaw = Flaw {
-            inner: None,
-            found: Found::Surplus,
-            allowed: allowed::ACCOUNTS,
-        };
-        return Ok(Some(flaw.in_entry("account", MOST_ACCOUNTS)));
+    if let Some(finding) = surplus(key, items, MOST_ACCOUNTS, allowed::ACCOUNTS) {
+        return Ok(Some(finding));
     }
-    repeated_nick(alloc, items)
+    repeated_nick(alloc, key, items)
+}
+
+/// The first entry of a list that is one too many.
+#[tactic(auto, using(crate::proofs::Among::surplus_stands))]
+fn surplus<'a>(key: &'a str, items: &[Value], most: usize, allowed: Allowed) -> Option<Finding<'a>>
+    ensures none { (result ≡ None) ↔ (length items.now ≤ most) }
+    ensures key { IfSome result (λ finding. finding.key.now ≡ key.entry.now) }
+    ensures stands { IfSome result (IsFoundAmong (items_view items.now)) }
+    ensures hidden { IfSome result (λ finding. IsConcealed finding.found) }
+{
+    if items.len() <= most {
+        return None;
+    }
+    Some(Finding {
+        key,
+        entry: Some(most),
+        inner: None,
+        found: Found::Surplus,
+        allowed,
+    })
 }
 
 /// The first account whose nick an earlier one has.
 fn repeated_nick<'a>(
     alloc: Global,
+    account: &'a str,
     items: &'a Vec<Value>,
-) -> Result<Option<Finding<'a>>, AllocError> {
+) -> Result<Option<Finding<'a>>, AllocError>
+    ensures key { IfOk result (λ found. IfSome found (λ finding. finding.key.now ≡ account.entry.now)) }
+    ensures stands { IfOk result (λ found. IfSome found (IsFoundAmong (array_view items.entry.now))) }
+    ensures nick { IfOk result (λ found. IfSome found (λ finding. text_of finding.inner ≡ Some (codes "nick"))) }
+{
     let mut keys = Vec::new(alloc);
     for (entry, item) in items.iter().enumerate() {
-        let Some(nick) = item.get("nick") else {
+        let Some(nick) = nick_of(item) else {
             return Ok(None);
         };
         let Some(key) = nick_key(alloc, nick)? else {
@@ -101,11 +179,17 @@ fn repeated_nick<'a>(
         };
         if keys.contains(&key) {
             let flaw = Flaw::at("nick", Found::Twice(nick), allowed::OTHER_NICK);
-            return Ok(Some(flaw.in_entry("account", entry)));
+            return Ok(Some(flaw.in_entry(account, entry)));
         }
         keys.push(key)?;
     }
     Ok(None)
+}
+
+fn nick_of(account: &Value) -> Option<&Value>
+    ensures { option_map (λ nick. view nick.now) result ≡ get (codes "nick") (view account.entry.now) }
+{
+    account.get("nick")
 }
 
 /// Gives what nicks that are the same share.
@@ -120,7 +204,10 @@ fn nick_key(alloc: Global, value: &Value) -> Result<Option<String>, AllocError> 
     }
 }
 
-fn account_flaw(alloc: Global, item: &Value) -> Result<Option<Flaw<'_>>, AllocError> {
+fn account_flaw(alloc: Global, item: &Value) -> Result<Option<Flaw<'_>>, AllocError>
+    ensures stands { IfOk result (λ found. IfSome found (IsFlawOf (view item.entry.now))) }
+    ensures hides { IfOk result (λ found. IfSome found (λ flaw. ConcealsAccount (text_of flaw.inner) flaw.found)) }
+{
     let Some(table) = item.as_table() else {
         return Ok(Some(Flaw {
             inner: None,
@@ -128,10 +215,17 @@ fn account_flaw(alloc: Global, item: &Value) -> Result<Option<Flaw<'_>>, AllocEr
             allowed: allowed::ACCOUNT_LIST,
         }));
     };
+    flaw_in_account(alloc, table)
+}
+
+fn flaw_in_account(alloc: Global, table: &Table) -> Result<Option<Flaw<'_>>, AllocError>
+    ensures stands { IfOk result (λ found. IfSome found (IsFlawIn (table_view table.entry.now))) }
+    ensures hides { IfOk result (λ found. IfSome found (λ flaw. ConcealsAccount (text_of flaw.inner) flaw.found)) }
+{
     if let Some(key) = unknown_key(table, &["nick", "password", "operator"]) {
         return Ok(Some(Flaw::at(key, Found::Unknown, allowed::ACCOUNT_KEYS)));
     }
-    let Some(nick) = table.get("nick") else {
+    let Some(nick) = value_at(table, "nick") else {
         return Ok(Some(Flaw::at("nick", Found::Nothing, allowed::NICK)));
     };
     if nick_key(alloc, nick)?.is_none() {
@@ -143,18 +237,40 @@ fn account_flaw(alloc: Global, item: &Value) -> Result<Option<Flaw<'_>>, AllocEr
     Ok(truth_flaw(table, "operator"))
 }
 
-fn password_flaw(table: &Table) -> Option<Found<'_>> {
-    let Some(password) = table.get("password") else {
-        return Some(Found::Nothing);
-    };
-    match password.as_str() {
-        Some(text) if !text.is_empty() => None,
-        _ => Some(Found::Secret(password)),
+fn password_flaw(table: &Table) -> Option<Found<'_>>
+    ensures none { (result ≡ None) ↔ IsSome (option_and_then not_empty (text_at (codes "password") (table_view table.entry.now))) }
+    ensures stands { IfSome result (IsWhatStands (get_member (codes "password") (table_view table.entry.now))) }
+    ensures hidden { IfSome result IsConcealed }
+{
+    match value_at(table, "password") {
+        None => Some(Found::Nothing),
+        Some(value) if is_some_text(value) => None,
+        Some(value) => Some(Found::Secret(value)),
     }
 }
 
-fn truth_flaw<'a>(table: &'a Table, key: &'a str) -> Option<Flaw<'a>> {
-    match table.get(key) {
+/// Gives the value at a key.
+fn value_at<'a>(table: &'a Table, key: &str) -> Option<&'a Value>
+    ensures { option_map (λ value. view value.now) result ≡ get_member key.now (table_view table.entry.now) }
+{
+    table.get(key)
+}
+
+fn is_some_text(value: &Value) -> bool
+    ensures { result ≡ is_some (option_and_then not_empty (as_str (view value.now))) }
+{
+    match value.as_str() {
+        Some(text) => !text.is_empty(),
+        None => false,
+    }
+}
+
+fn truth_flaw<'a>(table: &'a Table, key: &'a str) -> Option<Flaw<'a>>
+    ensures none { (result ≡ None) ↔ IsSome (truth_of (get_member key.entry.now (table_view table.entry.now))) }
+    ensures key { IfSome result (λ flaw. text_of flaw.inner ≡ Some key.entry.now) }
+    ensures stands { IfSome result (λ flaw. IsWhatStands (get_member key.entry.now (table_view table.entry.now)) flaw.found) }
+{
+    match value_at(table, key) {
         Some(value) if !value.is_bool() => {
             Some(Flaw::at(key, Found::Value(value), allowed::TRUTH))
         }
@@ -162,24 +278,21 @@ fn truth_flaw<'a>(table: &'a Table, key: &'a str) -> Option<Flaw<'a>> {
     }
 }
 
-fn command_finding<'a>(items: &'a Vec<Value>) -> Option<Finding<'a>> {
+fn command_finding<'a>(key: &'a str, items: &'a Vec<Value>) -> Option<Finding<'a>>
+    ensures key { IfSome result (λ finding. finding.key.now ≡ key.entry.now) }
+    ensures stands { IfSome result (IsFoundAmong (array_view items.entry.now)) }
+{
     for (entry, item) in items.iter().enumerate() {
         if let Some(flaw) = command_flaw(item) {
-            return Some(flaw.in_entry("command", entry));
+            return Some(flaw.in_entry(key, entry));
         }
     }
-    if items.len() <= MOST_COMMANDS {
-        return None;
-    }
-    let flaw = Flaw {
-        inner: None,
-        found: Found::Surplus,
-        allowed: allowed::COMMANDS,
-    };
-    Some(flaw.in_entry("command", MOST_COMMANDS))
+    surplus(key, items, MOST_COMMANDS, allowed::COMMANDS)
 }
 
-fn command_flaw(item: &Value) -> Option<Flaw<'_>> {
+fn command_flaw(item: &Value) -> Option<Flaw<'_>>
+    ensures { IfSome result (IsFlawOf (view item.entry.now)) }
+{
     let Some(table) = item.as_table() else {
         return Some(Flaw {
             inner: None,
@@ -187,17 +300,16 @@ fn command_flaw(item: &Value) -> Option<Flaw<'_>> {
             allowed: allowed::COMMAND_LIST,
         });
     };
+    flaw_in_command(table)
+}
+
+fn flaw_in_command(table: &Table) -> Option<Flaw<'_>>
+    ensures { IfSome result (IsFlawIn (table_view table.entry.now)) }
+{
     if let Some(key) = unknown_key(table, &["name", "context", "text", "separator"]) {
         return Some(Flaw::at(key, Found::Unknown, allowed::COMMAND_KEYS));
     }
-    let name = match table.get("name") {
-        None => Some(Found::Nothing),
-        Some(value) => match value.as_str() {
-            Some(text) if !text.is_empty() => None,
-            _ => Some(Found::Value(value)),
-        },
-    };
-    if let Some(found) = name {
+    if let Some(found) = name_flaw(table) {
         return Some(Flaw::at("name", found, allowed::SOME_TEXT));
     }
     if let Some(found) = context_flaw(table) {
@@ -209,8 +321,22 @@ fn command_flaw(item: &Value) -> Option<Flaw<'_>> {
     content_flaw(table)
 }
 
-fn context_flaw(table: &Table) -> Option<Found<'_>> {
-    let Some(value) = table.get("context") else {
+fn name_flaw(table: &Table) -> Option<Found<'_>>
+    ensures none { (result ≡ None) ↔ IsSome (option_and_then not_empty (text_at (codes "name") (table_view table.entry.now))) }
+    ensures stands { IfSome result (IsWhatStands (get_member (codes "name") (table_view table.entry.now))) }
+{
+    match value_at(table, "name") {
+        None => Some(Found::Nothing),
+        Some(value) if is_some_text(value) => None,
+        Some(value) => Some(Found::Value(value)),
+    }
+}
+
+fn context_flaw(table: &Table) -> Option<Found<'_>>
+    ensures none { (result ≡ None) ↔ IsSome (context_from (get_member (codes "context") (table_view table.entry.now))) }
+    ensures stands { IfSome result (IsWhatStands (get_member (codes "context") (table_view table.entry.now))) }
+{
+    let Some(value) = value_at(table, "context") else {
         return Some(Found::Nothing);
     };
     match value.as_integer() {
@@ -220,20 +346,34 @@ fn context_flaw(table: &Table) -> Option<Found<'_>> {
 }
 
 /// A command has a text or is a separator, and not both.
-fn content_flaw(table: &Table) -> Option<Flaw<'_>> {
-    let separator = table.get("separator").and_then(Value::as_bool);
-    match (table.get("text"), separator.unwrap_or(false)) {
-        (Some(value), true) => Some(Flaw::at("text", Found::Value(value), allowed::NO_TEXT)),
-        (Some(value), false) if !value.is_str() => {
+fn content_flaw(table: &Table) -> Option<Flaw<'_>>
+    ensures none { IsSome (truth_of (get_member (codes "separator") (table_view table.entry.now)))
+        → ((result ≡ None) ↔ IsSome (item_in (table_view table.entry.now))) }
+    ensures key { IfSome result (λ flaw. text_of flaw.inner ≡ Some (codes "text")) }
+    ensures stands { IfSome result (λ flaw. IsWhatStands (get_member (codes "text") (table_view table.entry.now)) flaw.found) }
+{
+    let is_separator = match value_at(table, "separator") {
+        Some(value) => value.as_bool().unwrap_or(false),
+        None => false,
+    };
+    match value_at(table, "text") {
+        Some(value) if is_separator => Some(Flaw::at(
+            "text",
+            Found::Value(value),
+            allowed::NO_TEXT,
+        )),
+        Some(value) if !value.is_str() => {
             Some(Flaw::at("text", Found::Value(value), allowed::TEXT))
         }
-        (None, false) => Some(Flaw::at("text", Found::Nothing, allowed::CONTENT)),
+        None if !is_separator => Some(Flaw::at("text", Found::Nothing, allowed::CONTENT)),
         _ => None,
     }
 }
 
 /// The first key of a table, by bytes, that is none of these.
-fn unknown_key<'a>(table: &'a Table, known: &[&str]) -> Option<&'a str> {
+fn unknown_key<'a>(table: &'a Table, known: &[&str]) -> Option<&'a str>
+    ensures { text_of result ≡ first_unknown (map (λ key. key.now) known.now) (table_view table.entry.now) }
+{
     for (key, _value) in table.iter() {
         if !is_among(known, key.as_str()) {
             return Some(key.as_str());
@@ -242,7 +382,9 @@ fn unknown_key<'a>(table: &'a Table, known: &[&str]) -> Option<&'a str> {
     None
 }
 
-fn is_among(known: &[&str], key: &str) -> bool {
+fn is_among(known: &[&str], key: &str) -> bool
+    ensures { result ≡ is_among (map (λ word. word.now) known.now) key.now }
+{
     for word in known {
         if key == *word {
             return true;

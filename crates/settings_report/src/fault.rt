@@ -1,4 +1,8 @@
-ghost use Rattle.std.specs.Prelude.{◌≡◌, Some, None, IfOk};
+ghost use Rattle.std.specs.Prelude.{◌≡◌, Some, None, IfOk, [], codes, string_bytes, unwrap_or};
+ghost use Rattle.settings_report.specs.Allowances.{Says};
+ghost use Rattle.settings_report.specs.Faults.{HidesPasswords, TellsFinding};
+ghost use Rattle.settings_report.specs.Findings as findings;
+ghost use Rattle.settings_report.specs.Findings.{text_of};
 
 use crate::allowed::{Allowed, TOML};
 use crate::findings::Finding;
@@ -32,12 +36,15 @@ impl Fault {
         finding: &Finding<'_>,
         place: Place,
     ) -> Result<Fault, AllocError>
-        ensures { IfOk result (λ fault. fault.key ≡ Some key) }
+        ensures key { IfOk result (λ fault. fault.key ≡ Some key) }
+        ensures place { IfOk result (λ fault. fault.place ≡ place) }
+        ensures tells { IfOk result (λ fault. key ≡ finding.now.key.now → TellsFinding finding.now fault) }
+        ensures hides { IfOk result (λ fault. key ≡ finding.now.key.now → findings.HidesPasswords finding.now → HidesPasswords fault) }
     {
         Ok(Fault {
             key: Some(key),
             entry: finding.entry.map_or(0, |entry| entry.saturating_add(1)),
-            inner: String::from_str(alloc, finding.inner.unwrap_or(""))?,
+            inner: String::from_str(alloc, inner_key(finding))?,
             place,
             found: finding.words(alloc)?,
             allowed: finding.allowed,
@@ -46,7 +53,12 @@ impl Fault {
 
     /// The fault of a text that is no TOML.
     pub(crate) fn of_text(alloc: Global, place: Place, found: &str) -> Result<Fault, AllocError>
-        ensures { IfOk result (λ fault. fault.key ≡ None) }
+        ensures key { IfOk result (λ fault. fault.key ≡ None) }
+        ensures entry { IfOk result (λ fault. fault.entry ≡ 0) }
+        ensures inner { IfOk result (λ fault. string_bytes fault.inner ≡ []) }
+        ensures place { IfOk result (λ fault. fault.place ≡ place) }
+        ensures found { IfOk result (λ fault. string_bytes fault.found ≡ found.now) }
+        ensures allowed { IfOk result (λ fault. Says (codes "TOML") fault.allowed) }
     {
         Ok(Fault {
             key: None,
@@ -57,6 +69,13 @@ impl Fault {
             allowed: TOML,
         })
     }
+}
+
+/// Gives the key of the entry where it was found; an empty text where it is at none.
+fn inner_key<'a>(finding: &Finding<'a>) -> &'a str
+    ensures { result.now ≡ unwrap_or (text_of finding.now.inner) [] }
+{
+    finding.inner.unwrap_or("")
 }
 
 impl fmt::Display for Fault {

@@ -1,5 +1,11 @@
+ghost use Rattle.std.specs.Prelude.{◌≡◌, IfOk, false, string_bytes};
+ghost use Rattle.toml.specs.Text.{IsValueText};
+ghost use Rattle.toml.specs.View.{view};
+ghost use Rattle.settings_report.specs.FaultWords.{IsSaid, IsShown, kind_words};
+
 use crate::allowed::Allowed;
 use std::alloc::{AllocError, Global};
+use std::fmt::{Display, Formatter};
 use toml::{Table, Value};
 
 /// The value that stands where a fault is.
@@ -55,7 +61,9 @@ impl Finding<'_> {
     }
 
     /// Tells what stands there, in words.
-    pub(crate) fn words(&self, alloc: Global) -> Result<String, AllocError> {
+    pub(crate) fn words(&self, alloc: Global) -> Result<String, AllocError>
+        ensures { IfOk result (λ words. IsSaid self.now.found (string_bytes words)) }
+    {
         match self.found {
             Found::Value(value) => value_text(alloc, value),
             Found::Secret(value) => kind(alloc, value),
@@ -72,15 +80,31 @@ impl Finding<'_> {
 }
 
 /// A value as it is written; of a list or a table only that it is one.
-fn value_text(alloc: Global, value: &Value) -> Result<String, AllocError> {
-    match value {
-        Value::Array(_) | Value::Table(_) => kind(alloc, value),
-        _ => format!(in alloc; "{value}").map_err(|_| AllocError),
+#[tactic(auto, using(crate::proofs::Shown::kind_shown, crate::proofs::Shown::value_shown))]
+fn value_text(alloc: Global, value: &Value) -> Result<String, AllocError>
+    ensures { IfOk result (λ words. IsShown (view value.now) (string_bytes words)) }
+{
+    if value.is_array() || value.is_table() {
+        return kind(alloc, value);
+    }
+    written(alloc, value)
+}
+
+/// Writes a value as TOML does.
+fn written(alloc: Global, value: &Value) -> Result<String, AllocError>
+    ensures { IfOk result (λ words. IsValueText false (view value.now) (string_bytes words)) }
+{
+    let mut text = Formatter::new(String::new(alloc));
+    match value.fmt(&mut text) {
+        Ok(()) => Ok(text.into_inner()),
+        Err(_) => Err(AllocError),
     }
 }
 
 /// The kind of a value, and whether it is an empty text.
-fn kind(alloc: Global, value: &Value) -> Result<String, AllocError> {
+fn kind(alloc: Global, value: &Value) -> Result<String, AllocError>
+    ensures { IfOk result (λ words. string_bytes words ≡ kind_words (view value.now)) }
+{
     let words = match value {
         Value::String(text) if text.is_empty() => "an empty text",
         Value::String(_) => "a text",

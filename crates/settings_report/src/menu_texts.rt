@@ -1,3 +1,7 @@
+ghost use Rattle.std.specs.Prelude.{◌≡◌, ◌↔◌, IfOk, IsTrue};
+ghost use Rattle.settings_report.specs.MenuTexts.{HasCarriageReturn, TellsFlaw, goes_to_hub};
+ghost use Rattle.settings_report.specs.Places.{EndsWithLineFeed};
+
 use adc_line::{Kind, Line, LineFault};
 use std::alloc::{AllocError, Global};
 
@@ -26,12 +30,27 @@ impl TextFlaw {
 }
 
 /// Tests whether a menu entry's text has this flaw.
-pub(crate) fn has_flaw(alloc: Global, text: &str, flaw: TextFlaw) -> Result<bool, AllocError> {
+pub(crate) fn has_flaw(alloc: Global, text: &str, flaw: TextFlaw) -> Result<bool, AllocError>
+    ensures { IfOk result (TellsFlaw flaw text.now) }
+{
     match flaw {
-        TextFlaw::Unended => Ok(!text.ends_with('\n')),
-        TextFlaw::CarriageReturn => Ok(text.contains("\r\n")),
+        TextFlaw::Unended => Ok(!ends_with_line_feed(text)),
+        TextFlaw::CarriageReturn => Ok(has_carriage_return(text)),
         TextFlaw::NoMessage => has_other_lines(alloc, text),
     }
+}
+
+fn ends_with_line_feed(text: &str) -> bool
+    ensures { IsTrue result ↔ EndsWithLineFeed text.now }
+{
+    text.ends_with('\n')
+}
+
+/// Tests whether a carriage return stands before a line feed.
+fn has_carriage_return(text: &str) -> bool
+    ensures { IsTrue result ↔ HasCarriageReturn text.now }
+{
+    text.contains("\r\n")
 }
 
 /// Tests whether a line of a text is neither empty nor a message that a client may send. Of one that begins with what is filled in
@@ -54,7 +73,9 @@ fn is_message(alloc: Global, line: &str) -> Result<bool, AllocError> {
     }
 }
 
-fn is_from_client(kind: Kind) -> bool {
+fn is_from_client(kind: Kind) -> bool
+    ensures { result ≡ goes_to_hub kind }
+{
     !matches!(kind, Kind::Client | Kind::Info | Kind::Udp)
 }
 

@@ -1,3 +1,7 @@
+ghost use Rattle.std.specs.Prelude.{◌≡◌};
+ghost use Rattle.std.specs.Fmt.{is_char_start};
+ghost use Rattle.settings_report.specs.Places.{IsBehind};
+
 use crate::findings::Finding;
 use crate::statements::{Statement, statements};
 use std::alloc::{AllocError, Global};
@@ -13,18 +17,27 @@ pub struct Place {
 
 impl Place {
     /// The place behind these bytes, with which a text begins.
-    pub(crate) fn behind(bytes: &[u8]) -> Place {
+    pub(crate) fn behind(bytes: &[u8]) -> Place
+        ensures { IsBehind bytes.now result }
+    {
         let mut place = Place { line: 1, column: 1 };
         for byte in bytes {
             if *byte == b'\n' {
                 place.line = place.line.saturating_add(1);
                 place.column = 1;
-            } else if *byte & 0xC0 != 0x80 {
+            } else if begins_character(*byte) {
                 place.column = place.column.saturating_add(1);
             }
         }
         place
     }
+}
+
+/// Tests whether a byte of a text begins a character.
+fn begins_character(byte: u8) -> bool
+    ensures { result ≡ is_char_start byte }
+{
+    byte < 0x80 || 0xC0 <= byte
 }
 
 /// Finds where the statement of a document begins that makes what was found: the first with which its beginning has it. Each statement

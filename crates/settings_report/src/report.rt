@@ -1,5 +1,9 @@
 ghost use Rattle.std.specs.Prelude.{◌≡◌, Some, None, IfOk};
+ghost use Rattle.toml.specs.Parse.{parse_document};
+ghost use Rattle.toml.specs.View.{table_view};
+ghost use Rattle.settings_report.specs.Faults.{Shows};
 ghost use Rattle.settings_report.specs.Reports.{Tells};
+ghost use Rattle.settings_report.specs.declared.report.Report.TheVariants.{Faulty};
 
 use crate::entries::finding_at;
 use crate::fault::Fault;
@@ -9,7 +13,7 @@ use crate::warnings::{Warning, warnings_of};
 use hub_settings::{KeyName, SettingsFault, read_settings};
 use std::alloc::{AllocError, Global};
 use std::str;
-use toml::Value;
+use toml::{Table, Value};
 
 /// A report on a settings file.
 #[derive(Drop)]
@@ -38,7 +42,8 @@ pub fn report_file(alloc: Global, bytes: &[u8]) -> Result<Report, AllocError> {
 ///
 /// Refused only where memory runs out.
 pub fn report_settings(alloc: Global, text: &str) -> Result<Report, AllocError>
-    ensures { IfOk result (λ report. Tells text.now report) }
+    ensures tells { IfOk result (λ report. Tells text.now report) }
+    ensures shows { IfOk result (Shows text.now) }
 {
     match read_settings(alloc, text, 0) {
         Ok(settings) => {
@@ -65,9 +70,21 @@ fn count_of(list: Option<&Value>) -> usize {
     }
 }
 
+/// Reads a text that is TOML.
+fn table_of(alloc: Global, text: &str) -> Result<Table, AllocError>
+    ensures { IfOk result (λ table. parse_document text.now ≡ Some (table_view table)) }
+{
+    match toml::table_from_str(alloc, text) {
+        Ok(table) => Ok(table),
+        Err(_) => Err(AllocError),
+    }
+}
+
 /// The fault of a text that is no TOML.
+#[tactic(auto, using(crate::proofs::Told::no_key))]
 fn text_fault(alloc: Global, text: &str) -> Result<Fault, AllocError>
-    ensures { IfOk result (λ fault. fault.key ≡ None) }
+    ensures key { IfOk result (λ fault. fault.key ≡ None) }
+    ensures shows { IfOk result (λ fault. Shows text.now (Faulty fault)) }
 {
     match toml::table_from_str(alloc, text) {
         Ok(_) => Fault::of_text(alloc, Place::behind(b""), ""),
@@ -83,9 +100,10 @@ fn text_fault(alloc: Global, text: &str) -> Result<Fault, AllocError>
 
 /// The fault at a key.
 fn key_fault(alloc: Global, text: &str, key: KeyName) -> Result<Fault, AllocError>
-    ensures { IfOk result (λ fault. fault.key ≡ Some key) }
+    ensures key { IfOk result (λ fault. fault.key ≡ Some key) }
+    ensures shows { IfOk result (λ fault. Shows text.now (Faulty fault)) }
 {
-    let table = toml::table_from_str(alloc, text).map_err(|_| AllocError)?;
+    let table = table_of(alloc, text)?;
     let name = String::from_str(alloc, key.as_str())?;
     let finding = finding_at(alloc, &table, &name)?;
     let place = place_of(alloc, text, &finding)?;

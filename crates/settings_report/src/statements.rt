@@ -1,3 +1,5 @@
+ghost use Rattle.settings_report.specs.Statements.{BeginsAt};
+
 use std::alloc::{AllocError, Global};
 
 /// A statement of a document: a table's head, or a key and its value.
@@ -157,7 +159,9 @@ pub(crate) fn statements(alloc: Global, text: &str) -> Result<Vec<Statement>, Al
 }
 
 /// Gives the line and the column where a statement begins in this line, outside all others; `None` where it has none.
-fn beginning(line: &str, number: usize) -> Option<(usize, usize)> {
+fn beginning(line: &str, number: usize) -> Option<(usize, usize)>
+    ensures { BeginsAt line.now number result }
+{
     let statement = line.trim_start();
     if statement.is_empty() || statement.starts_with('#') {
         return None;

@@ -20,7 +20,8 @@ pub struct Summary {
 const OWN_DESCRIPTORS: u32 = 32;
 
 impl Summary {
-    ghost use Rattle.settings_report.specs.Summaries.{Summarizes};
+    ghost use Rattle.std.specs.Prelude.{◌≡◌};
+    ghost use Rattle.settings_report.specs.Summaries.{Summarizes, hash_word};
 
     pub(crate) fn of(settings: &Settings, accounts: usize, commands: usize) -> Summary
         ensures { Summarizes settings.now result }
@@ -35,7 +36,9 @@ impl Summary {
     }
 
     /// The hash as the settings call it.
-    pub fn hash_name(&self) -> &'static str {
+    pub fn hash_name(&self) -> &'static str
+        ensures { result.now ≡ hash_word self.now.hash }
+    {
         match self.hash {
             HashName::Tiger => "tiger",
             HashName::First24 => "first24",

@@ -1,0 +1,25 @@
+-- What may stand at a place of the settings.
+use Rattle.std.specs.Prelude.{◌≡◌, ℕ, List, codes}
+use Rattle.hub_settings.specs.declared.kinds.Kind.{Kind}
+use Rattle.hub_settings.specs.declared.kinds.Kind.TheVariants as kinds
+use Rattle.settings_report.specs.declared.allowed.Allowed.{Allowed}
+use Rattle.settings_report.specs.declared.allowed.Allowed.TheVariants as allowed
+
+abbrev pub Says : List ℕ → Allowed → Type 0
+Says words (allowed.Words said) = said.now ≡ words
+Says words other = ⊥
+
+abbrev pub GivesExample : List ℕ → Allowed → Type 0
+GivesExample address (allowed.Address example) = example.now ≡ address
+GivesExample address other = ⊥
+
+-- what may stand at a key of this kind
+abbrev pub IsAllowedFor : Kind → Allowed → Type 0
+IsAllowedFor (kinds.SomeText default) allowed = Says (codes "a text that is not empty") allowed
+IsAllowedFor (kinds.Text default) allowed = Says (codes "a text") allowed
+IsAllowedFor (kinds.Address default) allowed = GivesExample default.now allowed
+IsAllowedFor (kinds.Hash default) allowed = Says (codes "tiger or first24") allowed
+IsAllowedFor kinds.Truth allowed = Says (codes "true or false") allowed
+IsAllowedFor (kinds.Number low high default) given = given ≡ allowed.Number low high
+IsAllowedFor kinds.Accounts allowed = Says (codes "a list of tables, [[account]]") allowed
+IsAllowedFor kinds.Commands allowed = Says (codes "a list of tables, [[command]]") allowed
