@@ -18,16 +18,14 @@ abbrev pub standing_in : Option (List ℕ) → Data → Option Data
 standing_in None entry = Some entry
 standing_in (Some inner) entry = get inner entry
 
--- the same of an entry that is counted from 0
-abbrev pub standing_among : Option ℕ → Option (List ℕ) → Items → Option Data
-standing_among None inner items = None
-standing_among (Some entry) inner items = option_and_then (standing_in inner) (get_item entry items)
+-- an entry of a list, counted from 0
+abbrev pub entry_of : Option ℕ → Items → Option Data
+entry_of None items = None
+entry_of (Some entry) items = get_item entry items
 
--- what stands at a key of a document, or in an entry of the list there, or at a key of that entry
-abbrev pub standing_at : List ℕ → Option ℕ → Option (List ℕ) → Members → Option Data
-standing_at key None inner document = get_member key document
-standing_at key (Some entry) inner document =
-    option_and_then (standing_among (Some entry) inner) (option_and_then as_array (get_member key document))
+-- an entry of the list that a value is
+abbrev pub entry_in : Option ℕ → Option Data → Option Data
+entry_in entry value = option_and_then (entry_of entry) (option_and_then as_array value)
 
 -- what was found is what stands there
 abbrev pub IsWhatStands : Option Data → Found → Type 0
@@ -44,19 +42,23 @@ IsFlawOf entry flaw = IsWhatStands (standing_in (text_of flaw.inner) entry) flaw
 abbrev pub IsFlawIn : Members → Flaw → Type 0
 IsFlawIn members flaw = IsFlawOf (table members) flaw
 
-abbrev pub IsFoundAmong : Items → Finding → Type 0
-IsFoundAmong items finding =
-    IsSome finding.entry × IsWhatStands (standing_among finding.entry (text_of finding.inner) items) finding.found
+-- what was found stands in this entry, which exists, or at a key of it
+abbrev pub IsFoundAt : Option Data → Finding → Type 0
+IsFoundAt entry finding = IsSome entry × IsWhatStands (option_and_then (standing_in (text_of finding.inner)) entry) finding.found
 
--- the same of the list that a value is
+abbrev pub IsFoundAmong : Items → Finding → Type 0
+IsFoundAmong items finding = IsFoundAt (entry_of finding.entry items) finding
+
 abbrev pub IsFoundInList : Option Data → Finding → Type 0
-IsFoundInList value finding =
-    IsSome finding.entry
-    × IsWhatStands (option_and_then (standing_among finding.entry (text_of finding.inner)) (option_and_then as_array value)) finding.found
+IsFoundInList value finding = IsFoundAt (entry_in finding.entry value) finding
+
+-- what was found stands at a key, or in an entry of the list there
+abbrev pub IsFoundAtKey : Option ℕ → Option Data → Finding → Type 0
+IsFoundAtKey None value finding = IsWhatStands value finding.found
+IsFoundAtKey (Some entry) value finding = IsFoundAt (entry_in (Some entry) value) finding
 
 abbrev pub IsFoundIn : Members → Finding → Type 0
-IsFoundIn document finding =
-    IsWhatStands (standing_at finding.key.now finding.entry (text_of finding.inner) document) finding.found
+IsFoundIn document finding = IsFoundAtKey finding.entry (get_member finding.key.now document) finding
 
 -- the keys of an account whose values may be shown
 abbrev pub IsOpenKey : Option (List ℕ) → Type 0

@@ -140,7 +140,7 @@ fn account_finding<'a>(
 }
 
 /// The first entry of a list that is one too many.
-#[tactic(auto, using(crate::proofs::Among::surplus_stands))]
+#[tactic(auto, using(crate::proofs::Among::has_item, crate::proofs::Among::surplus_stands))]
 fn surplus<'a>(key: &'a str, items: &[Value], most: usize, allowed: Allowed) -> Option<Finding<'a>>
     ensures none { (result ≡ None) ↔ (length items.now ≤ most) }
     ensures key { IfSome result (λ finding. finding.key.now ≡ key.entry.now) }
