@@ -13,7 +13,7 @@ use Rattle.std.proofs.Math.Nat.{mul-mod_left}
 use Rattle.std.proofs.lemmas.List.Elements.{All-append, All-nil}
 use Rattle.std.proofs.Math.Seq.{take-append_seam, drop-append_seam}
 use Rattle.adc_base32.specs.Digits.{digit_of, value_at}
-use Rattle.adc_base32.specs.Bits.{bits, byte_bits, text_bits, digit_bits, value_of, AreDigits, IsBase32, text_len}
+use Rattle.adc_base32.specs.Bits.{bits, byte_bits, text_bits, value_of, AreDigits, IsBase32, text_len}
 use Rattle.adc_base32.proofs.BitLists.{length-bits, bits-add, bits-mod, bits-multiple, mod-from_bits, multiple-from_bits}
 use Rattle.adc_base32.proofs.Spelling.{value_at-digit_of, digit_of-value_at}
 
@@ -23,6 +23,10 @@ value_of-digit_of v h = rw (value_at-digit_of v h) refl
 
 IsSome-digit_of : (v : ℕ) → v < 32 → IsSome (value_at (digit_of v))
 IsSome-digit_of v h = rw (value_at-digit_of v h) refl
+
+-- the bits of a digit
+abbrev pub digit_bits : ℕ → List ℕ
+digit_bits c = bits 5 (value_of c)
 
 -- the bits of a digit that was made from a number are the number's lowest five
 digit_bits-digit_of : (v : ℕ) → digit_bits (digit_of (v % 32)) ≡ bits 5 v

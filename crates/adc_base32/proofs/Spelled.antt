@@ -1,5 +1,5 @@
 -- The bytes that a text spells are those of the relation: its bits, cut into eights, are the bytes.
-use Rattle.std.proofs.Common.{◌≡◌, ◌≢◌, ◌∙◌, sym, ap, ap₂, refl, ℕ, zero, suc, ◌+◌, ◌*◌, ◌-◌, ◌/◌, ◌%◌, ◌^◌, ◌<◌, ◌&&◌, ◌==◌, Bool, true, false, ◌∷◌, [], ◌++◌, List, length, replicate, take, drop, Option, Some, None, IsSome, unwrap_or, subst, arith, append_assoc, cond}
+use Rattle.std.proofs.Common.{◌≡◌, ◌≢◌, ◌∙◌, sym, ap, ap₂, refl, ℕ, zero, suc, ◌+◌, ◌*◌, ◌-◌, ◌/◌, ◌%◌, ◌^◌, ◌<◌, ◌&&◌, ◌==◌, Bool, true, false, ◌∷◌, [], ◌++◌, List, length, map, replicate, take, drop, Option, Some, None, IsSome, unwrap_or, subst, arith, append_assoc, cond}
 use Rattle.std.specs.List.{All, list_all}
 use Rattle.std.proofs.lemmas.Bool.{false≢true, eq-eqb, eqb-true}
 use Rattle.std.proofs.lemmas.List.Elements.{All-head, All-tail, All-cons, All-nil}
@@ -7,12 +7,21 @@ use Rattle.std.proofs.lemmas.Nat.{mod-pow-add}
 use Rattle.std.proofs.Math.Nat.{pow-succ'}
 use Rattle.std.proofs.lemmas.List.{length-drop}
 use Rattle.std.proofs.Math.Seq.{take-append_seam, drop-append_seam}
-use Rattle.adc_base32.specs.Bits.{bits, byte_bits, digit_bits, text_bits, value_of, AreDigits, IsBase32, text_len}
+use Rattle.adc_base32.specs.Bits.{bits, byte_bits, text_bits, value_of, AreDigits, IsBase32, text_len}
 use Rattle.adc_base32.specs.Digits.{digit_of, value_at}
-use Rattle.adc_base32.specs.Spelled.{number_from, bytes_from, digits_from, is_digit, is_zero, spells, spelled_bytes, spelling}
+use Rattle.adc_base32.specs.Spelled.{number_from, numbers_from, is_digit, spells, spelled_bytes, spelling}
 use Rattle.adc_base32.proofs.Spelling.{digit_of-value_at}
 use Rattle.adc_base32.proofs.BitLists.{length-bits}
-use Rattle.adc_base32.proofs.Codes.{length-byte_bits, length-text_bits}
+use Rattle.adc_base32.proofs.Codes.{digit_bits, length-byte_bits, length-text_bits}
+
+abbrev bytes_from : ℕ → List ℕ → List ℕ
+bytes_from n bits = numbers_from 8 n bits
+
+abbrev digits_from : ℕ → List ℕ → List ℕ
+digits_from n bits = map digit_of (numbers_from 5 n bits)
+
+abbrev is_zero : ℕ → Bool
+is_zero bit = bit == 0
 
 regroup : (high bit p r : ℕ) → (high * 2 + bit) * p + r ≡ high * (2 * p) + (bit * p + r)
 regroup high bit p r = grind (arith)
@@ -48,7 +57,7 @@ byte-read : (b : ℕ) → b < 256 → number_from 0 (bits 8 b) ≡ b
 byte-read b below = number_from-bits 8 0 b ∙ omega (arith, below)
 
 bytes_from-cons : (n b : ℕ) (rest : List ℕ) → b < 256 → bytes_from (suc n) (bits 8 b ++ rest) ≡ b ∷ bytes_from n rest
-unfolding bytes_from
+unfolding numbers_from
 bytes_from-cons n b rest below =
     ap₂ (λ (x : ℕ) (xs : List ℕ). x ∷ xs)
     (ap (number_from 0) (ap (λ k. take k (bits 8 b ++ rest)) (sym (length-bits 8 b)) ∙ take-append_seam (bits 8 b) rest) ∙ byte-read b below)
@@ -63,7 +72,7 @@ both false b e = absurd (false≢true e)
 
 -- bytes are read off their bits
 bytes_from-byte_bits : (bytes rest : List ℕ) → All (λ b. b < 256) bytes → bytes_from (length bytes) (byte_bits bytes ++ rest) ≡ bytes
-unfolding bytes_from
+unfolding numbers_from
 bytes_from-byte_bits [] rest small = refl
 bytes_from-byte_bits (b ∷ bytes) rest small =
     ap (bytes_from (suc (length bytes))) (append_assoc (bits 8 b) (byte_bits bytes) rest)
@@ -142,7 +151,7 @@ digit-back : (c : ℕ) → IsDigit c → digit_of (value_of c) ≡ c
 digit-back c digit = (value-cases c (value_at c) refl digit).1
 
 digits_from-cons : (n c : ℕ) (rest : List ℕ) → IsDigit c → digits_from (suc n) (digit_bits c ++ rest) ≡ c ∷ digits_from n rest
-unfolding digits_from
+unfolding numbers_from
 digits_from-cons n c rest digit =
     let long : length (digit_bits c) ≡ 5 = length-bits 5 (value_of c) in
     let small : value_of c < 32 = value-below c digit in
@@ -153,7 +162,7 @@ digits_from-cons n c rest digit =
 
 -- digits are read off their bits
 digits_from-text_bits : (text : List ℕ) → AreDigits text → digits_from (length text) (text_bits text) ≡ text
-unfolding digits_from
+unfolding numbers_from
 digits_from-text_bits [] h = refl
 digits_from-text_bits (c ∷ text) h =
     digits_from-cons (length text) c (text_bits text) (All-head IsDigit c text h) ∙ ap (λ (xs : List ℕ). c ∷ xs) (digits_from-text_bits text (All-tail IsDigit c text h))

@@ -18,11 +18,8 @@ unfoldable pub value_of : ℕ → ℕ
 value_of c = unwrap_or (value_at c) 0
 
 -- the bits of digits
-abbrev pub digit_bits : ℕ → List ℕ
-digit_bits c = bits 5 (value_of c)
-
 abbrev pub text_bits : List ℕ → List ℕ
-text_bits text = flat_map digit_bits text
+text_bits text = flat_map (λ (c : ℕ). bits 5 (value_of c)) text
 
 -- each character is a digit
 abbrev pub AreDigits : List ℕ → Type 0

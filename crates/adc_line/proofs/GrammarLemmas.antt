@@ -13,9 +13,9 @@ use Rattle.adc_line.specs.declared.header.Head.{Head}
 use Rattle.adc_base32.specs.Digits.{digit_of, value_at}
 use Rattle.adc_base32.specs.Spelled.{is_digit}
 use Rattle.adc_base32.proofs.Spelling.{value_at-digit_of, digit_of-value_at}
-use Rattle.adc_line.specs.Escapes.{escaped_text, is_special, is_escaped, ends_escape, backslash, escape_means, unescaped_text}
+use Rattle.adc_line.specs.Escapes.{escaped_text, is_special, is_escaped, backslash, escape_means, unescaped_text}
 use Rattle.adc_line.specs.Grammar.{IsCommand, IsCid, Part, part_text, IsPart, IsFeatureWord, IsParameter}
-use Rattle.adc_line.specs.Header.{letter, is_letter, is_letter_or_digit, kind_at, head_at, is_cid, is_sign, is_named, is_feature, are_features, is_feature_word}
+use Rattle.adc_line.specs.Header.{letter, is_letter, is_letter_or_digit, kind_at, head_at, is_cid, is_sign, is_named, are_features, is_feature_word}
 use Rattle.adc_line.proofs.EscapeLemmas.{plain_is_no_backslash, escaped-nil}
 use Rattle.adc_line.proofs.FrameLemmas.{not_true}
 use Rattle.adc_line.proofs.EscapeLaws.{unescaped-escaped, escaped-unescaped, parts_of, byte_of}
@@ -76,31 +76,19 @@ plain_of : (b : ℕ) → is_gap b ≡ false → (b == backslash) ≡ false → i
 plain_of b gap other = grind (arith, nat_tests)
 
 -- what ends an escape
-means_ends : (c meant : ℕ) → escape_means c ≡ Some meant → (ends_escape c ≡ true) × (is_gap c ≡ false)
+ends_no_gap : (c meant : ℕ) → escape_means c ≡ Some meant → is_gap c ≡ false
 unfolding escape_means
-means_ends c meant e = by_tests (cases_Bool (c == 115)) (cases_Bool (c == 110)) (cases_Bool (c == 92))
+ends_no_gap c meant e = by_tests (cases_Bool (c == 115)) (cases_Bool (c == 110)) (cases_Bool (c == 92))
   where
-    by_tests : ((c == 115) ≡ true) ⊎ ((c == 115) ≡ false) → ((c == 110) ≡ true) ⊎ ((c == 110) ≡ false) → ((c == 92) ≡ true) ⊎ ((c == 92) ≡ false) → (ends_escape c ≡ true) × (is_gap c ≡ false)
-    by_tests (inl x) y z = (grind (arith, nat_tests), grind (arith, nat_tests))
-    by_tests (inr x) (inl y) z = (grind (arith, nat_tests), grind (arith, nat_tests))
-    by_tests (inr x) (inr y) (inl z) = (grind (arith, nat_tests), grind (arith, nat_tests))
+    by_tests : ((c == 115) ≡ true) ⊎ ((c == 115) ≡ false) → ((c == 110) ≡ true) ⊎ ((c == 110) ≡ false) → ((c == 92) ≡ true) ⊎ ((c == 92) ≡ false) → is_gap c ≡ false
+    by_tests (inl x) y z = grind (arith, nat_tests)
+    by_tests (inr x) (inl y) z = grind (arith, nat_tests)
+    by_tests (inr x) (inr y) (inl z) = grind (arith, nat_tests)
     by_tests (inr x) (inr y) (inr z) = let bad : None ≡ Some meant = sym (cond-false _ _ _ x ∙ cond-false _ _ _ y ∙ cond-false _ _ _ z) ∙ e in cc
 
-ends_means : (c : ℕ) → ends_escape c ≡ true → (meant : ℕ) × (escape_means c ≡ Some meant)
-unfolding escape_means
-ends_means c e = by_tests (cases_Bool (c == 115)) (cases_Bool (c == 110)) (cases_Bool (c == 92))
-  where
-    no_test : (x y z : Bool) → x ≡ false → y ≡ false → z ≡ false → (x || y || z) ≡ true → ⊥
-    no_test true y z p q r e = cc
-    no_test false true z p q r e = cc
-    no_test false false true p q r e = cc
-    no_test false false false p q r e = cc
-
-    by_tests : ((c == 115) ≡ true) ⊎ ((c == 115) ≡ false) → ((c == 110) ≡ true) ⊎ ((c == 110) ≡ false) → ((c == 92) ≡ true) ⊎ ((c == 92) ≡ false) → (meant : ℕ) × (escape_means c ≡ Some meant)
-    by_tests (inl x) y z = (32, cond-true _ _ _ x)
-    by_tests (inr x) (inl y) z = (10, cond-false _ _ _ x ∙ cond-true _ _ _ y)
-    by_tests (inr x) (inr y) (inl z) = (92, cond-false _ _ _ x ∙ cond-false _ _ _ y ∙ cond-true _ _ _ z)
-    by_tests (inr x) (inr y) (inr z) = absurd (no_test (c == 115) (c == 110) (c == 92) x y z e)
+ends_means : (found : Option ℕ) → is_some found ≡ true → (meant : ℕ) × (found ≡ Some meant)
+ends_means None e = absurd (false≢true e)
+ends_means (Some meant) e = (meant, refl)
 
 pub spelt_is_escaped : (word text : List ℕ) → unescaped_text word ≡ Some text → (is_escaped word ≡ true) × All (λ b. is_gap b ≡ false) word
 unfolding unescaped_text is_escaped
@@ -115,9 +103,9 @@ spelt_is_escaped (b ∷ c ∷ more) text e =
       | inl slash ↦
           let parts = parts_of (escape_means c) (unescaped_text more) text (sym (cond-true _ _ _ slash) ∙ e) in
           let rest = spelt_is_escaped more parts.1 parts.3 in
-          let ends = means_ends c parts.0 parts.2 in (
-            cond-true _ _ _ slash ∙ ap₂ ◌&&◌ ends.0 rest.0,
-            All-cons (λ x. is_gap x ≡ false) b (c ∷ more) (slash_is_no_gap b slash) (All-cons (λ x. is_gap x ≡ false) c more ends.1 rest.1),
+          let apart = ends_no_gap c parts.0 parts.2 in (
+            cond-true _ _ _ slash ∙ ap₂ ◌&&◌ (ap is_some parts.2) rest.0,
+            All-cons (λ x. is_gap x ≡ false) b (c ∷ more) (slash_is_no_gap b slash) (All-cons (λ x. is_gap x ≡ false) c more apart rest.1),
           )
       | inr other ↦
           let left = sym (cond-false _ _ _ other) ∙ e in
@@ -139,8 +127,8 @@ escaped_is_spelt (b ∷ c ∷ more) e none =
     let rest = All-tail (λ x. is_gap x ≡ false) b (c ∷ more) none in
     elim (cases_Bool (b == backslash)) [
       | inl slash ↦
-          let tests = both (ends_escape c) (is_escaped more) (sym (cond-true _ _ _ slash) ∙ e) in
-          let meant = ends_means c tests.0 in
+          let tests = both (is_some (escape_means c)) (is_escaped more) (sym (cond-true _ _ _ slash) ∙ e) in
+          let meant = ends_means (escape_means c) tests.0 in
           let text = escaped_is_spelt more tests.1 (All-tail (λ x. is_gap x ≡ false) c more rest) in (
             meant.0 ∷ text.0,
             cond-true _ _ _ slash ∙ ap (option_and_then (λ (x : ℕ). option_map (λ (xs : List ℕ). x ∷ xs) (unescaped_text more))) meant.1 ∙ ap (option_map (λ (xs : List ℕ). meant.0 ∷ xs)) text.1,
@@ -206,7 +194,7 @@ parts_in (_ ∷ _ ∷ []) e = absurd (false≢true e)
 parts_in (_ ∷ _ ∷ _ ∷ []) e = absurd (false≢true e)
 parts_in (_ ∷ _ ∷ _ ∷ _ ∷ []) e = absurd (false≢true e)
 parts_in (s ∷ a ∷ b ∷ c ∷ d ∷ more) e =
-    let tests = both (is_feature s a b c d) (are_features more) e in
+    let tests = both (is_sign s && is_named a b c d) (are_features more) e in
     let named = both (is_sign s) (is_named a b c d) tests.0 in
     let fourth = both (is_letter a && is_letter_or_digit b && is_letter_or_digit c) (is_letter_or_digit d) named.1 in
     let third = both (is_letter a && is_letter_or_digit b) (is_letter_or_digit c) fourth.0 in

@@ -23,14 +23,14 @@ use Rattle.adc_line.specs.declared.header.Kind.TheVariants.{Broadcast, Client, D
 use Rattle.adc_line.specs.Frames.{max_line, is_lf}
 use Rattle.adc_line.specs.Gives.{Gives}
 use Rattle.adc_line.specs.Grammar.{IsCommand, IsFeatureWord, IsParameter, IsAddressed, Reads}
-use Rattle.adc_line.specs.Header.{letter, head_at, header, from_own, from_own_to, from_own_to_having, header_of, header_at, header_words, with_addresses, addressed_as, is_cid, is_feature_word}
-use Rattle.adc_line.specs.Lines.{Reading, reading, text_checked, with_text, with_header, unless_faulty, message, features_of, params_of}
+use Rattle.adc_line.specs.Header.{letter, head_at, header, from_own, from_own_to, header_at, header_words, addressed_as, is_cid, is_feature_word}
+use Rattle.adc_line.specs.Lines.{Reading, reading, with_header, message, features_of, params_of}
 use Rattle.adc_line.specs.Parameters.{is_parameter, params_fault}
 use Rattle.adc_line.specs.Escapes.{is_escaped}
 use Rattle.adc_line.specs.Words.{blank, is_blank, words, word_at}
 use Rattle.adc_line.proofs.BlankLemmas.{HasNoBlank, words-joined, words-HasNoBlank, first_word-no_blank, sid_text-no_blank, cid-no_blank, feature_word-no_blank}
 use Rattle.adc_line.proofs.GrammarLemmas.{both, map-some, guard-holds, is_gap, IsParameter-of, parameter_tests, IsCommand-of, head_at-spelt, IsCid-of, is_cid-from, IsFeatureWord-of, is_feature_word-from}
-use Rattle.adc_line.proofs.LineLemmas.{text_checked-text, reading-passes}
+use Rattle.adc_line.proofs.LineLemmas.{text_read, reading-passes, unless_faulty}
 
 -- ---- the five tests, one after another
 
@@ -42,18 +42,14 @@ record Passed (bytes : List ℕ) (line : Reading) : Type 0 where
   params : params_fault (params_of head.head.kind (words bytes)) ≡ None
   is : line ≡ message bytes head
 
-passed_checks : (long bad : Bool) (bytes text : List ℕ) → cond {A = Result (List ℕ) LineFault} long (Err faults.TooLong) (cond bad (Err faults.NotUtf8) (Ok bytes)) ≡ Ok text → (long ≡ false) × (bad ≡ false) × (bytes ≡ text)
-passed_checks true bad bytes text e = cc
-passed_checks false true bytes text e = cc
-passed_checks false false bytes text e = (refl, refl, cc)
+passed_checks : (long bad : Bool) (read : Result Reading LineFault) (line : Reading) → cond {A = Result Reading LineFault} long (Err faults.TooLong) (cond bad (Err faults.NotUtf8) read) ≡ Ok line → (long ≡ false) × (bad ≡ false) × (read ≡ Ok line)
+passed_checks true bad read line e = cc
+passed_checks false true read line e = cc
+passed_checks false false read line e = (refl, refl, e)
 
 not_false : (b : Bool) → not b ≡ false → b ≡ true
 not_false true e = refl
 not_false false e = sym e
-
-passed_text : (checked : Result (List ℕ) LineFault) (line : Reading) → with_text checked ≡ Ok line → (text : List ℕ) × (checked ≡ Ok text) × (with_header text (header_at (words text)) ≡ Ok line)
-passed_text (Err fault) line e = cc
-passed_text (Ok text) line e = (text, refl, e)
 
 passed_header : (text : List ℕ) (found : Option Header) (line : Reading) → with_header text found ≡ Ok line
     → (head : Header) × (found ≡ Some head) × (unless_faulty (message text head) (params_fault (params_of head.head.kind (words text))) ≡ Ok line)
@@ -65,19 +61,19 @@ passed_params made line None e = let is : made ≡ line = cc in (refl, sym is)
 passed_params made line (Some fault) e = cc
 
 passed : (bytes : List ℕ) (line : Reading) → reading bytes ≡ Ok line → Passed bytes line
-unfolding reading text_checked
+unfolding reading
 passed bytes line e =
-    let text = passed_text (text_checked bytes) line e in
-    let checks = passed_checks (nat_lt max_line (length bytes)) (not (is_utf8 bytes)) bytes text.0 text.1 in
-    let head = passed_header text.0 (header_at (words text.0)) line text.2 in
-    let params = passed_params (message text.0 head.0) line _ head.2 in
+    let found = header_at (words bytes) in
+    let checks = passed_checks (nat_lt max_line (length bytes)) (not (is_utf8 bytes)) (with_header bytes found) line e in
+    let head = passed_header bytes found line checks.2 in
+    let params = passed_params (message bytes head.0) line _ head.2 in
     record {
       short = ltb-false max_line (length bytes) checks.0;
       utf8 = IsUtf8-from_is_utf8 bytes (not_false (is_utf8 bytes) checks.1);
       head = head.0;
-      headed = ap (λ xs. header_at (words xs)) checks.2 ∙ head.1;
-      params = ap (λ xs. params_fault (params_of head.0.head.kind (words xs))) checks.2 ∙ params.0;
-      is = params.1 ∙ ap (λ xs. message xs head.0) (sym checks.2);
+      headed = head.1;
+      params = params.0;
+      is = params.1;
     }
 
 -- ---- what is read is in the grammar
@@ -177,17 +173,16 @@ module _ (head : Head) (ws : List (List ℕ)) (made : Header) where
         rest = at_1 ws from_sid.some ∙ ap₂ (λ (w : List ℕ) (more : List (List ℕ)). w ∷ more) from_sid.spelt (at_2 ws to_sid.some ∙ ap (λ (w : List ℕ). w ∷ drop 3 ws) to_sid.spelt);
       }
 
-  sound_having : from_own_to_having head (word_at ws 1) (word_at ws 2) ≡ Some made → Sound Feature head ws made
+  sound_having : (if is_feature_word (word_at ws 2) then from_own head (word_at ws 1) else None) ≡ Some made → Sound Feature head ws made
   sound_having e =
-      let own = then_parts _ (sid_at (word_at ws 1)) made e in
-      let tests = guard-holds (is_feature_word (word_at ws 2)) _ made own.2 in
-      let is : header head (Some own.0) None ≡ made = cc in
+      let tests = guard-holds (is_feature_word (word_at ws 2)) _ made e in
+      let own = map-some (λ (sid : ℕ). header head (Some sid) None) (sid_at (word_at ws 1)) made tests.1 in
       let sid = sid_of (word_at ws 1) own.0 own.1 in
       let word = IsFeatureWord-of (word_at ws 2) tests.0 in
       record {
-        same = ap (λ (h : Header). h.head) (sym is);
+        same = ap (λ (h : Header). h.head) own.2;
         addresses = sid_text own.0 ∷ word_at ws 2 ∷ [];
-        addressed = (own.0, word_at ws 2, sid.below, word, refl, ap (λ (h : Header). h.from) (sym is), ap (λ (h : Header). h.target) (sym is), refl);
+        addressed = (own.0, word_at ws 2, sid.below, word, refl, ap (λ (h : Header). h.from) own.2, ap (λ (h : Header). h.target) own.2, refl);
         rest = at_1 ws sid.some ∙ ap₂ (λ (w : List ℕ) (more : List (List ℕ)). w ∷ more) sid.spelt (at_2 ws word.0);
       }
 
@@ -234,7 +229,7 @@ record Headed (bytes : List ℕ) (made : Header) : Type 0 where
   sound : Sound made.head.kind made.head (words bytes) made
 
 headed : (bytes : List ℕ) (made : Header) → header_at (words bytes) ≡ Some made → Headed bytes made
-unfolding header_of with_addresses
+unfolding header_at
 headed bytes made e =
     let ws = words bytes in
     let head = then_parts (λ (h : Head). addressed_as h.kind h (word_at ws 1) (word_at ws 2)) (head_at (word_at ws 0)) made e in
@@ -284,10 +279,9 @@ both_sids head own to p q =
     ap (option_and_then (λ (sid : ℕ). option_map (λ (other : ℕ). header head (Some sid) (Some other)) (sid_at (sid_text to)))) (sid_at-sid_text own p)
     ∙ ap (option_map (λ (other : ℕ). header head (Some own) (Some other))) (sid_at-sid_text to q)
 
-having : (head : Head) (own : ℕ) (word : List ℕ) → own < sid_count → IsFeatureWord word → from_own_to_having head (sid_text own) word ≡ Some (header head (Some own) None)
+having : (head : Head) (own : ℕ) (word : List ℕ) → own < sid_count → IsFeatureWord word → (if is_feature_word word then from_own head (sid_text own) else None) ≡ Some (header head (Some own) None)
 having head own word p h =
-    ap (option_and_then (λ (sid : ℕ). if is_feature_word word then Some (header head (Some sid) None) else None)) (sid_at-sid_text own p)
-    ∙ cond-true _ _ _ (is_feature_word-from word h)
+    cond-true _ _ _ (is_feature_word-from word h) ∙ ap (option_map (λ (sid : ℕ). header head (Some sid) None)) (sid_at-sid_text own p)
 
 complete : (kind : Kind) (head : Head) (first : List ℕ) (params addresses : List (List ℕ)) (from target : Option ℕ) (features : Option (List ℕ)) → IsAddressed kind addresses from target features
     → Complete kind head (first ∷ (addresses ++ params)) params from target features
@@ -355,7 +349,7 @@ spelt_words bytes line h =
     ap words h.spelt ∙ words-joined first (h.addresses ++ line.params) (All-cons HasNoBlank first (h.addresses ++ line.params) (first_word-no_blank line.kind line.command h.command) blanks)
 
 pub reading-of : (bytes : List ℕ) (line : Reading) → Reads bytes line → reading bytes ≡ Ok line
-unfolding header_of with_addresses
+unfolding header_at
 reading-of bytes line h =
     let head : Head = record { kind = line.kind; command = line.command } in
     let first = letter line.kind ∷ line.command in
@@ -363,9 +357,9 @@ reading-of bytes line h =
     let c = complete line.kind head first line.params h.addresses line.from line.target line.features h.addressed in
     let ws = first ∷ (h.addresses ++ line.params) in
     let found : header_at (words bytes) ≡ Some (header head line.from line.target) =
-    ap header_at split ∙ ap (option_and_then (λ (x : Head). with_addresses x (word_at ws 1) (word_at ws 2))) (head_at-spelt line.kind line.command h.command) ∙ c.made in
+    ap header_at split ∙ ap (option_and_then (λ (x : Head). addressed_as x.kind x (word_at ws 1) (word_at ws 2))) (head_at-spelt line.kind line.command h.command) ∙ c.made in
     let params : params_fault (params_of line.kind (words bytes)) ≡ None = ap (λ xs. params_fault (params_of line.kind xs)) split ∙ ap params_fault c.rest ∙ params_pass line.params h.params in
-    let whole = reading-passes bytes bytes bytes (header head line.from line.target) (text_checked-text bytes bytes h.short refl h.utf8) found params refl in
+    let whole = reading-passes bytes bytes bytes (header head line.from line.target) refl (text_read bytes bytes h.short refl h.utf8) found params refl in
     let made : List ℕ → Option (List ℕ) → List (List ℕ) → Reading = λ t f p. record line { text = t; features = f; params = p } in
     whole
     ∙ ap Ok (ap (λ (t : List ℕ). made t (features_of line.kind (words bytes)) (params_of line.kind (words bytes))) (sym h.text)

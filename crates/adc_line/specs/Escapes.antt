@@ -1,5 +1,5 @@
 -- The spelling of a text within one word (ADC 1.0, "Message syntax"): blank as `\s`, line feed as `\n`, backslash as `\\`.
-use Rattle.std.specs.Prelude.{ℕ, ◌==◌, ◌&&◌, ◌||◌, Bool, true, not, List, [], ◌∷◌, Option, Some, None, if◌then◌else◌}
+use Rattle.std.specs.Prelude.{ℕ, ◌==◌, ◌&&◌, ◌||◌, Bool, true, not, List, [], ◌∷◌, Option, Some, None, is_some, if◌then◌else◌}
 use Rattle.std.specs.Option.{option_map, option_and_then}
 use Rattle.std.specs.List.{flat_map}
 
@@ -22,16 +22,6 @@ is_special b = b == 32 || b == 10 || b == backslash
 unfoldable pub escaped_text : List ℕ → List ℕ
 escaped_text text = flat_map escaped_byte text
 
--- what may follow a backslash: `s`, `n` or a backslash
-abbrev pub ends_escape : ℕ → Bool
-ends_escape b = b == 115 || b == 110 || b == backslash
-
--- read left to right, each backslash is the first of an escape
-unfoldable pub is_escaped : List ℕ → Bool
-is_escaped [] = true
-is_escaped (b ∷ []) = not (b == backslash)
-is_escaped (b ∷ c ∷ more) = if b == backslash then ends_escape c && is_escaped more else is_escaped (c ∷ more)
-
 -- what an escape stands for, by the byte behind its backslash
 unfoldable pub escape_means : ℕ → Option ℕ
 escape_means b =
@@ -39,6 +29,12 @@ escape_means b =
     else if b == 110 then Some 10
     else if b == backslash then Some backslash
     else None
+
+-- read left to right, each backslash is the first of an escape
+unfoldable pub is_escaped : List ℕ → Bool
+is_escaped [] = true
+is_escaped (b ∷ []) = not (b == backslash)
+is_escaped (b ∷ c ∷ more) = if b == backslash then is_some (escape_means c) && is_escaped more else is_escaped (c ∷ more)
 
 -- the text that a word spells, where it spells one
 unfoldable pub unescaped_text : List ℕ → Option (List ℕ)

@@ -1,5 +1,5 @@
 -- The header of a message: its type, its command and whom it is from and for (ADC 1.0, "Message types").
-use Rattle.std.specs.Prelude.{ℕ, ◌==◌, ◌&&◌, ◌||◌, Bool, true, false, not, nat_le, List, [], ◌∷◌, length, slice_index, Option, Some, None, if◌then◌else◌}
+use Rattle.std.specs.Prelude.{ℕ, ◌==◌, ◌&&◌, ◌||◌, Bool, true, false, not, nat_le, List, [], ◌∷◌, drop, length, slice_index, Option, Some, None, if◌then◌else◌}
 use Rattle.std.specs.Option.{option_map, option_and_then}
 use Rattle.std.specs.List.{find, list_all}
 use Rattle.adc_base32.specs.Sids.{sid_at}
@@ -45,7 +45,7 @@ is_command name =
 unfoldable pub head_at : List ℕ → Option Head
 head_at word =
     if length word == 4 && is_letter (slice_index word 1) && is_letter_or_digit (slice_index word 2) && is_letter_or_digit (slice_index word 3)
-    then option_map (λ (kind : Kind). record { kind = kind; command = slice_index word 1 ∷ slice_index word 2 ∷ slice_index word 3 ∷ [] }) (kind_at (slice_index word 0))
+    then option_map (λ (kind : Kind). record { kind = kind; command = drop 1 word }) (kind_at (slice_index word 0))
     else None
 
 -- a client's own identifier in a message over UDP: one or more base32 digits
@@ -62,17 +62,12 @@ is_named a b c d = is_letter a && is_letter_or_digit b && is_letter_or_digit c &
 
 -- a feature's name is these four and nothing else
 unfoldable pub is_feature_name : List ℕ → Bool
-is_feature_name name =
-    length name == 4 && is_named (slice_index name 0) (slice_index name 1) (slice_index name 2) (slice_index name 3)
+is_feature_name name = length name == 4 && is_named (slice_index name 0) (slice_index name 1) (slice_index name 2) (slice_index name 3)
 
--- a sign and a feature's name
-abbrev pub is_feature : ℕ → ℕ → ℕ → ℕ → ℕ → Bool
-is_feature sign a b c d = is_sign sign && is_named a b c d
-
--- such parts and nothing else
+-- parts that are each a sign and a feature's name, and nothing else
 unfoldable pub are_features : List ℕ → Bool
 are_features [] = true
-are_features (sign ∷ a ∷ b ∷ c ∷ d ∷ more) = is_feature sign a b c d && are_features more
+are_features (sign ∷ a ∷ b ∷ c ∷ d ∷ more) = is_sign sign && is_named a b c d && are_features more
 are_features rest = false
 
 -- a feature word has one or more of them
@@ -88,33 +83,20 @@ from_own head own = option_map (λ (sid : ℕ). header head (Some sid) None) (si
 
 -- a sender, and whom the message is for
 abbrev pub from_own_to : Head → List ℕ → List ℕ → Option Header
-from_own_to head own target =
-    option_and_then (λ (sid : ℕ). option_map (λ (to : ℕ). header head (Some sid) (Some to)) (sid_at target)) (sid_at own)
-
--- a sender, and the features of those whom the message is for
-abbrev pub from_own_to_having : Head → List ℕ → List ℕ → Option Header
-from_own_to_having head own features =
-    option_and_then (λ (sid : ℕ). if is_feature_word features then Some (header head (Some sid) None) else None) (sid_at own)
+from_own_to head own target = option_and_then (λ (sid : ℕ). option_map (λ (to : ℕ). header head (Some sid) (Some to)) (sid_at target)) (sid_at own)
 
 -- the header whose first word says `head`, by its type, with the two words that may follow in it
 abbrev pub addressed_as : Kind → Head → List ℕ → List ℕ → Option Header
-addressed_as Broadcast head second third = from_own head second
-addressed_as Direct head second third = from_own_to head second third
-addressed_as Echo head second third = from_own_to head second third
-addressed_as Feature head second third = from_own_to_having head second third
-addressed_as Udp head second third = if is_cid second then Some (header head None None) else None
+addressed_as Broadcast head own third = from_own head own
+addressed_as Direct head own target = from_own_to head own target
+addressed_as Echo head own target = from_own_to head own target
+addressed_as Feature head own features = if is_feature_word features then from_own head own else None
+addressed_as Udp head cid third = if is_cid cid then Some (header head None None) else None
 addressed_as kind head second third = Some (header head None None)
 
-unfoldable pub with_addresses : Head → List ℕ → List ℕ → Option Header
-with_addresses head second third = addressed_as head.kind head second third
-
--- the header that three words make, of which the absent are empty
-unfoldable pub header_of : List ℕ → List ℕ → List ℕ → Option Header
-header_of first second third = option_and_then (λ (head : Head). with_addresses head second third) (head_at first)
-
 -- the header with which words begin, where they begin with one
-abbrev pub header_at : List (List ℕ) → Option Header
-header_at ws = header_of (word_at ws 0) (word_at ws 1) (word_at ws 2)
+unfoldable pub header_at : List (List ℕ) → Option Header
+header_at ws = option_and_then (λ (head : Head). addressed_as head.kind head (word_at ws 1) (word_at ws 2)) (head_at (word_at ws 0))
 
 -- how many words the header of a type has
 abbrev pub header_words : Kind → ℕ

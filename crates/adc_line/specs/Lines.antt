@@ -1,5 +1,6 @@
 -- The message that bytes say (ADC 1.0, "Message syntax"), and the first fault of those that say none.
 use Rattle.std.specs.Prelude.{ℕ, not, nat_lt, List, drop, length, Option, Some, None, Result, Ok, Err, if◌then◌else◌}
+use Rattle.std.specs.Option.{option_map_or}
 use Rattle.std.specs.Str.{is_utf8}
 use Rattle.adc_line.specs.declared.fault.LineFault.{LineFault}
 use Rattle.adc_line.specs.declared.fault.LineFault.TheVariants as faults
@@ -42,25 +43,15 @@ message text header = record {
   params = params_of header.head.kind (words text);
 }
 
-abbrev pub unless_faulty : Reading → Option LineFault → Result Reading LineFault
-unless_faulty line None = Ok line
-unless_faulty line (Some fault) = Err fault
-
+-- what a text says by its header, or the fault of its header or of its parameters
 abbrev pub with_header : List ℕ → Option Header → Result Reading LineFault
 with_header text None = Err faults.Header
-with_header text (Some header) = unless_faulty (message text header) (params_fault (params_of header.head.kind (words text)))
-
--- the bytes themselves, where there are not too many and they are UTF-8
-unfoldable pub text_checked : List ℕ → Result (List ℕ) LineFault
-text_checked bytes =
-    if nat_lt max_line (length bytes) then Err faults.TooLong
-    else if not (is_utf8 bytes) then Err faults.NotUtf8
-    else Ok bytes
-
-abbrev pub with_text : Result (List ℕ) LineFault → Result Reading LineFault
-with_text (Err fault) = Err fault
-with_text (Ok text) = with_header text (header_at (words text))
+with_header text (Some header) =
+    option_map_or (λ (fault : LineFault). Err fault) (params_fault (params_of header.head.kind (words text))) (Ok (message text header))
 
 -- what bytes say: length and UTF-8, then a header, then the parameters
 unfoldable pub reading : List ℕ → Result Reading LineFault
-reading bytes = with_text (text_checked bytes)
+reading bytes =
+    if nat_lt max_line (length bytes) then Err faults.TooLong
+    else if not (is_utf8 bytes) then Err faults.NotUtf8
+    else with_header bytes (header_at (words bytes))

@@ -1,5 +1,5 @@
-ghost use Rattle.std.specs.Prelude.{◌≡◌};
-ghost use Rattle.adc_line.specs.Header.{is_sign, is_feature, is_named, is_feature_name, are_features, is_feature_word};
+ghost use Rattle.std.specs.Prelude.{◌≡◌, ◌&&◌};
+ghost use Rattle.adc_line.specs.Header.{is_sign, is_named, is_feature_name, are_features, is_feature_word};
 
 use crate::header::{is_letter, is_letter_or_digit};
 
@@ -34,7 +34,7 @@ fn are_features(word: &[u8]) -> bool
 
 /// Tests whether five bytes are a sign, and a feature's name.
 fn is_feature(sign: u8, a: u8, b: u8, c: u8, d: u8) -> bool
-    ensures { result ≡ is_feature sign a b c d }
+    ensures { result ≡ (is_sign sign && is_named a b c d) }
 {
     is_sign(sign) && is_named(a, b, c, d)
 }

@@ -1,7 +1,8 @@
 ghost use Rattle.std.specs.Prelude.{◌≡◌, ◌&&◌, Some};
 ghost use Rattle.std.specs.List.{list_all};
+ghost use Rattle.std.specs.Option.{option_and_then};
 ghost use Rattle.adc_base32.specs.Spelled.{is_digit};
-ghost use Rattle.adc_line.specs.Header.{is_letter, is_letter_or_digit, head_at, is_cid, with_addresses, header_of, header_at, header_words, kind_at, letter};
+ghost use Rattle.adc_line.specs.Header.{is_letter, is_letter_or_digit, addressed_as, head_at, is_cid, header_at, header_words, kind_at, letter};
 ghost use Rattle.adc_line.specs.Words.{words};
 
 use crate::feature_word::is_feature_word;
@@ -108,6 +109,7 @@ pub(crate) fn header_words(kind: Kind) -> usize
 }
 
 /// Reads the header with which a text begins.
+#[tactic(auto, unfolding(crate::specs::Header::header_at))]
 pub(crate) fn header_at(text: &str) -> Option<Header>
     ensures { result ≡ header_at (words text.now) }
 {
@@ -118,9 +120,8 @@ pub(crate) fn header_at(text: &str) -> Option<Header>
     header_of(first.as_bytes(), second.as_bytes(), third.as_bytes())
 }
 
-#[tactic(auto, unfolding(crate::specs::Header::header_of))]
 fn header_of(first: &[u8], second: &[u8], third: &[u8]) -> Option<Header>
-    ensures { result ≡ header_of first.now second.now third.now }
+    ensures { result ≡ option_and_then (λ (head : Head). addressed_as head.kind head second.now third.now) (head_at first.now) }
 {
     let head = head_at(first)?;
     with_addresses(head, second, third)
@@ -143,9 +144,8 @@ fn head_at(word: &[u8]) -> Option<Head>
     })
 }
 
-#[tactic(auto, unfolding(crate::specs::Header::with_addresses))]
 fn with_addresses(head: Head, second: &[u8], third: &[u8]) -> Option<Header>
-    ensures { result ≡ with_addresses head second.now third.now }
+    ensures { result ≡ addressed_as head.kind head second.now third.now }
 {
     match head.kind {
         Kind::Client | Kind::Hub | Kind::Info => Some(head.header(None, None)),

@@ -1,10 +1,12 @@
-ghost use Rattle.std.specs.Prelude.{◌≡◌, ◌≢◌, IfOk, IfErr, MatchResult, not, Some, None};
+ghost use Rattle.std.specs.Prelude.{◌≡◌, ◌≢◌, IfOk, IfErr, MatchResult, is_some, not, Some, None};
 ghost use Rattle.std.specs.Option.{option_copied};
 ghost use Rattle.adc_line.specs.Gives.{Gives};
-ghost use Rattle.adc_line.specs.Lines.{reading, text_checked};
+ghost use Rattle.adc_line.specs.Header.{header_at};
+ghost use Rattle.adc_line.specs.Lines.{reading, with_header};
+ghost use Rattle.adc_line.specs.Words.{words};
 ghost use Rattle.adc_line.specs.WordsLeft.{words_left};
 ghost use Rattle.std.specs.List.{list_all};
-ghost use Rattle.adc_line.specs.Escapes.{is_escaped, ends_escape};
+ghost use Rattle.adc_line.specs.Escapes.{is_escaped, escape_means};
 ghost use Rattle.adc_line.specs.Frames.{is_lf};
 ghost use Rattle.adc_line.specs.Parameters.{is_parameter, params_fault};
 
@@ -128,9 +130,10 @@ impl Line {
 }
 
 /// Reads the bytes as text, where they are not too many and are UTF-8.
-#[tactic(auto, unfolding(crate::specs::Lines::text_checked))]
+#[tactic(auto, unfolding(crate::specs::Lines::reading))]
 fn text_of(bytes: &[u8]) -> Result<&str, LineFault>
-    ensures checked { MatchResult result (λ text. text_checked bytes.now ≡ Ok text.now) (λ fault. text_checked bytes.now ≡ Err fault) }
+    ensures same { IfOk result (λ text. text.now ≡ bytes.now) }
+    ensures checked { MatchResult result (λ text. reading bytes.now ≡ with_header text.now (header_at (words text.now))) (λ fault. reading bytes.now ≡ Err fault) }
     ensures no_memory { IfErr result (λ fault. fault ≢ LineFault.Memory) }
 {
     if bytes.len() > MAX_LINE {
@@ -211,8 +214,9 @@ fn is_escaped(word: &[u8]) -> bool
     true
 }
 
+#[tactic(auto, unfolding(crate::specs::Escapes::escape_means))]
 fn ends_escape(byte: u8) -> bool
-    ensures { result ≡ ends_escape byte }
+    ensures { result ≡ is_some (escape_means byte) }
 {
     matches!(byte, b's' | b'n' | b'\\')
 }

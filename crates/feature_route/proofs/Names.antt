@@ -1,7 +1,7 @@
 -- A name is among the words of four characters in order where it is among the words as they came.
 use Rattle.std.proofs.Common.{◌≡◌, ◌∙◌, sym, ap, refl, ℕ, Bool, true, false, ◌||◌, nat_eq, List, [], ◌∷◌, length, arith, cond}
 use Rattle.std.specs.Prelude.{bytes_eq, fold, ◌==◌}
-use Rattle.std.specs.List.{list_any}
+use Rattle.std.specs.List.{list_any, filter}
 use Rattle.std.specs.Ordering.{nat_cmp, is_eq, match_ordering}
 use Rattle.std.specs.declared.cmp.Ordering.{Ordering}
 use Rattle.std.specs.declared.cmp.Ordering.TheVariants.{Less, Equal, Greater}
@@ -13,7 +13,7 @@ use Rattle.std.proofs.lemmas.Bool.{false≢true, eq-eqb}
 use Rattle.std.proofs.lemmas.Bool.Decides.{nat_tests}
 use Rattle.std.proofs.lemmas.Cmp.{same_from_slice_cmp}
 use Rattle.std.proofs.lemmas.Map.Lookups.{exact_bytes}
-use Rattle.feature_route.specs.Matching.{has, su_words, feature_set, with_name}
+use Rattle.feature_route.specs.Matching.{has, su_words, feature_set}
 
 -- `==` and the order agree
 pub equal-bytes : (x y : List ℕ) → is_eq (slice_cmp nat_cmp x y) ≡ bytes_eq x y
@@ -46,6 +46,26 @@ or-flip false false = refl
 or-group : (b c r : Bool) → ((b || c) || r) ≡ (b || (c || r))
 or-group true c r = refl
 or-group false c r = refl
+
+-- a word of four characters joins the others at its place in their order, where it is not there yet
+abbrev pub with_name : List (List ℕ) → List ℕ → List (List ℕ)
+with_name names word = cond (length word == 4) (insert_key (slice_cmp nat_cmp) names word) names
+
+fold-four : (names words : List (List ℕ)) → fold with_name names words ≡ fold (insert_key (slice_cmp nat_cmp)) names (filter (λ (word : List ℕ). length word == 4) words)
+fold-four names [] = refl
+fold-four names (word ∷ words) =
+    let four : List (List ℕ) = filter (λ (w : List ℕ). length w == 4) words in
+    let go : (m : Bool) → fold with_name (cond m (insert_key (slice_cmp nat_cmp) names word) names) words ≡ fold (insert_key (slice_cmp nat_cmp)) names (cond m (word ∷ four) four) =
+    elim [
+      | true ↦ fold-four (insert_key (slice_cmp nat_cmp) names word) words
+      | false ↦ fold-four names words
+    ] in
+    go (length word == 4)
+
+-- the words of a text, one after another
+pub feature_set-fold : (su : List ℕ) → fold with_name [] (su_words su) ≡ feature_set su
+unfolding feature_set
+feature_set-fold su = fold-four [] (su_words su)
 
 -- one more name
 pub has-insert : (names : List (List ℕ)) (word name : List ℕ) → has (insert_key (slice_cmp nat_cmp) names word) name ≡ (bytes_eq name word || has names name)
@@ -82,5 +102,4 @@ has-fold names (word ∷ words) name long =
 
 -- the set of an SU has the names of four characters that its words have
 pub has-feature_set : (su name : List ℕ) → length name ≡ 4 → has (feature_set su) name ≡ has (su_words su) name
-unfolding feature_set
-has-feature_set su name long = has-fold [] (su_words su) name long
+has-feature_set su name long = ap (λ names. has names name) (sym (feature_set-fold su)) ∙ has-fold [] (su_words su) name long

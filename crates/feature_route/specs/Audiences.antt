@@ -1,5 +1,6 @@
 -- The audience of a message, by its type (ADC 1.0, "Message types").
-use Rattle.std.specs.Prelude.{ℕ, ◌==◌, ◌||◌, Bool, true, false, List, Option, Some, None, if◌then◌else◌}
+use Rattle.std.specs.Prelude.{ℕ, ◌==◌, ◌||◌, Bool, true, false, List, Option, Some, if◌then◌else◌}
+use Rattle.std.specs.Option.{option_map_or}
 use Rattle.adc_line.specs.Lines.{Reading}
 use Rattle.adc_line.specs.declared.header.Kind.{Kind}
 use Rattle.adc_line.specs.declared.header.Kind.TheVariants as kinds
@@ -13,26 +14,17 @@ abbrev pub direct_audience : Bool → Option ℕ → Audience
 direct_audience true (Some target) = One target
 direct_audience present target = Nobody
 
--- the target and the sender, once each
-abbrev pub both : Option ℕ → Option ℕ → Audience
-both (Some target) (Some own) = if target == own then One target else Two target own
-both target own = Nobody
-
--- an echoed message is for both, and for nobody where the target is away
+-- an echoed message is for the target and the sender, once each, and for nobody where the target is away
 abbrev pub echo_audience : Bool → Option ℕ → Option ℕ → Audience
-echo_audience true target own = both target own
-echo_audience false target own = Nobody
+echo_audience true (Some target) (Some own) = if target == own then One target else Two target own
+echo_audience present target own = Nobody
 
 -- a feature message is for those who have what its feature word wants
-abbrev pub feature_audience : Option (List ℕ) → Audience
-feature_audience (Some word) = Having (wants_of word)
-feature_audience None = Nobody
-
 abbrev pub by_kind : Kind → Reading → Bool → Audience
 by_kind kinds.Broadcast line present = All
 by_kind kinds.Direct line present = direct_audience present line.target
 by_kind kinds.Echo line present = echo_audience present line.target line.from
-by_kind kinds.Feature line present = feature_audience line.features
+by_kind kinds.Feature line present = option_map_or (λ (word : List ℕ). Having (wants_of word)) line.features Nobody
 by_kind kind line present = Nobody
 
 -- for whom a message is among the users who are present, by whether its target is one of them

@@ -1,19 +1,15 @@
 -- Which users have what a feature word wants. A user's features are the words of the INF field SU, between its commas
 -- (ADC 1.0, "INF"); a user without that field has the empty text.
-use Rattle.std.specs.Prelude.{ℕ, ◌==◌, ◌&&◌, not, bytes_eq, Bool, true, false, List, [], length, fold, if◌then◌else◌}
-use Rattle.std.specs.List.{slice_split, list_any, list_all}
+use Rattle.std.specs.Prelude.{ℕ, ◌==◌, ◌&&◌, not, bytes_eq, Bool, true, false, List, [], length, fold}
+use Rattle.std.specs.List.{slice_split, filter, list_any, list_all}
 use Rattle.std.specs.Ordering.{nat_cmp}
 use Rattle.std.specs.Cmp.Lexicographic.{slice_cmp}
 use Rattle.std.specs.BTreeSet.{insert_key}
 use Rattle.feature_route.specs.Wants.{Wants}
 
--- a comma
-abbrev pub is_comma : ℕ → Bool
-is_comma c = c == 44
-
 -- what stands between the commas of a text; the empty text is one empty word, which is no feature's name
 abbrev pub su_words : List ℕ → List (List ℕ)
-su_words su = slice_split is_comma su
+su_words su = slice_split (λ (c : ℕ). c == 44) su
 
 -- whether a name is among such words
 abbrev pub has : List (List ℕ) → List ℕ → Bool
@@ -36,10 +32,6 @@ suits sign had = suits_by (sign == 43) (sign == 45) had
 abbrev pub matches : Wants → List ℕ → Bool
 matches wants su = meets wants (su_words su)
 
--- a word of four characters joins the others at its place in their order, where it is not there yet
-abbrev pub with_name : List (List ℕ) → List ℕ → List (List ℕ)
-with_name names word = if length word == 4 then insert_key (slice_cmp nat_cmp) names word else names
-
 -- a user's features as a set: the words of four characters in order, each once
 unfoldable pub feature_set : List ℕ → List (List ℕ)
-feature_set su = fold with_name [] (su_words su)
+feature_set su = fold (insert_key (slice_cmp nat_cmp)) [] (filter (λ (word : List ℕ). length word == 4) (su_words su))

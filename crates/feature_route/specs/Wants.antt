@@ -9,8 +9,7 @@ pub record Wants : Type 0 where
 
 -- the four characters after each such sign
 unfoldable pub names_after : ℕ → List ℕ → List (List ℕ)
-names_after wanted (sign ∷ a ∷ b ∷ c ∷ d ∷ more) =
-    if sign == wanted then (a ∷ b ∷ c ∷ d ∷ []) ∷ names_after wanted more else names_after wanted more
+names_after wanted (sign ∷ a ∷ b ∷ c ∷ d ∷ more) = if sign == wanted then (a ∷ b ∷ c ∷ d ∷ []) ∷ names_after wanted more else names_after wanted more
 names_after wanted rest = []
 
 -- those after `+` are wanted, and those after `-` are not

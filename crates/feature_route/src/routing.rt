@@ -1,6 +1,7 @@
-ghost use Rattle.std.specs.Prelude.{◌≡◌};
-ghost use Rattle.std.specs.Option.{option_copied};
-ghost use Rattle.feature_route.specs.Audiences.{audience, direct_audience, echo_audience, feature_audience};
+ghost use Rattle.std.specs.Prelude.{◌≡◌, ℕ, List};
+ghost use Rattle.std.specs.Option.{option_copied, option_map_or};
+ghost use Rattle.feature_route.specs.Wants.{wants_of};
+ghost use Rattle.feature_route.specs.Audiences.{audience, direct_audience, echo_audience};
 
 use crate::hearers::Audience;
 use crate::want::Want;
@@ -55,7 +56,7 @@ fn echo_audience<'a>(target: Option<Sid>, own: Option<Sid>, target_present: bool
 }
 
 fn feature_audience(word: Option<&str>) -> Audience<'_>
-    ensures { result ≡ feature_audience (option_copied word.entry) }
+    ensures { result ≡ option_map_or (λ (word : List ℕ). Audience.Having (wants_of word)) (option_copied word.entry) Audience.Nobody }
 {
     match word {
         Some(word) => Audience::Having(Want::of(word)),

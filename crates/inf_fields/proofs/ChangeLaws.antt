@@ -8,8 +8,8 @@ use Rattle.std.proofs.lemmas.List.Elements.{filter-append}
 use Rattle.inf_fields.specs.Changes.{without_first, put, changed_fields, changed_to, all_changed}
 use Rattle.inf_fields.specs.Field.{Field, field, is_called, value_of, has_name, besides}
 use Rattle.inf_fields.specs.Merging.{is_empty_value, leave, latest, settled_fields, merged_with}
-use Rattle.inf_fields.proofs.Changes.{Apart, Apart-changed, changed-merged, has_name-changed, settled-lacks, value_of-lacks, lacks-here, lacks-behind, has-here, has-behind}
-use Rattle.inf_fields.proofs.MergingLaws.{settled-append, settled-settled, settled-stays, settled-goes, besides-has, besides-lacks}
+use Rattle.inf_fields.proofs.Changes.{Apart, Apart-changed, changed-settled, has_name-changed, settled-lacks, value_of-lacks, lacks-here, lacks-behind, has-here, has-behind}
+use Rattle.inf_fields.proofs.MergingLaws.{settled-append, settled-settled, settled-stays, settled-goes, besides-has, besides-lacks, merged_with-settled}
 use Rattle.inf_fields.proofs.NameLemmas.{same_bytes, bytes_eq-flip, has_name-besides}
 
 -- updates that do the same to each name do the same to fields
@@ -57,16 +57,17 @@ besides-changed f xs (x ∷ u) lacks =
     ]
 
 pub merged_with-step : (f : Field) (u xs : List Field) → has_name f.name u ≡ false → Apart xs → merged_with xs (f ∷ u) ≡ merged_with (changed_fields f xs) u
-unfolding merged_with
 merged_with-step f u xs lacks h =
     let first = (f ∷ []) ∷ [] in
     let others = besides xs u in
-    settled-split f u (xs ++ besides xs (f ∷ u)) lacks
+    merged_with-settled xs (f ∷ u)
+    ∙ settled-split f u (xs ++ besides xs (f ∷ u)) lacks
     ∙ ap (settled_fields (u ∷ []))
     (ap (λ fs. settled_fields first (xs ++ fs)) (filter-append (λ x. not (has_name x.name xs)) (f ∷ []) u) ∙ ap (settled_fields first) (sym (append_assoc xs (besides xs (f ∷ [])) others))
     ∙ settled-append first (xs ++ besides xs (f ∷ [])) others
-    ∙ ap₂ ◌++◌ (sym (changed-merged f xs h)) (settled-lacks f others (has_name-besides f.name xs u ∙ ap (λ b. not (has_name f.name xs) && b) lacks ∙ never (not (has_name f.name xs))))
+    ∙ ap₂ ◌++◌ (sym (changed-settled f xs h)) (settled-lacks f others (has_name-besides f.name xs u ∙ ap (λ b. not (has_name f.name xs) && b) lacks ∙ never (not (has_name f.name xs))))
     ∙ ap (λ fs. changed_fields f xs ++ fs) (sym (besides-changed f xs u lacks)))
+    ∙ sym (merged_with-settled (changed_fields f xs) u)
   where
     never : (b : Bool) → (b && false) ≡ false
     never true = refl
@@ -77,8 +78,7 @@ settled-none [] = refl
 settled-none (x ∷ xs) = ap (λ fs. x ∷ fs) (settled-none xs)
 
 pub merged_with-none : (xs : List Field) → merged_with xs [] ≡ xs
-unfolding merged_with
-merged_with-none xs = ap (settled_fields ([] ∷ [])) (append-nil xs) ∙ settled-none xs
+merged_with-none xs = merged_with-settled xs [] ∙ ap (settled_fields ([] ∷ [])) (append-nil xs) ∙ settled-none xs
 
 pub all_changed-merged : (u xs : List Field) → Apart u → Apart xs → all_changed u xs ≡ merged_with xs u
 all_changed-merged [] xs h k = sym (merged_with-none xs)

@@ -7,7 +7,7 @@ use Rattle.std.proofs.lemmas.Bool.{cases_Bool, cond-true, cond-false, eqb-true}
 use Rattle.inf_fields.specs.Changes.{without_first, put, changed_to, changed_fields, all_changed}
 use Rattle.inf_fields.specs.Field.{Field, field, is_called, value_of, has_name, besides}
 use Rattle.inf_fields.specs.FieldsView.{AreFilled}
-use Rattle.inf_fields.specs.Merging.{is_empty_value, leave, latest, settled_fields, merged_with}
+use Rattle.inf_fields.specs.Merging.{is_empty_value, leave, latest, settled_fields, followed_by}
 use Rattle.inf_fields.proofs.MergingLaws.{settled-stays, settled-goes, besides-has}
 use Rattle.inf_fields.proofs.NameLemmas.{same_bytes, bytes_eq-same, bytes_eq-flip}
 
@@ -169,9 +169,8 @@ changed-here (b ∷ more) name x xs yes' same =
     let flipped = bytes_eq-flip x.name name ∙ yes' in
     put-here f x xs yes' ∙ sym (settled-stays (one f) x xs (leave-same f x.name flipped) ∙ ap₂ (λ v fs. field x.name v ∷ fs) (latest-same f x.name x.value flipped) same)
 
-pub changed-merged : (f : Field) (xs : List Field) → Apart xs → changed_fields f xs ≡ merged_with xs (f ∷ [])
-unfolding merged_with
-changed-merged f [] h = by f.value f.name
+pub changed-settled : (f : Field) (xs : List Field) → Apart xs → changed_fields f xs ≡ settled_fields (one f) (followed_by xs (f ∷ []))
+changed-settled f [] h = by f.value f.name
   where
     by : (value name : List ℕ) → changed_to value (field name value) [] ≡ settled_fields (one (field name value)) (field name value ∷ [])
     by [] name = sym (settled-goes (one (field name [])) (field name []) [] (leave-same (field name []) name (bytes_eq-same name)))
@@ -179,7 +178,7 @@ changed-merged f [] h = by f.value f.name
         let f = field name (b ∷ more) in
         let same = bytes_eq-same name in
         sym (settled-stays (one f) f [] (leave-same f name same) ∙ ap (λ v. field name v ∷ []) (latest-same f name f.value same))
-changed-merged f (x ∷ xs) h =
+changed-settled f (x ∷ xs) h =
     elim (cases_Bool (is_called f.name x)) [
       | inl yes' ↦
           let same : x.name ≡ f.name = sym (same_bytes f.name x.name yes') in
@@ -187,7 +186,7 @@ changed-merged f (x ∷ xs) h =
           changed-here f.value f.name x xs yes' (settled-lacks f xs lacks)
           ∙ ap (settled_fields (one f)) (sym (ap (λ fs. x ∷ xs ++ fs) (besides-has (x ∷ xs) f [] (has-here f.name x xs yes')) ∙ append-nil (x ∷ xs)))
       | inr no' ↦
-          changed-behind f.value f x xs no' ∙ ap (λ fs. x ∷ fs) (changed-merged f xs h.1)
+          changed-behind f.value f x xs no' ∙ ap (λ fs. x ∷ fs) (changed-settled f xs h.1)
           ∙ sym
           (settled-other f x (xs ++ besides (x ∷ xs) (f ∷ [])) no'
           ∙ ap (λ b. x ∷ settled_fields (one f) (xs ++ cond (not b) (f ∷ []) [])) (has-behind f.name x xs no'))

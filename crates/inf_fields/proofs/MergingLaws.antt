@@ -4,10 +4,10 @@ use Rattle.std.specs.Prelude.{Option, Some, None, fold, is_some}
 use Rattle.std.specs.Option.{unwrap_or, option_or, option_map}
 use Rattle.std.proofs.lemmas.Bool.{cases_Bool, cond-true, cond-false, not_from_true, not_from_false}
 use Rattle.std.proofs.lemmas.List.{map-append}
-use Rattle.std.proofs.lemmas.List.Elements.{filter-append}
+use Rattle.std.proofs.lemmas.List.Elements.{filter-append, filter_agree}
 use Rattle.std.proofs.lemmas.List.Folds.{list_all-append}
 use Rattle.inf_fields.specs.Field.{Field, field, value_of, has_name, besides}
-use Rattle.inf_fields.specs.Merging.{is_empty_value, leave, latest, settled_fields, followed_by, merged_fields, merged_with, last_value, if_filled}
+use Rattle.inf_fields.specs.Merging.{is_empty_value, leave, latest, settled_fields, followed_by, merged_fields, renewed, merged_with, last_value, if_filled}
 use Rattle.inf_fields.proofs.NameLemmas.{value_of-append, value_of-filter, value_of-map, value_of-besides, has_name-append, has_name-besides}
 
 -- ---- what updates leave of fields
@@ -128,19 +128,32 @@ besides-besides first second (x ∷ xs) =
 
 -- ---- the laws
 
-pub merged-more : (updates : List (List Field)) (u : List Field) → merged_fields (updates ++ u ∷ []) ≡ merged_with (merged_fields updates) u
-unfolding merged_fields merged_with
-merged-more [] u = append-nil (settled_fields (u ∷ []) u) ∙ ap (settled_fields (u ∷ [])) (sym (besides-nil u))
-merged-more (first ∷ later) u =
+and_true : (b : Bool) → b ≡ (b && true)
+and_true true = refl
+and_true false = refl
+
+-- one update leaves of fields what it leaves of them and of its own others
+pub merged_with-settled : (fields u : List Field) → merged_with fields u ≡ settled_fields (u ∷ []) (followed_by fields u)
+unfolding merged_with
+merged_with-settled fields u =
+    ap (map (renewed u)) (filter_agree (λ (f : Field). not (is_empty_value (value_of f.name u))) (λ (f : Field). leave (u ∷ []) f.name) (λ f. and_true _) (fields ++ besides fields u))
+
+merged_fields-more : (updates : List (List Field)) (u : List Field) → merged_fields (updates ++ u ∷ []) ≡ settled_fields (u ∷ []) (followed_by (merged_fields updates) u)
+unfolding merged_fields
+merged_fields-more [] u = append-nil (settled_fields (u ∷ []) u) ∙ ap (settled_fields (u ∷ [])) (sym (besides-nil u))
+merged_fields-more (first ∷ later) u =
     let stands = settled_fields (first ∷ later) first in
     let rest = merged_fields later in
     let one = u ∷ [] in
-    ap₂ followed_by (settled-settled (first ∷ later) one first) (merged-more later u)
+    ap₂ followed_by (settled-settled (first ∷ later) one first) (merged_fields-more later u)
     ∙ ap (λ fs. settled_fields one stands ++ fs) (besides-settled one stands (followed_by rest u))
     ∙ sym (settled-append one stands (besides stands (followed_by rest u)))
     ∙ ap (settled_fields one)
     (ap (λ fs. stands ++ fs) (filter-append (λ f. not (has_name f.name stands)) rest (besides rest u) ∙ ap (λ fs. besides stands rest ++ fs) (besides-besides stands rest u))
     ∙ sym (append_assoc stands (besides stands rest) (besides (followed_by stands rest) u)))
+
+pub merged-more : (updates : List (List Field)) (u : List Field) → merged_fields (updates ++ u ∷ []) ≡ merged_with (merged_fields updates) u
+merged-more updates u = merged_fields-more updates u ∙ sym (merged_with-settled (merged_fields updates) u)
 
 merged-from : (done rest : List (List Field)) → fold merged_with (merged_fields done) rest ≡ merged_fields (done ++ rest)
 merged-from done [] = ap merged_fields (sym (append-nil done))

@@ -35,9 +35,13 @@ unfoldable pub merged_fields : List (List Field) → List Field
 merged_fields [] = []
 merged_fields (u ∷ later) = followed_by (settled_fields (u ∷ later) u) (merged_fields later)
 
+-- a field with the value that an update gives its name, where it gives one
+abbrev pub renewed : List Field → Field → Field
+renewed u f = field f.name (unwrap_or (value_of f.name u) f.value)
+
 -- the fields after one update more: it renews those that are there or takes them away, and its other fields that are not empty come last
 unfoldable pub merged_with : List Field → List Field → List Field
-merged_with fields u = settled_fields (u ∷ []) (followed_by fields u)
+merged_with fields u = map (renewed u) (filter (λ (f : Field). not (is_empty_value (value_of f.name u))) (fields ++ besides fields u))
 
 -- the same, where they are not too many
 abbrev pub merging : List Field → List Field → Result (List Field) InfFault

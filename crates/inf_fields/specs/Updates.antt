@@ -7,10 +7,6 @@ use Rattle.inf_fields.specs.Field.{Field, field, value_of, besides}
 use Rattle.inf_fields.specs.declared.fault.InfFault.{InfFault}
 use Rattle.inf_fields.specs.declared.fault.InfFault.TheVariants.{BadName, TooMany}
 
--- how many names an update may have, and how many fields a user
-abbrev pub max_fields : ℕ
-max_fields = 40
-
 -- a word begins with a name: a letter, and a letter or a digit
 unfoldable pub is_named : List ℕ → Bool
 is_named word = nat_le 2 (length word) && is_letter (slice_index word 0) && is_letter_or_digit (slice_index word 1)
@@ -28,8 +24,9 @@ unfoldable pub update : List (List ℕ) → List Field
 update [] = []
 update (word ∷ later) = before (field_in word) (update later)
 
+-- so many names may an update have, and so many fields a user
 abbrev pub are_few : List Field → Bool
-are_few fields = nat_le (length fields) max_fields
+are_few fields = nat_le (length fields) 40
 
 abbrev pub unless_too_many : List Field → Result (List Field) InfFault
 unless_too_many fields = if are_few fields then Ok fields else Err TooMany

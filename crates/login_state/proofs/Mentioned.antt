@@ -1,7 +1,7 @@
 -- Features by their last mention: what more mentions change, and which features are left.
 use Rattle.std.proofs.Common.{◌≡◌, ◌∙◌, sym, ap, subst, refl, ℕ, List, [], ◌∷◌, ◌++◌, append_assoc, true, false, not, cond, Bool}
 use Rattle.std.specs.Prelude.{◌||◌}
-use Rattle.std.specs.List.{IsDistinct}
+use Rattle.std.specs.List.{IsDistinct, filter}
 use Rattle.std.specs.Str.{bytes_eq}
 use Rattle.std.proofs.lemmas.Bool.{false≢true}
 use Rattle.std.proofs.lemmas.Cmp.{nat_list_eq_equiv}
@@ -13,7 +13,11 @@ use Rattle.std.proofs.lemmas.Map.Keys.{IsDistinct-push}
 use Rattle.std.proofs.lemmas.Slice.Eq.{bytes_eq-Decides}
 use Rattle.login_state.specs.declared.feature.Mention.{Mention}
 use Rattle.login_state.specs.declared.feature.Mention.TheVariants.{Adds, Removes}
-use Rattle.login_state.specs.Support.{speaks_of, is_mentioned, has_feature, IsLastAdded, features_added, features_left, without_mentioned, supported_after, mentions_in, all_said, features_of}
+use Rattle.login_state.specs.Support.{speaks_of, is_mentioned, has_feature, IsLastAdded, features_added, features_left, without, supported_after, mentions_in, all_said, features_of}
+
+-- those that are not mentioned
+abbrev pub without_mentioned : List Mention → List (List ℕ) → List (List ℕ)
+without_mentioned mentions features = filter (λ feature. not (is_mentioned feature mentions)) features
 
 -- what is mentioned again is not added
 unless-later : (a b : Bool) (feature : List ℕ) (later : List Mention) → is_mentioned feature later ≡ b
@@ -39,6 +43,41 @@ supported-append (mention ∷ mentions) later =
     (ap (λ features. without_mentioned later (features_left mentions) ++ features) (added-append mention mentions later)
     ∙ sym (filter-append (λ feature. not (is_mentioned feature later)) (features_left mentions) (features_added mention mentions)))
 
+all-kept : (features : List (List ℕ)) → features ≡ without_mentioned [] features
+all-kept [] = refl
+all-kept (feature ∷ features) = ap (λ more. feature ∷ more) (all-kept features)
+
+-- those that neither this nor a later mention speaks of
+without-first : (feature : List ℕ) (later : List Mention) (before : List (List ℕ))
+    → without_mentioned later (without feature before) ≡ filter (λ other. not (bytes_eq other feature || is_mentioned other later)) before
+without-first feature later [] = refl
+without-first feature later (other ∷ before) =
+    let kept : List ℕ → Bool = λ x. not (bytes_eq x feature || is_mentioned x later) in
+    let more = without-first feature later before in
+    let go : (same : Bool) → without_mentioned later (cond (not same) (other ∷ without feature before) (without feature before)) ≡ cond (not (same || is_mentioned other later)) (other ∷ filter kept before) (filter kept before) =
+    elim [
+      | true ↦ more
+      | false ↦ ap (λ rest. cond (not (is_mentioned other later)) (other ∷ rest) rest) more
+    ] in
+    go (bytes_eq other feature)
+
+moved : (again : Bool) (feature : List ℕ) (left kept : List (List ℕ)) → left ++ cond (not again) (feature ∷ kept) kept ≡ (left ++ cond again [] (feature ∷ [])) ++ kept
+moved true feature left kept = ap (λ features. features ++ kept) (sym (append-nil left))
+moved false feature left kept = sym (append_assoc left (feature ∷ []) kept)
+
+-- after all mentions: what they leave, and behind it what was there before and is not mentioned
+pub supported-parts : (before : List (List ℕ)) (mentions : List Mention) → supported_after before mentions ≡ features_left mentions ++ without_mentioned mentions before
+unfolding supported_after features_left
+supported-parts before [] = all-kept before
+supported-parts before (Adds feature ∷ later) =
+    supported-parts (feature ∷ without feature before) later
+    ∙ moved (is_mentioned feature later) feature (features_left later) (without_mentioned later (without feature before))
+    ∙ ap (λ kept. (features_left later ++ features_added (Adds feature) later) ++ kept) (without-first feature later before)
+supported-parts before (Removes feature ∷ later) =
+    supported-parts (without feature before) later
+    ∙ ap (λ left. left ++ without_mentioned later (without feature before)) (sym (append-nil (features_left later)))
+    ∙ ap (λ kept. (features_left later ++ []) ++ kept) (without-first feature later before)
+
 -- no SUP, no feature
 pub features_of-nil : features_of [] ≡ []
 unfolding features_left
@@ -46,10 +85,10 @@ features_of-nil = refl
 
 -- one SUP more
 pub features_of-push : (lines : List (List (List ℕ))) (words : List (List ℕ)) → features_of (lines ++ words ∷ []) ≡ supported_after (features_of lines) (mentions_in words)
-unfolding supported_after
 features_of-push lines words =
     ap features_left (flat_map-append mentions_in lines (words ∷ []) ∙ ap (λ more. all_said lines ++ more) (append-nil (mentions_in words)))
     ∙ supported-append (all_said lines) (mentions_in words)
+    ∙ sym (supported-parts (features_of lines) (mentions_in words))
 
 -- a longer list ends with the same mention
 earlier-last : (feature : List ℕ) (mention : Mention) (mentions : List Mention) → IsLastAdded feature mentions → IsLastAdded feature (mention ∷ mentions)

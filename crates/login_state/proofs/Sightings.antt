@@ -12,8 +12,8 @@ use Rattle.std.proofs.lemmas.List.Elements.{filter-append, filter_agree}
 use Rattle.std.proofs.lemmas.Map.Text.{is_eq-slice_cmp}
 use Rattle.login_state.specs.declared.feature.Mention.{Mention}
 use Rattle.login_state.specs.Seen.{unseen}
-use Rattle.login_state.specs.Support.{speaks_of, is_mentioned, features_added, features_left, without_mentioned}
-use Rattle.login_state.proofs.Mentioned.{supported-append}
+use Rattle.login_state.specs.Support.{speaks_of, is_mentioned, features_added, features_left}
+use Rattle.login_state.proofs.Mentioned.{supported-append, without_mentioned}
 
 -- the set after an insertion has one feature more
 pub seen-more : (feature other : List ℕ) (now before : Bool) → now ≡ cond (is_eq (slice_cmp nat_cmp feature other)) true before → now ≡ (before || bytes_eq other feature)

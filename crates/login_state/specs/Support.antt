@@ -1,6 +1,6 @@
 -- Which features a client supports (ADC 1.0, "SUP"): those whose last mention adds them.
-use Rattle.std.specs.Prelude.{◌≡◌, ℕ, Bool, true, false, not, List, [], ◌∷◌, ◌++◌, if◌then◌else◌}
-use Rattle.std.specs.List.{list_any, filter, filter_map, flat_map}
+use Rattle.std.specs.Prelude.{◌≡◌, ℕ, Bool, false, not, List, [], ◌∷◌, ◌++◌, if◌then◌else◌}
+use Rattle.std.specs.List.{list_any, filter, filter_map, flat_map, fold}
 use Rattle.std.specs.Str.{bytes_eq}
 use Rattle.login_state.specs.declared.feature.Mention.{Mention}
 use Rattle.login_state.specs.declared.feature.Mention.TheVariants.{Adds, Removes}
@@ -32,13 +32,17 @@ unfoldable pub features_left : List Mention → List (List ℕ)
 features_left [] = []
 features_left (mention ∷ later) = features_left later ++ features_added mention later
 
--- those that are not mentioned
-abbrev pub without_mentioned : List Mention → List (List ℕ) → List (List ℕ)
-without_mentioned mentions features = filter (λ feature. not (is_mentioned feature mentions)) features
+abbrev pub without : List ℕ → List (List ℕ) → List (List ℕ)
+without feature features = filter (λ (other : List ℕ). not (bytes_eq other feature)) features
 
--- the same where some were supported before: those that are not mentioned stay
+-- what one mention makes of the features: what it adds comes first
+abbrev pub with_mention : List (List ℕ) → Mention → List (List ℕ)
+with_mention features (Adds feature) = feature ∷ without feature features
+with_mention features (Removes feature) = without feature features
+
+-- what mentions make of the features, one after another
 unfoldable pub supported_after : List (List ℕ) → List Mention → List (List ℕ)
-supported_after before mentions = features_left mentions ++ without_mentioned mentions before
+supported_after before mentions = fold with_mention before mentions
 
 -- what the words of a SUP say
 unfoldable pub mentions_in : List (List ℕ) → List Mention

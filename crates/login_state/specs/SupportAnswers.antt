@@ -10,12 +10,9 @@ use Rattle.login_state.specs.Support.{features_of, supported_after, mentions_in}
 abbrev pub most_features : ℕ
 most_features = 64
 
-abbrev pub is_mention : List ℕ → Bool
-is_mention word = is_some (mention_at word)
-
 -- each word says something of a feature
 abbrev pub are_mentions : List (List ℕ) → Bool
-are_mentions words = list_all is_mention words
+are_mentions words = list_all (λ (word : List ℕ). is_some (mention_at word)) words
 
 -- the features, unless they are too many
 abbrev pub unless_too_many : List (List ℕ) → Result (List (List ℕ)) SupFault

@@ -1,6 +1,6 @@
 use Rattle.std.proofs.Common.{◌≡◌, map}
 use Rattle.std.specs.Prelude.{[], fold}
-use Rattle.feature_route.specs.Matching.{with_name}
+use Rattle.feature_route.proofs.Names.{with_name}
 use Rattle.feature_route.proofs.feature_set.FeatureSet.read.Given as goal
 
 abbrev pub invariant-words : goal.invariant-words
