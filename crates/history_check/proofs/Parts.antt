@@ -19,7 +19,7 @@ use Rattle.std.specs.Result.{OkIff, result_ok}
 use Rattle.std.specs.Str.{IsUtf8}
 use Rattle.std.specs.Str.Parse.{AllDigits, IsNumeral, ParsesUnsigned, digits_value}
 use Rattle.adc_base32.specs.Digits.{value_at}
-use Rattle.adc_base32.specs.Spelled.{bytes_from, is_digit as is_base32, spelled_bytes, spells}
+use Rattle.adc_base32.specs.Spelled.{numbers_from, is_digit as is_base32, spelled_bytes, spells}
 use Rattle.adc_base32.specs.Bits.{text_bits}
 use Rattle.history_check.proofs.Splitting.{NoBlank}
 use Rattle.history_check.specs.Reading.{first_word, is_number, read_address, read_count, read_number}
@@ -146,7 +146,7 @@ base32-no-blank (c ∷ word) all =
 pub challenge-no-blank : (word challenge : List ℕ) → IsChallenge word challenge → NoBlank word
 unfolding spelled_bytes
 challenge-no-blank word challenge is =
-    let chosen = cond_some (spells 24 word) (bytes_from 24 (text_bits word)) challenge is in
+    let chosen = cond_some (spells 24 word) (numbers_from 8 24 (text_bits word)) challenge is in
     base32-no-blank word (and_parts _ _ (and_parts _ _ chosen.0).0).1
 
 no-challenge : spelled_bytes 24 (first_word []) ≡ None

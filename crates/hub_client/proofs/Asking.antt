@@ -1,6 +1,6 @@
 -- The text that is written for a request asks for what was requested.
 use Rattle.std.proofs.Common.{◌≡◌, ◌≢◌, ◌∙◌, sym, ap, refl, ℕ, ◌<◌, ◌≤◌, ◌^◌, ◌&&◌, true, false, not, List, [], ◌∷◌, ◌++◌, length, Some, Bool, append_assoc, option_map, arith}
-use Rattle.std.specs.Prelude.{chars, option_map, IfOk, Result, Ok, Err}
+use Rattle.std.specs.Prelude.{chars, codes, drop, slice_index_or, Option, None, cond, option_map, IfOk, Result, Ok, Err}
 use Rattle.std.specs.Char.{is_ascii_digit}
 use Rattle.std.specs.Fmt.{decimal}
 use Rattle.std.specs.List.{All, list_all}
@@ -18,7 +18,8 @@ use Rattle.adc_base32.specs.Spelled.{spelled_bytes}
 use Rattle.adc_line.specs.declared.fault.LineFault.{LineFault}
 use Rattle.adc_line.specs.Lines.{Reading}
 use Rattle.adc_ids.specs.Nicks.{is_nick}
-use Rattle.operator_acts.specs.Acts.{is_blank, words, rest_of, act_at, act_of, act_in, kick_of, ban_of, unban_of, topic_of, kick_word, ban_word, unban_word, topic_word, is_seconds, seconds_at, where_it_is}
+use Rattle.operator_acts.specs.Acts.{is_blank, words, rest_of, act_at, act_of, is_seconds, seconds_at}
+use Rattle.operator_acts.specs.declared.act.Act.{Act}
 use Rattle.operator_acts.specs.declared.act.Act.TheVariants as acts
 use Rattle.operator_acts.proofs.Forms.{kick-read, ban-read, unban-read}
 use Rattle.hub_client.specs.Requests.{AsksFor, Says, SecondsFit, act_asked, behind, request_bytes, nick_bytes, cid_bytes}
@@ -67,7 +68,7 @@ seconds-decimal n below =
     let fits : digits_value 10 (decimal n) < 4_294_967_296 = omega (arith, value, below) in
     let test : is_seconds (decimal n) ≡ true =
     and_from _ _ (and_from _ _ (and_from _ _ (le-leb 1 (length (decimal n)) some) (le-leb (length (decimal n)) 10 few)) digits) (lt-ltb (digits_value 10 (decimal n)) 4_294_967_296 fits) in
-    ap (λ b. where_it_is b (digits_value 10 (decimal n))) test ∙ ap Some value
+    ap (λ b. cond b (Some (digits_value 10 (decimal n))) None) test ∙ ap Some value
 
 digits-blankless : (digits : List ℕ) → all_ascii_digits digits ≡ true → list_all (λ b. not (is_blank b)) digits ≡ true
 digits-blankless [] e = refl
@@ -80,34 +81,38 @@ digits-blankless (d ∷ ds) e =
 decimal-blankless : (n : ℕ) → n < 4_294_967_296 → list_all (λ b. not (is_blank b)) (decimal n) ≡ true
 decimal-blankless n below = digits-blankless (decimal n) (digits_decimal own n (omega (arith, below)))
 
+-- the act that words ask for
+abbrev act_for : List (List ℕ) → Option Act
+act_for ws = act_of (slice_index_or ws 0 []) (drop 1 ws)
+
 act-kick : (nick reason : List ℕ) → is_nick (chars nick) ≡ true → list_all (λ b. not (is_blank b)) nick ≡ true
-    → act_at (kick_word ++ 32 ∷ (nick ++ behind reason)) ≡ Some (acts.Kick (chars nick) reason)
+    → act_at (codes "!kick" ++ 32 ∷ (nick ++ behind reason)) ≡ Some (acts.Kick (chars nick) reason)
 unfolding act_at act_of
 act-kick nick reason good word =
-    ap act_in (words-first kick_word (nick ++ behind reason) refl ∙ ap (λ ws. kick_word ∷ ws) (words-last nick reason word))
+    ap act_for (words-first (codes "!kick") (nick ++ behind reason) refl ∙ ap (λ ws. codes "!kick" ∷ ws) (words-last nick reason word))
     ∙ kick-read (nick ∷ words_behind reason) (words_behind reason) nick (chars nick) reason refl refl good (sym (rest-behind reason))
 
 act-ban : (nick reason : List ℕ) (seconds : ℕ) → is_nick (chars nick) ≡ true → list_all (λ b. not (is_blank b)) nick ≡ true → seconds < 4_294_967_296
-    → act_at ((ban_word ++ 32 ∷ (nick ++ 32 ∷ decimal seconds)) ++ behind reason) ≡ Some (acts.Ban (chars nick) seconds reason)
+    → act_at ((codes "!ban" ++ 32 ∷ (nick ++ 32 ∷ decimal seconds)) ++ behind reason) ≡ Some (acts.Ban (chars nick) seconds reason)
 unfolding act_at act_of
 act-ban nick reason seconds good word below =
     let time = words-last (decimal seconds) reason (decimal-blankless seconds below) in
-    ap (λ t. act_at (ban_word ++ 32 ∷ t)) (append_assoc nick (32 ∷ decimal seconds) (behind reason))
-    ∙ ap act_in (words-first ban_word (nick ++ 32 ∷ (decimal seconds ++ behind reason)) refl
-    ∙ ap (λ ws. ban_word ∷ ws) (words-first nick (decimal seconds ++ behind reason) word ∙ ap (λ ws. nick ∷ ws) time))
+    ap (λ t. act_at (codes "!ban" ++ 32 ∷ t)) (append_assoc nick (32 ∷ decimal seconds) (behind reason))
+    ∙ ap act_for (words-first (codes "!ban") (nick ++ 32 ∷ (decimal seconds ++ behind reason)) refl
+    ∙ ap (λ ws. codes "!ban" ∷ ws) (words-first nick (decimal seconds ++ behind reason) word ∙ ap (λ ws. nick ∷ ws) time))
     ∙ ban-read (nick ∷ decimal seconds ∷ words_behind reason) (decimal seconds ∷ words_behind reason) (words_behind reason) nick (decimal seconds) (chars nick) reason seconds
     refl refl (seconds-decimal seconds below) refl good (sym (rest-behind reason))
 
-act-unban : (cid bytes : List ℕ) → spelled_bytes 24 cid ≡ Some bytes → list_all (λ b. not (is_blank b)) cid ≡ true → act_at (unban_word ++ 32 ∷ cid) ≡ Some (acts.Unban bytes)
+act-unban : (cid bytes : List ℕ) → spelled_bytes 24 cid ≡ Some bytes → list_all (λ b. not (is_blank b)) cid ≡ true → act_at (codes "!unban" ++ 32 ∷ cid) ≡ Some (acts.Unban bytes)
 unfolding act_at act_of
 act-unban cid bytes spelt word =
-    ap act_in (words-first unban_word cid refl ∙ ap (λ ws. unban_word ∷ ws) (slice_split_none is_blank cid (blankless cid word)))
+    ap act_for (words-first (codes "!unban") cid refl ∙ ap (λ ws. codes "!unban" ∷ ws) (slice_split_none is_blank cid (blankless cid word)))
     ∙ unban-read (cid ∷ []) cid bytes refl spelt
 
-act-topic : (text : List ℕ) → act_at (topic_word ++ behind text) ≡ Some (acts.Topic text)
+act-topic : (text : List ℕ) → act_at (codes "!topic" ++ behind text) ≡ Some (acts.Topic text)
 unfolding act_at act_of
 act-topic text =
-    ap act_in (words-last topic_word text refl) ∙ ap (λ t. Some (acts.Topic t)) (rest-behind text)
+    ap act_for (words-last (codes "!topic") text refl) ∙ ap (λ t. Some (acts.Topic t)) (rest-behind text)
 
 pub request_bytes-some : (request : Request) → request_bytes request ≢ []
 unfolding request_bytes

@@ -7,7 +7,7 @@ use Rattle.adc_line.specs.Lines.{Reading}
 use Rattle.adc_line.specs.declared.fault.LineFault.{LineFault}
 use Rattle.adc_line.specs.declared.fault.LineFault.TheVariants as faults
 use Rattle.adc_line.specs.declared.header.Kind.TheVariants as kinds
-use Rattle.operator_acts.specs.Acts.{act_at, kick_word, ban_word, unban_word, topic_word}
+use Rattle.operator_acts.specs.Acts.{act_at}
 use Rattle.operator_acts.specs.declared.act.Act.{Act}
 use Rattle.operator_acts.specs.declared.act.Act.TheVariants as acts
 use Rattle.hub_client.specs.declared.cid_text.CidText.{CidText}
@@ -35,10 +35,10 @@ behind (b ∷ bs) = 32 ∷ b ∷ bs
 
 -- the text that asks for it
 unfoldable pub request_bytes : Request → List ℕ
-request_bytes (Kick nick reason) = kick_word ++ 32 ∷ (nick_bytes nick ++ behind reason.now)
-request_bytes (Ban nick seconds reason) = (ban_word ++ 32 ∷ (nick_bytes nick ++ 32 ∷ decimal seconds)) ++ behind reason.now
-request_bytes (Unban cid) = unban_word ++ 32 ∷ cid_bytes cid
-request_bytes (Topic text) = topic_word ++ behind text.now
+request_bytes (Kick nick reason) = codes "!kick" ++ 32 ∷ (nick_bytes nick ++ behind reason.now)
+request_bytes (Ban nick seconds reason) = (codes "!ban" ++ 32 ∷ (nick_bytes nick ++ 32 ∷ decimal seconds)) ++ behind reason.now
+request_bytes (Unban cid) = codes "!unban" ++ 32 ∷ cid_bytes cid
+request_bytes (Topic text) = codes "!topic" ++ behind text.now
 
 -- the seconds are a number of 32 bits
 abbrev pub SecondsFit : Request → Type 0

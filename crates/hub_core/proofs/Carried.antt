@@ -1,4 +1,5 @@
 -- A decision that is carried out: a hub that stands at a history then stands at the next.
+use Rattle.hub_invariants.proofs.Becoming.{about_parts, happens-parts}
 use Rattle.std.specs.List.{find}
 use Rattle.std.proofs.Common.{◌≡◌, ◌∙◌, sym, ap, ap₂, refl, subst, ℕ, Bool, true, false, ◌||◌, ◌==◌, eqb, List, [], ◌∷◌, map, length, get_or, slice_set, Option, Some}
 use Rattle.std.specs.Prelude.{if◌then◌else◌}
@@ -15,16 +16,16 @@ use Rattle.hub_core.specs.declared.share.Touched.{Touched}
 use Rattle.hub_core.specs.CoreState.{CoreState}
 use Rattle.hub_core.specs.Decided.{Decided, DecidedFor, sight_in, user_at}
 use Rattle.hub_core.specs.Phases.{phase_at}
-use Rattle.hub_core.specs.Seats.{at_seat, changed_seat, removed_of, seat_of, seat_share, delivered_all}
+use Rattle.hub_core.specs.Seats.{at_seat, changed_seat, seat_of, seat_share, delivered_all}
 use Rattle.hub_core.specs.State.{carried_out, core_of, users_after}
 use Rattle.hub_rules.specs.declared.effect.Effect.{Effect}
 use Rattle.hub_rules.specs.Configured.{Configured}
 use Rattle.adc_line.specs.Lines as lines
 use Rattle.hub_rules.specs.Effects.{entrant, effect_of_reading, is_over, is_present, line_effect}
-use Rattle.hub_rules.specs.Facts.{Facts, about_after, bans_after, happens, own_of, sight_of, topic_after, user_of}
+use Rattle.hub_rules.specs.Facts.{Facts, bans_after, happens, own_of, sight_of, topic_after, user_of}
 use Rattle.hub_rules.specs.Identities.{listed_user}
 use Rattle.hub_rules.specs.Quiet.{nothing}
-use Rattle.hub_rules.specs.Shares.{About}
+use Rattle.hub_rules.specs.Shares.{About, change_at}
 use Rattle.hub_rules.specs.Sights.{Own, PreparedLine, Sight}
 use Rattle.hub_invariants.proofs.Kept.{differs-sid}
 use Rattle.hub_invariants.proofs.Members.{has}
@@ -46,22 +47,23 @@ same-core setup joins last {s} {t} {us} {vs} {bans} {topic} {touched} seats user
     ap₂ (λ (x : List Seat) (y : List Listed). record { setup = setup; joins = joins; last = last; seats = x; users = y; bans = bans; topic = topic; touched = touched }) seats users
 
 seats-carried : (setup : Configured) (c : ℕ) (effect : Effect) (f : Facts) → Sound f → ((d : ℕ) → Tidy (f.about d)) → Suits (own_of (f.about c)) effect
-    → delivered_all (removed_of effect.change) (at_seat c (changed_seat effect.change) (map (seat_of f.about) f.opened)) (map (seat_share c effect) (map (seat_of f.about) f.opened))
-    ≡ map (seat_of (about_after c effect f.about)) f.opened
+    → delivered_all (change_at effect.change) (at_seat c (changed_seat effect.change) (map (seat_of f.about) f.opened)) (map (seat_share c effect) (map (seat_of f.about) f.opened))
+    ≡ map (seat_of (about_parts c effect f.about)) f.opened
 seats-carried setup c effect f sound tidy suits =
-    ap₂ (delivered_all (removed_of effect.change)) (at-one c (changed_seat effect.change) f.about f.opened sound.open_once) (map-seats (seat_share c effect) (seat_of f.about) f.opened)
-    ∙ delivered-map (removed_of effect.change) (seat_one c (changed_seat effect.change) f.about) (λ d. seat_share c effect (seat_of f.about d)) f.opened
-    ∙ seats-same _ (seat_of (about_after c effect f.about)) f.opened
+    ap₂ (delivered_all (change_at effect.change)) (at-one c (changed_seat effect.change) f.about f.opened sound.open_once) (map-seats (seat_share c effect) (seat_of f.about) f.opened)
+    ∙ delivered-map (change_at effect.change) (seat_one c (changed_seat effect.change) f.about) (λ d. seat_share c effect (seat_of f.about d)) f.opened
+    ∙ seats-same _ (seat_of (about_parts c effect f.about)) f.opened
     (λ d. delivers c effect d (f.about d) suits.routed (sound.taken d) (tidy d).lines (tidy d).bytes (λ is. subst (λ x. Suits (own_of (f.about x)) effect) (sym (eqb-true d c is)) suits))
 
 pub carried-out : (setup : Configured) (c : ℕ) (effect : Effect) (f : Facts) → Sound f → Numbered setup f → ((d : ℕ) → Tidy (f.about d)) → has c f.opened ≡ true → Suits (own_of (f.about c)) effect
     → carried_out c effect (core_of setup f) ≡ core_of setup (happens c effect f)
-unfolding carried_out happens
+unfolding carried_out
 carried-out setup c effect f sound n tidy open_c suits =
     same-core setup f.joins f.last (seats-carried setup c effect f sound tidy suits)
     (ap₂ (λ sid phase. users_after effect.change sid phase (map (user_of f.about) f.present))
     (in-open c (λ seat. seat.sender.sid) 0 f.about f.opened open_c) (in-open c (λ seat. seat.phase) phases.Gone f.about f.opened open_c)
     ∙ users-carried setup f c effect sound n open_c suits)
+    ∙ ap (core_of setup) (sym (happens-parts c effect f))
 
 -- ---- the decision
 
@@ -155,7 +157,7 @@ decided-is setup f c line now effect sound n tidy open_c decided = decided-by se
 -- what the code makes of a hub, part by part
 pub carried-as : (core : CoreState) (c : ℕ) (effect : Effect) (i : ℕ) (seat now : Seat) (seats : List Seat) (users : List Listed) (bans : List (List ℕ × Ban)) (topic : List ℕ)
     → StandsFirst c core.seats i → seat ≡ get_or core.seats i seat → now ≡ changed_seat effect.change seat
-    → seats ≡ delivered_all (removed_of effect.change) (slice_set core.seats i now) (map (seat_share c effect) core.seats)
+    → seats ≡ delivered_all (change_at effect.change) (slice_set core.seats i now) (map (seat_share c effect) core.seats)
     → users ≡ users_after effect.change seat.sender.sid seat.phase core.users
     → bans ≡ bans_after effect.change core.bans → topic ≡ topic_after effect.change core.topic
     → record core { seats = seats; users = users; bans = bans; topic = topic } ≡ carried_out c effect core
@@ -163,5 +165,5 @@ unfolding carried_out
 carried-as core c effect i seat now seats users bans topic at is_seat is_now is_seats is_users is_bans is_topic =
     ap₂ (λ (b : List (List ℕ × Ban)) (t : List ℕ). record core { seats = seats; users = users; bans = b; topic = t }) is_bans is_topic
     ∙ same-core core.setup core.joins core.last
-    (is_seats ∙ ap (λ (ss : List Seat). delivered_all (removed_of effect.change) ss (map (seat_share c effect) core.seats)) (set-read c (changed_seat effect.change) core.seats i seat now at is_seat is_now))
+    (is_seats ∙ ap (λ (ss : List Seat). delivered_all (change_at effect.change) ss (map (seat_share c effect) core.seats)) (set-read c (changed_seat effect.change) core.seats i seat now at is_seat is_now))
     (is_users ∙ ap₂ (λ sid phase. users_after effect.change sid phase core.users) (sym (sid-at c core.seats i seat at is_seat)) (sym (phase-at c core.seats i seat at is_seat)))

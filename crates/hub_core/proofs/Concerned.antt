@@ -1,5 +1,6 @@
 -- Whom a call concerned, by what it made of each connection.
-use Rattle.std.proofs.Common.{◌≡◌, ◌∙◌, sym, ap, ap₂, refl, subst, ℕ, ◌+◌, ◌<◌, ◌≤◌, Bool, true, false, not, ◌&&◌, ◌==◌, List, [], ◌∷◌, ◌++◌, length, filter, arith, length-drop}
+use Rattle.hub_invariants.proofs.Becoming.{about-parts}
+use Rattle.std.proofs.Common.{◌≡◌, ◌∙◌, sym, ap, refl, subst, ℕ, ◌+◌, ◌<◌, ◌≤◌, Bool, true, false, not, ◌&&◌, ◌==◌, List, [], ◌∷◌, ◌++◌, length, filter, arith, length-drop, Option, None}
 use Rattle.std.specs.Prelude.{◌≢◌, cond}
 use Rattle.std.proofs.lemmas.Bool.{false≢true, eqb-true, eq-eqb}
 use Rattle.login_state.specs.declared.stage.Stage.{Stage}
@@ -7,31 +8,31 @@ use Rattle.login_state.specs.declared.stage.Stage.TheVariants as stages
 use Rattle.outboxes.specs.Backlogs.{Backlog}
 use Rattle.outboxes.specs.Quits.{quit_line}
 use Rattle.hub_core.specs.declared.seat.Phase.TheVariants as phases
-use Rattle.hub_core.specs.declared.seat.Removal.{Removal}
-use Rattle.hub_core.specs.declared.seat.Removal.TheVariants as removals
 use Rattle.hub_core.specs.declared.seat.Seat.{Seat}
 use Rattle.hub_core.specs.declared.share.Touched.{Touched}
 use Rattle.hub_core.specs.CoreState.{CoreState}
 use Rattle.hub_core.specs.Decided.{Decided, sight_in}
 use Rattle.hub_core.specs.Phases.{stage_in}
-use Rattle.hub_core.specs.Seats.{in_seat, is_named, phase_in, removed_of, seat_with, sid_in}
+use Rattle.hub_core.specs.Seats.{in_seat, phase_in, seat_with, sid_in}
 use Rattle.hub_core.specs.State.{Stands}
 use Rattle.hub_core.specs.Touching.{LineTouches, NamesEffect, NamesOne, NamesOwed, Touches, falls, names}
 use Rattle.hub_rules.specs.declared.effect.Change.{Change}
 use Rattle.hub_rules.specs.declared.effect.Change.TheVariants.{Hub, Nothing, Sender}
 use Rattle.hub_rules.specs.declared.effect.Effect.{Effect}
+use Rattle.hub_rules.specs.declared.effect.SeatChange.{SeatChange}
 use Rattle.hub_rules.specs.declared.effect.SenderChange.TheVariants as senders
 use Rattle.hub_rules.specs.declared.history.Call.TheVariants.{Join, Quit, Take}
 use Rattle.hub_rules.specs.Configured.{most_users}
 use Rattle.hub_rules.specs.Effects.{departure, is_over, is_present}
 use Rattle.hub_rules.specs.Facts.{Facts, after, effect_of_line, facts, happens, has_joins, has_place, newcomer, next_sid, own_of, with_connection, with_lines_taken, without_connection}
-use Rattle.hub_rules.specs.Shares.{About, affected_connection, hears, is_removed, lags_with, owed_with, owes, removed_by, stage_after, waiting}
+use Rattle.hub_rules.specs.Shares.{About, change_at, hears, lags_with, owed_with, owes, waiting}
+use Rattle.hub_invariants.specs.Afterwards.{is_gone_at, is_removed, removed_by, stage_after, affected_parts}
 use Rattle.hub_rules.specs.Sights.{PreparedLine}
 use Rattle.hub_invariants.proofs.Members.{both, has, has-filter}
 use Rattle.hub_invariants.proofs.Suits.{Routed, Suits}
 use Rattle.hub_invariants.proofs.Tidy.{Tidy, suits_of, tidy_of, waiting-given}
 use Rattle.hub_core.proofs.Seating.{in-open}
-use Rattle.hub_core.proofs.Sharing.{named, share-same, stage-kept, with-nothing}
+use Rattle.hub_core.proofs.Sharing.{share-same, stage-kept, with-nothing}
 use Rattle.hub_core.proofs.Standing.{effect-is}
 
 -- ---- one connection
@@ -75,7 +76,7 @@ over-by touched sid false false change stage gone fallen was is = absurd (false�
 -- whoever is named where it is owed lines or shut out is named where an effect concerns it
 affected-named : (touched : Touched) (effect : Effect) (is_caller : Bool) (a : About) → Tidy a → (owes is_caller effect a ≢ [] → names touched a.sender.sid ≡ true)
     → (is_removed effect.change a.sender.sid ≡ true → names touched a.sender.sid ≡ true) → (is_caller ≡ true → falls effect.change ≡ true → names touched a.sender.sid ≡ true)
-    → NamesOne touched a (affected_connection is_caller effect a)
+    → NamesOne touched a (affected_parts is_caller effect a)
 affected-named touched effect is_caller a tidy some gone fallen = record {
   told = λ more. told-by touched a (owes is_caller effect a) tidy some more;
   lags = λ was is. lags-by touched a (owes is_caller effect a) tidy some was is;
@@ -86,8 +87,8 @@ affected-named touched effect is_caller a tidy some gone fallen = record {
 -- ---- lines
 
 -- nobody is shut out by an operator where the change names nobody
-pub removed-none : (change : Change) (sid : ℕ) → removed_of change ≡ removals.Nobody → is_removed change sid ≡ true → ⊥
-removed-none change sid none is = false≢true (ap (λ (r : Removal). is_named r sid) (sym none) ∙ named change sid ∙ is)
+pub removed-none : (change : Change) (sid : ℕ) → change_at change ≡ None → is_removed change sid ≡ true → ⊥
+removed-none change sid none is = false≢true (ap (λ (at : Option (ℕ × SeatChange)). is_gone_at at sid) (sym none) ∙ is)
 
 owed-named : (touched : Touched) (own c d : ℕ) (effect : Effect) (a : About) → NamesOwed touched own effect → Routed effect.hearers → ((d == c) ≡ true → a.sender.sid ≡ own)
     → owes (d == c) effect a ≢ [] → names touched a.sender.sid ≡ true
@@ -95,7 +96,7 @@ owed-named touched own c d effect a owed routed is_own some =
     owed c (seat_with d a) (λ is. is_own (eq-eqb d c is)) (λ none. some (sym (share-same c d effect a routed) ∙ none))
 
 line-named : (touched : Touched) (own c d : ℕ) (effect : Effect) (a : About) → NamesEffect touched own effect → Routed effect.hearers → ((d == c) ≡ true → a.sender.sid ≡ own) → Tidy a
-    → NamesOne touched a (affected_connection (d == c) effect a)
+    → NamesOne touched a (affected_parts (d == c) effect a)
 line-named touched own c d effect a n routed is_own tidy =
     affected-named touched effect (d == c) a tidy (owed-named touched own c d effect a n.owed routed is_own) (n.removed a.sender.sid)
     (λ is falls. ap (names touched) (is_own is) ∙ n.fallen falls)
@@ -113,9 +114,10 @@ line-touches old new c line now seat effect small is_seat decided n setup hash h
     let is_sid : sid_in c old.seats ≡ (f.about c).sender.sid =
     ap (λ (s : CoreState). sid_in c s.seats) at.stands ∙ in-open c (λ seat. seat.sender.sid) 0 f.about f.opened may.0 in
     let suits : Suits (own_of (f.about c)) (effect_of_line setup hash f c line.bytes now) = suits_of setup hash h c line.bytes now in
-    line-named new.touched (f.about c).sender.sid c d (effect_of_line setup hash f c line.bytes now) (f.about d)
+    subst (NamesOne new.touched (f.about d)) (sym (about-parts c (effect_of_line setup hash f c line.bytes now) f.about d))
+    (line-named new.touched (f.about c).sender.sid c d (effect_of_line setup hash f c line.bytes now) (f.about d)
     (subst (NamesEffect new.touched (f.about c).sender.sid) is_effect (subst (λ sid. NamesEffect new.touched sid effect) is_sid n))
-    suits.routed (λ is. ap (λ x. (f.about x).sender.sid) (eqb-true d c is)) (tidy_of setup hash h d)
+    suits.routed (λ is. ap (λ x. (f.about x).sender.sid) (eqb-true d c is)) (tidy_of setup hash h d))
 
 -- ---- quits
 
@@ -145,10 +147,11 @@ quit-touches old new c all setup hash h caller reply at may d there =
     let stage : stage_in (phase_in c old.seats) ≡ (f.about c).stage =
     ap (λ (s : CoreState). stage_in (phase_in c s.seats)) at.stands
     ∙ ap stage_in (in-open c (λ seat. seat.phase) phases.Gone f.about f.opened may.0) ∙ stage-kept c (f.about c) in
-    affected-named new.touched (departure (f.about c).stage (f.about c).sender.sid) (d == c) (f.about d) (tidy_of setup hash h d)
+    subst (NamesOne new.touched (f.about d)) (sym (about-parts c (departure (f.about c).stage (f.about c).sender.sid) f.about d))
+    (affected-named new.touched (departure (f.about c).stage (f.about c).sender.sid) (d == c) (f.about d) (tidy_of setup hash h d)
     (left-told new.touched (f.about c).stage (f.about c).sender.sid (d == c) (f.about d) (is_present (f.about c).stage) refl (λ is. all (ap is_present stage ∙ is)))
     (λ is. absurd (false≢true is))
-    (λ is _. absurd (left-other c d f.opened there is))
+    (λ is _. absurd (left-other c d f.opened there is)))
 
 -- ---- takes and joins, which concern nobody
 

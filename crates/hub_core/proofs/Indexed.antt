@@ -7,13 +7,14 @@ use Rattle.std.specs.Option.{unwrap_or}
 use Rattle.std.specs.Ordering.{nat_cmp}
 use Rattle.std.proofs.lemmas.Bool.{eqb-true, eq-eqb, false≢true}
 use Rattle.std.proofs.lemmas.List.{map-append}
-use Rattle.hub_core.specs.declared.seat.Removal.{Removal}
+use Rattle.hub_rules.specs.declared.effect.SeatChange.{SeatChange}
+use Rattle.hub_rules.specs.declared.effect.SeatChange.TheVariants as seats
 use Rattle.hub_core.specs.declared.seat.Seat.{Seat}
 use Rattle.hub_core.specs.Index.{AreIndexed, IsSetAt, keys, number_at}
 use Rattle.hub_core.specs.Leaving.{others_of, seat_told, told_all_if, told_if}
 use Rattle.hub_core.specs.Numbers.{numbers}
 use Rattle.hub_core.specs.Phases.{stage_in}
-use Rattle.hub_core.specs.Seats.{at_seat, given_seat, gone_if, delivered_all}
+use Rattle.hub_core.specs.Seats.{at_seat, given_seat, seat_after_change_at, seat_after_if, delivered_all}
 use Rattle.hub_core.proofs.Places.{StandsFirst}
 use Rattle.hub_rules.specs.Effects.{is_present}
 
@@ -35,20 +36,24 @@ numbers-kept before after same = sym (number-keys after) ∙ ap (λ (ks : Keys).
 abbrev key : Seat → ℕ × ℕ
 key seat = (seat.sender.sid, seat.number)
 
-key-gone : (gone : Bool) (seat : Seat) → key (gone_if gone seat) ≡ key seat
-key-gone true seat = refl
-key-gone false seat = refl
+key-if : (here : Bool) (change : SeatChange) (seat : Seat) → key (seat_after_if here change seat) ≡ key seat
+key-if true seats.Gone seat = refl
+key-if false change seat = refl
+
+key-after : (at : Option (ℕ × SeatChange)) (seat : Seat) → key (seat_after_change_at at seat) ≡ key seat
+key-after (Some (sid, change)) seat = key-if _ change seat
+key-after None seat = refl
 
 key-given : (share : List (List ℕ)) (seat : Seat) → key (given_seat share seat) ≡ key seat
 key-given [] seat = refl
 key-given (line ∷ lines) seat = refl
 
-pub keys-delivered : (removal : Removal) (seats : List Seat) (shares : List (List (List ℕ))) → keys (delivered_all removal seats shares) ≡ keys seats
+pub keys-delivered : (at : Option (ℕ × SeatChange)) (seats : List Seat) (shares : List (List (List ℕ))) → keys (delivered_all at seats shares) ≡ keys seats
 unfolding delivered_all
-keys-delivered removal [] shares = refl
-keys-delivered removal (seat ∷ seats) [] = refl
-keys-delivered removal (seat ∷ seats) (share ∷ shares) =
-    ap₂ (λ (k : ℕ × ℕ) (ks : Keys). k ∷ ks) (key-gone _ (given_seat share seat) ∙ key-given share seat) (keys-delivered removal seats shares)
+keys-delivered at [] shares = refl
+keys-delivered at (seat ∷ seats) [] = refl
+keys-delivered at (seat ∷ seats) (share ∷ shares) =
+    ap₂ (λ (k : ℕ × ℕ) (ks : Keys). k ∷ ks) (key-after at (given_seat share seat) ∙ key-given share seat) (keys-delivered at seats shares)
 
 changed-one : (change : Seat → Seat) (seat : Seat) (seats rest : List Seat) (same : Bool) → key (change seat) ≡ key seat → keys rest ≡ keys seats
     → keys (cond same (change seat ∷ seats) (seat ∷ rest)) ≡ key seat ∷ keys seats

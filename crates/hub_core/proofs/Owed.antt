@@ -1,5 +1,5 @@
 -- Shares of those that hear something, given seat by seat, are the shares of all.
-use Rattle.std.proofs.Common.{◌≡◌, ◌∙◌, sym, ap, ap₂, refl, subst, ℕ, zero, suc, ◌+◌, ◌<◌, ◌≤◌, Bool, true, false, ◌&&◌, List, [], ◌∷◌, ◌++◌, length, map, get_or, drop, set, arith}
+use Rattle.std.proofs.Common.{◌≡◌, ◌∙◌, sym, ap, ap₂, refl, subst, ℕ, zero, suc, ◌+◌, ◌<◌, ◌≤◌, Bool, true, false, List, [], ◌∷◌, ◌++◌, length, map, get_or, drop, set, arith}
 use Rattle.std.specs.Prelude.{◌==◌, ◌||◌, ◌≢◌, cond, IfSome, Option, Some, None}
 use Rattle.std.proofs.lemmas.Bool.{eqb-true}
 use Rattle.std.proofs.lemmas.List.{append-nil, append_assoc, at_drop_more, at_drop_all}
@@ -8,16 +8,14 @@ use Rattle.feature_route.specs.declared.hearers.Audience.{Audience}
 use Rattle.feature_route.specs.declared.hearers.Audience.TheVariants as audiences
 use Rattle.hub_core.specs.declared.seat.Phase.{Phase}
 use Rattle.hub_core.specs.declared.seat.Phase.TheVariants as phases
-use Rattle.hub_core.specs.declared.seat.Removal.{Removal}
-use Rattle.hub_core.specs.declared.seat.Removal.TheVariants.{Nobody}
+use Rattle.hub_rules.specs.declared.effect.SeatChange.{SeatChange}
 use Rattle.hub_core.specs.declared.seat.Seat.{Seat}
 use Rattle.hub_core.specs.declared.share.Share.{Share}
 use Rattle.hub_core.specs.Owed.{AreQuietBut, IsMeant, IsOnlyFor, given_all, given_at, share_at, shares_from}
-use Rattle.hub_core.specs.Phases.{phase_hears, stage_in}
-use Rattle.hub_core.specs.Seats.{given_seat, gone_if, removed_seat, delivered_seat, delivered_all}
+use Rattle.hub_core.specs.Phases.{phase_hears}
+use Rattle.hub_core.specs.Seats.{given_seat, seat_after_change_at, delivered_seat, delivered_all}
 use Rattle.hub_rules.specs.declared.effect.Effect.{Effect}
 use Rattle.hub_rules.specs.declared.effect.Hearers.TheVariants.{Those}
-use Rattle.hub_rules.specs.Effects.{is_present}
 
 abbrev Lines : Type 0
 Lines = List (List ℕ)
@@ -193,37 +191,33 @@ unfolding shares_from given_all
 later-given place owed [] seat seats = refl
 later-given place owed (x ∷ xs) seat seats = later-by place owed (owed x) xs seat seats (later-given (place + 1) owed xs)
 
-first-delivered : (removal : Removal) (owed : Seat → Lines) (lines : Lines) (xs : List Seat) (seat : Seat) (seats : List Seat)
-    → map (removed_seat removal) (given_all (shares_from 0 owed xs) seats) ≡ delivered_all removal seats (map owed xs)
-    → map (removed_seat removal) (given_all (share_at 0 lines ++ shares_from 1 owed xs) (seat ∷ seats)) ≡ delivered_seat removal seat lines ∷ delivered_all removal seats (map owed xs)
+first-delivered : (at : Option (ℕ × SeatChange)) (owed : Seat → Lines) (lines : Lines) (xs : List Seat) (seat : Seat) (seats : List Seat)
+    → map (seat_after_change_at at) (given_all (shares_from 0 owed xs) seats) ≡ delivered_all at seats (map owed xs)
+    → map (seat_after_change_at at) (given_all (share_at 0 lines ++ shares_from 1 owed xs) (seat ∷ seats)) ≡ delivered_seat at seat lines ∷ delivered_all at seats (map owed xs)
 unfolding given_all given_at
-first-delivered removal owed [] xs seat seats rest =
-    ap (map (removed_seat removal)) (later-given 0 owed xs seat seats) ∙ ap (λ (ss : List Seat). removed_seat removal seat ∷ ss) rest
-first-delivered removal owed (line ∷ lines) xs seat seats rest =
-    ap (map (removed_seat removal)) (later-given 0 owed xs (given_seat (line ∷ lines) seat) seats)
-    ∙ ap (λ (ss : List Seat). removed_seat removal (given_seat (line ∷ lines) seat) ∷ ss) rest
+first-delivered at owed [] xs seat seats rest =
+    ap (map (seat_after_change_at at)) (later-given 0 owed xs seat seats) ∙ ap (λ (ss : List Seat). seat_after_change_at at seat ∷ ss) rest
+first-delivered at owed (line ∷ lines) xs seat seats rest =
+    ap (map (seat_after_change_at at)) (later-given 0 owed xs (given_seat (line ∷ lines) seat) seats)
+    ∙ ap (λ (ss : List Seat). seat_after_change_at at (given_seat (line ∷ lines) seat) ∷ ss) rest
 
 -- shares of those that hear something are the shares of all
-pub delivered-given : (removal : Removal) (owed : Seat → Lines) (xs seats : List Seat) → length xs ≡ length seats
-    → map (removed_seat removal) (given_all (shares_from 0 owed xs) seats) ≡ delivered_all removal seats (map owed xs)
+pub delivered-given : (at : Option (ℕ × SeatChange)) (owed : Seat → Lines) (xs seats : List Seat) → length xs ≡ length seats
+    → map (seat_after_change_at at) (given_all (shares_from 0 owed xs) seats) ≡ delivered_all at seats (map owed xs)
 unfolding shares_from given_all delivered_all
-delivered-given removal owed [] [] same = refl
-delivered-given removal owed [] (seat ∷ seats) same = absurd (omega (arith, same))
-delivered-given removal owed (x ∷ xs) [] same = absurd (omega (arith, same))
-delivered-given removal owed (x ∷ xs) (seat ∷ seats) same = first-delivered removal owed (owed x) xs seat seats (delivered-given removal owed xs seats (omega (arith, same)))
+delivered-given at owed [] [] same = refl
+delivered-given at owed [] (seat ∷ seats) same = absurd (omega (arith, same))
+delivered-given at owed (x ∷ xs) [] same = absurd (omega (arith, same))
+delivered-given at owed (x ∷ xs) (seat ∷ seats) same = first-delivered at owed (owed x) xs seat seats (delivered-given at owed xs seats (omega (arith, same)))
 
--- ---- where nobody is shut out
+-- ---- where no operator changes a connection
 
-kept-seat : (here : Bool) (seat : Seat) → gone_if (here && false) seat ≡ seat
-kept-seat true seat = refl
-kept-seat false seat = refl
-
-pub none-removed : (seats : List Seat) → map (removed_seat Nobody) seats ≡ seats
-none-removed [] = refl
-none-removed (seat ∷ seats) = ap₂ (λ (s : Seat) (ss : List Seat). s ∷ ss) (kept-seat (is_present (stage_in seat.phase)) seat) (none-removed seats)
+pub none-changed : (seats : List Seat) → map (seat_after_change_at None) seats ≡ seats
+none-changed [] = refl
+none-changed (seat ∷ seats) = ap (λ (ss : List Seat). seat ∷ ss) (none-changed seats)
 
 -- what the code gives
-pub delivered-owed : (removal : Removal) (owed : Seat → Lines) (seats same old new : List Seat) (shares : List Share) → new ≡ map (removed_seat removal) (given_all shares old)
-    → shares ≡ shares_from 0 owed same → same ≡ seats → length seats ≡ length old → new ≡ delivered_all removal old (map owed seats)
-delivered-owed removal owed seats same old new shares is_new is_shares is_same len =
-    is_new ∙ ap (λ ss. map (removed_seat removal) (given_all ss old)) (is_shares ∙ ap (shares_from 0 owed) is_same) ∙ delivered-given removal owed seats old len
+pub delivered-owed : (at : Option (ℕ × SeatChange)) (owed : Seat → Lines) (seats same old new : List Seat) (shares : List Share) → new ≡ map (seat_after_change_at at) (given_all shares old)
+    → shares ≡ shares_from 0 owed same → same ≡ seats → length seats ≡ length old → new ≡ delivered_all at old (map owed seats)
+delivered-owed at owed seats same old new shares is_new is_shares is_same len =
+    is_new ∙ ap (λ ss. map (seat_after_change_at at) (given_all ss old)) (is_shares ∙ ap (shares_from 0 owed) is_same) ∙ delivered-given at owed seats old len

@@ -1,9 +1,9 @@
 -- The seats of a hub are those of the connections that are open, in the order of their joins.
-use Rattle.std.proofs.Common.{◌≡◌, ◌∙◌, sym, ap, ap₂, refl, ℕ, Bool, true, false, cond, not, ◌||◌, List, [], ◌∷◌, map, filter}
+use Rattle.std.proofs.Common.{◌≡◌, ◌∙◌, sym, ap, ap₂, refl, ℕ, Bool, true, false, cond, not, ◌||◌, List, [], ◌∷◌, map, filter, Option}
 use Rattle.std.specs.Prelude.{◌==◌}
 use Rattle.std.specs.List.{list_any}
 use Rattle.std.proofs.lemmas.Bool.{false≢true, eqb-true, eq-eqb}
-use Rattle.hub_core.specs.declared.seat.Removal.{Removal}
+use Rattle.hub_rules.specs.declared.effect.SeatChange.{SeatChange}
 use Rattle.hub_core.specs.declared.seat.Seat.{Seat}
 use Rattle.hub_core.specs.Seats.{at_seat, in_seat, seat_of, delivered_seat, delivered_all}
 use Rattle.hub_rules.specs.Shares.{About}
@@ -68,10 +68,10 @@ seated-open c about [] = refl
 seated-open c about (d ∷ xs) = ap (λ b. (d == c) || b) (seated-open c about xs)
 
 -- shares are given seat by seat
-pub delivered-map : (removed : Removal) (seat : ℕ → Seat) (share : ℕ → List (List ℕ)) (xs : List ℕ) → delivered_all removed (map seat xs) (map share xs) ≡ map (λ d. delivered_seat removed (seat d) (share d)) xs
+pub delivered-map : (at : Option (ℕ × SeatChange)) (seat : ℕ → Seat) (share : ℕ → List (List ℕ)) (xs : List ℕ) → delivered_all at (map seat xs) (map share xs) ≡ map (λ d. delivered_seat at (seat d) (share d)) xs
 unfolding delivered_all
-delivered-map removed seat share [] = refl
-delivered-map removed seat share (d ∷ xs) = ap (λ (ss : List Seat). delivered_seat removed (seat d) (share d) ∷ ss) (delivered-map removed seat share xs)
+delivered-map at seat share [] = refl
+delivered-map at seat share (d ∷ xs) = ap (λ (ss : List Seat). delivered_seat at (seat d) (share d) ∷ ss) (delivered-map at seat share xs)
 
 pub map-seats : {A : Type 0} (f : Seat → A) (seat : ℕ → Seat) (xs : List ℕ) → map f (map seat xs) ≡ map (λ d. f (seat d)) xs
 map-seats f seat [] = refl

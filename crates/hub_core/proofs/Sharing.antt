@@ -1,5 +1,5 @@
 -- The seat of one connection after an effect.
-use Rattle.std.proofs.Common.{◌≡◌, ◌∙◌, sym, ap, ap₂, refl, ℕ, ◌≤◌, Bool, true, false, not, ◌&&◌, ◌||◌, ◌+◌, List, [], ◌∷◌, ◌++◌, length, drop, arith, append-nil}
+use Rattle.std.proofs.Common.{◌≡◌, ◌∙◌, sym, ap, ap₂, refl, ℕ, ◌≤◌, Bool, true, false, not, ◌&&◌, ◌||◌, ◌+◌, List, [], ◌∷◌, ◌++◌, length, drop, arith, append-nil, Option, Some, None}
 use Rattle.std.specs.Prelude.{◌==◌, cond}
 use Rattle.feature_route.specs.Matching.{feature_set}
 use Rattle.login_state.specs.declared.stage.Stage.{Stage}
@@ -9,21 +9,23 @@ use Rattle.hub_core.specs.declared.seat.Phase.{Phase}
 use Rattle.hub_core.specs.declared.seat.Phase.TheVariants as phases
 use Rattle.hub_core.specs.declared.seat.Seat.{Seat}
 use Rattle.hub_core.specs.Phases.{phase_after, phase_at, phase_hears, phase_of, stage_in}
-use Rattle.hub_core.specs.Seats.{backlog_of, changed_seat, given_seat, gone_if, is_named, removed_of, removed_seat, seat_share, seat_with, delivered_seat}
+use Rattle.hub_core.specs.Seats.{backlog_of, changed_seat, given_seat, seat_after_change_at, seat_after_if, seat_share, seat_with, delivered_seat}
 use Rattle.hub_rules.specs.declared.effect.Change.{Change}
 use Rattle.hub_rules.specs.declared.effect.Change.TheVariants.{Hub, Nothing, Sender}
 use Rattle.hub_rules.specs.declared.effect.Effect.{Effect}
 use Rattle.hub_rules.specs.declared.effect.Entrant.{Entrant}
 use Rattle.hub_rules.specs.declared.effect.Hearers.{Hearers}
 use Rattle.hub_rules.specs.declared.effect.Hearers.TheVariants.{Others, Those}
-use Rattle.hub_rules.specs.declared.effect.HubChange.TheVariants as shared
+use Rattle.hub_rules.specs.declared.effect.SeatChange.{SeatChange}
+use Rattle.hub_rules.specs.declared.effect.SeatChange.TheVariants as seats
 use Rattle.hub_rules.specs.declared.effect.SenderChange.TheVariants as senders
 use Rattle.hub_rules.specs.Effects.{entrant, is_present}
 use Rattle.hub_rules.specs.Facts.{own_of}
 use Rattle.hub_rules.specs.Identities.{listed_user, su_in}
 use Rattle.inf_fields.specs.Field.{Field}
 use Rattle.std.specs.Prelude.{if◌then◌else◌}
-use Rattle.hub_rules.specs.Shares.{About, affected_connection, expected_after, fields_after, has_room, hears_those, is_removed, lags_with, max_bytes, max_lines, owed_with, owes, removed_by, stage_after, waiting}
+use Rattle.hub_rules.specs.Shares.{About, change_at, has_room, hears_those, lags_with, max_bytes, max_lines, owed_with, owes, waiting}
+use Rattle.hub_invariants.specs.Afterwards.{expected_after, fields_after, is_gone_at, is_removed, removed_by, stage_after, affected_parts}
 use Rattle.hub_invariants.proofs.Suits.{Routed, Suited, Suits}
 use Rattle.hub_invariants.proofs.Members.{and-false}
 use Rattle.hub_invariants.proofs.Tidy.{waiting-more}
@@ -142,53 +144,52 @@ stage-of stages.Gone a = refl
 pub stage-kept : (d : ℕ) (a : About) → stage_in (seat_with d a).phase ≡ a.stage
 stage-kept d a = stage-of a.stage a
 
-pub named : (change : Change) (sid : ℕ) → is_named (removed_of change) sid ≡ is_removed change sid
-named Nothing sid = refl
-named (Sender change) sid = refl
-named (Hub (shared.Kick target)) sid = refl
-named (Hub (shared.Ban banned)) sid = refl
-named (Hub (shared.Unban cid)) sid = refl
-named (Hub (shared.Topic text)) sid = refl
-
-removed-other : (change : Change) (a : About) → (is_present (stage_in (phase_of a)) && is_named (removed_of change) a.sender.sid) ≡ (is_present a.stage && is_removed change a.sender.sid)
-removed-other change a = ap₂ (λ s b. is_present s && b) (stage-of a.stage a) (named change a.sender.sid)
+removed-other : (change : Change) (a : About) → (is_present (stage_in (phase_of a)) && is_removed change a.sender.sid) ≡ (is_present a.stage && is_removed change a.sender.sid)
+removed-other change a = ap (λ s. is_present s && is_removed change a.sender.sid) (stage-of a.stage a)
 
 -- the connection that sent the line is shut out by an operator where its phase stays
-removed-self : (change : Change) (a : About) → (is_present (stage_in (phase_after change (phase_of a))) && is_named (removed_of change) a.sender.sid) ≡ (is_present a.stage && is_removed change a.sender.sid)
+removed-self : (change : Change) (a : About) → (is_present (stage_in (phase_after change (phase_of a))) && is_removed change a.sender.sid) ≡ (is_present a.stage && is_removed change a.sender.sid)
 removed-self Nothing a = removed-other Nothing a
 removed-self (Sender change) a = and-false (is_present (stage_in (phase_after (Sender change) (phase_of a)))) ∙ sym (and-false (is_present a.stage))
 removed-self (Hub change) a = removed-other (Hub change) a
+
+abbrev gone_if : Bool → Seat → Seat
+gone_if gone seat = seat_after_if gone seats.Gone seat
+
+shut-at : (at : Option (ℕ × SeatChange)) (seat : Seat) → seat_after_change_at at seat ≡ gone_if (is_present (stage_in seat.phase) && is_gone_at at seat.sender.sid) seat
+shut-at (Some (sid, seats.Gone)) seat = refl
+shut-at None seat = ap (λ b. gone_if b seat) (sym (and-false (is_present (stage_in seat.phase))))
 
 gone-seat : (gone : Bool) (seat : Seat) (stage : Stage) (b : About) → seat.phase ≡ phase_at stage b → gone_if gone seat ≡ record seat { phase = phase_at (cond gone stages.Gone stage) b }
 gone-seat true seat stage b is = refl
 gone-seat false seat stage b is = ap (λ (p : Phase). record seat { phase = p }) is
 
 -- a seat whose connection is at this stage, or is shut out
-removes : (removed : Bool) (change : Change) (seat : Seat) (stage : Stage) (b : About) → (is_present (stage_in seat.phase) && is_named (removed_of change) seat.sender.sid) ≡ removed → seat.phase ≡ phase_at stage b
-    → removed_seat (removed_of change) seat ≡ record seat { phase = phase_at (cond removed stages.Gone stage) b }
-removes removed change seat stage b named is = ap (λ g. gone_if g seat) named ∙ gone-seat removed seat stage b is
+removes : (removed : Bool) (change : Change) (seat : Seat) (stage : Stage) (b : About) → (is_present (stage_in seat.phase) && is_removed change seat.sender.sid) ≡ removed → seat.phase ≡ phase_at stage b
+    → seat_after_change_at (change_at change) seat ≡ record seat { phase = phase_at (cond removed stages.Gone stage) b }
+removes removed change seat stage b named is = shut-at (change_at change) seat ∙ ap (λ g. gone_if g seat) named ∙ gone-seat removed seat stage b is
 
 -- ---- one seat
 
 abbrev pub seat_next : ℕ → Effect → ℕ → About → Seat
-seat_next c effect d a = delivered_seat (removed_of effect.change) (cond (d == c) (changed_seat effect.change (seat_with d a)) (seat_with d a)) (seat_share c effect (seat_with d a))
+seat_next c effect d a = delivered_seat (change_at effect.change) (cond (d == c) (changed_seat effect.change (seat_with d a)) (seat_with d a)) (seat_share c effect (seat_with d a))
 
 pub delivers-by : (is_caller : Bool) (effect : Effect) (d : ℕ) (a : About) → a.taken ≤ length a.owed → length (waiting a) ≤ max_lines → size_of (waiting a) ≤ max_bytes → (is_caller ≡ true → Suits (own_of a) effect)
-    → delivered_seat (removed_of effect.change) (cond is_caller (changed_seat effect.change (seat_with d a)) (seat_with d a)) (owes is_caller effect a) ≡ seat_with d (affected_connection is_caller effect a)
+    → delivered_seat (change_at effect.change) (cond is_caller (changed_seat effect.change (seat_with d a)) (seat_with d a)) (owes is_caller effect a) ≡ seat_with d (affected_parts is_caller effect a)
 delivers-by true effect d a few lines bytes suits =
     let seat : Seat = changed_seat effect.change (seat_with d a) in
-    let after : About = affected_connection true effect a in
-    ap (removed_seat (removed_of effect.change)) (gives a (owes true effect a) few lines bytes seat refl)
+    let after : About = affected_parts true effect a in
+    ap (seat_after_change_at (change_at effect.change)) (gives a (owes true effect a) few lines bytes seat refl)
     ∙ removes (removed_by effect a) effect.change (record seat { outbox = backlog_with a (owes true effect a) }) (stage_after effect.change a.stage) after (removed-self effect.change a)
     (changed-phase effect.change a (suits refl).change ∙ kept-phase (stage_after effect.change a.stage) (known_after effect.change a) after refl refl refl)
 delivers-by false effect d a few lines bytes suits =
-    let after : About = affected_connection false effect a in
-    ap (removed_seat (removed_of effect.change)) (gives a (owes false effect a) few lines bytes (seat_with d a) refl)
+    let after : About = affected_parts false effect a in
+    ap (seat_after_change_at (change_at effect.change)) (gives a (owes false effect a) few lines bytes (seat_with d a) refl)
     ∙ removes (removed_by effect a) effect.change (record (seat_with d a) { outbox = backlog_with a (owes false effect a) }) a.stage after (removed-other effect.change a)
     (kept-phase a.stage a after refl refl refl)
 
 pub delivers : (c : ℕ) (effect : Effect) (d : ℕ) (a : About) → Routed effect.hearers → a.taken ≤ length a.owed → length (waiting a) ≤ max_lines → size_of (waiting a) ≤ max_bytes → ((d == c) ≡ true → Suits (own_of a) effect)
-    → seat_next c effect d a ≡ seat_with d (affected_connection (d == c) effect a)
+    → seat_next c effect d a ≡ seat_with d (affected_parts (d == c) effect a)
 delivers c effect d a routed few lines bytes suits =
-    ap (delivered_seat (removed_of effect.change) (cond (d == c) (changed_seat effect.change (seat_with d a)) (seat_with d a))) (share-same c d effect a routed)
+    ap (delivered_seat (change_at effect.change) (cond (d == c) (changed_seat effect.change (seat_with d a)) (seat_with d a))) (share-same c d effect a routed)
     ∙ delivers-by (d == c) effect d a few lines bytes suits

@@ -1,4 +1,6 @@
 -- A hub that stands at a history stands at the next one after each call.
+use Rattle.hub_invariants.proofs.Becoming.{about_parts, happens-parts}
+use Rattle.hub_invariants.specs.Afterwards.{affected_parts}
 use Rattle.std.proofs.Common.{◌≡◌, ◌∙◌, sym, ap, ap₂, refl, subst, ℕ, ◌+◌, ◌<◌, ◌≤◌, Bool, true, false, not, ◌&&◌, ◌||◌, ◌==◌, List, [], ◌∷◌, ◌++◌, length, map, take}
 use Rattle.std.specs.Prelude.{nat_le, cond}
 use Rattle.std.specs.List.{concat, list_any}
@@ -24,7 +26,7 @@ use Rattle.hub_core.specs.Decided.{Decided, sight_in}
 use Rattle.hub_core.specs.Leaving.{has_ended, left_core, seat_after_take, core_after_take, lines_in, others_of, seat_told, told_all_if, told_if}
 use Rattle.hub_core.specs.Moves.{LineMoves, Moves, StandsAt}
 use Rattle.hub_core.specs.Phases.{phase_at, stage_in}
-use Rattle.hub_core.specs.Seats.{backlog_of, at_seat, given_seat, gone_if, in_seat, new_seat, outbox_in, phase_in, seat_of, seat_with, sid_in}
+use Rattle.hub_core.specs.Seats.{backlog_of, at_seat, given_seat, in_seat, new_seat, outbox_in, phase_in, seat_of, seat_with, sid_in}
 use Rattle.hub_core.specs.State.{HasSeat, IsSeated, Stands, carried_out, core_of}
 use Rattle.hub_rules.specs.declared.effect.Effect.{Effect}
 use Rattle.hub_rules.specs.declared.history.Call.{Call}
@@ -39,11 +41,11 @@ use Rattle.hub_rules.specs.Facts.{Facts, about_after, after, without_connection,
 use Rattle.hub_rules.specs.Identities.{listed_user}
 use Rattle.hub_rules.specs.Legal.{Legal, is_open, join_reply, reply, take_reply, verdict_of}
 use Rattle.hub_rules.specs.Senders.{new_sender}
-use Rattle.hub_rules.specs.Shares.{About, affected_connection, max_bytes, max_lines, owes, waiting}
+use Rattle.hub_rules.specs.Shares.{About, max_bytes, max_lines, owes, waiting}
 use Rattle.hub_rules.specs.Prepared.{prepared_line}
 use Rattle.hub_rules.specs.Sights.{PreparedLine}
 use Rattle.hub_invariants.proofs.Calls.{not-open, sound_of}
-use Rattle.hub_invariants.proofs.Members.{and-false, has}
+use Rattle.hub_invariants.proofs.Members.{has}
 use Rattle.hub_invariants.proofs.Sids.{Numbered, numbered_of}
 use Rattle.hub_invariants.proofs.Sound.{Sound, not-over, or-true}
 use Rattle.hub_invariants.proofs.Suits.{Suits}
@@ -189,14 +191,13 @@ abbrev told_seat : Bool → ℕ → Seat → Seat
 told_seat here sid seat = cond here (seat_told sid seat) seat
 
 left-seat : (c d : ℕ) (a b : About) → (d == c) ≡ false → b.taken ≤ length b.owed → Tidy b
-    → told_seat (is_present a.stage) a.sender.sid (seat_with d b) ≡ seat_with d (affected_connection (d == c) (leaves a) b)
+    → told_seat (is_present a.stage) a.sender.sid (seat_with d b) ≡ seat_with d (affected_parts (d == c) (leaves a) b)
 left-seat c d a b other few tidy =
     let seat : Seat = given_seat (owes false (leaves a) b) (seat_with d b) in
     ap (λ s. cond (is_present a.stage) (told_if (is_present s) a.sender.sid (seat_with d b)) (seat_with d b)) (stage-kept d b)
     ∙ told-one (is_present a.stage) (is_present b.stage) a.sender.sid (seat_with d b)
-    ∙ ap (λ gone. gone_if gone seat) (sym (and-false (is_present (stage_in seat.phase))))
     ∙ delivers-by false (leaves a) d b few tidy.lines tidy.bytes (λ is. absurd (false≢true is))
-    ∙ ap (λ same. seat_with d (affected_connection same (leaves a) b)) (sym other)
+    ∙ ap (λ same. seat_with d (affected_parts same (leaves a) b)) (sym other)
 
 map-told : (here : Bool) (sid : ℕ) (seats : List Seat) → told_all_if here sid seats ≡ map (told_seat here sid) seats
 map-told true sid seats = refl
@@ -205,12 +206,12 @@ map-told false sid (seat ∷ seats) = ap (λ (ss : List Seat). seat ∷ ss) (map
 
 seats-gone : (c : ℕ) (f : Facts) → Sound f → ((d : ℕ) → Tidy (f.about d))
     → told_all_if (is_present (f.about c).stage) (f.about c).sender.sid (others_of c (map (seat_of f.about) f.opened))
-    ≡ map (seat_of (about_after c (leaves (f.about c)) f.about)) (numbers_but c f.opened)
+    ≡ map (seat_of (about_parts c (leaves (f.about c)) f.about)) (numbers_but c f.opened)
 seats-gone c f sound tidy =
     ap (told_all_if (is_present (f.about c).stage) (f.about c).sender.sid) (seats-left c (seat_of f.about) f.opened (λ d. refl))
     ∙ map-told (is_present (f.about c).stage) (f.about c).sender.sid (map (seat_of f.about) (numbers_but c f.opened))
     ∙ map-seats (told_seat (is_present (f.about c).stage) (f.about c).sender.sid) (seat_of f.about) (numbers_but c f.opened)
-    ∙ others-seats c (λ d. told_seat (is_present (f.about c).stage) (f.about c).sender.sid (seat_of f.about d)) (seat_of (about_after c (leaves (f.about c)) f.about)) f.opened
+    ∙ others-seats c (λ d. told_seat (is_present (f.about c).stage) (f.about c).sender.sid (seat_of f.about d)) (seat_of (about_parts c (leaves (f.about c)) f.about)) f.opened
     (λ d other. left-seat c d (f.about c) (f.about d) other (sound.taken d) (tidy d))
 
 suits-leaves : (a : About) → Suits (own_of a) (leaves a)
@@ -218,7 +219,7 @@ suits-leaves a = record { change = tt; routed = tt }
 
 left-stands : (setup : Configured) (c : ℕ) (f : Facts) → Sound f → Numbered setup f → ((d : ℕ) → Tidy (f.about d)) → has c f.opened ≡ true
     → left_core c (core_of setup f) ≡ core_of setup (without_connection c (happens c (leaves (f.about c)) f))
-unfolding without_connection happens
+unfolding without_connection
 left-stands setup c f sound n tidy open_c =
     let sid : sid_in c (map (seat_of f.about) f.opened) ≡ (f.about c).sender.sid = in-open c (λ seat. seat.sender.sid) 0 f.about f.opened open_c in
     let stage : stage_in (phase_in c (map (seat_of f.about) f.opened)) ≡ (f.about c).stage =
@@ -226,6 +227,7 @@ left-stands setup c f sound n tidy open_c =
     same-core setup f.joins f.last
     (ap₂ (λ s i. told_all_if (is_present s) i (others_of c (map (seat_of f.about) f.opened))) stage sid ∙ seats-gone c f sound tidy)
     (ap (λ i. without_sid i (map (user_of f.about) f.present)) sid ∙ users-carried setup f c (leaves (f.about c)) sound n open_c (suits-leaves (f.about c)))
+    ∙ ap (λ (g : Facts). core_of setup (without_connection c g)) (sym (happens-parts c (leaves (f.about c)) f))
 
 pub quit-moves : (old new : CoreState) (c : ℕ) (touched : Touched) → old.setup.max_users ≤ most_users → new ≡ noted touched (left_core c old) → Moves old (Quit c) Left new
 unfolding Legal Stands facts after reply

@@ -1,4 +1,5 @@
 -- The list of present users after an effect.
+use Rattle.hub_invariants.proofs.Becoming.{about_parts, present_parts}
 use Rattle.std.proofs.Common.{◌≡◌, ◌∙◌, sym, ap, ap₂, refl, ℕ, Bool, true, false, cond, not, ◌&&◌, ◌||◌, ◌==◌, eqb, List, [], ◌∷◌, ◌++◌, map, filter, append-nil, Option}
 use Rattle.std.proofs.lemmas.Bool.{false≢true, eqb-true, eq-eqb}
 use Rattle.std.proofs.lemmas.List.{map-append}
@@ -15,12 +16,14 @@ use Rattle.hub_rules.specs.declared.effect.Effect.{Effect}
 use Rattle.hub_rules.specs.declared.effect.Entrant.{Entrant}
 use Rattle.hub_rules.specs.declared.effect.HubChange.TheVariants as shared
 use Rattle.hub_rules.specs.declared.effect.SenderChange.{SenderChange}
+use Rattle.hub_rules.specs.declared.effect.SeatChange.TheVariants as seats
 use Rattle.hub_rules.specs.declared.effect.SenderChange.TheVariants as senders
 use Rattle.hub_rules.specs.Configured.{Configured}
 use Rattle.hub_rules.specs.Effects.{is_present}
-use Rattle.hub_rules.specs.Facts.{Facts, about_after, enters, own_of, present_after, user_of}
+use Rattle.hub_rules.specs.Facts.{Facts, enters, own_of, user_of}
 use Rattle.hub_rules.specs.Identities.{listed_user}
-use Rattle.hub_rules.specs.Shares.{About, fields_after, is_removed, removed_by, stage_after}
+use Rattle.hub_rules.specs.Shares.{About}
+use Rattle.hub_invariants.specs.Afterwards.{fields_after, is_removed, removed_by, stage_after}
 use Rattle.hub_invariants.proofs.Kept.{differs-sid}
 use Rattle.hub_invariants.proofs.Members.{and-false, has}
 use Rattle.hub_invariants.proofs.Sids.{Numbered}
@@ -76,7 +79,7 @@ chosen-same false x y same = refl
 
 module _ (setup : Configured) (f : Facts) (c : ℕ) (effect : Effect) where
   abbrev next : ℕ → About
-  next d = about_after c effect f.about d
+  next d = about_parts c effect f.about d
 
   abbrev stays : ℕ → Bool
   stays d = is_present (next d).stage
@@ -244,14 +247,14 @@ module _ (setup : Configured) (f : Facts) (c : ℕ) (effect : Effect) where
   by-change : Sound f → Numbered setup f → has c f.opened ≡ true → (change : Change) → effect.change ≡ change → Suited (own_of (f.about c)) change → Done change
   by-change sound n open_c Nothing is suited = done-kept sound Nothing is (λ sid. refl) (λ s. refl) (λ fs. refl)
   by-change sound n open_c (Sender change) is suited = by-sender sound n open_c (λ sid. ap (λ t. is_removed t sid) is) change is suited
-  by-change sound n open_c (Hub (shared.Kick target)) is suited = done-removed sound (Hub (shared.Kick target)) is target (λ sid. refl) (λ s. refl) (λ fs. refl)
+  by-change sound n open_c (Hub (shared.At target seats.Gone)) is suited = done-removed sound (Hub (shared.At target seats.Gone)) is target (λ sid. refl) (λ s. refl) (λ fs. refl)
   by-change sound n open_c (Hub (shared.Ban banned)) is suited = done-removed sound (Hub (shared.Ban banned)) is banned.sid (λ sid. refl) (λ s. refl) (λ fs. refl)
   by-change sound n open_c (Hub (shared.Unban cid)) is suited = done-kept sound (Hub (shared.Unban cid)) is (λ sid. refl) (λ s. refl) (λ fs. refl)
   by-change sound n open_c (Hub (shared.Topic text)) is suited = done-kept sound (Hub (shared.Topic text)) is (λ sid. refl) (λ s. refl) (λ fs. refl)
 
   pub users-carried : Sound f → Numbered setup f → has c f.opened ≡ true → Suits (own_of (f.about c)) effect
       → users_after effect.change (f.about c).sender.sid (phase_of (f.about c)) (map (user_of f.about) f.present)
-      ≡ map (user_of next) (present_after c effect f.about f.present)
+      ≡ map (user_of next) (present_parts c effect f.about f.present)
   users-carried sound n open_c suits =
       by-change sound n open_c effect.change refl suits.change
       ∙ sym (map-append (user_of next) (filter stays f.present) (cond (enters effect.change) (c ∷ []) []))

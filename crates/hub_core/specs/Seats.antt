@@ -1,19 +1,17 @@
 -- The seats of the connections, before and after an effect.
-use Rattle.std.specs.Prelude.{ℕ, ◌==◌, ◌&&◌, Bool, true, false, List, [], ◌∷◌, ◌++◌, if◌then◌else◌}
+use Rattle.std.specs.Prelude.{ℕ, ◌==◌, ◌&&◌, Bool, true, false, List, [], ◌∷◌, ◌++◌, Option, Some, None, if◌then◌else◌}
 use Rattle.outboxes.specs.Backlogs.{Backlog, empty_backlog, backlog_after}
 use Rattle.hub_core.specs.declared.seat.Phase.{Phase}
 use Rattle.hub_core.specs.declared.seat.Phase.TheVariants as phases
-use Rattle.hub_core.specs.declared.seat.Removal.{Removal}
-use Rattle.hub_core.specs.declared.seat.Removal.TheVariants.{Nobody, User}
 use Rattle.hub_core.specs.declared.seat.Seat.{Seat}
 use Rattle.hub_core.specs.Phases.{phase_after, phase_hears, phase_of, stage_in}
 use Rattle.hub_rules.specs.declared.effect.Change.{Change}
-use Rattle.hub_rules.specs.declared.effect.Change.TheVariants.{Hub}
 use Rattle.hub_rules.specs.declared.effect.Effect.{Effect}
-use Rattle.hub_rules.specs.declared.effect.HubChange.TheVariants as shared
+use Rattle.hub_rules.specs.declared.effect.SeatChange.{SeatChange}
+use Rattle.hub_rules.specs.declared.effect.SeatChange.TheVariants.{Gone}
 use Rattle.hub_rules.specs.declared.sender.Sender.{Sender}
 use Rattle.hub_rules.specs.Effects.{is_present}
-use Rattle.hub_rules.specs.Senders.{sender_after}
+use Rattle.hub_invariants.specs.Afterwards.{sender_after}
 use Rattle.hub_rules.specs.Shares.{About, max_bytes, max_lines, waiting}
 
 -- what waits for a connection
@@ -53,32 +51,28 @@ abbrev pub given_seat : List (List ℕ) → Seat → Seat
 given_seat [] seat = seat
 given_seat (line ∷ lines) seat = record seat { outbox = backlog_after seat.outbox (line ∷ lines) }
 
--- the user whom an operator shuts out
-abbrev pub removed_of : Change → Removal
-removed_of (Hub (shared.Kick sid)) = User sid
-removed_of (Hub (shared.Ban banned)) = User banned.sid
-removed_of change = Nobody
+-- an operator changes the connection
+abbrev pub seat_after : SeatChange → Seat → Seat
+seat_after Gone seat = record seat { phase = phases.Gone }
 
-abbrev pub is_named : Removal → ℕ → Bool
-is_named Nobody own = false
-is_named (User sid) own = own == sid
+abbrev pub seat_after_if : Bool → SeatChange → Seat → Seat
+seat_after_if true change seat = seat_after change seat
+seat_after_if false change seat = seat
 
-abbrev pub gone_if : Bool → Seat → Seat
-gone_if true seat = record seat { phase = phases.Gone }
-gone_if false seat = seat
+-- where its user is present, and is the one whose connection changes
+abbrev pub seat_after_change_at : Option (ℕ × SeatChange) → Seat → Seat
+seat_after_change_at (Some (sid, change)) seat = seat_after_if (is_present (stage_in seat.phase) && (seat.sender.sid == sid)) change seat
+seat_after_change_at None seat = seat
 
-abbrev pub removed_seat : Removal → Seat → Seat
-removed_seat removed seat = gone_if (is_present (stage_in seat.phase) && is_named removed seat.sender.sid) seat
-
--- a share is given, and the user shut out where it is the one
-abbrev pub delivered_seat : Removal → Seat → List (List ℕ) → Seat
-delivered_seat removed seat share = removed_seat removed (given_seat share seat)
+-- a share is given, and then the connection changes where it is the one
+abbrev pub delivered_seat : Option (ℕ × SeatChange) → Seat → List (List ℕ) → Seat
+delivered_seat at seat share = seat_after_change_at at (given_seat share seat)
 
 -- each seat has its share
-unfoldable pub delivered_all : Removal → List Seat → List (List (List ℕ)) → List Seat
-delivered_all removed [] shares = []
-delivered_all removed (seat ∷ seats) [] = seat ∷ seats
-delivered_all removed (seat ∷ seats) (share ∷ shares) = delivered_seat removed seat share ∷ delivered_all removed seats shares
+unfoldable pub delivered_all : Option (ℕ × SeatChange) → List Seat → List (List (List ℕ)) → List Seat
+delivered_all at [] shares = []
+delivered_all at (seat ∷ seats) [] = seat ∷ seats
+delivered_all at (seat ∷ seats) (share ∷ shares) = delivered_seat at seat share ∷ delivered_all at seats shares
 
 -- ---- the connection that sent the line
 

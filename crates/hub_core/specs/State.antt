@@ -9,15 +9,17 @@ use Rattle.hub_core.specs.declared.seat.Seat.{Seat}
 use Rattle.hub_core.specs.declared.share.Touched.TheVariants.{Nobody}
 use Rattle.hub_core.specs.CoreState.{CoreState, noted}
 use Rattle.hub_core.specs.Phases.{users_awaited}
-use Rattle.hub_core.specs.Seats.{at_seat, changed_seat, phase_in, removed_of, seat_of, seat_share, delivered_all, sid_in}
+use Rattle.hub_core.specs.Seats.{at_seat, changed_seat, phase_in, seat_of, seat_share, delivered_all, sid_in}
 use Rattle.hub_rules.specs.declared.effect.Change.{Change}
 use Rattle.hub_rules.specs.declared.effect.Change.TheVariants.{Hub, Sender}
 use Rattle.hub_rules.specs.declared.effect.Effect.{Effect}
 use Rattle.hub_rules.specs.declared.effect.HubChange.TheVariants as shared
+use Rattle.hub_rules.specs.declared.effect.SeatChange.TheVariants as seats
 use Rattle.hub_rules.specs.declared.effect.SenderChange.TheVariants as senders
 use Rattle.hub_rules.specs.declared.history.Entry.{Entry}
 use Rattle.hub_rules.specs.Configured.{Configured}
 use Rattle.hub_rules.specs.Facts.{Facts, bans_after, facts, topic_after, user_of}
+use Rattle.hub_rules.specs.Shares.{change_at}
 
 -- what is kept of a hub, with no hint
 abbrev pub core_of : Configured → Facts → CoreState
@@ -58,7 +60,7 @@ users_after (Sender senders.Enters) sid phase users = users ++ users_awaited pha
 users_after (Sender (senders.EntersAs newcomer)) sid phase users = users ++ newcomer.user ∷ []
 users_after (Sender (senders.Updates revision)) sid phase users = with_update sid revision.update (given_key revision.nick) users
 users_after (Sender senders.Falls) sid phase users = without_sid sid users
-users_after (Hub (shared.Kick target)) sid phase users = without_sid target users
+users_after (Hub (shared.At target seats.Gone)) sid phase users = without_sid target users
 users_after (Hub (shared.Ban banned)) sid phase users = without_sid banned.sid users
 users_after change sid phase users = users
 
@@ -66,7 +68,7 @@ users_after change sid phase users = users
 
 unfoldable pub carried_out : ℕ → Effect → CoreState → CoreState
 carried_out c effect core = record core {
-  seats = delivered_all (removed_of effect.change) (at_seat c (changed_seat effect.change) core.seats) (map (seat_share c effect) core.seats);
+  seats = delivered_all (change_at effect.change) (at_seat c (changed_seat effect.change) core.seats) (map (seat_share c effect) core.seats);
   users = users_after effect.change (sid_in c core.seats) (phase_in c core.seats) core.users;
   bans = bans_after effect.change core.bans;
   topic = topic_after effect.change core.topic;

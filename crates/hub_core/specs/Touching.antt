@@ -23,7 +23,8 @@ use Rattle.hub_rules.specs.Facts.{facts}
 use Rattle.hub_rules.specs.History.{about}
 use Rattle.hub_rules.specs.Legal.{MayCall, is_open}
 use Rattle.hub_rules.specs.Prepared.{prepared_line}
-use Rattle.hub_rules.specs.Shares.{About, is_removed, waiting}
+use Rattle.hub_rules.specs.Shares.{About, waiting}
+use Rattle.hub_invariants.specs.Afterwards.{is_removed}
 use Rattle.hub_rules.specs.Sights.{PreparedLine}
 
 -- the connection with this session identifier is named

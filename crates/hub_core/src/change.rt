@@ -13,7 +13,7 @@ ghost use Rattle.hub_rules.specs.Facts.{bans_after, topic_after};
 
 use crate::present::Present;
 use crate::seat::{Phase, Seat};
-use hub_rules::{Banned, Change, Entrant, HubChange, Revision, SenderChange, Topic};
+use hub_rules::{Banned, Change, Entrant, HubChange, Revision, SeatChange, SenderChange, Topic};
 use hub_setup::Setup;
 use operator_acts::Bans;
 use std::alloc::{AllocError, Global};
@@ -47,7 +47,7 @@ impl Commons {
             Change::Nothing => Ok(()),
             Change::Sender(change) => change_sender(alloc, setup, &mut self.present, seat, change),
             Change::Hub(change) => match change {
-                HubChange::Kick(sid) => {
+                HubChange::At(sid, SeatChange::Gone) => {
                     self.present.remove(sid);
                     Ok(())
                 }

@@ -17,7 +17,7 @@ use crate::connection::Connection;
 use crate::look::Look;
 use crate::present::Present;
 use crate::seat::{Seat, add, decide_at, forget, has_seat, place, sids, take_lines, tell_if};
-use crate::share::{Touched, deliver, removal, shares, touched_by_line, touched_by_quit};
+use crate::share::{Touched, change_at, deliver, shares, touched_by_line, touched_by_quit};
 use crate::sid_index::SidIndex;
 use crate::{JoinRefused, OpenRefused};
 use adc_base32::Sid;
@@ -342,11 +342,11 @@ impl Core {
         ensures err { OnErr result (self.new ≡ self.old) }
     {
         let shares = shares(alloc, &self.seats, &self.index, number, place, &effect)?;
-        let removal = removal(&effect.change);
+        let named = change_at(&effect.change);
         let seat = &mut self.seats[place];
         self.commons
             .change(alloc, &self.setup, seat, effect.change)?;
-        deliver(&mut self.seats, shares, &removal);
+        deliver(&mut self.seats, shares, named);
         Ok(())
     }
 }

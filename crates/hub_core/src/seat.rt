@@ -1,11 +1,10 @@
 ghost use Rattle.std.specs.Prelude.{◌≡◌, ◌∷◌, [], Some, IfOk, ◌≤◌, ◌==◌, ◌++◌, length, map, position, take, OnOk, OnErr};
 ghost use Rattle.std.specs.Option.{unwrap_or, option_copied};
 ghost use Rattle.hub_core.specs.Decided.{expected_at, Decided, user_at};
-ghost use Rattle.hub_core.specs.declared.seat.Removal.TheVariants as removals;
 ghost use Rattle.hub_core.specs.Index.{IsSetAt};
 ghost use Rattle.hub_core.specs.Leaving.{seat_told, has_ended, seat_after_take, lines_in, others_of, told_all_if};
 ghost use Rattle.hub_core.specs.Phases.{stage_in};
-ghost use Rattle.hub_core.specs.Seats.{given_seat, new_seat, removed_seat, at_seat};
+ghost use Rattle.hub_core.specs.Seats.{given_seat, new_seat, seat_after, seat_after_change_at, at_seat};
 ghost use Rattle.hub_rules.specs.Effects.{is_over, is_present};
 ghost use Rattle.hub_rules.specs.Legal.{verdict_of};
 ghost use Rattle.std.specs.List.{concat};
@@ -17,7 +16,7 @@ use crate::sid_index::SidIndex;
 use adc_base32::Sid;
 use feature_route::FeatureSet;
 use hub_decisions::{Own, Sight, decide};
-use hub_rules::{Effect, Entrant, Sender, Verdict};
+use hub_rules::{Effect, Entrant, SeatChange, Sender, Verdict};
 use hub_setup::Prepared;
 use login_state::Stage;
 use outboxes::{Batch, Outbox, TakeRefused, Taken};
@@ -37,15 +36,6 @@ pub enum Phase {
     Normal(FeatureSet),
     /// The connection is shut out.
     Gone,
-}
-
-/// The user whom an operator shuts out.
-#[derive(Drop)]
-pub enum Removal {
-    /// No user.
-    Nobody,
-    /// The user with this session identifier.
-    User(Sid),
 }
 
 /// The seat of a connection: what is kept of it.
@@ -144,12 +134,21 @@ impl Seat {
         }
     }
 
-    /// Shuts the user out where it is present and has this session identifier.
-    pub(crate) fn leave_if_named(&mut self, sid: Sid)
-        ensures { self.new ≡ removed_seat (removals.User sid) self.old }
+    /// Changes the connection where its user is present and has this session identifier.
+    pub(crate) fn change_if_named(&mut self, sid: Sid, change: SeatChange)
+        ensures { self.new ≡ seat_after_change_at (Some (sid, change)) self.old }
     {
         if self.phase.is_present() && self.sender.sid == sid {
-            self.phase = Phase::Gone;
+            self.change(change);
+        }
+    }
+
+    /// Makes the change of the connection that an operator asked for.
+    fn change(&mut self, change: SeatChange)
+        ensures { self.new ≡ seat_after change self.old }
+    {
+        match change {
+            SeatChange::Gone => self.phase = Phase::Gone,
         }
     }
 

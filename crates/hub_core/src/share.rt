@@ -1,22 +1,22 @@
-ghost use Rattle.std.specs.Prelude.{◌≡◌, ◌≢◌, ◌<◌, ◌≤◌, ◌++◌, [], ℕ, true, get_or, length, map, if◌then◌else◌, IfNone, IfOk, IfSome, OnOk};
+ghost use Rattle.std.specs.Prelude.{◌≡◌, ◌≢◌, ◌<◌, ◌≤◌, ◌++◌, [], ℕ, Some, true, get_or, length, map, if◌then◌else◌, IfNone, IfOk, IfSome, OnOk};
 ghost use Rattle.hub_core.specs.Index.{AreIndexed, keys};
 ghost use Rattle.hub_core.specs.Numbers.{Rising, numbers};
 ghost use Rattle.hub_core.specs.Owed.{AreQuietBut, IsMeant, IsOnlyFor, given_all, share_at, shares_from};
 ghost use Rattle.hub_core.specs.Phases.{is_among, phase_hears, stage_in};
-ghost use Rattle.hub_core.specs.Seats.{removed_of, removed_seat, seat_share};
+ghost use Rattle.hub_core.specs.Seats.{seat_after_change_at, seat_share};
 ghost use Rattle.hub_core.specs.State.{IsPlace};
 ghost use Rattle.hub_core.specs.Touching.{NamesEffect, NamesHearers, NamesOthers, NamesOwed, falls, names};
-ghost use Rattle.hub_core.specs.declared.seat.Removal.TheVariants.{User};
 ghost use Rattle.hub_core.specs.declared.seat.Seat.{Seat};
 ghost use Rattle.hub_rules.specs.declared.effect.Change.TheVariants.{Sender};
 ghost use Rattle.hub_rules.specs.declared.effect.Hearers.TheVariants.{Those};
 ghost use Rattle.hub_rules.specs.Effects.{is_present};
+ghost use Rattle.hub_rules.specs.Shares.{change_at};
 
-use crate::seat::{Phase, Removal, Seat, find};
+use crate::seat::{Phase, Seat, find};
 use crate::sid_index::SidIndex;
 use adc_base32::Sid;
 use feature_route::{Audience, FeatureSet};
-use hub_rules::{Change, Effect, Hearers, HubChange, SenderChange};
+use hub_rules::{Change, Effect, Hearers, HubChange, SeatChange, SenderChange};
 use outboxes::Batch;
 use std::alloc::{AllocError, Global};
 
@@ -225,14 +225,14 @@ fn is_among(is_caller: bool, hearers: &Hearers<'_>, sid: Sid, support: &FeatureS
     }
 }
 
-/// Gives each share to its seat, and shuts out the user that an operator names. It takes no memory.
-pub(crate) fn deliver(seats: &mut [Seat], shares: Vec<Share>, removal: &Removal)
-    ensures { seats.new ≡ map (removed_seat removal.now) (given_all shares.items seats.old) }
+/// Gives each share to its seat, and changes the connection of the user that an operator names. It takes no memory.
+pub(crate) fn deliver(seats: &mut [Seat], shares: Vec<Share>, at: Option<(Sid, SeatChange)>)
+    ensures { seats.new ≡ map (seat_after_change_at at) (given_all shares.items seats.old) }
 {
     give(seats, shares);
-    match removal {
-        Removal::Nobody => {}
-        Removal::User(sid) => shut_out(seats, *sid),
+    match at {
+        None => {}
+        Some((sid, change)) => change_named(seats, sid, change),
     }
 }
 
@@ -248,23 +248,23 @@ fn give(seats: &mut [Seat], shares: Vec<Share>)
     }
 }
 
-fn shut_out(seats: &mut [Seat], sid: Sid)
-    ensures { seats.new ≡ map (removed_seat (User sid)) seats.old }
+fn change_named(seats: &mut [Seat], sid: Sid, change: SeatChange)
+    ensures { seats.new ≡ map (seat_after_change_at (Some (sid, change))) seats.old }
 {
     for seat in seats.iter_mut() {
-        seat.leave_if_named(sid);
+        seat.change_if_named(sid, change);
     }
 }
 
-/// Names whom an operator shuts out.
-pub(crate) fn removal(change: &Change) -> Removal
-    ensures { result ≡ removed_of change.now }
+/// Names the user whose connection an operator changes, with the change.
+pub(crate) fn change_at(change: &Change) -> Option<(Sid, SeatChange)>
+    ensures { result ≡ change_at change.now }
 {
     match change {
-        Change::Hub(HubChange::Kick(sid)) => Removal::User(*sid),
-        Change::Hub(HubChange::Ban(banned)) => Removal::User(banned.sid),
-        Change::Hub(HubChange::Unban(_) | HubChange::Topic(_)) => Removal::Nobody,
-        Change::Nothing | Change::Sender(_) => Removal::Nobody,
+        Change::Hub(HubChange::At(sid, change)) => Some((*sid, *change)),
+        Change::Hub(HubChange::Ban(banned)) => Some((banned.sid, SeatChange::Gone)),
+        Change::Hub(HubChange::Unban(_) | HubChange::Topic(_)) => None,
+        Change::Nothing | Change::Sender(_) => None,
     }
 }
 
@@ -283,13 +283,13 @@ pub enum Touched {
 }
 
 /// Names whom the effect of a line of the connection with this identifier concerns. Whoever is present is told that an
-/// operator shuts a user out.
+/// operator changes a user's connection.
 pub(crate) fn touched_by_line(sid: Sid, effect: &Effect<'_>) -> Touched
     ensures { NamesEffect result sid effect.now }
 {
-    match removal(&effect.change) {
-        Removal::User(_) => Touched::Everybody,
-        Removal::Nobody => touched_by(sid, effect),
+    match change_at(&effect.change) {
+        Some(_) => Touched::Everybody,
+        None => touched_by(sid, effect),
     }
 }
 

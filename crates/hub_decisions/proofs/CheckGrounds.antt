@@ -32,7 +32,7 @@ use Rattle.operator_acts.specs.declared.left.Left.{Left}
 use Rattle.operator_acts.specs.declared.left.Left.TheVariants as lefts
 use Rattle.user_table.specs.Listed.{Listed}
 use Rattle.user_table.specs.Tables.{has_cid, has_key}
-use Rattle.hub_rules.specs.Grounds.{differs, entry_grounds, first_ground, is_bad_nick, is_digest, is_empty, is_ever, is_timed, is_wrong_address, login_grounds, seconds_of, sup_grounds, touches_account, update_grounds}
+use Rattle.hub_rules.specs.Grounds.{differs, entry_grounds, first_ground, ban_ground, is_bad_nick, is_digest, is_empty, is_wrong_address, login_grounds, sup_grounds, touches_account, update_grounds}
 use Rattle.hub_rules.specs.Identities.{value_or_empty, key_in, nick_in}
 use Rattle.hub_rules.specs.Sights as sights
 use Rattle.hub_rules.specs.Sights.{Sight, another_has_key, is_account, is_here}
@@ -105,7 +105,7 @@ taken-cid false = refl
 
 -- a ban is for good, or for a time
 ban-step : (l : Left) (grounds : List (Bool × Deny)) (rules : List (Option Deny)) → Agree rules grounds
-    → Agree (ban_denial (ban_found l) ∷ rules) ((is_ever l, denials.BannedEver) ∷ (is_timed l, denials.BannedFor (seconds_of l)) ∷ grounds)
+    → Agree (ban_denial (ban_found l) ∷ rules) (ban_ground l ∷ grounds)
 ban-step lefts.Free grounds rules later = later
 ban-step (lefts.For seconds) grounds rules later = refl
 ban-step lefts.Ever grounds rules later = refl

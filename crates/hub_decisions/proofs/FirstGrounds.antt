@@ -1,5 +1,5 @@
 -- The first ground of a list, by its parts.
-use Rattle.std.proofs.Common.{◌≡◌, ◌∙◌, sym, ap, ℕ, Ok, Err, Result, refl, Bool, true, false, List, [], ◌∷◌, ◌++◌, Option, Some, None, is_some}
+use Rattle.std.proofs.Common.{◌≡◌, ◌∙◌, sym, ap, ℕ, Ok, Err, Result, refl, Bool, true, false, List, [], ◌∷◌, ◌++◌, Some, None, is_some}
 use Rattle.std.proofs.lemmas.Bool.{false≢true}
 use Rattle.login_state.specs.declared.deny.Deny.{Deny}
 use Rattle.hub_rules.specs.Grounds.{first_ground}

@@ -1,5 +1,5 @@
 -- The lines that are kept of the first users of a list, as users enter, leave and change.
-use Rattle.std.proofs.Common.{◌≡◌, ◌∙◌, sym, ap, ap₂, refl, ℕ, ◌+◌, ◌<◌, ◌≤◌, Bool, true, false, cond, not, ◌==◌, List, [], ◌∷◌, ◌++◌, length, map, take, drop, set, get_or, filter, flat_map, slice_get, arith, Option, Some, length-set, length-take, take-append-drop, take_all, take_at, get_or-take, get_or-drop, drop-set-lt, drop-drop}
+use Rattle.std.proofs.Common.{◌≡◌, ◌∙◌, sym, ap, ap₂, refl, ℕ, ◌+◌, ◌<◌, ◌≤◌, Bool, true, false, cond, not, ◌==◌, List, [], ◌∷◌, ◌++◌, length, map, take, drop, set, get_or, filter, flat_map, slice_get, arith, Option, Some, length-set, length-take, take-append-drop, take_at, get_or-take, get_or-drop, drop-set-lt, drop-drop}
 use Rattle.std.proofs.lemmas.List.{get_or-map, length-map, map_more, take-append-le, take_min, take_more, take_more_set}
 use Rattle.std.proofs.lemmas.List.Elements.{filter-append}
 use Rattle.std.proofs.lemmas.Option.{slice_get-get_or}
@@ -79,16 +79,6 @@ pub record AreRenewed (setup : Configured) (users : List Listed) (old lines : Ke
   pub rest : drop n lines ≡ drop n old
   pub long : length lines ≡ length old
   pub first : take n lines ≡ map (kept_line setup) (take n users)
-
-pub none-renewed : (setup : Configured) (users : List Listed) (old : Kept) → AreRenewed setup users old old 0
-none-renewed setup users old = record { rest = refl; long = refl; first = refl }
-
-pub all-renewed : (setup : Configured) (users : List Listed) (old lines : Kept) (n : ℕ) → AreRenewed setup users old lines n → length lines ≤ n → AreFirst setup users lines
-all-renewed setup users old lines n done few = first-of setup users lines n (sym (take_all n lines few) ∙ done.first)
-
--- the others are left out
-pub some-renewed : (setup : Configured) (users : List Listed) (old lines left : Kept) (n : ℕ) → AreRenewed setup users old lines n → left ≡ take n lines → AreFirst setup users left
-some-renewed setup users old lines left n done is = first-of setup users left n (is ∙ done.first)
 
 past : (old lines : Kept) (n : ℕ) → drop n lines ≡ drop n old → drop (n + 1) lines ≡ drop (n + 1) old
 past old lines n same = sym (drop-drop 1 n lines) ∙ ap (drop 1) same ∙ drop-drop 1 n old

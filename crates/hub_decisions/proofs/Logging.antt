@@ -1,12 +1,12 @@
 -- What a login leads to, as the rules want.
 use Rattle.std.specs.Result.{result_ok}
-use Rattle.std.proofs.Common.{◌≡◌, ◌∙◌, sym, ap, ap₂, refl, ℕ, false, List, [], ◌∷◌, Option, Some, None, unwrap_or}
-use Rattle.std.specs.Prelude.{chars, is_some, Result, Ok, Err}
+use Rattle.std.proofs.Common.{◌≡◌, ◌∙◌, sym, ap, ap₂, refl, ℕ, List, [], Option, Some, None, unwrap_or}
+use Rattle.std.specs.Prelude.{Result, Ok, Err}
 use Rattle.adc_base32.specs.Spelled.{spelled_bytes}
 use Rattle.feature_route.specs.Matching.{feature_set}
 use Rattle.inf_fields.specs.Cleaning.{clean}
 use Rattle.inf_fields.specs.Field.{Field}
-use Rattle.inf_fields.specs.FieldNames.{address_name, id_name, nick_name, private_id_name}
+use Rattle.inf_fields.specs.FieldNames.{id_name, nick_name}
 use Rattle.inf_fields.specs.Merging.{merged_fields, merged_with}
 use Rattle.inf_fields.specs.declared.fault.InfFault.{InfFault}
 use Rattle.login_state.specs.declared.deny.Deny.{Deny}
@@ -16,8 +16,8 @@ use Rattle.hub_rules.specs.declared.effect.Entrant.{Entrant}
 use Rattle.hub_decisions.specs.Admissions.{cid_of}
 use Rattle.hub_rules.specs.Denied.{login_denied}
 use Rattle.hub_rules.specs.Effects.{admits, denial, entrant, logs_in, unless_denied}
-use Rattle.hub_rules.specs.Identities.{cid_in, value_or_empty, key_in, key_of, listed_user, meaning, nick_in, su_in}
-use Rattle.hub_rules.specs.Sights.{Own, PreparedLine, Sight, is_account, is_here, user_after}
+use Rattle.hub_rules.specs.Identities.{cid_in, value_or_empty, key_in, key_of, listed_user, meaning, su_in}
+use Rattle.hub_rules.specs.Sights.{Own, PreparedLine, Sight, is_account, user_after}
 use Rattle.hub_rules.proofs.Merges.{given-after, id-clean, nick-clean}
 use Rattle.hub_decisions.specs.Requested.{effect_of_login}
 

@@ -1,6 +1,6 @@
 -- What an update leaves known of a user, as the rules want.
 use Rattle.std.specs.Result.{result_ok}
-use Rattle.std.proofs.Common.{◌≡◌, ◌∙◌, sym, ap, ap₂, refl, ℕ, true, not, ◌&&◌, cond, List, [], ◌∷◌, ◌++◌, Option, Some, None, unwrap_or}
+use Rattle.std.proofs.Common.{◌≡◌, ◌∙◌, sym, ap, refl, ℕ, true, not, ◌&&◌, cond, List, [], ◌∷◌, ◌++◌, Option, Some, None, unwrap_or}
 use Rattle.std.specs.Option.{option_map, option_or}
 use Rattle.std.specs.Prelude.{is_some, Result, Ok, Err}
 use Rattle.feature_route.specs.Matching.{feature_set}
@@ -8,7 +8,7 @@ use Rattle.inf_fields.specs.Field.{Field, besides, value_of}
 use Rattle.inf_fields.specs.FieldNames.{nick_name, support_name}
 use Rattle.inf_fields.specs.Merging.{is_empty_value, latest, leave, merged_with}
 use Rattle.inf_fields.specs.declared.fault.InfFault.{InfFault}
-use Rattle.inf_fields.proofs.MergingLaws.{value_of-settled}
+use Rattle.inf_fields.proofs.MergingLaws.{merged_with-settled, value_of-settled}
 use Rattle.inf_fields.proofs.NameLemmas.{value_of-append, value_of-besides}
 use Rattle.hub_rules.specs.Denied.{update_denied}
 use Rattle.hub_rules.specs.Effects.{unless_denied, updates_user}
@@ -30,10 +30,9 @@ value-renewed (Some x) (Some (b ∷ more)) = refl
 
 -- a field has the value that the update gives it, and else the one before
 given-renewed : (name : List ℕ) (fields u : List Field) → value_or_empty name (merged_with fields u) ≡ unwrap_or (value_of name u) (value_or_empty name fields)
-unfolding merged_with
 given-renewed name fields u =
     ap (λ o. unwrap_or o [])
-    (value_of-settled name (u ∷ []) (fields ++ besides fields u)
+    (ap (value_of name) (merged_with-settled fields u) ∙ value_of-settled name (u ∷ []) (fields ++ besides fields u)
     ∙ ap (λ o. option_map (latest (u ∷ []) name) (cond (leave (u ∷ []) name) o None))
     (value_of-append name fields (besides fields u) ∙ ap (option_or (value_of name fields)) (value_of-besides name fields u)))
     ∙ value-renewed (value_of name fields) (value_of name u)

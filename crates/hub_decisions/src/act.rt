@@ -17,7 +17,7 @@ use crate::words::text_in;
 use adc_ids::{Cid, Nick};
 use adc_line::Words;
 use feature_route::Audience;
-use hub_rules::{Banned, Change, Effect, Hearers, HubChange, Topic};
+use hub_rules::{Banned, Change, Effect, Hearers, HubChange, SeatChange, Topic};
 use hub_setup::{done_line, removal_line, topic_line};
 use login_state::Deny;
 use operator_acts::{Act, ActFault, Ban, FreeText};
@@ -128,7 +128,11 @@ fn kick<'a>(
         return denial(alloc, own, Deny::NoUser);
     };
     let line = removal_line(alloc, target.sid(), own.sender.sid, None, reason.as_str())?;
-    effect_for_all(alloc, one(alloc, line)?, HubChange::Kick(target.sid()))
+    effect_for_all(
+        alloc,
+        one(alloc, line)?,
+        HubChange::At(target.sid(), SeatChange::Gone),
+    )
 }
 
 fn ban<'a>(

@@ -1,7 +1,7 @@
 //! The grounds on which a login, an update and a password are denied: a test each, and what is said where it holds (ADC 1.0, "INF", "PAS").
 
 ghost use Rattle.std.specs.Prelude.{◌≡◌, IfOk};
-ghost use Rattle.hub_rules.specs.Grounds.{first_ground, is_digest, is_empty, is_ever, is_timed, is_wrong_address, number_ground, seconds_of};
+ghost use Rattle.hub_rules.specs.Grounds.{ban_ground, first_ground, is_digest, is_empty, is_wrong_address, number_ground};
 
 use crate::given::value_in_update;
 use inf_fields::{Update, dotted_decimal, is_bad_number};
@@ -62,32 +62,13 @@ pub(crate) fn is_wrong_address(
     Ok(!(is_empty(address) || address == "0.0.0.0" || address == seen.as_str()))
 }
 
-/// Tells whether a ban is for good.
-pub(crate) fn is_ever(left: Left) -> bool
-    ensures { result ≡ is_ever left }
+/// Makes the ground that a user is banned: for good, or for so many seconds more.
+pub(crate) fn ban_ground(left: Left) -> (bool, Deny)
+    ensures { result ≡ ban_ground left }
 {
     match left {
-        Left::Ever => true,
-        Left::Free | Left::For(_) => false,
-    }
-}
-
-/// Tells whether a ban is for a time.
-pub(crate) fn is_timed(left: Left) -> bool
-    ensures { result ≡ is_timed left }
-{
-    match left {
-        Left::For(_) => true,
-        Left::Free | Left::Ever => false,
-    }
-}
-
-/// Gives the seconds that are left of a ban for a time.
-pub(crate) fn seconds_of(left: Left) -> u64
-    ensures { result ≡ seconds_of left }
-{
-    match left {
-        Left::For(seconds) => seconds,
-        Left::Free | Left::Ever => 0,
+        Left::Free => (false, Deny::BannedEver),
+        Left::Ever => (true, Deny::BannedEver),
+        Left::For(seconds) => (true, Deny::BannedFor(seconds)),
     }
 }

@@ -17,8 +17,7 @@ use crate::effect::{answer, one};
 use crate::entering;
 use crate::given::{passed_on, value_in_fields, value_in_update};
 use crate::grounds::{
-    first_ground, is_digest, is_empty, is_ever, is_timed, is_wrong_address, number_ground,
-    seconds_of,
+    ban_ground, first_ground, is_digest, is_empty, is_wrong_address, number_ground,
 };
 use crate::own::Own;
 use crate::present::{has_cid, has_key, is_account};
@@ -185,7 +184,7 @@ fn entrant_grounds(
     inf: &Inf,
     cid: Cid,
     now: u64,
-) -> Result<[(bool, Deny); 11], AllocError>
+) -> Result<[(bool, Deny); 10], AllocError>
     ensures { IfOk result (λ grounds. (user : Listed) → user.cid ≡ cid → user.key ≡ key_in inf.now → grounds ≡ entrant_grounds hub.now own.now now owner inf.now user) }
 {
     let severity = Severity::Fatal;
@@ -200,8 +199,7 @@ fn entrant_grounds(
         number_ground(severity, NamedField::SharedFiles, update),
         (!is_digest(&cid.bytes(), owner), Deny::BadPid),
         (!inf.is_nick(), Deny::BadNick(severity)),
-        (is_ever(left), Deny::BannedEver),
-        (is_timed(left), Deny::BannedFor(seconds_of(left))),
+        ban_ground(left),
         (is_wrong_address, Deny::Address(severity, own.sender.peer)),
         (is_barred(hub, key), Deny::Registered),
         (has_key(hub, key), Deny::NickTaken(severity)),

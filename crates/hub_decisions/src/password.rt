@@ -7,7 +7,7 @@ ghost use Rattle.hub_rules.specs.Grounds.{is_digest, password_grounds};
 
 use crate::denial::denial;
 use crate::entering;
-use crate::grounds::{first_ground, is_digest, is_ever, is_timed, seconds_of};
+use crate::grounds::{ban_ground, first_ground, is_digest};
 use crate::own::Own;
 use crate::present::{has_cid, has_key};
 use crate::sight::Sight;
@@ -46,14 +46,13 @@ fn password_grounds(
     user: &User,
     digest: Option<[u8; 24]>,
     now: u64,
-) -> [(bool, Deny); 5]
+) -> [(bool, Deny); 4]
     ensures { result ≡ password_grounds hub.now own.now now digest user.now }
 {
     let left = hub.bans.left(user.cid(), now);
     [
         (!is_expected(own, digest), Deny::Password),
-        (is_ever(left), Deny::BannedEver),
-        (is_timed(left), Deny::BannedFor(seconds_of(left))),
+        ban_ground(left),
         (has_key(hub, user.key()), Deny::NickTaken(Severity::Fatal)),
         (has_cid(hub, user.cid()), Deny::CidTaken),
     ]

@@ -5,11 +5,11 @@ use Rattle.std.specs.Fmt.{digits}
 use Rattle.adc_base32.specs.Bits.{bits, value_of}
 use Rattle.adc_base32.specs.Digits.{digit_of, value_at}
 use Rattle.adc_base32.specs.Sids.{sid_at}
-use Rattle.adc_base32.specs.Spelled.{bytes_from, digits_from, number_from, spelled_bytes, spelling}
+use Rattle.adc_base32.specs.Spelled.{number_from, numbers_from, spelled_bytes, spelling}
 use Rattle.adc_ids.specs.Nicks.{is_nick}
 use Rattle.adc_line.specs.Escapes.{escape_means, escaped_text, is_escaped, unescaped_text}
-use Rattle.adc_line.specs.Header.{are_features, head_at, header_of, is_feature_name, is_feature_word, kind_at, with_addresses}
-use Rattle.adc_line.specs.Lines.{reading, text_checked}
+use Rattle.adc_line.specs.Header.{are_features, head_at, header_at, is_feature_name, is_feature_word, kind_at}
+use Rattle.adc_line.specs.Lines.{reading}
 use Rattle.adc_line.specs.Parameters.{params_fault}
 use Rattle.feature_route.specs.Audiences.{audience, holds_words}
 use Rattle.feature_route.specs.Matching.{meets}
@@ -43,12 +43,12 @@ texts = tt
 
 -- base32 and session identifiers
 unfoldable base32 : Unit {0}
-unfolding bits value_of digit_of value_at sid_at bytes_from digits_from number_from spelled_bytes spelling
+unfolding bits value_of digit_of value_at sid_at number_from numbers_from spelled_bytes spelling
 base32 = tt
 
 -- the words of a line
 unfoldable words : Unit {0}
-unfolding is_nick escape_means escaped_text is_escaped unescaped_text kind_at head_at header_of with_addresses are_features params_fault text_checked reading
+unfolding is_nick escape_means escaped_text is_escaped unescaped_text kind_at head_at header_at are_features params_fault reading
 words = tt
 
 -- fields

@@ -1,20 +1,19 @@
 -- After every history, legal or not, the facts are sound.
-use Rattle.std.proofs.Common.{◌≡◌, ◌∙◌, sym, ap, ap₂, refl, ℕ, ◌+◌, ◌<◌, ◌≤◌, Bool, true, false, not, ◌&&◌, ◌||◌, ◌==◌, eqb, List, [], ◌∷◌, ◌++◌, length, filter, arith, length-take, length-drop, subst, cond}
-use Rattle.std.proofs.lemmas.Bool.{false≢true, eqb-true, eq-eqb, and_parts}
+use Rattle.std.proofs.Common.{◌≡◌, sym, refl, ℕ, ◌+◌, ◌<◌, ◌≤◌, Bool, true, false, not, ◌&&◌, ◌||◌, ◌==◌, eqb, List, [], ◌∷◌, ◌++◌, length, filter, arith, length-take, length-drop, subst, cond}
+use Rattle.std.proofs.lemmas.Bool.{false≢true, eqb-true, eq-eqb}
 use Rattle.login_state.specs.declared.stage.Stage.{Stage}
-use Rattle.login_state.specs.declared.stage.Stage.TheVariants as stages
 use Rattle.hub_rules.specs.declared.history.Call.{Call}
 use Rattle.hub_rules.specs.declared.history.Call.TheVariants.{Join, Line, Quit, Take}
 use Rattle.hub_rules.specs.declared.history.Entry.{Entry}
 use Rattle.hub_rules.specs.Configured.{Configured}
 use Rattle.hub_rules.specs.Effects.{is_over, is_present, departure}
 use Rattle.hub_rules.specs.Facts.{Facts, facts, after, with_connection, without_connection, happens, with_lines_taken, has_place, has_joins, newcomer, next_sid, with_one, effect_of_line}
-use Rattle.hub_rules.specs.Shares.{About, waiting}
+use Rattle.hub_rules.specs.Shares.{About}
 use Rattle.hub_invariants.proofs.Becoming.{take-facts, taken_by}
 use Rattle.hub_invariants.proofs.Fits.{fits-departure}
 use Rattle.hub_invariants.proofs.Lines.{fits-line}
 use Rattle.hub_invariants.proofs.Members.{apart-filter, apart-push, has, has-append, has-filter}
-use Rattle.hub_invariants.proofs.Sound.{Sound, departed-over, happens-sound, or-false, or-true}
+use Rattle.hub_invariants.proofs.Sound.{Sound, departed-over, happens-sound, or-true}
 
 -- ---- a join
 

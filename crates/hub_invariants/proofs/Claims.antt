@@ -1,9 +1,8 @@
 -- Where a login, a password or an update is not denied, nobody else who is present has the nick or the identifier.
-use Rattle.std.proofs.Common.{◌≡◌, ◌∙◌, sym, ap, refl, ℕ, Bool, true, false, not, List, [], ◌∷◌, Option, Some, None, unwrap_or, arith}
+use Rattle.std.proofs.Common.{◌≡◌, sym, ap, refl, ℕ, zero, suc, Bool, true, false, not, List, [], ◌∷◌, drop, Option, Some, None, unwrap_or, arith}
 use Rattle.std.specs.Str.{bytes_eq}
 use Rattle.std.proofs.lemmas.Bool.{false≢true}
 use Rattle.std.proofs.lemmas.Slice.Eq.{bytes_eq-Decides}
-use Rattle.adc_base32.specs.Spelled.{spelled_bytes}
 use Rattle.inf_fields.specs.Cleaning.{clean}
 use Rattle.inf_fields.specs.Field.{Field, value_of}
 use Rattle.inf_fields.specs.FieldNames.{id_name}
@@ -73,6 +72,11 @@ entry-free hub now user none = grind arith
 past : (test : Bool) (deny : Deny) (more : List (Bool × Deny)) → first_ground ((test, deny) ∷ more) ≡ None → first_ground more ≡ None
 past test deny more none = grind arith
 
+pub dropped : (n : ℕ) (grounds : List (Bool × Deny)) → first_ground grounds ≡ None → first_ground (drop n grounds) ≡ None
+dropped zero grounds none = none
+dropped (suc n) [] none = none
+dropped (suc n) ((test, deny) ∷ more) none = dropped n more (past test deny more none)
+
 -- a password that is right leaves what is asked of each entry
 pub password-entry : (hub : Sight) (own : sights.Own) (now : ℕ) (digest : Option (List ℕ)) (user : Listed) → first_ground (password_grounds hub own now digest user) ≡ None
     → first_ground (entry_grounds hub now user) ≡ None
@@ -86,8 +90,9 @@ pub login-free : (hub : Sight) (own : sights.Own) (now : ℕ) (digest : Option (
     → Unclaimed hub user
 unfolding login_grounds
 login-free hub own now digest u user none =
-    let nick : AllFalse (grounds_of is_nick_taken (login_grounds hub own now digest u user)) = none-of is_nick_taken (login_grounds hub own now digest u user) none in
-    let cid : AllFalse (grounds_of is_cid_taken (login_grounds hub own now digest u user)) = none-of is_cid_taken (login_grounds hub own now digest u user) none in
+    let behind = dropped 10 (login_grounds hub own now digest u user) none in
+    let nick : AllFalse (grounds_of is_nick_taken (drop 10 (login_grounds hub own now digest u user))) = none-of is_nick_taken (drop 10 (login_grounds hub own now digest u user)) behind in
+    let cid : AllFalse (grounds_of is_cid_taken (drop 10 (login_grounds hub own now digest u user))) = none-of is_cid_taken (drop 10 (login_grounds hub own now digest u user)) behind in
     (nick.0, cid.0)
 
 same-value : (value other : List ℕ) (same : Bool) → bytes_eq value other ≡ same → not same ≡ false → value ≡ other

@@ -1,11 +1,10 @@
 -- Effects of lines let the facts stay sound.
-use Rattle.std.proofs.Common.{◌≡◌, ◌∙◌, sym, refl, ℕ, true, false, arith}
-use Rattle.std.proofs.lemmas.Bool.{false≢true}
+use Rattle.std.proofs.Common.{◌≡◌, refl, ℕ, true, false, arith}
 use Rattle.login_state.specs.declared.stage.Stage.{Stage}
 use Rattle.hub_rules.specs.declared.effect.Effect.{Effect}
 use Rattle.hub_rules.specs.Effects.{is_over, is_present, departure}
 use Rattle.hub_rules.specs.Facts.{enters}
-use Rattle.hub_rules.specs.Shares.{stage_after}
+use Rattle.hub_invariants.specs.Afterwards.{stage_after}
 
 -- an effect suits the stage of the connection that it is of
 pub record Fits (stage : Stage) (effect : Effect) : Type 0 where

@@ -1,6 +1,5 @@
 -- The effect of a line suits the stage of its connection.
-use Rattle.std.proofs.Common.{◌≡◌, ◌∙◌, sym, ap, refl, ℕ, false, List, Option, arith}
-use Rattle.std.proofs.lemmas.Bool.{false≢true}
+use Rattle.std.proofs.Common.{◌≡◌, refl, ℕ, false, List, Option, arith}
 use Rattle.adc_line.specs.Lines.{Reading}
 use Rattle.login_state.specs.declared.stage.Stage.{Stage}
 use Rattle.login_state.specs.declared.stage.Stage.TheVariants as stages

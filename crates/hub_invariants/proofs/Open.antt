@@ -1,20 +1,17 @@
 -- Open are the connections that joined and did not quit.
 use Rattle.std.proofs.Common.{◌≡◌, ◌∙◌, sym, ap, ap₂, refl, ℕ, ◌+◌, ◌<◌, Bool, true, false, not, ◌&&◌, ◌||◌, ◌==◌, eqb, List, [], ◌∷◌, arith, cond}
-use Rattle.std.proofs.Math.Bool.{and-true}
 use Rattle.std.proofs.lemmas.Bool.{eqb-true}
 use Rattle.hub_rules.specs.declared.effect.Effect.{Effect}
 use Rattle.hub_rules.specs.declared.history.Call.{Call}
-use Rattle.hub_rules.specs.declared.history.Call.TheVariants.{Join, Line, Quit, Take}
 use Rattle.hub_rules.specs.declared.history.Entry.{Entry}
 use Rattle.hub_rules.specs.Configured.{Configured}
-use Rattle.hub_rules.specs.Effects.{departure}
-use Rattle.hub_rules.specs.Facts.{Facts, facts, after, without_connection, effect_of_line, happens, has_joins, has_place, with_connection}
+use Rattle.hub_rules.specs.Facts.{Facts, facts, after, without_connection, happens, with_connection}
 use Rattle.hub_rules.specs.Legal.{Legal, MayCall, join_reply, reply}
 use Rattle.hub_invariants.specs.Opening.{OpenAreThoseThatStayed, has_joined, has_quit, joins_as, quits}
 use Rattle.hub_invariants.proofs.Calls.{sound_of}
 use Rattle.hub_invariants.proofs.Kept.{joins-grow}
-use Rattle.hub_invariants.proofs.Members.{and-false, has, has-append, has-filter}
-use Rattle.hub_invariants.proofs.Sound.{Sound, eqb-sym, or-false, or-true}
+use Rattle.hub_invariants.proofs.Members.{has, has-append, has-filter}
+use Rattle.hub_invariants.proofs.Sound.{Sound, eqb-sym, or-false}
 
 -- ---- a connection that never joined never quit
 

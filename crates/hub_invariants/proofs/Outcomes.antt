@@ -1,12 +1,10 @@
 -- One view of what a line leads to: every line has one of these outcomes. Each law about lines is a walk over them.
 use Rattle.std.specs.Option.{option_or}
-use Rattle.std.proofs.Common.{◌≡◌, refl, ℕ, Bool, true, false, not, ◌==◌, ◌||◌, List, [], ◌∷◌, length, Option, Some, None, is_some, Result, Ok, Err, arith}
+use Rattle.std.proofs.Common.{◌≡◌, refl, ℕ, Bool, true, false, not, ◌==◌, List, [], ◌∷◌, length, Option, Some, None, is_some, Result, Ok, Err, arith}
 use Rattle.std.specs.Prelude.{if◌then◌else◌, codes, cond}
 use Rattle.std.specs.Result.{result_err, result_unwrap_or}
-use Rattle.std.specs.Str.{bytes_eq}
 use Rattle.adc_line.specs.declared.fault.LineFault.{LineFault}
 use Rattle.adc_line.specs.declared.header.Kind.{Kind}
-use Rattle.adc_line.specs.declared.header.Kind.TheVariants as kinds
 use Rattle.adc_line.specs.Lines as lines
 use Rattle.adc_line.specs.Lines.{Reading}
 use Rattle.inf_fields.specs.Cleaning.{clean}
@@ -34,6 +32,7 @@ use Rattle.hub_rules.specs.declared.effect.Change.TheVariants.{Nothing, Sender}
 use Rattle.hub_rules.specs.declared.effect.Effect.{Effect}
 use Rattle.hub_rules.specs.declared.effect.HubChange.{HubChange}
 use Rattle.hub_rules.specs.declared.effect.HubChange.TheVariants as shared
+use Rattle.hub_rules.specs.declared.effect.SeatChange.TheVariants as seats
 use Rattle.hub_rules.specs.declared.effect.SenderChange.TheVariants as senders
 use Rattle.login_state.specs.declared.request.Request.{Request}
 use Rattle.login_state.specs.declared.request.Request.TheVariants as requests
@@ -43,7 +42,7 @@ use Rattle.hub_rules.specs.Effects as effects
 use Rattle.hub_rules.specs.Effects.{tells_others, tells_sender, accepted_effect, admits, denial, enters, farewell, effect_of_reading, is_over, line_effect, logs_in, passes_on, unless_denied, update_effect, updates_user}
 use Rattle.hub_rules.specs.Identities.{listed_user}
 use Rattle.hub_rules.specs.Quiet.{nothing}
-use Rattle.login_state.specs.Requests.{bad_stage, is_of_the_hub, is_to_the_hub, request_at, status, to_the_hub, to_users}
+use Rattle.login_state.specs.Requests.{request_at}
 use Rattle.hub_rules.specs.Requests.{refusal_of, request_of}
 use Rattle.hub_invariants.specs.Said.{accepted_line, kept_unless, unless_refused}
 use Rattle.hub_rules.specs.Sights.{Own, PreparedLine, Sight, is_account, user_after}
@@ -83,7 +82,7 @@ request_in own (Some reading) = request_of own.stage reading.kind reading.comman
 -- what an act does that is carried out, by what it changes
 pub data Does (users : List Listed) (bans : List (List ℕ × Ban)) (operator : ℕ) : Act → List (List ℕ) → HubChange → Type 0 where
   kicks : (nick reason : List ℕ) (target : Listed) → user_called users nick ≡ Some target
-      → Does users bans operator (commands.Kick nick reason) (removal_line target.sid operator None reason ∷ []) (shared.Kick target.sid)
+      → Does users bans operator (commands.Kick nick reason) (removal_line target.sid operator None reason ∷ []) (shared.At target.sid seats.Gone)
   bans_user : {seconds : ℕ} (nick : List ℕ) (reason : List ℕ) (target : Listed) (banned : Banned) → user_called users nick ≡ Some target → banned.sid ≡ target.sid
       → is_full bans banned.cid ≡ false
       → Does users bans operator (commands.Ban nick seconds reason) (removal_line banned.sid operator (Some banned.ban.seconds) reason ∷ []) (shared.Ban banned)

@@ -25,8 +25,9 @@ use Rattle.hub_rules.specs.Facts.{Facts, facts, effect_of_line, own_of, sight_of
 use Rattle.hub_rules.specs.Identities.{listed_user}
 use Rattle.hub_rules.specs.Prepared.{prepared_line}
 use Rattle.hub_invariants.specs.Said.{FeaturesAreLastAdded, InfoIsMerged, accepted_line, cleaned_update, inf_update, infs, listed_if, read_by, said_in, sup_words, sups, unless_refused, words_if}
-use Rattle.hub_rules.specs.Senders.{features_after, own_change}
-use Rattle.hub_rules.specs.Shares.{About, fields_after}
+use Rattle.hub_invariants.specs.Afterwards.{features_after, own_change}
+use Rattle.hub_rules.specs.Shares.{About}
+use Rattle.hub_invariants.specs.Afterwards.{fields_after}
 use Rattle.hub_rules.specs.Sights.{Own, PreparedLine, Sight, user_after}
 use Rattle.hub_invariants.proofs.Becoming.{Becomes, becomes}
 use Rattle.hub_invariants.proofs.Calls.{above, over-unless, sound_of}

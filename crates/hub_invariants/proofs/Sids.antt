@@ -1,7 +1,6 @@
 -- After every history, open connections have different session identifiers, and none has the first, which is the hub's.
-use Rattle.std.proofs.Common.{◌≡◌, ◌∙◌, sym, ap, ap₂, refl, subst, ℕ, suc, ◌+◌, ◌<◌, ◌≤◌, Bool, true, false, not, ◌&&◌, ◌||◌, ◌==◌, eqb, nat_le, cond, List, [], ◌∷◌, ◌++◌, length, map, filter, arith, length-append, inl, inr}
+use Rattle.std.proofs.Common.{◌≡◌, ◌∙◌, sym, ap, ap₂, refl, subst, ℕ, suc, ◌+◌, ◌<◌, ◌≤◌, Bool, true, false, not, ◌&&◌, ◌||◌, ◌==◌, eqb, nat_le, cond, List, [], ◌∷◌, ◌++◌, length, map, filter, arith, length-append}
 use Rattle.std.proofs.lemmas.Bool.{false≢true, eqb-true, eq-eqb, and_parts}
-use Rattle.std.proofs.lemmas.Bool.Decides.{leb_tells}
 use Rattle.adc_base32.specs.Turns.{is_taken}
 use Rattle.adc_base32.proofs.Turns.{next_free-free, next_free-range}
 use Rattle.hub_rules.specs.declared.effect.Effect.{Effect}
@@ -11,9 +10,9 @@ use Rattle.hub_rules.specs.declared.history.Entry.{Entry}
 use Rattle.hub_rules.specs.Configured.{most_users, Configured}
 use Rattle.hub_rules.specs.Effects.{departure}
 use Rattle.hub_rules.specs.Facts.{Facts, facts, after, with_connection, without_connection, happens, with_lines_taken, has_place, has_joins, newcomer, next_sid, with_one, effect_of_line}
-use Rattle.hub_invariants.proofs.Becoming.{take-facts}
-use Rattle.hub_invariants.proofs.Calls.{not-open, sound_of}
-use Rattle.hub_invariants.proofs.Members.{apart, apart-push, both, has, has-append, has-filter, or-parts}
+use Rattle.hub_invariants.proofs.Becoming.{happens-parts, take-facts}
+use Rattle.hub_invariants.proofs.Calls.{sound_of}
+use Rattle.hub_invariants.proofs.Members.{apart, apart-push, both, has, has-append, has-filter}
 use Rattle.hub_invariants.proofs.Sound.{Sound, eqb-sym, or-false, or-true}
 
 abbrev pub sids : Facts → List ℕ
@@ -77,8 +76,8 @@ fewer p (x ∷ xs) = fewer-kept p x xs (p x) (fewer p xs)
 -- ---- an effect changes no identifier
 
 happens-numbered : (setup : Configured) (c : ℕ) (effect : Effect) (f : Facts) → Numbered setup f → Numbered setup (happens c effect f)
-unfolding happens
-happens-numbered setup c effect f n = record { apart_sids = n.apart_sids; given_sids = n.given_sids; last_in = n.last_in; few = n.few }
+happens-numbered setup c effect f n =
+    subst (Numbered setup) (sym (happens-parts c effect f)) (record { apart_sids = n.apart_sids; given_sids = n.given_sids; last_in = n.last_in; few = n.few })
 
 closed-numbered : (setup : Configured) (c : ℕ) (f : Facts) → Numbered setup f → Numbered setup (without_connection c f)
 unfolding without_connection

@@ -1,16 +1,14 @@
 -- Facts that hold after every history, legal or not.
-use Rattle.std.proofs.Common.{◌≡◌, ◌∙◌, sym, ap, ap₂, refl, ℕ, ◌≤◌, Bool, true, false, ◌&&◌, ◌||◌, ◌==◌, eqb, List, ◌++◌, length, filter, subst, append-nil, arith, length-append, cond, ◌∷◌, []}
-use Rattle.std.proofs.Math.Bool.{and_comm}
-use Rattle.std.proofs.lemmas.Bool.{false≢true, eqb-true, eq-eqb, and_parts}
+use Rattle.std.proofs.Common.{◌≡◌, ◌∙◌, ap, ℕ, ◌≤◌, Bool, true, false, ◌&&◌, ◌||◌, ◌==◌, eqb, List, ◌++◌, length, append-nil, arith, length-append, cond, ◌∷◌, []}
 use Rattle.login_state.specs.declared.stage.Stage.{Stage}
 use Rattle.login_state.specs.declared.stage.Stage.TheVariants as stages
 use Rattle.hub_rules.specs.declared.effect.Change.{Change}
-use Rattle.hub_rules.specs.declared.effect.Change.TheVariants.{Sender}
 use Rattle.hub_rules.specs.declared.effect.Effect.{Effect}
-use Rattle.hub_rules.specs.declared.effect.SenderChange.TheVariants as senders
 use Rattle.hub_rules.specs.Effects.{departure, is_over, is_present}
 use Rattle.hub_rules.specs.Facts.{Facts, enters, about_after, present_after, happens}
-use Rattle.hub_rules.specs.Shares.{About, has_room, is_removed, owed_with, owes, removed_by, stage_after}
+use Rattle.hub_rules.specs.Shares.{About, has_room, owed_with}
+use Rattle.hub_invariants.specs.Afterwards.{removed_by, stage_after}
+use Rattle.hub_invariants.proofs.Becoming.{about-parts, about_parts}
 use Rattle.hub_invariants.proofs.Fits.{Fits}
 use Rattle.hub_invariants.proofs.Members.{apart, apart-filter, apart-push, has, has-append, has-filter}
 
@@ -69,6 +67,11 @@ entered-by enter is_caller removed change stage is alone = grind arith
 pub happens-open : (c : ℕ) (effect : Effect) (f : Facts) → Sound f → Fits (f.about c).stage effect → (d : ℕ)
     → is_over (about_after c effect f.about d).stage ≡ false → has d f.opened ≡ true
 happens-open c effect f sound suits d open_after = grind arith
+
+pub parts-open : (c : ℕ) (effect : Effect) (f : Facts) → Sound f → Fits (f.about c).stage effect → (d : ℕ)
+    → is_over (about_parts c effect f.about d).stage ≡ false → has d f.opened ≡ true
+parts-open c effect f sound suits d open_after =
+    happens-open c effect f sound suits d (ap (λ (a : About). is_over a.stage) (about-parts c effect f.about d) ∙ open_after)
 
 pub alone-at : (c : ℕ) (effect : Effect) (f : Facts) → Fits (f.about c).stage effect → (d : ℕ) → ((d == c) && enters effect.change) ≡ true
     → removed_by effect (f.about d) ≡ false

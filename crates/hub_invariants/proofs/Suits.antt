@@ -1,11 +1,12 @@
 -- A hub can carry out the effect of a line: its change suits the stage of the connection, with users as they are listed.
 use Rattle.std.specs.Prelude.{chars}
-use Rattle.std.proofs.Common.{◌≡◌, ◌∙◌, sym, ap, ap₂, refl, ℕ, Bool, true, false, ◌==◌, List, Option, Some, None, Ok, unwrap_or, cond, arith}
-use Rattle.std.specs.Option.{option_map}
+use Rattle.std.proofs.Common.{◌≡◌, sym, ap, refl, ℕ, Bool, List, Option, None, Ok, unwrap_or, arith}
+use Rattle.std.specs.Option.{option_map, option_map_or}
 use Rattle.adc_line.specs.declared.header.Kind.{Kind}
 use Rattle.adc_line.specs.declared.header.Kind.TheVariants as kinds
 use Rattle.adc_line.specs.Lines.{Reading}
-use Rattle.feature_route.specs.Audiences.{audience, both, by_kind, direct_audience, echo_audience, feature_audience, holds, holds_words}
+use Rattle.feature_route.specs.Audiences.{audience, by_kind, direct_audience, echo_audience, holds, holds_words}
+use Rattle.feature_route.specs.Wants.{wants_of}
 use Rattle.feature_route.specs.Matching.{feature_set}
 use Rattle.feature_route.specs.declared.hearers.Audience.TheVariants as audiences
 use Rattle.feature_route.proofs.Parts.{meets-feature_set}
@@ -15,7 +16,6 @@ use Rattle.inf_fields.specs.FieldNames.{nick_name}
 use Rattle.inf_fields.specs.Merging.{merged_fields, merged_with}
 use Rattle.login_state.specs.declared.stage.Stage.TheVariants as stages
 use Rattle.user_table.specs.Changes.{given_key}
-use Rattle.user_table.specs.Listed.{Listed}
 use Rattle.user_table.specs.Tables.{changed_key, updated_user}
 use Rattle.hub_rules.specs.declared.effect.Change.{Change}
 use Rattle.hub_rules.specs.declared.effect.Change.TheVariants.{Sender}
@@ -27,7 +27,7 @@ use Rattle.login_state.specs.declared.request.Request.{Request}
 use Rattle.hub_rules.specs.Denied.{update_denied}
 use Rattle.hub_rules.specs.Effects.{entrant, is_target_here, line_effect}
 use Rattle.hub_rules.specs.Identities.{cid_in, value_or_empty, key_in, key_of, listed_user, meaning, su_in}
-use Rattle.hub_rules.specs.Sights.{Own, PreparedLine, Sight, user_after}
+use Rattle.hub_rules.specs.Sights.{Own, PreparedLine, Sight}
 use Rattle.hub_invariants.proofs.Claims.{same-cid, update-free}
 use Rattle.hub_rules.proofs.Merges.{given-after}
 use Rattle.hub_invariants.proofs.Outcomes.{Outcome, acts, greets, lets_in, outcome, passes, proves, revises, searches, waits}
@@ -67,13 +67,16 @@ routed-echoed : (here : Bool) (target own : Option ℕ) → Routed (Those (echo_
 unfolding holds_words
 routed-echoed here target own sid su = grind arith
 
-routed-featured : (word : Option (List ℕ)) → Routed (Those (feature_audience word))
+routed-featured : (word : Option (List ℕ)) → Routed (Those (option_map_or (λ (w : List ℕ). audiences.Having (wants_of w)) word audiences.Nobody))
 unfolding holds_words
 routed-featured word sid su = grind (arith, meets-feature_set)
 
 routed-kind : (kind : Kind) (line : Reading) (here : Bool) → Routed (Those (by_kind kind line here))
 unfolding holds_words
-routed-kind kind line here sid su = grind (arith, routed-direct, routed-echoed, routed-featured)
+routed-kind kinds.Direct line here sid su = routed-direct here line.target sid su
+routed-kind kinds.Echo line here sid su = routed-echoed here line.target line.from sid su
+routed-kind kinds.Feature line here sid su = routed-featured line.features sid su
+routed-kind kind line here sid su = refl
 
 routed-audience : (line : Reading) (here : Bool) → Routed (Those (audience line here))
 unfolding audience

@@ -1,15 +1,13 @@
 -- A connection by its stage, and the limits of what waits for it, after every history.
 use Rattle.std.proofs.Common.{◌≡◌, ◌∙◌, sym, ap, refl, subst, ℕ, ◌+◌, ◌≤◌, Bool, true, false, ◌==◌, List, [], ◌∷◌, ◌++◌, length, take, drop, arith, length-append, length-take, length-drop, cond}
-use Rattle.std.proofs.lemmas.Bool.{false≢true, eqb-true, leb-true, and_parts}
+use Rattle.std.proofs.lemmas.Bool.{eqb-true, leb-true, and_parts}
 use Rattle.std.proofs.lemmas.List.{drop-append-le, drop-drop, drop_min}
 use Rattle.std.proofs.lemmas.List.Sums.{sum_by-append, sum_by-take-drop}
 use Rattle.login_state.specs.declared.stage.Stage.{Stage}
 use Rattle.login_state.specs.declared.stage.Stage.TheVariants as stages
 use Rattle.outboxes.specs.Backlogs.{size_of}
 use Rattle.hub_rules.specs.declared.effect.Change.{Change}
-use Rattle.hub_rules.specs.declared.effect.Change.TheVariants.{Sender}
 use Rattle.hub_rules.specs.declared.effect.Effect.{Effect}
-use Rattle.hub_rules.specs.declared.effect.SenderChange.TheVariants as senders
 use Rattle.hub_rules.specs.declared.history.Call.{Call}
 use Rattle.hub_rules.specs.declared.history.Entry.{Entry}
 use Rattle.hub_rules.specs.Configured.{Configured}
@@ -17,7 +15,8 @@ use Rattle.hub_rules.specs.Effects.{departure}
 use Rattle.hub_rules.specs.Facts.{Facts, facts, effect_of_line, with_lines_taken, newcomer, next_sid, nobody, own_of, sight_of}
 use Rattle.hub_rules.specs.Prepared.{prepared_line}
 use Rattle.hub_invariants.specs.Said.{infs}
-use Rattle.hub_rules.specs.Shares.{About, has_room_for, affected_connection, expected_after, fields_after, has_room, max_bytes, max_lines, owed_with, owes, removed_by, stage_after, waiting}
+use Rattle.hub_rules.specs.Shares.{About, has_room_for, has_room, max_bytes, max_lines, owed_with, waiting}
+use Rattle.hub_invariants.specs.Afterwards.{affected_parts, expected_after, fields_after}
 use Rattle.hub_invariants.proofs.Becoming.{Becomes, becomes, taken_by}
 use Rattle.hub_invariants.proofs.Calls.{sound_of}
 use Rattle.hub_invariants.proofs.Saying.{told_of}
@@ -83,7 +82,7 @@ next-unasked : (removed is_caller : Bool) (change : Change) (a : About) → (is_
 next-unasked removed is_caller change a suits tidy is = grind arith
 
 pub tidy-affected : (is_caller : Bool) (effect : Effect) (a : About) → a.taken ≤ length a.owed → (is_caller ≡ true → Suited (own_of a) effect.change) → Tidy a
-    → Tidy (affected_connection is_caller effect a)
+    → Tidy (affected_parts is_caller effect a)
 unfolding owed_with
 tidy-affected is_caller effect a few suits tidy = grind (arith, next-unnamed, next-unasked, lines-with, bytes-with)
 

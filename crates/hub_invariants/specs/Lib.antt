@@ -1,3 +1,4 @@
+pub mod Afterwards
 pub mod Lagging
 pub mod Opening
 pub mod Promises

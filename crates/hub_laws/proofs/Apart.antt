@@ -4,8 +4,8 @@ use Rattle.hub_laws.specs.Differing.{CidsDiffer, NicksDiffer}
 use Rattle.hub_laws.proofs.Clearing.{IsClear, clear-line, listed-cid, listed-key}
 use Rattle.hub_laws.proofs.Distinct.{Clears, Differ, happens-differ}
 use Rattle.hub_invariants.proofs.Sids.{Numbered, numbered_of}
-use Rattle.hub_laws.proofs.Words.{Call, Change, Configured, Effect, Entry, Facts, Field, Fits, Join, Line, Listed, Quit, Sound, Stage, Take, about_after, after, bytes_eq, bytes_eq-Decides, cid_in}
-use Rattle.hub_laws.proofs.Words.{departure, differs-sid, effect_of_line, eq-eqb, facts, false≢true, fields_after, fits-departure, fits-line, happens, happens-open, happens-sound, has, has_cid}
+use Rattle.hub_laws.proofs.Words.{Call, Change, Configured, Effect, Entry, Facts, Field, Fits, Join, Line, Listed, Quit, Sound, Stage, Take, about_parts, after, bytes_eq, bytes_eq-Decides, cid_in, parts-open}
+use Rattle.hub_laws.proofs.Words.{departure, differs-sid, effect_of_line, eq-eqb, facts, false≢true, fields_after, fits-departure, fits-line, happens, happens-sound, has, has_cid}
 use Rattle.hub_laws.proofs.Words.{has_joins, has_key, has_place, has_sid, infs, is_present, key_in, list_any, listed-sid, listed_user, most_users, not-over, or-parts, own_of, prepared_line}
 use Rattle.hub_laws.proofs.Words.{removed_by, sight_of, sound_of, stage_after, stage_next, take-facts, told_of, user_of, with_connection, without_connection}
 
@@ -40,7 +40,7 @@ clears-from of test knows setup f c effect sound n suits differ (inl away) here 
 clears-from of test knows setup f c effect sound n suits differ (inr (inl kept)) here d there other same =
     false≢true (sym other ∙ eq-eqb c d (differ c d (sound.entered c ∙ kept.1) there (sym kept.0 ∙ same)))
 clears-from of test knows setup f c effect sound n suits differ (inr (inr none)) here d there other same =
-    let open-c = happens-open c effect f sound suits c (not-over (about_after c effect f.about c).stage here) in
+    let open-c = parts-open c effect f sound suits c (not-over (about_parts c effect f.about c).stage here) in
     let open-d = sound.are_open d (not-over (f.about d).stage (sym (sound.entered d) ∙ there)) in
     let not_same : has_sid (f.about c).sender.sid (user_of f.about d) ≡ false =
     ap (λ s. eqb s (f.about c).sender.sid) (listed-sid (f.about d).sender.sid (f.about d).fields)

@@ -1,8 +1,8 @@
 -- The checks that were passed by a line that brings its user in, makes it wait for a password, or changes a nick.
-use Rattle.std.proofs.Common.{◌≡◌, refl, ℕ, Bool, true, false, not, ◌&&◌, ◌||◌, ◌⊎◌, List, [], ◌∷◌, Option, Some, None, arith}
+use Rattle.std.proofs.Common.{◌≡◌, refl, ℕ, Bool, true, false, not, ◌&&◌, ◌||◌, ◌⊎◌, List, [], ◌∷◌, drop, Option, Some, None, arith}
 use Rattle.operator_acts.specs.declared.left.Left.{Left}
-use Rattle.hub_laws.proofs.Words.{AllFalse, Deny, Field, Listed, Own, Sight, bytes_eq, bytes_eq-Decides, entry_grounds, first_ground, grounds_of, if◌then◌else◌, is_account, is_digest, is_ever}
-use Rattle.hub_laws.proofs.Words.{is_timed, key_in, left_of_bans, login_grounds, none-of, option_or, or-parts, password_grounds, update_grounds}
+use Rattle.hub_laws.proofs.Words.{AllFalse, Deny, Field, Listed, Own, Sight, bytes_eq, ban_ground, bytes_eq-Decides, dropped, entry_grounds, first_ground, grounds_of, if◌then◌else◌, is_account, is_digest}
+use Rattle.hub_laws.proofs.Words.{key_in, left_of_bans, login_grounds, none-of, option_or, or-parts, password_grounds, update_grounds}
 use Rattle.hub_laws.proofs.Words.denials
 use Rattle.hub_laws.proofs.Words.lefts
 
@@ -16,11 +16,6 @@ abbrev pub is_access : Deny → Bool
 is_access (denials.Access word) = true
 is_access deny = false
 
-abbrev is_ban : Deny → Bool
-is_ban denials.BannedEver = true
-is_ban (denials.BannedFor seconds) = true
-is_ban deny = false
-
 abbrev is_password : Deny → Bool
 is_password denials.Password = true
 is_password deny = false
@@ -30,8 +25,8 @@ abbrev pub with_test : (Deny → Bool) → Bool → List (Bool × Deny) → List
 with_test is_so test [] = []
 with_test is_so test ((old, deny) ∷ more) = (if is_so deny then test else old, deny) ∷ with_test is_so test more
 
-free-ban : (l : Left) → is_ever l ≡ false → is_timed l ≡ false → l ≡ lefts.Free
-free-ban l ever timed = grind arith
+free-ban : (l : Left) (more : List (Bool × Deny)) → first_ground (ban_ground l ∷ more) ≡ None → l ≡ lefts.Free
+free-ban l more none = grind arith
 
 -- only accounts are let in, and this nick is none
 abbrev pub is_barred : Sight → List ℕ → Bool
@@ -45,9 +40,10 @@ pub login-rules : (hub : Sight) (own : Own) (now : ℕ) (digest : Option (List �
     → (left_of_bans hub.bans user.cid now ≡ lefts.Free) × (is_barred hub user.key ≡ false)
 unfolding login_grounds
 login-rules hub own now digest u user none =
-    let bans : AllFalse (grounds_of is_ban (login_grounds hub own now digest u user)) = none-of is_ban (login_grounds hub own now digest u user) none in
-    let accounts : AllFalse (grounds_of is_for_accounts (login_grounds hub own now digest u user)) = none-of is_for_accounts (login_grounds hub own now digest u user) none in
-    (free-ban (left_of_bans hub.bans user.cid now) bans.0 bans.1.0, accounts.0)
+    let behind = dropped 10 (login_grounds hub own now digest u user) none in
+    let accounts : AllFalse (grounds_of is_for_accounts (drop 10 (login_grounds hub own now digest u user))) =
+    none-of is_for_accounts (drop 10 (login_grounds hub own now digest u user)) behind in
+    (free-ban (left_of_bans hub.bans user.cid now) (drop 10 (login_grounds hub own now digest u user)) (dropped 9 (login_grounds hub own now digest u user) none), accounts.0)
 
 -- an update leaves the nick, or neither the one before nor the one afterwards is an account's
 abbrev pub KeepsNick : Sight → List ℕ → List ℕ → Type 0

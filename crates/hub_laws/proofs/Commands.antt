@@ -7,7 +7,7 @@ use Rattle.operator_acts.specs.Bans.{left_of, left_of_bans}
 use Rattle.operator_acts.specs.declared.act.Act.{Act}
 use Rattle.operator_acts.proofs.Entries.{ban_on-with_ban, ban_on-without_ban, equal-bytes}
 use Rattle.hub_rules.specs.Acts.{answer_of, ban, banned_for, if_present, kick, removal, topic}
-use Rattle.hub_laws.proofs.Words.{About, Configured, Done, Effect, Entry, Facts, IsAddressed, Kind, Listed, Own, PreparedLine, Reading, Sight, about_after, accepted_effect}
+use Rattle.hub_laws.proofs.Words.{About, Configured, Done, Effect, Entry, Facts, IsAddressed, Kind, Listed, Own, PreparedLine, Reading, Sight, about_after, accepted_effect, about-parts}
 use Rattle.hub_laws.proofs.Words.{act_denied, act_effect, after, ban_on, bytes_eq-Decides, cid_in, denial_of, effect_for_all, effect_of_line}
 use Rattle.hub_laws.proofs.Words.{eq-eqb, facts, false≢true, happens, has, has_key, is_command, is_full, is_operator, is_present, key_in, key_of_points, listed_user}
 use Rattle.hub_laws.proofs.Words.{most_users, or-true, own_of, prepared_line, present_are_users, request_at, request_denied, request_of, sight_of, text_in}
@@ -17,6 +17,7 @@ use Rattle.hub_laws.proofs.Words.denials
 use Rattle.hub_laws.proofs.Words.kinds
 use Rattle.hub_laws.proofs.Words.lines
 use Rattle.hub_laws.proofs.Words.requests
+use Rattle.hub_laws.proofs.Words.seats
 use Rattle.hub_laws.proofs.Words.shared
 use Rattle.hub_laws.proofs.Words.stages
 use Rattle.hub_laws.specs.Commands.{BansAreCarriedOut, Commands, IsPresentAs, KicksAreCarriedOut, TopicsAreCarriedOut, UnbansAreCarriedOut}
@@ -153,7 +154,8 @@ called setup hash h d nick small named =
 -- ---- each command
 
 shut-out : (c d : ℕ) (effect : Effect) (f : Facts) → (f.about d).stage ≡ stages.Normal → is_removed effect.change (f.about d).sender.sid ≡ true → (about_after c effect f.about d).stage ≡ stages.Gone
-shut-out c d effect f here removed = ap₂ (λ s b. stage_next (is_present s && b) (d == c) effect.change s) here removed
+shut-out c d effect f here removed =
+    ap (λ (a : About). a.stage) (about-parts c effect f.about d) ∙ ap₂ (λ s b. stage_next (is_present s && b) (d == c) effect.change s) here removed
 
 held-now : (bans : List (List ℕ × Ban)) (cid : List ℕ) (held : Ban) → ban_on (with_ban bans cid held) cid ≡ Some held
 held-now bans cid held = ban_on-with_ban bans cid held cid ∙ ap (λ b. cond b (Some held) (ban_on bans cid)) (equal-bytes cid cid ∙ (bytes_eq-Decides cid cid).1 refl)
@@ -166,7 +168,7 @@ unfolding happens
 kicks_are_carried_out setup hash h e d now nick reason small asks named =
     let f : Facts = facts setup hash h in
     let user : Listed = user_of f.about d in
-    let done : Done = record { others = _; change = shared.Kick user.sid } in
+    let done : Done = record { others = _; change = shared.At user.sid seats.Gone } in
     ap (λ (g : Facts). (g.about d).stage)
     (step asks done (ap (λ found. if_present found (kick (f.about asks.operator).sender.sid reason)) (called setup hash h d nick small named)))
     ∙ shut-out asks.operator d (effect_for_all done) f named.0 (eq-eqb (f.about d).sender.sid user.sid (sym (listed-sid (f.about d).sender.sid (f.about d).fields)))

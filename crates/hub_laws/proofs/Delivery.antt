@@ -1,6 +1,6 @@
 -- The lines that a take gives stand behind those of the takes before it.
 use Rattle.std.proofs.Common.{◌≡◌, ◌∙◌, sym, ap, ap₂, refl, ℕ, ◌<◌, ◌≤◌, Bool, ◌==◌, List, [], ◌∷◌, ◌++◌, length, take, append-nil, arith}
-use Rattle.hub_laws.proofs.Words.{About, Becomes, Call, Configured, Effect, Facts, Legal, about_after, becomes, concat, departure, effect_of_line, eqb-sym, eqb-true, facts, fresh-taken}
+use Rattle.hub_laws.proofs.Words.{About, Becomes, Call, Configured, Effect, Facts, Legal, about_parts, becomes, concat, departure, effect_of_line, eqb-sym, eqb-true, facts, fresh-taken}
 use Rattle.hub_laws.proofs.Words.{given-bytes, reply, sound_of, take-append-le, take_reply, taken_by}
 use Rattle.hub_laws.specs.Delivery.{DeliveredAreTheFirst, bytes_of_take, bytes_taken, bytes_delivered}
 use Rattle.hub_laws.proofs.Lagging.{Unowed, about-owed, unowed_of}
@@ -12,7 +12,7 @@ front a = concat (take a.taken a.owed)
 -- ---- one call
 
 -- an effect takes nothing, and adds to what is owed
-front-after : (c : ℕ) (effect : Effect) (f : Facts) (d : ℕ) → (f.about d).taken ≤ length (f.about d).owed → front (about_after c effect f.about d) ≡ front (f.about d)
+front-after : (c : ℕ) (effect : Effect) (f : Facts) (d : ℕ) → (f.about d).taken ≤ length (f.about d).owed → front (about_parts c effect f.about d) ≡ front (f.about d)
 front-after c effect f d few = grind (arith, about-owed, take-append-le)
 
 take-front : (f : Facts) (c count d : ℕ) (same other : Bool) → (d == c) ≡ same → same ≡ other

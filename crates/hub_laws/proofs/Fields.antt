@@ -1,12 +1,12 @@
 -- After every history the fields of a user can be printed as words: names of two characters, and values that spell texts.
 use Rattle.std.proofs.Common.{◌≡◌, ◌∙◌, sym, ap, refl, subst, ℕ, Bool, true, false, ◌==◌, List, [], ◌∷◌, ◌++◌, length, map, cond, ◌&&◌, Option, Some, Ok, Err, unwrap_or, arith}
-use Rattle.std.specs.Prelude.{if◌then◌else◌}
+use Rattle.std.specs.Prelude.{is_some, if◌then◌else◌}
 use Rattle.std.specs.Fmt.{digits}
 use Rattle.std.specs.List.{join_with_byte}
 use Rattle.std.specs.Str.{IsUtf8}
 use Rattle.std.proofs.Math.Seq.{take-append_seam}
 use Rattle.std.proofs.lemmas.Str.{IsCharBoundary-at_seam, IsUtf8-append, IsUtf8-take}
-use Rattle.adc_line.specs.Escapes.{backslash, ends_escape, is_escaped}
+use Rattle.adc_line.specs.Escapes.{backslash, escape_means, is_escaped}
 use Rattle.adc_line.specs.Grammar.{IsParameter, Reads}
 use Rattle.adc_line.specs.Header.{is_letter, is_letter_or_digit, letter}
 use Rattle.adc_line.proofs.EscapeLaws.{escaped-unescaped}
@@ -55,7 +55,7 @@ address-plain peer = joined-plain _ (decimals-plain peer)
 escaped-tail : (b : ℕ) (word : List ℕ) → (b == backslash) ≡ false → is_escaped (b ∷ word) ≡ true → is_escaped word ≡ true
 unfolding is_escaped
 escaped-tail b [] plain is = refl
-escaped-tail b (c ∷ word) plain is = sym (ap (λ x. cond x (ends_escape c && is_escaped word) (is_escaped (c ∷ word))) plain) ∙ is
+escaped-tail b (c ∷ word) plain is = sym (ap (λ x. cond x (is_some (escape_means c) && is_escaped word) (is_escaped (c ∷ word))) plain) ∙ is
 
 -- what stands behind a name spells a text, too
 value-spelt : (a b : ℕ) (value : List ℕ) → is_letter a ≡ true → is_letter_or_digit b ≡ true → IsParameter (a ∷ b ∷ value) → IsSpelt value

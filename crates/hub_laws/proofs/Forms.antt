@@ -6,7 +6,7 @@ use Rattle.std.specs.List.{Contains, flat_map}
 use Rattle.std.specs.Str.{IsUtf8}
 use Rattle.std.proofs.lemmas.Str.{IsUtf8-append}
 use Rattle.adc_base32.specs.Sids.{sid_count, sid_text}
-use Rattle.adc_base32.specs.Spelled.{digits_from, spelling}
+use Rattle.adc_base32.specs.Spelled.{numbers_from, spelling}
 use Rattle.adc_line.specs.Escapes.{escaped_text}
 use Rattle.adc_line.specs.Grammar.{IsAddressed, IsCommand, IsFeatureWord, IsParameter, IsPart, Part, Reads, part_text}
 use Rattle.adc_line.specs.Header.{is_sign, letter}
@@ -111,7 +111,7 @@ module _ {setup : Configured} {challenge : List ℕ} where
   menu-fine entry there (b ∷ name) is = hub-fine (menu-is entry (λ none. some-byte b name (sym is ∙ none)))
 
 challenge-fine : {setup : Configured} (given challenge : List ℕ) → given ≡ challenge → IsFine setup given (challenge_line given)
-unfolding challenge_line spelling digits_from
+unfolding challenge_line spelling numbers_from
 challenge-fine given [] none = record {
   one = subst (λ (bs : List ℕ). IsLine (challenge_line bs)) (sym none) (clean-line (codes "IGPA ") (refl, (refl, (refl, (refl, (refl, tt))))));
   form = of_no_challenge none refl;

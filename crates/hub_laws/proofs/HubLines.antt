@@ -1,13 +1,14 @@
 -- Each line of the type I is a command and parameters, with one blank before each.
-use Rattle.std.proofs.Common.{◌≡◌, sym, refl, subst, ℕ, zero, suc, ◌<◌, Bool, true, false, ◌==◌, List, [], ◌∷◌, ◌++◌, append_assoc, length, replicate, take, drop, arith}
+use Rattle.std.proofs.Common.{◌≡◌, sym, refl, subst, ℕ, zero, suc, ◌<◌, Bool, true, false, ◌==◌, List, [], ◌∷◌, ◌++◌, append_assoc, length, map, replicate, take, drop, arith}
 use Rattle.std.specs.Prelude.{Option, Some, None, codes, if◌then◌else◌}
 use Rattle.std.specs.Fmt.{decimal}
 use Rattle.std.specs.Str.{IsUtf8}
 use Rattle.std.proofs.lemmas.Str.{IsUtf8-append}
 use Rattle.adc_base32.specs.Bits.{bits, byte_bits, text_len}
+use Rattle.adc_base32.specs.Digits.{digit_of}
 use Rattle.adc_base32.specs.Sids.{sid_count, sid_text}
-use Rattle.adc_base32.specs.Spelled.{digits_from, number_from, spelling}
-use Rattle.adc_line.specs.Escapes.{escaped_text, is_escaped}
+use Rattle.adc_base32.specs.Spelled.{number_from, numbers_from, spelling}
+use Rattle.adc_line.specs.Escapes.{escape_means, escaped_text, is_escaped}
 use Rattle.adc_line.specs.Grammar.{IsParameter}
 use Rattle.adc_line.specs.Words.{words}
 use Rattle.adc_line.proofs.GrammarLemmas.{both}
@@ -19,7 +20,7 @@ use Rattle.login_state.specs.declared.named_field.NamedField.{NamedField}
 use Rattle.login_state.specs.declared.named_field.NamedField.TheVariants as named_fields
 use Rattle.hub_rules.specs.Configured.{MenuEntry}
 use Rattle.hub_rules.specs.Effects.{ping_of}
-use Rattle.hub_rules.specs.Texts.{ban_field, challenge_line, client_type, done_line, hub_line, identifier_line, menu_item, menu_line, ping_fields, reason_field, removal_line, support_line, topic_field, topic_line}
+use Rattle.hub_rules.specs.Texts.{ban_field, challenge_line, client_type, done_line, hub_line, identifier_line, menu_item, menu_line, ping_fields, removal_line, support_line, text_field, topic_line}
 use Rattle.user_table.specs.declared.totals.Totals.{Totals}
 use Rattle.hub_laws.proofs.Words.{Account, AllByRecursion, Configured, Deny, Sight, quit_line, with_line_feed}
 use Rattle.hub_laws.proofs.Words.denials
@@ -61,13 +62,13 @@ later-small zero xs all = all
 later-small (suc n) [] all = tt
 later-small (suc n) (x ∷ xs) all = later-small n xs all.1
 
-digits-plain : (n : ℕ) (xs : List ℕ) → AllByRecursion IsBit xs → IsPlain (digits_from n xs)
-unfolding digits_from
+digits-plain : (n : ℕ) (xs : List ℕ) → AllByRecursion IsBit xs → IsPlain (map digit_of (numbers_from 5 n xs))
+unfolding numbers_from
 digits-plain zero xs all = tt
 digits-plain (suc n) xs all = (digit-plain _ (five-small xs all), digits-plain n (drop 5 xs) (later-small 5 xs all))
 
-digits-some : (n : ℕ) (xs : List ℕ) → 0 < n → digits_from n xs ≡ [] → ⊥
-unfolding digits_from
+digits-some : (n : ℕ) (xs : List ℕ) → 0 < n → map digit_of (numbers_from 5 n xs) ≡ [] → ⊥
+unfolding numbers_from
 digits-some zero xs some none = absurd (omega (arith, some))
 digits-some (suc n) xs some none = cc
 
@@ -87,10 +88,10 @@ if-words : (b : Bool) (text : List ℕ) → Told text → Told (if b then text e
 if-words true text is = is
 if-words false text is = none-told
 
-topic-told : (topic : List ℕ) → Told (topic_field topic)
+topic-told : (topic : List ℕ) → Told (text_field (codes " DE") topic)
 topic-told topic = if-told (length topic == 0) _ (told-last (codes "DE" ++ escaped_text topic) (named 68 (69 ∷ []) (escaped_text topic) (refl, (refl, tt)) (text-spelt topic)))
 
-reason-told : (reason : List ℕ) → Told (reason_field reason)
+reason-told : (reason : List ℕ) → Told (text_field (codes " MS") reason)
 reason-told reason = if-told (length reason == 0) _ (told-last (codes "MS" ++ escaped_text reason) (named 77 (83 ∷ []) (escaped_text reason) (refl, (refl, tt)) (text-spelt reason)))
 
 counted-told : (a b n : ℕ) → IsPlain (a ∷ b ∷ []) → Told (32 ∷ a ∷ b ∷ decimal n)
@@ -158,10 +159,10 @@ topic-is topic =
     (told-last (codes "DE" ++ escaped_text topic) (named 68 (69 ∷ []) (escaped_text topic) (refl, (refl, tt)) (text-spelt topic)))
 
 pub hub-is : (setup : Configured) (hub : Sight) (now : ℕ) (features : List (List ℕ)) (topic : List ℕ) → HubLine (hub_line setup topic (ping_of hub now features))
-unfolding hub_line is_escaped
+unfolding hub_line is_escaped escape_means
 hub-is setup hub now features topic =
-    written (codes "IINF CT32") refl (codes " NI" ++ escaped_text setup.name ++ codes " VEadc-hub\\s1.0" ++ topic_field topic ++ ping_of hub now features)
-    (told-both _ (ping_of hub now features) (told-both _ (topic_field topic) (told (codes "NI" ++ escaped_text setup.name) (codes " VEadc-hub\\s1.0")
+    written (codes "IINF CT32") refl (codes " NI" ++ escaped_text setup.name ++ codes " VEadc-hub\\s1.0" ++ text_field (codes " DE") topic ++ ping_of hub now features)
+    (told-both _ (ping_of hub now features) (told-both _ (text_field (codes " DE") topic) (told (codes "NI" ++ escaped_text setup.name) (codes " VEadc-hub\\s1.0")
     (named 78 (73 ∷ []) (escaped_text setup.name) (refl, (refl, tt)) (text-spelt setup.name))
     (told-last (codes "VEadc-hub\\s1.0") (word-parameter (codes "VEadc-hub\\s1.0") refl))) (topic-told topic)) (if-words _ _ (ping-told _ _ _)))
 
@@ -183,10 +184,10 @@ menu-is entry some =
 pub removal-is : (target operator : ℕ) (seconds : Option ℕ) (reason : List ℕ) → target < sid_count → operator < sid_count → HubLine (removal_line target operator seconds reason)
 unfolding removal_line is_escaped
 removal-is target operator seconds reason small smaller =
-    written (codes "IQUI") refl (32 ∷ sid_text target ++ codes " ID" ++ sid_text operator ++ ban_field seconds ++ reason_field reason)
+    written (codes "IQUI") refl (32 ∷ sid_text target ++ codes " ID" ++ sid_text operator ++ ban_field seconds ++ text_field (codes " MS") reason)
     (told (sid_text target) _ (sid-parameter target small)
     (told (codes "ID" ++ sid_text operator) _ (named 73 (68 ∷ []) (sid_text operator) (refl, (refl, tt)) (plain-spelt _ (sid-plain operator smaller)))
-    (told-both (ban_field seconds) (reason_field reason) (ban-told seconds) (reason-told reason))))
+    (told-both (ban_field seconds) (text_field (codes " MS") reason) (ban-told seconds) (reason-told reason))))
 
 -- ---- statuses
 
@@ -208,7 +209,7 @@ name-spelt named_fields.ShareSize = (codes "SS", refl)
 name-spelt named_fields.SharedFiles = (codes "SF", refl)
 
 pub status-is : (deny : Deny) → is_said deny ≡ true → HubLine (denial_line deny)
-unfolding denial_text is_escaped
+unfolding denial_text is_escaped escape_means
 status-is denials.Protocol said = written (codes "ISTA 140 Protocol\\serror") refl [] none-told
 status-is denials.WrongSid said = written (codes "ISTA 240 Wrong\\sSID") refl [] none-told
 status-is (denials.BadStage word) said = flagged (codes "ISTA 144 Invalid\\sstate") refl 70 67 word (refl, (refl, tt)) (plain-spelt word (plain-of word said))

@@ -1,7 +1,7 @@
 -- A connection lags from the first share on that does not fit, and is owed the shares before it.
 use Rattle.std.proofs.Common.{◌≡◌, ◌∙◌, sym, ap, ap₂, refl, ℕ, ◌<◌, Bool, true, false, not, ◌&&◌, ◌||◌, ◌==◌, List, [], ◌∷◌, ◌++◌, length, append-nil, arith}
 use Rattle.std.proofs.Math.Bool.{and-true}
-use Rattle.hub_laws.proofs.Words.{About, Becomes, Call, Configured, Effect, Entry, Facts, LagIsTheFirst, OwedAreShares, Own, PreparedLine, Sight, Sound, Tidy, about_after, after, all_fit, becomes}
+use Rattle.hub_laws.proofs.Words.{About, Becomes, Call, Configured, Effect, Entry, Facts, LagIsTheFirst, OwedAreShares, Own, PreparedLine, Sight, Sound, Tidy, about_parts, after, all_fit, becomes}
 use Rattle.hub_laws.proofs.Words.{cond, departure, effect_of_line, effect_of_reading, eqb-true, facts, has_room_for, hears_those, if◌then◌else◌, is_over, is_present, joins-grow, lags_with}
 use Rattle.hub_laws.proofs.Words.{line_effect, nothing, over-beyond, owed_with, owes, present-over, share, shares_that_fit, sound_of, tidy_of, waiting}
 use Rattle.hub_laws.proofs.Words.lines
@@ -20,12 +20,12 @@ room_in a more = not a.lags && has_room_for (waiting a) more
 abbrev pub share_by : ℕ → Effect → Facts → ℕ → List (List ℕ)
 share_by c effect f d = owes (d == c) effect (f.about d)
 
-about-lags : (c : ℕ) (effect : Effect) (f : Facts) (d : ℕ) → (about_after c effect f.about d).lags ≡ not (room_in (f.about d) (share_by c effect f d))
+about-lags : (c : ℕ) (effect : Effect) (f : Facts) (d : ℕ) → (about_parts c effect f.about d).lags ≡ not (room_in (f.about d) (share_by c effect f d))
 unfolding lags_with
 about-lags c effect f d = lag-step (f.about d).lags (has_room_for (waiting (f.about d)) (share_by c effect f d))
 
 pub about-owed : (c : ℕ) (effect : Effect) (f : Facts) (d : ℕ)
-    → (about_after c effect f.about d).owed ≡ (f.about d).owed ++ cond (room_in (f.about d) (share_by c effect f d)) (share_by c effect f d) []
+    → (about_parts c effect f.about d).owed ≡ (f.about d).owed ++ cond (room_in (f.about d) (share_by c effect f d)) (share_by c effect f d) []
 unfolding owed_with
 about-owed c effect f d = owed-step (room_in (f.about d) (share_by c effect f d)) (f.about d).owed (share_by c effect f d)
 
@@ -44,7 +44,7 @@ double-not : (fit room : Bool) → (not (not fit) && room) ≡ (fit && room)
 double-not fit room = grind arith
 
 effect-stood : (c : ℕ) (effect : Effect) (f : Facts) (d : ℕ) (fit : Bool) (lines : List (List ℕ)) → Stood (f.about d) fit lines
-    → Stood (about_after c effect f.about d) (fit && has_room_for (waiting (f.about d)) (share_by c effect f d))
+    → Stood (about_parts c effect f.about d) (fit && has_room_for (waiting (f.about d)) (share_by c effect f d))
     (lines ++ cond (fit && has_room_for (waiting (f.about d)) (share_by c effect f d)) (share_by c effect f d) [])
 effect-stood c effect f d fit lines stood = grind (arith, double-not, about-lags, about-owed)
 

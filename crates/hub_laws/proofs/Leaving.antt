@@ -3,6 +3,7 @@ use Rattle.std.proofs.Common.{◌≡◌, ap, refl, ℕ, ◌≤◌, Bool, true, �
 use Rattle.hub_rules.specs.declared.effect.Banned.{Banned}
 use Rattle.hub_laws.proofs.Words.{About, Becomes, Call, Change, Configured, Effect, Entry, Facts, Hub, Line, Nothing, Sender, Stage, after, becomes, change_of, departure, effect_of_line, eqb-true}
 use Rattle.hub_laws.proofs.Words.{facts, happens, is_over, is_removed, joins-grow, removed_by, stage_after, stage_next, ◌⊎◌}
+use Rattle.hub_laws.proofs.Words.seats
 use Rattle.hub_laws.proofs.Words.senders
 use Rattle.hub_laws.proofs.Words.shared
 use Rattle.hub_laws.proofs.Words.stages
@@ -60,14 +61,14 @@ kicked : (c : ℕ) (effect : Effect) (f : Facts) (d : ℕ) → (f.about d).stage
 unfolding happens
 kicked c effect f d present is = grind arith
 
-names : (change : Change) (sid : ℕ) (banned : Banned) → (change ≡ Hub (shared.Kick sid)) ⊎ ((change ≡ Hub (shared.Ban banned)) × (banned.sid ≡ sid)) → is_removed change sid ≡ true
+names : (change : Change) (sid : ℕ) (banned : Banned) → (change ≡ Hub (shared.At sid seats.Gone)) ⊎ ((change ≡ Hub (shared.Ban banned)) × (banned.sid ≡ sid)) → is_removed change sid ≡ true
 names change sid banned named = grind arith
 
-not-same : (sid : ℕ) (banned : Banned) → (Nothing ≡ Hub (shared.Kick sid)) ⊎ ((Nothing ≡ Hub (shared.Ban banned)) × (banned.sid ≡ sid)) → ⊥
+not-same : (sid : ℕ) (banned : Banned) → (Nothing ≡ Hub (shared.At sid seats.Gone)) ⊎ ((Nothing ≡ Hub (shared.Ban banned)) × (banned.sid ≡ sid)) → ⊥
 not-same sid banned named = grind arith
 
 call-kicks : (setup : Configured) (hash : List ℕ → List ℕ) (f : Facts) (caller : ℕ) (call : Call) (d : ℕ) (banned : Banned) → (f.about d).stage ≡ stages.Normal
-    → (change_of setup hash f call ≡ Hub (shared.Kick (f.about d).sender.sid)) ⊎ ((change_of setup hash f call ≡ Hub (shared.Ban banned)) × (banned.sid ≡ (f.about d).sender.sid))
+    → (change_of setup hash f call ≡ Hub (shared.At (f.about d).sender.sid seats.Gone)) ⊎ ((change_of setup hash f call ≡ Hub (shared.Ban banned)) × (banned.sid ≡ (f.about d).sender.sid))
     → ((after setup hash f caller call).about d).stage ≡ stages.Gone
 unfolding after
 call-kicks setup hash f caller (Line c bytes now) d banned present is =

@@ -14,7 +14,7 @@ use Rattle.hub_laws.proofs.Words.{AllFalse, Configured, Deny, Effect, Entry, Fac
 use Rattle.hub_laws.proofs.Words.{effect_of_line, facts, false≢true, features_after, fields_after, first_ground, given-after, greets, grounds_of, has_feature, infs, is_unnamed, later-none, learns, lets_in}
 use Rattle.hub_laws.proofs.Words.{login_grounds, meaning, merged_fields, merged_with, nick_name, none-of, outcome, own_of, prepared_line, proves, request_denied, request_in, revises, shuts_out}
 use Rattle.hub_laws.proofs.Words.{sight_of, stage_after, tidy_of, told_of, update_grounds, user_after, value_of, value_or_empty, waits}
-use Rattle.hub_laws.proofs.Words.{besides, field, has_name, info, is_held_back, latest, leave, refusal_of, stage, with_address}
+use Rattle.hub_laws.proofs.Words.{besides, has_name, info, is_empty_value, is_held_back, refusal_of, renewed, stage, with_address}
 use Rattle.hub_rules.specs.History.{features}
 use Rattle.login_state.specs.SupportAnswers.{support_after}
 use Rattle.hub_laws.proofs.Words.denials
@@ -48,8 +48,8 @@ unfolding merged_with
 few-merged u =
     omega (
       arith,
-      length-map (λ (f : Field). field f.name (latest (u ∷ []) f.name f.value)) (filter (λ f. leave (u ∷ []) f.name) (besides [] u)),
-      fewer (λ (f : Field). leave (u ∷ []) f.name) (besides [] u),
+      length-map (renewed u) (filter (λ (f : Field). not (is_empty_value (value_of f.name u))) (besides [] u)),
+      fewer (λ (f : Field). not (is_empty_value (value_of f.name u))) (besides [] u),
       fewer (λ (f : Field). not (has_name f.name [])) u,
     )
 

@@ -4,9 +4,9 @@ use Rattle.std.proofs.Math.Bool.{and-true}
 use Rattle.std.specs.Prelude.{if◌then◌else◌}
 use Rattle.adc_base32.specs.Sids.{sid_text}
 use Rattle.hub_rules.specs.Shares.{lags_with, owed_with}
-use Rattle.hub_laws.proofs.Words.{About, AllByRecursion, Call, Configured, Effect, Entry, Facts, Field, Join, Line, Listed, Own, Quit, Sound, Stage, Take}
-use Rattle.hub_laws.proofs.Words.{about_after, after, departure, effect_of_line, enters, eq-eqb, eqb-true, facts, false≢true, fields_after, happens, has, has_feature, has_joins, has_place}
-use Rattle.hub_laws.proofs.Words.{is_present, is_removed, line_of, line_unless_empty, menu_line, most_users, newcomer, next_sid, not-over, own_of, owes, prepared_line, present_after, quit_line}
+use Rattle.hub_laws.proofs.Words.{About, AllByRecursion, Call, Configured, Effect, Entry, Facts, Field, Join, Line, Listed, Own, Quit, Sound, Stage, Take, happens-parts}
+use Rattle.hub_laws.proofs.Words.{about_parts, after, departure, effect_of_line, enters, eq-eqb, eqb-true, facts, false≢true, fields_after, happens, has, has_feature, has_joins, has_place}
+use Rattle.hub_laws.proofs.Words.{is_present, is_removed, line_of, line_unless_empty, menu_line, most_users, newcomer, next_sid, not-over, own_of, owes, prepared_line, present_parts, quit_line}
 use Rattle.hub_laws.proofs.Words.{removed_by, share, sid, sids_are_given, sids_differ, sight_of, sound_of, stage_after, take-facts, taken_by, ucmd, user_of, with_connection, without_connection}
 use Rattle.hub_laws.proofs.Words.{absent-newcomer, fold-append, key_of_points, removal_line, user_called}
 use Rattle.hub_rules.specs.Configured.{MenuEntry}
@@ -34,7 +34,7 @@ record Step (about after : ℕ → About) (present present_then : List ℕ) (d :
   early : is_early (after d).stage ≡ true → (is_early (about d).stage ≡ true) × (fold heard [] share ≡ [])
 
 abbrev StepBy : Facts → ℕ → Effect → ℕ → Type 0
-StepBy f c effect d = Step f.about (about_after c effect f.about) f.present (present_after c effect f.about f.present) d (owes (d == c) effect (f.about d))
+StepBy f c effect d = Step f.about (about_parts c effect f.about) f.present (present_parts c effect f.about f.present) d (owes (d == c) effect (f.about d))
 
 -- ---- the connections of a hub
 
@@ -80,10 +80,10 @@ module _ (setup : Configured) (hash : List ℕ → List ℕ) (h : List Entry) (s
     own = own_of (f.about c)
 
     abbrev afterwards : ℕ → About
-    afterwards = about_after c effect f.about
+    afterwards = about_parts c effect f.about
 
     abbrev present_then : List ℕ
-    present_then = present_after c effect f.about f.present
+    present_then = present_parts c effect f.about f.present
 
     -- all stay, and nobody enters
     all-stay : enters effect.change ≡ false → ((x : ℕ) → has x f.present ≡ true → is_present (afterwards x).stage ≡ true) → present_then ≡ f.present
@@ -363,7 +363,8 @@ module _ (setup : Configured) (hash : List ℕ → List ℕ) (h : List Entry) (s
       let effect : Effect = effect_of_line setup hash f c bytes now in
       let e : Entry = record { caller = caller; call = Line c bytes now; reply = Left } in
       step-by setup hash h small c effect (line-tells (sight_of setup f) (own_of (f.about c)) (prepared_line setup hash (f.about c).sender.challenge bytes) now)
-      (subst (AllByRecursion IsTold) (ap (λ b. cond b (fields_after effect.change (f.about c).fields) (f.about c).fields) (eq-eqb c c refl)) (told_of_user setup hash (e ∷ h) c)) d
+      (subst (AllByRecursion IsTold) (ap (λ b. cond b (fields_after effect.change (f.about c).fields) (f.about c).fields) (eq-eqb c c refl))
+      (subst (λ (g : Facts). AllByRecursion IsTold (g.about c).fields) (happens-parts c effect f) (told_of_user setup hash (e ∷ h) c))) d
 
   quit-step : (c d : ℕ) → StepBy (facts setup hash h) c (departure ((facts setup hash h).about c).stage ((facts setup hash h).about c).sender.sid) d
   quit-step c d = left-step setup hash h small c _ (record { others = refl; hearers = refl; change = refl }) d
@@ -376,11 +377,13 @@ module _ (setup : Configured) (hash : List ℕ → List ℕ) (h : List Entry) (s
   next caller (Line c bytes now) lists d =
       let f : Facts = facts setup hash h in
       let effect : Effect = effect_of_line setup hash f c bytes now in
-      lists-next f.about (about_after c effect f.about) f.present (present_after c effect f.about f.present) d (owes (d == c) effect (f.about d)) refl refl (line-step caller c bytes now d) (lists d)
+      subst (λ (g : Facts). Lists g.about g.present (g.about d)) (sym (happens-parts c effect f))
+      (lists-next f.about (about_parts c effect f.about) f.present (present_parts c effect f.about f.present) d (owes (d == c) effect (f.about d)) refl refl (line-step caller c bytes now d) (lists d))
   next caller (Quit c) lists d =
       let f : Facts = facts setup hash h in
       let effect : Effect = departure (f.about c).stage (f.about c).sender.sid in
-      lists-next f.about (about_after c effect f.about) f.present (present_after c effect f.about f.present) d (owes (d == c) effect (f.about d)) refl refl (quit-step c d) (lists d)
+      subst (λ (g : Facts). Lists g.about g.present (g.about d)) (sym (happens-parts c effect f))
+      (lists-next f.about (about_parts c effect f.about) f.present (present_parts c effect f.about f.present) d (owes (d == c) effect (f.about d)) refl refl (quit-step c d) (lists d))
   next caller (Take c count) lists d =
       let f : Facts = facts setup hash h in
       subst (λ (g : Facts). Lists g.about g.present (g.about d)) (take-facts c count f)

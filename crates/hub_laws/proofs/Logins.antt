@@ -13,8 +13,8 @@ use Rattle.hub_rules.specs.Identities.{nick_in}
 use Rattle.hub_rules.proofs.Merges.{id-clean}
 use Rattle.hub_laws.proofs.Words.{About, AllFalse, Configured, Deny, Effect, Entry, Facts, Field, IsAddressed, Kind, Line, Listed, Own, PreparedLine, Reading, Request, Sight, Stage}
 use Rattle.hub_laws.proofs.Words.{about_after, accepted_effect, admits, after, bytes_eq, bytes_eq-Decides, cid_in, clean, denial_of, digest_given, effect_of_line}
-use Rattle.hub_laws.proofs.Words.{entry_grounds, eq-eqb, facts, first_ground, given-after, happens, has, has_cid, has_key, is_account, is_broadcast, is_digest, is_empty, is_ever}
-use Rattle.hub_laws.proofs.Words.{is_here, is_present, is_timed, is_unnamed, key_in, left_of_bans, line_effect, list_any, listed_user, login_denied, login_grounds, meaning, merged_fields, merged_with}
+use Rattle.hub_laws.proofs.Words.{ban_ground, entry_grounds, eq-eqb, facts, first_ground, given-after, happens, has, has_cid, has_key, is_account, is_broadcast, is_digest, is_empty}
+use Rattle.hub_laws.proofs.Words.{is_here, is_present, is_unnamed, key_in, left_of_bans, line_effect, list_any, listed_user, login_denied, login_grounds, meaning, merged_fields, merged_with}
 use Rattle.hub_laws.proofs.Words.{names_another, nick_name, or-true, own_of, password_denied, password_grounds, password_of, prepared_line, present_are_users, request_at, request_denied}
 use Rattle.hub_laws.proofs.Words.{sight_of, stage_after, tidy_of, update_of, user_after, user_of, value_or_empty}
 use Rattle.hub_laws.proofs.Words.{is_over, logs_in, option_map}
@@ -40,8 +40,8 @@ all-pass ((test, deny) ∷ grounds) all = ap (λ b. first_ground ((b, deny) ∷ 
 not-so : (b : Bool) → b ≡ true → not b ≡ false
 not-so b is = grind arith
 
-free-left : (l : Left) → l ≡ lefts.Free → (is_ever l ≡ false) × (is_timed l ≡ false)
-free-left l is = (ap is_ever is, ap is_timed is)
+free-left : (l : Left) → l ≡ lefts.Free → (ban_ground l).0 ≡ false
+free-left l is = ap (λ (k : Left). (ban_ground k).0) is
 
 -- nobody is so
 none-here : (about : ℕ → About) (test : Listed → Bool) (cs : List ℕ) → ((d : ℕ) → has d cs ≡ true → test (user_of about d) ≡ false) → list_any test (map (user_of about) cs) ≡ false
@@ -164,7 +164,7 @@ module _ {setup : Configured} {hash : List ℕ → List ℕ} {h : List Entry} {e
       let free = unclaimed setup hash h user.key user.cid (subst (λ (key : List ℕ). IsFree setup hash h key user.cid) (sym key-is)
       (subst (IsFree setup hash h (key_in fields)) (sym cid-is) login.free)) in
       all-pass (login_grounds hub own login.now prepared.owner fields user)
-      (spelled-some (value_or_empty id_name fields) _ login.shows, (spelled-some (value_or_empty private_id_name fields) _ login.owns, (nick-some (value_or_empty nick_name fields) nick, (not-so _ (ap is_some login.shows), (not-so _ (ap is_some digest), (login.share, (login.files, (same-digest user.cid prepared.owner (digest ∙ ap Some (sym cid-is)), (not-so _ nick, (left.0, (left.1, (login.address, (registered setup.registered_only (is_account hub user.key) (λ only. ap (is_account hub) key-is ∙ login.registered only), (free.0, (free.1, tt)))))))))))))))
+      (spelled-some (value_or_empty id_name fields) _ login.shows, (spelled-some (value_or_empty private_id_name fields) _ login.owns, (nick-some (value_or_empty nick_name fields) nick, (not-so _ (ap is_some login.shows), (not-so _ (ap is_some digest), (login.share, (login.files, (same-digest user.cid prepared.owner (digest ∙ ap Some (sym cid-is)), (not-so _ nick, (left, (login.address, (registered setup.registered_only (is_account hub user.key) (λ only. ap (is_account hub) key-is ∙ login.registered only), (free.0, (free.1, tt))))))))))))))
 
   goes : effect_of_line setup hash f c login.bytes login.now ≡ admits hub own prepared (is_account hub (user_after own fields).key) (user_after own fields)
   unfolding request_denied accepted_effect
@@ -227,7 +227,7 @@ passwords_are_accepted setup hash h e c account gives =
     (subst (IsFree setup hash h (key_in own.fields)) (sym cid) gives.free)) in
     let allowed : password_denied hub own gives.now gives.line.params ≡ None =
     all-pass (password_grounds hub own gives.now (digest_given gives.line.params) user)
-    (same-digest own.expected (digest_given gives.line.params) (gives.spells ∙ ap Some expected), (left.0, (left.1, (free.0, (free.1, tt))))) in
+    (same-digest own.expected (digest_given gives.line.params) (gives.spells ∙ ap Some expected), (left, (free.0, (free.1, tt)))) in
     let none : names_another own.sender.sid gives.line.from ≡ false =
     ap (names_another own.sender.sid) (none-from gives.line.kind gives.grammar.addresses gives.line.from gives.line.target gives.line.features gives.kind gives.grammar.addressed) in
     line-stage setup hash h e c gives.bytes gives.now gives.call

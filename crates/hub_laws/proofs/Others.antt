@@ -19,6 +19,7 @@ use Rattle.hub_laws.proofs.Words.kinds
 use Rattle.hub_laws.proofs.Words.lines
 use Rattle.hub_laws.proofs.Words.requests
 use Rattle.hub_laws.proofs.Words.senders
+use Rattle.hub_laws.proofs.Words.seats
 use Rattle.hub_laws.proofs.Words.shared
 use Rattle.hub_laws.proofs.Words.stages
 use Rattle.hub_laws.proofs.Fields.{told-clean}
@@ -286,7 +287,7 @@ removal-as effect act target operator seconds reason is removes others hearers o
 
 does-tell : {act : Act} (hub : Sight) (own : Own) (done : Done) → Does hub.users hub.bans own.sender.sid act done.others done.change → Tells hub own (effect_for_all done)
 does-tell hub own done (kicks nick reason target called) =
-    removal_of target nick called (removal-as (effect_for_all done) (shared.Kick target.sid) target.sid own.sender.sid None reason refl (λ sid. refl) refl refl (other-done, tt))
+    removal_of target nick called (removal-as (effect_for_all done) (shared.At target.sid seats.Gone) target.sid own.sender.sid None reason refl (λ sid. refl) refl refl (other-done, tt))
 does-tell hub own done (bans_user nick reason target banned called same room) =
     removal_of target nick called
     (subst (IsRemoval (effect_for_all done)) same

@@ -1,7 +1,7 @@
 -- Two hubs that differ in passwords alone come to the same, whatever is called, but for the digests that they wait for.
 use Rattle.std.proofs.Common.{◌≡◌, ◌∙◌, sym, ap, ap₂, refl, subst, ℕ, Bool, true, not, ◌&&◌, ◌==◌, ◌⊎◌, inl, inr, List, [], ◌∷◌, map, filter, cond, arith}
-use Rattle.hub_laws.proofs.Words.{About, Account, Ban, Call, Change, Configured, Effect, Entry, Facts, Hearers, Line, Listed, Own, Sight, affected_connection, after, bans_after, departure}
-use Rattle.hub_laws.proofs.Words.{effect_of_line, facts, happens, has_joins, has_place, lags_with, line_effect, listed_user, next_sid, owed_with, own_of, prepared_line, present_after, sight_of}
+use Rattle.hub_laws.proofs.Words.{About, Account, Ban, Call, Change, Configured, Effect, Entry, Facts, Hearers, Line, Listed, Own, Sight, affected_parts, after, bans_after, departure, happens_parts, happens-parts}
+use Rattle.hub_laws.proofs.Words.{effect_of_line, facts, happens, has_joins, has_place, lags_with, line_effect, listed_user, next_sid, owed_with, own_of, prepared_line, present_parts, sight_of}
 use Rattle.hub_laws.proofs.Words.{topic_after, user_of, with_connection, with_lines_taken, without_connection}
 use Rattle.hub_laws.proofs.Words.lines
 use Rattle.hub_laws.proofs.Words.stages
@@ -53,17 +53,17 @@ module _ (setup : Configured) (accounts : List Account) (hash : List ℕ → Lis
   -- ---- what an effect makes of a connection
 
   by-hearers : (is_caller : Bool) (own others : List (List ℕ)) (hearers : Hearers) (change : Change) (a : About)
-      → without_digest (affected_connection is_caller (record { own = own; others = others; hearers = hearers; change = change }) a)
-      ≡ without_digest (affected_connection is_caller (record { own = own; others = others; hearers = hearers; change = veiled_change change }) (without_digest a))
+      → without_digest (affected_parts is_caller (record { own = own; others = others; hearers = hearers; change = change }) a)
+      ≡ without_digest (affected_parts is_caller (record { own = own; others = others; hearers = hearers; change = veiled_change change }) (without_digest a))
   unfolding owed_with lags_with
   by-hearers is_caller own others hearers change a = grind arith
 
   affected-veiled : (is_caller : Bool) (effect : Effect) (a : About)
-      → without_digest (affected_connection is_caller effect a) ≡ without_digest (affected_connection is_caller (veiled_effect effect) (without_digest a))
+      → without_digest (affected_parts is_caller effect a) ≡ without_digest (affected_parts is_caller (veiled_effect effect) (without_digest a))
   affected-veiled is_caller effect a = by-hearers is_caller effect.own effect.others effect.hearers effect.change a
 
   affected-same : (is_caller : Bool) (effect another : Effect) (a b : About) → veiled_effect effect ≡ veiled_effect another → without_digest a ≡ without_digest b
-      → without_digest (affected_connection is_caller effect a) ≡ without_digest (affected_connection is_caller another b)
+      → without_digest (affected_parts is_caller effect a) ≡ without_digest (affected_parts is_caller another b)
   affected-same is_caller effect another a b alike same = grind (arith, affected-veiled)
 
   -- ---- what an effect makes of the hub
@@ -84,12 +84,16 @@ module _ (setup : Configured) (accounts : List Account) (hash : List ℕ → Lis
   filter-same p q (x ∷ xs) same = ap₂ (λ b ys. cond b (x ∷ ys) (filter p xs)) (same x) (filter-same p q xs same) ∙ ap (λ ys. cond (q x) (x ∷ filter q xs) ys) (filter-same p q xs same)
 
   present-same : (c : ℕ) (effect another : Effect) (about others : ℕ → About) (present : List ℕ) → veiled_effect effect ≡ veiled_effect another
-      → ((d : ℕ) → without_digest (about d) ≡ without_digest (others d)) → present_after c another others present ≡ present_after c effect about present
+      → ((d : ℕ) → without_digest (about d) ≡ without_digest (others d)) → present_parts c another others present ≡ present_parts c effect about present
   present-same c effect another about others present alike same = grind arith
 
+  parts-same : (c : ℕ) (effect another : Effect) → veiled_effect effect ≡ veiled_effect another → AreSame (happens_parts c effect f) (happens_parts c another g)
+  parts-same c effect another alike = grind (arith, present-same, read-same, bans-veiled, topic-veiled, affected-same)
+
   happens-same : (c : ℕ) (effect another : Effect) → veiled_effect effect ≡ veiled_effect another → AreSame (happens c effect f) (happens c another g)
-  unfolding happens
-  happens-same c effect another alike = grind (arith, present-same, read-same, bans-veiled, topic-veiled, affected-same)
+  happens-same c effect another alike =
+      subst (λ x. AreSame x (happens c another g)) (sym (happens-parts c effect f))
+      (subst (AreSame (happens_parts c effect f)) (sym (happens-parts c another g)) (parts-same c effect another alike))
 
   -- ---- the same line, or two passwords
 

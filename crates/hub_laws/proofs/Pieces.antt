@@ -19,7 +19,7 @@ use Rattle.adc_line.proofs.GrammarLemmas.{spelt_is_escaped}
 use Rattle.inf_fields.specs.Field.{printed_fields}
 use Rattle.inf_fields.specs.FieldNames.{client_type_name}
 use Rattle.inf_fields.specs.Updates.{field_in, is_named}
-use Rattle.hub_rules.specs.Texts.{ban_field, reason_field, removal_line, update_line}
+use Rattle.hub_rules.specs.Texts.{ban_field, removal_line, text_field, update_line}
 use Rattle.hub_laws.proofs.Words.{Account, AllByRecursion, Field, bytes_eq, bytes_eq-Decides, client_type, field, is_called, quit_line, user_line}
 use Rattle.hub_laws.specs.Lists.{Listing, fields_told, heard, heard_words, pieces, with_user, without_user}
 
@@ -236,7 +236,7 @@ pub removal-heard : (target operator : ℕ) (seconds : Option ℕ) (reason : Lis
     → heard users (removal_line target operator seconds reason) ≡ without_user (sid_text target) users
 unfolding removal_line
 removal-heard target operator seconds reason users =
-    gone-heard target 32 (73 ∷ 68 ∷ (sid_text operator ++ (ban_field seconds ++ reason_field reason)) ++ 10 ∷ []) users refl
+    gone-heard target 32 (73 ∷ 68 ∷ (sid_text operator ++ (ban_field seconds ++ text_field (codes " MS") reason)) ++ 10 ∷ []) users refl
 
 -- ---- each other line
 

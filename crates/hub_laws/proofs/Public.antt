@@ -1,7 +1,7 @@
 -- After every history what is known of a user may be known.
-use Rattle.std.proofs.Common.{◌≡◌, sym, subst, ℕ, Bool, true, false, ◌==◌, List, [], ◌∷◌, Option, None, Ok, cond, arith}
+use Rattle.std.proofs.Common.{◌≡◌, sym, subst, ℕ, Bool, true, false, ◌==◌, List, [], ◌∷◌, Option, None, Ok, cond, arith, drop}
 use Rattle.hub_rules.specs.Identities as identities
-use Rattle.hub_laws.proofs.Words.{About, AllByRecursion, AllFalse, Becomes, Call, Configured, Deny, Effect, Facts, Field, Listed, Outcome, Own, PreparedLine, Reading, Request, Sight, address_name}
+use Rattle.hub_laws.proofs.Words.{About, AllByRecursion, AllFalse, Becomes, Call, Configured, Deny, Effect, Facts, Field, Listed, Outcome, Own, PreparedLine, Reading, Request, Sight, address_name, dropped}
 use Rattle.hub_laws.proofs.Words.{after, becomes, clean, effect_of_line, eqb-true, facts, fields_after, first_ground, grounds_of, is_wrong_address, lets_in, line-outcome, listed_user}
 use Rattle.hub_laws.proofs.Words.{login_denied, login_grounds, merged_with, none-of, revises, update_grounds, user_after, waits}
 use Rattle.hub_laws.proofs.Words.denials
@@ -25,7 +25,8 @@ pub login-right : (hub : Sight) (own : Own) (now : ℕ) (digest : Option (List �
     → IsRightAddress own.sender.peer u
 unfolding login_grounds
 login-right hub own now digest u user none =
-    let address : AllFalse (grounds_of is_address (login_grounds hub own now digest u user)) = none-of is_address (login_grounds hub own now digest u user) none in address.0
+    let address : AllFalse (grounds_of is_address (drop 10 (login_grounds hub own now digest u user))) =
+    none-of is_address (drop 10 (login_grounds hub own now digest u user)) (dropped 10 (login_grounds hub own now digest u user) none) in address.0
 
 pub update-right : (hub : Sight) (own : Own) (u : List Field) (user : Listed) → first_ground (update_grounds hub own u user) ≡ None → IsRightAddress own.sender.peer u
 unfolding update_grounds

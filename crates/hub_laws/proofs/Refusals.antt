@@ -4,9 +4,9 @@ use Rattle.std.specs.Prelude.{◌||◌}
 use Rattle.adc_line.specs.declared.fault.LineFault.{LineFault}
 use Rattle.login_state.specs.Denials.{denial_line, is_fatal}
 use Rattle.hub_invariants.specs.Said.{kept_unless, unless_refused}
-use Rattle.hub_laws.proofs.Words.{About, Configured, Deny, Effect, Entry, Facts, Line, Nothing, Others, Own, PreparedLine, Reading, Sender, Sight, Stage, about_after, accepted_line, after}
-use Rattle.hub_laws.proofs.Words.{affected_connection, bans_after, denial, denial_of, effect_of_line, effect_of_reading, enters, eq-eqb, facts, happens, has, if◌then◌else◌, is_over, is_present}
-use Rattle.hub_laws.proofs.Words.{left_of_bans, line_effect, nothing, or-true, owed_with, lags_with, owes, own_of, prepared_line, present_after, quit_line, share, sight_of, sound_of, Sound, topic_after, unless_denied}
+use Rattle.hub_laws.proofs.Words.{About, Configured, Deny, Effect, Entry, Facts, Line, Nothing, Others, Own, PreparedLine, Reading, Sender, Sight, Stage, about_parts, accepted_line, after, happens_parts, happens-parts}
+use Rattle.hub_laws.proofs.Words.{affected_parts, bans_after, denial, denial_of, effect_of_line, effect_of_reading, enters, eq-eqb, facts, happens, has, if◌then◌else◌, is_over, is_present}
+use Rattle.hub_laws.proofs.Words.{left_of_bans, line_effect, nothing, or-true, owed_with, lags_with, owes, own_of, prepared_line, present_parts, quit_line, share, sight_of, sound_of, Sound, topic_after, unless_denied}
 use Rattle.hub_laws.proofs.Words.denials
 use Rattle.hub_laws.proofs.Words.lines
 use Rattle.hub_laws.proofs.Words.senders
@@ -67,12 +67,12 @@ owes-other same effect a fatal here line is hearers others = grind arith
 not-same : (d c : ℕ) (b : Bool) → (d == c) ≡ b → (d ≡ c → ⊥) → b ≡ false
 not-same d c b is other = grind arith
 
-falls-gone : (c : ℕ) (effect : Effect) (f : Facts) → effect.change ≡ Sender senders.Falls → (about_after c effect f.about c).stage ≡ stages.Gone
+falls-gone : (c : ℕ) (effect : Effect) (f : Facts) → effect.change ≡ Sender senders.Falls → (about_parts c effect f.about c).stage ≡ stages.Gone
 falls-gone c effect f falls = grind arith
 
 -- a connection of an effect that changes nothing
 still : (same : Bool) (effect : Effect) (a : About) → effect.change ≡ Nothing
-    → affected_connection same effect a ≡ record a { owed = owed_with a (owes same effect a); lags = lags_with a (owes same effect a) }
+    → affected_parts same effect a ≡ record a { owed = owed_with a (owes same effect a); lags = lags_with a (owes same effect a) }
 still same effect a none = grind arith
 
 all-kept : (p : ℕ → Bool) (xs : List ℕ) → ((d : ℕ) → has d xs ≡ true → p d ≡ true) → filter p xs ≡ xs
@@ -81,10 +81,10 @@ all-kept p (x ∷ xs) all =
     ap₂ (λ b (ys : List ℕ). cond b (x ∷ ys) ys) (all x (ap (λ b. b || has x xs) (eq-eqb x x refl)))
     (all-kept p xs (λ d there. all d (ap (λ b. eqb x d || b) there ∙ or-true (eqb x d))))
 
-still-present : (c : ℕ) (effect : Effect) (f : Facts) → Sound f → effect.change ≡ Nothing → present_after c effect f.about f.present ≡ f.present
+still-present : (c : ℕ) (effect : Effect) (f : Facts) → Sound f → effect.change ≡ Nothing → present_parts c effect f.about f.present ≡ f.present
 still-present c effect f sound none =
     ap₂ (λ xs b. xs ++ cond b (c ∷ []) [])
-    (all-kept (λ d. is_present (about_after c effect f.about d).stage) f.present
+    (all-kept (λ d. is_present (about_parts c effect f.about d).stage) f.present
     (λ d there. ap (λ (a : About). is_present a.stage) (still (d == c) effect (f.about d) none) ∙ sym (sound.entered d) ∙ there)) (ap enters none)
     ∙ append-nil f.present
 
@@ -104,9 +104,9 @@ module _ (setup : Configured) (hash : List ℕ → List ℕ) (h : List Entry) (e
   abbrev effect : Effect
   effect = effect_of_line setup hash f c bytes now
 
-  step : e.call ≡ Line c bytes now → facts setup hash (e ∷ h) ≡ happens c effect f
+  step : e.call ≡ Line c bytes now → facts setup hash (e ∷ h) ≡ happens_parts c effect f
   unfolding facts after
-  step call = ap (after setup hash f e.caller) call
+  step call = ap (after setup hash f e.caller) call ∙ happens-parts c effect f
 
   same-by : e.call ≡ Line c bytes now → effect.change ≡ Nothing → IsSame setup hash h e
   unfolding happens

@@ -2,7 +2,7 @@
 use Rattle.std.proofs.Common.{◌≡◌, ◌∙◌, sym, ap, ap₂, refl, subst, ℕ, ◌+◌, ◌<◌, Bool, true, false, ◌&&◌, ◌==◌, List, [], ◌∷◌, length, map, Option, None, arith}
 use Rattle.user_table.specs.declared.totals.Totals.{Totals}
 use Rattle.hub_laws.specs.Searched.{SearchIsTheLast, TotalsAreSums, is_search, last_search, moment_if, search_in, searches}
-use Rattle.hub_laws.proofs.Words.{About, Becomes, Call, Change, Configured, Effect, Entry, Facts, Field, Line, Listed, Outcome, Own, PreparedLine, Reading, Request, Sender, Sight, Sound, about_after}
+use Rattle.hub_laws.proofs.Words.{About, Becomes, Call, Change, Configured, Effect, Entry, Facts, Field, Line, Listed, Outcome, Own, PreparedLine, Reading, Request, Sender, Sight, Sound, about_parts}
 use Rattle.hub_laws.proofs.Words.{accepted_line, amount, becomes, effect_of_line, eqb-true, facts, is_over, joins-grow, length-map, line_effect, listed_user, option_or, outcome}
 use Rattle.hub_laws.proofs.Words.{over-beyond, own_of, prepared_line, request_in, own_change, searched_after, share_size_name, shared_files_name, sight_of, sound_of, sum_by, sum_by-cons, unheard}
 use Rattle.hub_laws.proofs.Words.{user_of}
@@ -35,7 +35,7 @@ search-one false is_searching now change before is = refl
 
 -- a line of connection d
 line-searched : (setup : Configured) (hash : List ℕ → List ℕ) (f : Facts) (c d : ℕ) (bytes : List ℕ) (now : ℕ)
-    → (about_after d (effect_of_line setup hash f d bytes now) f.about c).sender.searched ≡ option_or (search_in setup hash f c (Line d bytes now)) (f.about c).sender.searched
+    → (about_parts d (effect_of_line setup hash f d bytes now) f.about c).sender.searched ≡ option_or (search_in setup hash f c (Line d bytes now)) (f.about c).sender.searched
 line-searched setup hash f c d bytes now =
     search-one (c == d) _ now (effect_of_line setup hash f d bytes now).change (f.about c).sender.searched
     (finds-line (sight_of setup f) (own_of (f.about d)) (prepared_line setup hash (f.about d).sender.challenge bytes) now (f.about c).sender.searched)

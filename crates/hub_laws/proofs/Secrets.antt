@@ -1,4 +1,5 @@
 -- Fields of accepted updates that are passed on may be known, and so may what is merged of them.
+use Rattle.inf_fields.proofs.MergingLaws.{merged_with-settled}
 use Rattle.std.proofs.Common.{◌≡◌, ◌∙◌, sym, ap, refl, subst, ℕ, Bool, true, false, cond, not, ◌||◌, ◌⊎◌, inl, inr, List, [], ◌∷◌, ◌++◌, map, filter, Option, Some, None, is_some, unwrap_or, arith}
 use Rattle.hub_laws.proofs.Words.{AllByRecursion, Field, address_name, any_address, besides, bytes_eq, bytes_eq-Decides, clean, dotted_decimal, false≢true, field, followed_by, has_name}
 use Rattle.hub_laws.proofs.Words.{if◌then◌else◌, is_called, is_empty, is_held_back, is_wrong_address, latest, leave, merged_with, option_map, settled_fields, value_of, value_or_empty}
@@ -138,9 +139,8 @@ both-named peer u (f ∷ xs) passed kept names = (
 )
 
 pub merged-public : (peer : List ℕ) (fields u : List Field) → AllByRecursion (IsPublic peer) fields → HasPassed peer u → AllByRecursion (IsPublic peer) (merged_with fields u)
-unfolding merged_with
 merged-public peer fields u all passed =
-    settled-public peer u (followed_by fields u)
+    subst (AllByRecursion (IsPublic peer)) (sym (merged_with-settled fields u)) (settled-public peer u (followed_by fields u)
     (all-append (IsRenewed peer u) fields (besides fields u)
     (all-as (IsPublic peer) (IsRenewed peer u) fields (λ f is stays. renewed-public peer u f passed is.0 (λ called none. is.1 called) stays) all)
-    (all-filter (IsRenewed peer u) (λ f. not (has_name f.name fields)) u (both-named peer u u passed passed.kept (named u))))
+    (all-filter (IsRenewed peer u) (λ f. not (has_name f.name fields)) u (both-named peer u u passed passed.kept (named u)))))

@@ -11,10 +11,11 @@ use Rattle.login_state.specs.Denials.{denial_line, is_fatal}
 use Rattle.login_state.specs.SupportAnswers.{support_after}
 use Rattle.login_state.specs.declared.fault.SupFault.{SupFault}
 use Rattle.operator_acts.specs.declared.act.Act.{Act}
+use Rattle.operator_acts.specs.declared.left.Left.{Left}
 use Rattle.hub_rules.specs.Denied.{sup_denied}
 use Rattle.hub_rules.specs.Grounds.{sup_grounds}
 use Rattle.hub_invariants.specs.Said.{kept_unless, unless_refused}
-use Rattle.hub_laws.proofs.Words.{AllByRecursion, Deny, Effect, Kind, LineFault, Own, PreparedLine, Reading, Reads-of, Request, Sight, Stage, accepted_line, act_denied, answer_to, denial, denial_of, effect_of_reading, farewell}
+use Rattle.hub_laws.proofs.Words.{AllByRecursion, Deny, Effect, Kind, LineFault, Own, PreparedLine, Reading, Reads-of, Request, Sight, Stage, accepted_line, act_denied, answer_to, denial, denial_of, effect_of_reading, farewell, left_of_bans, ban_ground}
 use Rattle.hub_laws.proofs.Words.{digest_given, entry_grounds, first_ground, is_over, line_effect, listed_user, login_denied, login_grounds, option_or, password_grounds, refusal_of, request_at, request_denied}
 use Rattle.hub_laws.proofs.Words.{Nothing, Sender, names_another, nothing, tells_others, tells_sender, unless_denied, update_denied, update_grounds, user_after}
 use Rattle.hub_laws.proofs.Pieces.{is_plain_byte, letter-digit-plain, letter-plain}
@@ -59,9 +60,13 @@ said-sup : (r : Result (List (List ℕ)) SupFault) → are_said (sup_denied r) �
 said-sup (Ok features) = said-first (sup_grounds features) refl
 said-sup (Err fault) = refl
 
+ban-said : (l : Left) → (is_said (ban_ground l).1 && true) ≡ true
+ban-said l = grind arith
+
 said-login : (hub : Sight) (own : Own) (digest : Option (List ℕ)) (now : ℕ) (r : Result (List Field) InfFault) → are_said (login_denied hub own digest now r) ≡ true
 unfolding login_grounds
-said-login hub own digest now (Ok u) = said-first (login_grounds hub own now digest u (user_after own u)) refl
+said-login hub own digest now (Ok u) =
+    said-first (login_grounds hub own now digest u (user_after own u)) (ban-said (left_of_bans hub.bans (user_after own u).cid now))
 said-login hub own digest now (Err fault) = refl
 
 said-update : (hub : Sight) (own : Own) (r : Result (List Field) InfFault) → are_said (update_denied hub own r) ≡ true
@@ -81,7 +86,8 @@ unfolding request_denied entry_grounds
 said-request hub own line now reading requests.Greeting = said-sup (support_after own.sender.features reading.params)
 said-request hub own line now reading requests.Login = said-login hub own line.owner now (updates.reading reading.params)
 said-request hub own line now reading requests.Password =
-    said-first (password_grounds hub own now (digest_given reading.params) (listed_user own.sender.sid own.fields)) refl
+    said-first (password_grounds hub own now (digest_given reading.params) (listed_user own.sender.sid own.fields))
+    (ban-said (left_of_bans hub.bans (listed_user own.sender.sid own.fields).cid now))
 said-request hub own line now reading requests.Update = said-update hub own (updates.reading reading.params)
 said-request hub own line now reading requests.Support = said-sup (support_after own.sender.features reading.params)
 said-request hub own line now reading requests.Act = said-act hub own now reading.params

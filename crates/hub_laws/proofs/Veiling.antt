@@ -1,12 +1,12 @@
 -- Effects of a line are the same, whatever the passwords, but for the digest that is waited for.
-use Rattle.std.proofs.Common.{◌≡◌, ◌∙◌, sym, ap, ap₂, refl, ℕ, suc, Bool, true, false, not, ◌&&◌, ◌||◌, ◌==◌, ◌⊎◌, inl, inr, List, [], ◌∷◌, length, map, Option, Some, None, Result, Ok, Err, arith}
+use Rattle.std.proofs.Common.{◌≡◌, ◌∙◌, sym, ap, ap₂, refl, ℕ, suc, Bool, true, false, not, ◌&&◌, ◌||◌, ◌==◌, ◌⊎◌, inl, inr, List, [], ◌∷◌, length, map, Option, Some, None, Result, Ok, Err, arith, take, ◌++◌, drop}
 use Rattle.hub_laws.proofs.Words.{Account, Change, Deny, Effect, Field, IsAddressed, Kind, LineFault, Listed, Own, PreparedLine, Reading, Reads-of, Request, Sender, Sight, Stage, accepted_effect}
 use Rattle.hub_laws.proofs.Words.{account_with, act_denied, act_effect, admits, answer_to, bytes_eq, bytes_eq-Decides, chars, client_type, codes, denial, differs, digest_given, effect_by}
 use Rattle.hub_laws.proofs.Words.{effect_of_reading, entrant, entry_grounds, false≢true, first_ground, hub_line, if◌then◌else◌, is_account, is_command, is_digest, is_operator, is_over, is_some}
 use Rattle.hub_laws.proofs.Words.{is_utf8, line_effect, line_of, listed_user, login_denied, login_grounds, logs_in, nothing, operates, option_map, option_or, password_denied, refusal_of}
-use Rattle.hub_laws.proofs.Words.{request-asks, request_at, request_denied, request_of, text_checked, text_in, touches_account, unless_denied, update_denied, update_grounds, updates_user}
+use Rattle.hub_laws.proofs.Words.{request-asks, request_at, request_denied, request_of, text_in, touches_account, unless_denied, update_denied, update_grounds, updates_user}
 use Rattle.hub_laws.proofs.Words.{user_after, user_line}
-use Rattle.adc_line.specs.Header.{header_of, head_at}
+use Rattle.adc_line.specs.Header.{header_at, head_at}
 use Rattle.inf_fields.specs.declared.fault.InfFault.{InfFault}
 use Rattle.login_state.specs.declared.fault.SupFault.{SupFault}
 use Rattle.login_state.specs.SupportAnswers.{support_after}
@@ -20,7 +20,7 @@ use Rattle.hub_laws.proofs.Words.requests
 use Rattle.hub_laws.proofs.Words.senders
 use Rattle.hub_laws.proofs.Words.stages
 use Rattle.hub_laws.proofs.Words.updates
-use Rattle.hub_laws.proofs.Checked.{is_barred, is_for_accounts, with_test}
+use Rattle.hub_laws.proofs.Checked.{is_barred}
 use Rattle.hub_laws.specs.Passwords.{is_password, is_right, is_to_hub, without_password}
 
 -- the digest that is waited for is veiled
@@ -102,7 +102,7 @@ is-pass bytes (Ok reading) read is =
 is-pass bytes (Err fault) read is = absurd (false≢true is)
 
 nothing-read : is_password (lines.reading []) ≡ false
-unfolding lines.reading text_checked is_utf8 chars header_of head_at
+unfolding lines.reading is_utf8 chars header_at head_at
 nothing-read = refl
 
 more-than-none : (n : ℕ) → (suc n == 0) ≡ false
@@ -201,7 +201,8 @@ module _ (hub : Sight) (accounts : List Account) (own : Own) (expected : List �
       → login_denied hub own digest now r ≡ login_denied (other_hub hub accounts) (other_own own expected) digest now r
   unfolding login_grounds
   login-denied-alike digest (Ok u) =
-      ap (λ b. first_ground (with_test is_for_accounts b (login_grounds hub own now digest u (user_after own u)))) (barred-alike (user_after own u).key)
+      let grounds : List (Bool × Deny) = login_grounds hub own now digest u (user_after own u) in
+      ap (λ b. first_ground (take 11 grounds ++ (b, denials.Registered) ∷ drop 12 grounds)) (barred-alike (user_after own u).key)
   login-denied-alike digest (Err fault) = refl
 
   touched-alike : (before after : List ℕ) → touches_account hub before after ≡ touches_account (other_hub hub accounts) before after

@@ -1,6 +1,6 @@
 -- The lines owed by a line that brings a user in.
 use Rattle.std.proofs.Common.{◌≡◌, ◌∙◌, sym, ap, ap₂, refl, subst, ℕ, Bool, true, false, ◌⊎◌, inl, inr, ◌==◌, List, [], ◌∷◌, ◌++◌, map, Option, cond, arith}
-use Rattle.hub_laws.proofs.Words.{About, Configured, Effect, Entry, Facts, Field, Line, Others, Outcome, Own, PreparedLine, Reading, Request, Sight, about_after, account_of, account_with, after}
+use Rattle.hub_laws.proofs.Words.{About, Configured, Effect, Entry, Facts, Field, Line, Others, Outcome, Own, PreparedLine, Reading, Request, Sight, about_parts, account_of, account_with, after, happens-parts}
 use Rattle.hub_laws.proofs.Words.{effect_of_line, eq-eqb, facts, fields_after, greets, happens, has_feature, key_in, lets_in, line-outcome, line_of, listed_user, menu_line, owes, own_of, proves}
 use Rattle.hub_laws.proofs.Words.{removed_by, share, shuts_out, sight_of, stage_after, ucmd, user_line, user_of, waits}
 use Rattle.hub_laws.proofs.Words.stages
@@ -56,15 +56,16 @@ brings-by : (setup : Configured) (hash : List ℕ → List ℕ) (f : Facts) (cal
 unfolding after happens
 brings-by setup hash f caller c bytes now absent here =
     let effect : Effect = effect_of_line setup hash f c bytes now in
-    let moved = moves-to (removed_by effect (f.about c)) (c == c) effect.change (f.about c).stage stages.Normal gone-normal absent here in
-    let fields : (about_after c effect f.about c).fields ≡ fields_after effect.change (f.about c).fields =
+    let now_here = ap (λ (g : Facts). (g.about c).stage) (sym (happens-parts c effect f)) ∙ here in
+    let moved = moves-to (removed_by effect (f.about c)) (c == c) effect.change (f.about c).stage stages.Normal gone-normal absent now_here in
+    let fields : (about_parts c effect f.about c).fields ≡ fields_after effect.change (f.about c).fields =
     ap (λ b. cond b (fields_after effect.change (f.about c).fields) (f.about c).fields) (eq-eqb c c refl) in
-    record {
+    subst (λ g. BringsBy setup hash f g c bytes now) (sym (happens-parts c effect f)) (record {
       welcomes = subst (Welcomes (sight_of setup f) (own_of (f.about c)) effect) (sym fields)
           (entered (sight_of setup f) (own_of (f.about c)) effect (fields_after effect.change (f.about c).fields) absent
           (welcome-outcome (line-outcome setup hash f c bytes now) moved.moves));
       same_sid = refl;
-    }
+    })
 
 brings : (setup : Configured) (hash : List ℕ → List ℕ) (h : List Entry) (e : Entry) (c : ℕ) → (((facts setup hash h).about c).stage ≡ stages.Normal → ⊥)
     → ((facts setup hash (e ∷ h)).about c).stage ≡ stages.Normal → Brings setup hash h e c

@@ -2,14 +2,13 @@
 pub use Rattle.adc_line.proofs.ReadsLemmas.{Reads-of}
 pub use Rattle.adc_line.specs.Grammar.{IsAddressed}
 pub use Rattle.adc_line.specs.Lines.{Reading}
-unfoldable pub use Rattle.adc_line.specs.Lines.{text_checked}
 pub use Rattle.adc_line.specs.declared.fault.LineFault.{LineFault}
 pub use Rattle.adc_line.specs.declared.header.Kind.{Kind}
 pub use Rattle.feature_route.specs.Audiences.{by_kind, holds}
 unfoldable pub use Rattle.feature_route.specs.Audiences.{audience, holds_words}
-pub use Rattle.hub_invariants.proofs.Becoming.{Becomes, becomes, take-facts, taken_by}
+pub use Rattle.hub_invariants.proofs.Becoming.{Becomes, about-parts, about_parts, becomes, happens-parts, happens_parts, present_parts, take-facts, taken_by}
 pub use Rattle.hub_invariants.proofs.Calls.{absent-newcomer, present-over, sound_of}
-pub use Rattle.hub_invariants.proofs.Claims.{AllFalse, Unclaimed, grounds_of, login-free, none-of, password-entry, password-free, same-cid, update-free}
+pub use Rattle.hub_invariants.proofs.Claims.{AllFalse, Unclaimed, dropped, grounds_of, login-free, none-of, password-entry, password-free, same-cid, update-free}
 pub use Rattle.hub_invariants.proofs.Fits.{Fits, fits-departure}
 pub use Rattle.hub_invariants.proofs.Kept.{differs-sid, few_are_open, fresh-taken, given-bytes, is-normal, joins-grow, others_are_out, present_are_users, sids_are_given}
 pub use Rattle.hub_invariants.proofs.Kept.{sids_differ, taken_is_the_sum, users_are_open}
@@ -18,7 +17,7 @@ pub use Rattle.hub_invariants.proofs.Members.{and-false, has, has-append, has-fi
 pub use Rattle.hub_invariants.proofs.Outcomes.{Asked, Does, Logs, Outcome, acts, bans_user, by-request, chats, denies, greets, ignores, kicks, later-none, learns, lets_in, line-outcome, outcome, passes}
 pub use Rattle.hub_invariants.proofs.Outcomes.{proves, quiet, request-asks, request_in, revises, searches, sets_topic, shuts_out, unbans, waits}
 pub use Rattle.hub_invariants.proofs.Saying.{features_are_last_added, info_is_merged, over-beyond, said-read, said_by, same-chosen, told_of, unheard}
-pub use Rattle.hub_invariants.proofs.Sound.{Sound, eqb-sym, happens-open, happens-sound, not-over, or-true}
+pub use Rattle.hub_invariants.proofs.Sound.{Sound, eqb-sym, happens-open, parts-open, happens-sound, not-over, or-true}
 pub use Rattle.hub_invariants.proofs.Sound.{stage_next}
 pub use Rattle.hub_invariants.proofs.Suits.{listed-sid}
 pub use Rattle.hub_invariants.proofs.Tidy.{Tidy, is_unnamed, tidy_of}
@@ -37,7 +36,7 @@ unfoldable pub use Rattle.hub_rules.specs.Effects.{accepted_effect, denial, line
 pub use Rattle.hub_rules.specs.Facts.{Facts, about_after, bans_after, effect_of_line, enters, has_joins, has_place, newcomer, next_sid, own_of, present_after, sight_of}
 pub use Rattle.hub_rules.specs.Facts.{topic_after, user_of, with_lines_taken}
 unfoldable pub use Rattle.hub_rules.specs.Facts.{after, facts, happens, with_connection, without_connection}
-pub use Rattle.hub_rules.specs.Grounds.{differs, first_ground, is_digest, is_empty, is_ever, is_timed, is_wrong_address, password_grounds, touches_account}
+pub use Rattle.hub_rules.specs.Grounds.{ban_ground, differs, first_ground, is_digest, is_empty, is_wrong_address, password_grounds, touches_account}
 unfoldable pub use Rattle.hub_rules.specs.Grounds.{entry_grounds, login_grounds, update_grounds}
 pub use Rattle.hub_rules.specs.History.{info, lags, lines_owed, sid, stage}
 pub use Rattle.hub_rules.specs.Identities.{cid_in, key_in, key_of, key_of_points, meaning, su_in, value_or_empty}
@@ -52,9 +51,11 @@ pub use Rattle.hub_rules.specs.Quiet.{nothing}
 pub use Rattle.hub_rules.specs.Requests.{names_another, refusal_of, request_of}
 pub use Rattle.hub_invariants.specs.Said.{cleaned_update, inf_update, infs, listed_if, read_by}
 unfoldable pub use Rattle.hub_invariants.specs.Said.{accepted_line}
-pub use Rattle.hub_rules.specs.Shares.{About, affected_connection, expected_after, fields_after, has_room_for, hears_those, is_removed, owes}
-pub use Rattle.hub_rules.specs.Senders.{features_after, own_change, searched_after}
-pub use Rattle.hub_rules.specs.Shares.{removed_by, stage_after, waiting}
+pub use Rattle.hub_rules.specs.Shares.{About, affected_connection, has_room_for, hears_those, owes}
+pub use Rattle.hub_invariants.specs.Afterwards.{affected_parts, expected_after, fields_after, is_removed}
+pub use Rattle.hub_invariants.specs.Afterwards.{features_after, own_change, searched_after}
+pub use Rattle.hub_rules.specs.Shares.{waiting}
+pub use Rattle.hub_invariants.specs.Afterwards.{removed_by, stage_after}
 unfoldable pub use Rattle.hub_rules.specs.Shares.{lags_with, owed_with}
 pub use Rattle.hub_rules.specs.Sights.{Own, PreparedLine, Sight, account_of, another_has_key, is_account, is_here, user_after}
 pub use Rattle.hub_rules.specs.Texts.{challenge_line, client_type, done_line, menu_line, removal_line, with_line_feed}
@@ -74,7 +75,7 @@ pub use Rattle.inf_fields.specs.Cleaning.{any_address, asks_for_address, dotted_
 unfoldable pub use Rattle.inf_fields.specs.Cleaning.{clean}
 pub use Rattle.inf_fields.specs.Field.{Field, besides, field, has_name, is_called, value_of}
 pub use Rattle.inf_fields.specs.FieldNames.{address_name, nick_name, share_size_name, shared_files_name}
-pub use Rattle.inf_fields.specs.Merging.{followed_by, latest, leave, settled_fields}
+pub use Rattle.inf_fields.specs.Merging.{followed_by, is_empty_value, latest, leave, renewed, settled_fields}
 unfoldable pub use Rattle.inf_fields.specs.Merging.{merged_fields, merged_with}
 pub use Rattle.login_state.specs.Mentions.{ucmd}
 unfoldable pub use Rattle.login_state.specs.Requests.{request_at}
@@ -103,6 +104,7 @@ pub use Rattle.adc_line.specs.Lines as lines
 pub use Rattle.adc_line.specs.declared.header.Kind.TheVariants as kinds
 pub use Rattle.feature_route.specs.declared.hearers.Audience.TheVariants as audiences
 pub use Rattle.hub_rules.specs.declared.effect.HubChange.TheVariants as shared
+pub use Rattle.hub_rules.specs.declared.effect.SeatChange.TheVariants as seats
 pub use Rattle.hub_rules.specs.declared.effect.SenderChange.TheVariants as senders
 pub use Rattle.inf_fields.specs.Updates as updates
 pub use Rattle.login_state.specs.declared.deny.Deny.TheVariants as denials

@@ -3,7 +3,8 @@ use Rattle.std.specs.Prelude.{◌≡◌, ◌⊎◌, ◌≤◌, ℕ, List, [], �
 use Rattle.login_state.specs.declared.stage.Stage.TheVariants.{Gone, Normal}
 use Rattle.hub_rules.specs.declared.effect.Banned.{Banned}
 use Rattle.hub_rules.specs.declared.effect.Change.TheVariants.{Hub}
-use Rattle.hub_rules.specs.declared.effect.HubChange.TheVariants.{Ban, Kick}
+use Rattle.hub_rules.specs.declared.effect.HubChange.TheVariants.{At, Ban}
+use Rattle.hub_rules.specs.declared.effect.SeatChange.TheVariants as seats
 use Rattle.hub_rules.specs.declared.history.Call.{Call}
 use Rattle.hub_rules.specs.declared.history.Entry.{Entry}
 use Rattle.hub_rules.specs.Configured.{Configured}
@@ -27,6 +28,6 @@ OutIsForGood =
 abbrev pub KicksShutOut : Type 0
 KicksShutOut =
     (setup : Configured) (hash : List ℕ → List ℕ) (h : List Entry) (e : Entry) (d : ℕ) (banned : Banned) → stage setup hash h d ≡ Normal
-    → (change_of setup hash (facts setup hash h) e.call ≡ Hub (Kick (sid setup hash h d)))
+    → (change_of setup hash (facts setup hash h) e.call ≡ Hub (At (sid setup hash h d) seats.Gone))
     ⊎ ((change_of setup hash (facts setup hash h) e.call ≡ Hub (Ban banned)) × (banned.sid ≡ sid setup hash h d))
     → stage setup hash (e ∷ h) d ≡ Gone

@@ -11,7 +11,7 @@ use Rattle.hub_rules.specs.Facts.{facts}
 use Rattle.hub_rules.specs.History.{info, lags, lines_owed, sid, stage}
 use Rattle.hub_rules.specs.Identities.{key_in}
 use Rattle.hub_invariants.specs.Lagging.{share}
-use Rattle.hub_rules.specs.Shares.{is_removed}
+use Rattle.hub_invariants.specs.Afterwards.{is_removed}
 use Rattle.hub_rules.specs.Texts.{done_line, removal_line}
 use Rattle.hub_invariants.specs.World.{change_of}
 use Rattle.hub_laws.specs.Telling.{Asks, reason_of}

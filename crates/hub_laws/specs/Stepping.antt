@@ -26,7 +26,7 @@ use Rattle.hub_rules.specs.Facts.{Facts, facts, has_joins, has_place, own_of, si
 use Rattle.hub_rules.specs.History.{stage}
 use Rattle.hub_rules.specs.Prepared.{prepared_line}
 use Rattle.hub_rules.specs.Requests.{request_of}
-use Rattle.hub_rules.specs.Shares.{is_removed}
+use Rattle.hub_invariants.specs.Afterwards.{is_removed}
 use Rattle.hub_rules.specs.Sights.{Own, PreparedLine, Sight, is_account, user_after}
 use Rattle.hub_invariants.specs.World.{change_of}
 

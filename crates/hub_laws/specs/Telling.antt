@@ -9,6 +9,7 @@ use Rattle.hub_rules.specs.Acts.{text_in}
 use Rattle.hub_rules.specs.declared.effect.Change.TheVariants.{Hub}
 use Rattle.hub_rules.specs.declared.effect.HubChange.{HubChange}
 use Rattle.hub_rules.specs.declared.effect.HubChange.TheVariants as shared
+use Rattle.hub_rules.specs.declared.effect.SeatChange.TheVariants as seats
 use Rattle.hub_rules.specs.declared.history.Call.{Call}
 use Rattle.hub_rules.specs.declared.history.Call.TheVariants.{Line}
 use Rattle.hub_rules.specs.declared.history.Entry.{Entry}
@@ -22,7 +23,7 @@ use Rattle.hub_invariants.specs.World.{change_of}
 
 -- the line that tells of it: who was shut out, by which operator, for how long and why; or the new topic
 abbrev pub news_of : HubChange → ℕ → List ℕ → List (List ℕ)
-news_of (shared.Kick target) operator reason = removal_line target operator None reason ∷ []
+news_of (shared.At target seats.Gone) operator reason = removal_line target operator None reason ∷ []
 news_of (shared.Ban banned) operator reason = removal_line banned.sid operator (Some banned.ban.seconds) reason ∷ []
 news_of (shared.Unban cid) operator reason = []
 news_of (shared.Topic text) operator reason = topic_line text ∷ []

@@ -18,6 +18,7 @@ use Rattle.hub_rules.specs.declared.effect.Effect.{Effect}
 use Rattle.hub_rules.specs.declared.effect.Hearers.TheVariants.{Those}
 use Rattle.hub_rules.specs.declared.effect.HubChange.{HubChange}
 use Rattle.hub_rules.specs.declared.effect.HubChange.TheVariants as shared
+use Rattle.hub_rules.specs.declared.effect.SeatChange.TheVariants as seats
 use Rattle.hub_rules.specs.Accounts.{operates}
 use Rattle.hub_rules.specs.Identities.{meaning, key_in, key_of_points}
 use Rattle.hub_rules.specs.Quiet.{nothing}
@@ -51,7 +52,7 @@ abbrev pub if_present : Option Listed → (Listed → Result Done Deny) → Resu
 if_present user command = option_map_or command user (Err denials.NoUser)
 
 abbrev pub kick : ℕ → List ℕ → Listed → Result Done Deny
-kick operator reason user = Ok (record { others = removal_line user.sid operator None reason ∷ []; change = shared.Kick user.sid })
+kick operator reason user = Ok (record { others = removal_line user.sid operator None reason ∷ []; change = shared.At user.sid seats.Gone })
 
 abbrev pub banned_for : ℕ → ℕ → Listed → Banned
 banned_for seconds now user = record { sid = user.sid; cid = user.cid; ban = record { seconds = seconds; moment = now } }

@@ -1,6 +1,6 @@
 -- The sum of the calls so far. A history is a list of entries, written **newest first**: `e ∷ h` is the history h
 -- and then the entry e. So 'h begins with s' says that s is an end of the list h.
-use Rattle.std.specs.Prelude.{ℕ, ◌+◌, ◌==◌, ◌&&◌, not, nat_le, Bool, false, List, [], ◌∷◌, ◌++◌, length, map, take, filter, if◌then◌else◌}
+use Rattle.std.specs.Prelude.{ℕ, ◌+◌, ◌==◌, ◌&&◌, not, nat_le, Bool, true, false, List, [], ◌∷◌, ◌++◌, length, map, take, filter, if◌then◌else◌}
 use Rattle.adc_base32.specs.Turns.{next_free}
 use Rattle.login_state.specs.declared.stage.Stage.TheVariants as stages
 use Rattle.operator_acts.specs.Bans.{with_ban, without_ban}
@@ -10,7 +10,6 @@ use Rattle.hub_rules.specs.declared.effect.Change.{Change}
 use Rattle.hub_rules.specs.declared.effect.Change.TheVariants.{Hub}
 use Rattle.hub_rules.specs.declared.effect.Effect.{Effect}
 use Rattle.hub_rules.specs.declared.effect.HubChange.TheVariants as shared
-use Rattle.hub_rules.specs.declared.effect.SenderChange.TheVariants as senders
 use Rattle.hub_rules.specs.declared.history.Call.{Call}
 use Rattle.hub_rules.specs.declared.history.Call.TheVariants.{Join, Line, Quit, Take}
 use Rattle.hub_rules.specs.declared.history.Entry.{Entry}
@@ -19,7 +18,7 @@ use Rattle.hub_rules.specs.Effects.{line_effect, departure, is_present}
 use Rattle.hub_rules.specs.Identities.{listed_user}
 use Rattle.hub_rules.specs.Prepared.{prepared_line}
 use Rattle.hub_rules.specs.Senders.{new_sender}
-use Rattle.hub_rules.specs.Shares.{About, affected_connection, waiting, stage_after}
+use Rattle.hub_rules.specs.Shares.{About, affected_connection, changed_by_sender, waiting}
 use Rattle.hub_rules.specs.Sights.{Sight, Own}
 
 -- what belongs to the hub
@@ -38,16 +37,7 @@ pub record Facts : Type 0 where
 
 -- a connection that never joined
 abbrev pub nobody : About
-nobody = record {
-  owner = 0;
-  sender = new_sender 0 [] [];
-  stage = stages.Gone;
-  fields = [];
-  expected = [];
-  owed = [];
-  taken = 0;
-  lags = false;
-}
+nobody = record { owner = 0; sender = new_sender 0 [] []; stage = stages.Gone; fields = []; expected = []; owed = []; taken = 0; lags = false }
 
 -- before the first call
 abbrev pub start : Configured → Facts
@@ -76,7 +66,7 @@ effect_of_line setup hash f c bytes now =
 -- ---- what an effect does
 
 abbrev pub enters : Change → Bool
-enters change = is_present (stage_after change stages.Gone)
+enters change = is_present (changed_by_sender true change nobody).stage
 
 -- the connections after an effect of connection c
 abbrev pub about_after : ℕ → Effect → (ℕ → About) → ℕ → About

@@ -61,23 +61,16 @@ is_bad_nick nick = option_map_or (λ (word : List ℕ). not (is_nick (chars (mea
 
 -- ---- entering
 
-abbrev pub is_ever : Left → Bool
-is_ever lefts.Ever = true
-is_ever left_of_bans = false
-
-abbrev pub seconds_of : Left → ℕ
-seconds_of (lefts.For seconds) = seconds
-seconds_of left_of_bans = 0
-
-abbrev pub is_timed : Left → Bool
-is_timed (lefts.For seconds) = true
-is_timed left_of_bans = false
+-- a ban that lasts still
+abbrev pub ban_ground : Left → Bool × Deny
+ban_ground lefts.Free = (false, denials.BannedEver)
+ban_ground lefts.Ever = (true, denials.BannedEver)
+ban_ground (lefts.For seconds) = (true, denials.BannedFor seconds)
 
 -- of a user who is to enter: what may have changed since its login, once its password is right
 unfoldable pub entry_grounds : Sight → ℕ → Listed → List (Bool × Deny)
 entry_grounds hub now user =
-    (is_ever (left_of_bans hub.bans user.cid now), denials.BannedEver)
-    ∷ (is_timed (left_of_bans hub.bans user.cid now), denials.BannedFor (seconds_of (left_of_bans hub.bans user.cid now)))
+    ban_ground (left_of_bans hub.bans user.cid now)
     ∷ (is_here (has_key user.key) hub, denials.NickTaken Fatal)
     ∷ (is_here (has_cid user.cid) hub, denials.CidTaken)
     ∷ []
@@ -106,8 +99,7 @@ entrant_grounds hub own now digest u user =
     ∷ number_ground Fatal fields.SharedFiles u
     ∷ (not (is_digest user.cid digest), denials.BadPid)
     ∷ (not (is_nick (chars (nick_in u))), denials.BadNick Fatal)
-    ∷ (is_ever (left_of_bans hub.bans user.cid now), denials.BannedEver)
-    ∷ (is_timed (left_of_bans hub.bans user.cid now), denials.BannedFor (seconds_of (left_of_bans hub.bans user.cid now)))
+    ∷ ban_ground (left_of_bans hub.bans user.cid now)
     ∷ (is_wrong_address own.sender.peer (value_or_empty address_name u), denials.Address Fatal own.sender.peer)
     ∷ (hub.setup.registered_only && not (is_account hub user.key), denials.Registered)
     ∷ (is_here (has_key user.key) hub, denials.NickTaken Fatal)

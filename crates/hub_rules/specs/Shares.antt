@@ -1,5 +1,5 @@
 -- The share of each connection in one effect, and the connection after it.
-use Rattle.std.specs.Prelude.{ℕ, ◌==◌, ◌&&◌, ◌||◌, not, Bool, false, List, [], ◌++◌, drop, if◌then◌else◌, nat_le, length, ◌+◌}
+use Rattle.std.specs.Prelude.{ℕ, ◌==◌, ◌&&◌, ◌||◌, not, Bool, true, List, [], ◌++◌, drop, Option, Some, None, if◌then◌else◌, nat_le, length, ◌+◌}
 use Rattle.feature_route.specs.Audiences.{holds}
 use Rattle.inf_fields.specs.Field.{Field}
 use Rattle.inf_fields.specs.Merging.{merged_with}
@@ -12,11 +12,13 @@ use Rattle.hub_rules.specs.declared.effect.Effect.{Effect}
 use Rattle.hub_rules.specs.declared.effect.Hearers.{Hearers}
 use Rattle.hub_rules.specs.declared.effect.Hearers.TheVariants.{Others, Those}
 use Rattle.hub_rules.specs.declared.effect.HubChange.TheVariants as shared
+use Rattle.hub_rules.specs.declared.effect.SeatChange.{SeatChange}
+use Rattle.hub_rules.specs.declared.effect.SeatChange.TheVariants as seats
+use Rattle.hub_rules.specs.declared.effect.SenderChange.{SenderChange}
 use Rattle.hub_rules.specs.declared.effect.SenderChange.TheVariants as senders
 use Rattle.hub_rules.specs.declared.sender.Sender.{Sender}
 use Rattle.hub_rules.specs.Effects.{is_present}
 use Rattle.hub_rules.specs.Identities.{su_in}
-use Rattle.hub_rules.specs.Senders.{own_change, sender_after}
 
 -- what belongs to one connection
 pub record About : Type 0 where
@@ -77,42 +79,37 @@ owes is_caller effect a = (if hears is_caller effect.hearers a then effect.other
 
 -- ---- what becomes of a connection
 
-abbrev pub stage_after : Change → Stage → Stage
-stage_after (changes.Sender (senders.Greets features)) stage = stages.Identify
-stage_after (changes.Sender (senders.Waits entrant expected)) stage = stages.Verify
-stage_after (changes.Sender senders.Enters) stage = stages.Normal
-stage_after (changes.Sender (senders.EntersAs entrant)) stage = stages.Normal
-stage_after (changes.Sender senders.Falls) stage = stages.Gone
-stage_after change stage = stage
+-- what its own line changes
+abbrev pub changed : SenderChange → About → About
+changed (senders.Greets features) a = record a { sender = record a.sender { features = features }; stage = stages.Identify }
+changed (senders.Learns features) a = record a { sender = record a.sender { features = features } }
+changed (senders.Waits entrant expected) a = record a { stage = stages.Verify; fields = entrant.user.fields; expected = expected }
+changed senders.Enters a = record a { stage = stages.Normal; expected = [] }
+changed (senders.EntersAs entrant) a = record a { stage = stages.Normal; fields = entrant.user.fields }
+changed (senders.Updates revision) a = record a { fields = merged_with a.fields revision.update }
+changed (senders.Searches now) a = record a { sender = record a.sender { searched = Some now } }
+changed senders.Falls a = record a { stage = stages.Gone }
 
-abbrev pub fields_after : Change → List Field → List Field
-fields_after (changes.Sender (senders.Waits entrant expected)) before = entrant.user.fields
-fields_after (changes.Sender (senders.EntersAs entrant)) before = entrant.user.fields
-fields_after (changes.Sender (senders.Updates revision)) before = merged_with before revision.update
-fields_after change before = before
+abbrev pub changed_by_sender : Bool → Change → About → About
+changed_by_sender true (changes.Sender change) a = changed change a
+changed_by_sender is_sender change a = a
 
-abbrev pub expected_after : Change → List ℕ → List ℕ
-expected_after (changes.Sender (senders.Waits entrant expected)) before = expected
-expected_after (changes.Sender senders.Enters) before = []
-expected_after change before = before
+-- the user whose connection an operator changes, by its session identifier, and the change
+abbrev pub change_at : Change → Option (ℕ × SeatChange)
+change_at (changes.Hub (shared.At sid change)) = Some (sid, change)
+change_at (changes.Hub (shared.Ban banned)) = Some (banned.sid, seats.Gone)
+change_at change = None
 
--- the user whom an operator shuts out
-abbrev pub is_removed : Change → ℕ → Bool
-is_removed (changes.Hub (shared.Kick sid)) own = own == sid
-is_removed (changes.Hub (shared.Ban banned)) own = own == banned.sid
-is_removed change own = false
+abbrev pub seat_changed : SeatChange → About → About
+seat_changed seats.Gone a = record a { stage = stages.Gone }
 
--- whether an operator shuts this connection out
-abbrev pub removed_by : Effect → About → Bool
-removed_by effect a = is_present a.stage && is_removed effect.change a.sender.sid
+abbrev pub changed_by_operator : Option (ℕ × SeatChange) → About → About
+changed_by_operator (Some (sid, change)) a = if is_present a.stage && (a.sender.sid == sid) then seat_changed change a else a
+changed_by_operator None a = a
 
--- A connection after an effect: it is owed its share; it changes where it sent the line; it is shut out where it is the user to be.
+-- A connection after an effect: it changes where it sent the line, or is the one that an operator changes; and it is owed its share.
 abbrev pub affected_connection : Bool → Effect → About → About
-affected_connection is_caller effect a = record a {
-  sender = sender_after (own_change is_caller effect.change) a.sender;
-  stage = if removed_by effect a then stages.Gone else if is_caller then stage_after effect.change a.stage else a.stage;
-  fields = if is_caller then fields_after effect.change a.fields else a.fields;
-  expected = if is_caller then expected_after effect.change a.expected else a.expected;
-  owed = owed_with a (owes is_caller effect a);
-  lags = lags_with a (owes is_caller effect a);
+affected_connection is_sender effect a = record (changed_by_operator (change_at effect.change) (changed_by_sender is_sender effect.change a)) {
+  owed = owed_with a (owes is_sender effect a);
+  lags = lags_with a (owes is_sender effect a);
 }

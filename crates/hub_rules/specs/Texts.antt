@@ -21,9 +21,9 @@ support_line = with_line_feed (codes "ISUP ADBASE ADTIGR ADPING ADUCMD")
 unfoldable pub identifier_line : ℕ → List ℕ
 identifier_line sid = with_line_feed (codes "ISID " ++ sid_text sid)
 
--- the topic, where there is one
-abbrev pub topic_field : List ℕ → List ℕ
-topic_field topic = if length topic == 0 then [] else codes " DE" ++ escaped_text topic
+-- a text, where there is one
+abbrev pub text_field : List ℕ → List ℕ → List ℕ
+text_field name text = if length text == 0 then [] else name ++ escaped_text text
 
 -- what a client hears that asked about the hub: how many users are present and what they share, how many may come, how long the hub is open
 abbrev pub ping_fields : Totals → ℕ → ℕ → List ℕ
@@ -33,7 +33,7 @@ ping_fields totals max_users seconds =
 
 -- the hub itself
 unfoldable pub hub_line : Configured → List ℕ → List ℕ → List ℕ
-hub_line setup topic ping = with_line_feed (codes "IINF CT32 NI" ++ escaped_text setup.name ++ codes " VEadc-hub\\s1.0" ++ topic_field topic ++ ping)
+hub_line setup topic ping = with_line_feed (codes "IINF CT32 NI" ++ escaped_text setup.name ++ codes " VEadc-hub\\s1.0" ++ text_field (codes " DE") topic ++ ping)
 
 -- a new topic
 unfoldable pub topic_line : List ℕ → List ℕ
@@ -66,13 +66,10 @@ menu_line entry = with_line_feed (codes "ICMD " ++ escaped_text entry.name ++ co
 abbrev pub ban_field : Option ℕ → List ℕ
 ban_field seconds = option_map_or (λ (n : ℕ). if n == 0 then codes " TL-1" else codes " TL" ++ decimal n) seconds []
 
-abbrev pub reason_field : List ℕ → List ℕ
-reason_field reason = if length reason == 0 then [] else codes " MS" ++ escaped_text reason
-
 -- an operator shut a user out
 unfoldable pub removal_line : ℕ → ℕ → Option ℕ → List ℕ → List ℕ
 removal_line target operator seconds reason =
-    with_line_feed (codes "IQUI " ++ sid_text target ++ codes " ID" ++ sid_text operator ++ ban_field seconds ++ reason_field reason)
+    with_line_feed (codes "IQUI " ++ sid_text target ++ codes " ID" ++ sid_text operator ++ ban_field seconds ++ text_field (codes " MS") reason)
 
 -- an operator's command was carried out
 unfoldable pub done_line : List ℕ

@@ -96,11 +96,18 @@ impl Topic {
     }
 }
 
-/// A change of what all connections share, by an operator.
+/// A change of the connection of a user who is present, by an operator.
+#[derive(Clone, Copy)]
+pub enum SeatChange {
+    /// The removal of the user: the connection is shut out.
+    Gone,
+}
+
+/// A change of one user's connection or of what all connections share, by an operator.
 #[derive(Drop)]
 pub enum HubChange {
-    /// The removal of this user, who is shut out.
-    Kick(Sid),
+    /// The connection of the user with this session identifier changes.
+    At(Sid, SeatChange),
     /// The removal of this user, and of whoever comes with its identifier.
     Ban(Banned),
     /// The end of a ban: this identifier is let in again.

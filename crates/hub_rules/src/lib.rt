@@ -7,7 +7,7 @@ mod refused;
 mod sender;
 
 pub use effect::{
-    Banned, Change, Effect, Entrant, Hearers, HubChange, Revision, SenderChange, Topic,
+    Banned, Change, Effect, Entrant, Hearers, HubChange, Revision, SeatChange, SenderChange, Topic,
 };
 pub use history::{Call, Entry, Reply, Verdict};
 pub use refused::LineRefused;

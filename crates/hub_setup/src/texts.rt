@@ -1,7 +1,7 @@
-ghost use Rattle.std.specs.Prelude.{◌≡◌, ◌++◌, IfOk, OnOk};
+ghost use Rattle.std.specs.Prelude.{◌≡◌, ◌++◌, codes, IfOk, OnOk};
 ghost use Rattle.std.specs.String.{string_bytes};
 ghost use Rattle.login_state.specs.Denials as denials;
-ghost use Rattle.hub_rules.specs.Texts.{challenge_line, done_line, with_line_feed, hub_line, identifier_line, ping_fields, support_line, topic_field, topic_line};
+ghost use Rattle.hub_rules.specs.Texts.{challenge_line, done_line, with_line_feed, hub_line, identifier_line, ping_fields, support_line, text_field, topic_line};
 
 use crate::setup::Setup;
 use adc_base32::{Sid, encode24};
@@ -46,7 +46,7 @@ pub fn hub_line(alloc: Global, setup: &Setup, topic: &str, ping: &str) -> Result
 
 /// Adds the topic, where there is one.
 fn push_topic(alloc: Global, line: &mut Vec<u8>, topic: &str) -> Result<(), AllocError>
-    ensures { OnOk result (line.new.items ≡ line.old.items ++ topic_field topic.now) }
+    ensures { OnOk result (line.new.items ≡ line.old.items ++ text_field (codes " DE") topic.now) }
 {
     if topic.is_empty() {
         return Ok(());

@@ -1,7 +1,7 @@
 ghost use Rattle.std.specs.Prelude.{◌≡◌, ◌++◌, codes, IfOk, OnOk};
 ghost use Rattle.std.specs.Fmt.{decimal};
 ghost use Rattle.std.specs.Option.{option_copied};
-ghost use Rattle.hub_rules.specs.Texts.{ban_field, client_type, reason_field, removal_line, update_line, user_line};
+ghost use Rattle.hub_rules.specs.Texts.{ban_field, client_type, removal_line, text_field, update_line, user_line};
 
 use crate::accounts::Registered;
 use crate::texts::with_line_feed;
@@ -115,7 +115,7 @@ fn push_seconds(alloc: Global, line: &mut Vec<u8>, seconds: u32) -> Result<(), A
 
 /// Adds the reason, where there is one.
 fn push_reason(alloc: Global, line: &mut Vec<u8>, reason: &str) -> Result<(), AllocError>
-    ensures { OnOk result (line.new.items ≡ line.old.items ++ reason_field reason.now) }
+    ensures { OnOk result (line.new.items ≡ line.old.items ++ text_field (codes " MS") reason.now) }
 {
     if reason.is_empty() {
         return Ok(());

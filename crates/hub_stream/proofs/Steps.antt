@@ -1,4 +1,5 @@
 -- The calls of the one caller, as entries of its history.
+use Rattle.hub_invariants.proofs.Becoming.{parts}
 use Rattle.std.proofs.Common.{◌≡◌, ◌∙◌, sym, ap, ap₂, refl, subst, ℕ, ◌+◌, ◌<◌, ◌≤◌, Bool, true, false, ◌&&◌, ◌||◌, List, [], ◌∷◌, ◌++◌, length, take, drop, map, arith, append-nil, length-take, length-drop, inl, inr}
 use Rattle.std.proofs.lemmas.Bool.{false≢true}
 use Rattle.std.proofs.lemmas.List.{take-append-le, take-append-drop}
@@ -58,7 +59,8 @@ taken-kept false taken owed share within = refl
 affected-kept : (effect : Effect) (a : About) → a.taken ≤ length a.owed → IsKept a (affected_connection true effect a)
 unfolding owed_with
 affected-kept effect a within =
-    record { owner = refl; challenge = refl; taken = taken-kept (has_room a (owes true effect a)) a.taken a.owed (owes true effect a) within }
+    subst (IsKept a) (sym (parts true effect a))
+    (record { owner = refl; challenge = refl; taken = taken-kept (has_room a (owes true effect a)) a.taken a.owed (owes true effect a) within })
 
 -- a take that gave fewer lines than it might leaves none
 given-all : (count : ℕ) (a : About) → a.taken ≤ length a.owed → length (take count (waiting a)) < count → (with_lines_taken count a).taken ≡ length (with_lines_taken count a).owed

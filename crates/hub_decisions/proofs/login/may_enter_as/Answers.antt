@@ -1,4 +1,4 @@
-use Rattle.std.proofs.Common.{◌≡◌, ◌∙◌, sym, ap}
+use Rattle.std.proofs.Common.{◌∙◌, sym, ap}
 use Rattle.hub_rules.specs.Grounds.{first_ground}
 use Rattle.hub_decisions.proofs.login.may_enter_as.Goals as goal
 

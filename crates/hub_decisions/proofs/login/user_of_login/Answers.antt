@@ -1,4 +1,4 @@
-use Rattle.std.proofs.Common.{◌≡◌, ◌∙◌, sym, ap, ap₂, List, []}
+use Rattle.std.proofs.Common.{◌≡◌, ◌∙◌, sym, ap, ap₂, List}
 use Rattle.std.specs.String.{string_bytes}
 use Rattle.inf_fields.specs.Cleaning.{clean}
 use Rattle.inf_fields.specs.Field.{Field}

@@ -1,9 +1,8 @@
 use Rattle.std.proofs.Common.{◌≡◌, ◌∙◌, refl, ap, ap₂, not}
-use Rattle.login_state.specs.declared.deny.Deny.TheVariants as denials
 use Rattle.operator_acts.specs.Bans.{left_of_bans}
 use Rattle.user_table.specs.Listed.{Listed}
 use Rattle.user_table.specs.Tables.{has_cid, has_key}
-use Rattle.hub_rules.specs.Grounds.{entry_grounds, is_ever, is_timed, seconds_of}
+use Rattle.hub_rules.specs.Grounds.{ban_ground, entry_grounds}
 use Rattle.hub_rules.specs.Sights.{Sight, is_here}
 use Rattle.hub_decisions.proofs.GroundLists.{before, by-test}
 use Rattle.hub_decisions.proofs.password.password_grounds.Goals as goal
@@ -16,8 +15,7 @@ returns c =
     let left : c.left-left.result ≡ left_of_bans hub.bans user.cid c.args.now =
     c.left-left.ensures ∙ ap₂ (λ (h : Sight) i. left_of_bans h.bans i c.args.now) c.hub.view_is c.cid.ensures in
     before (by-test _ (ap not c.is_expected.ensures))
-    (before (by-test _ (c.is_ever.ensures ∙ ap is_ever left))
-    (before (ap₂ (λ t s. (t, denials.BannedFor s)) (c.is_timed.ensures ∙ ap is_timed left) (c.seconds_of.ensures ∙ ap seconds_of left))
+    (before (c.ban_ground.ensures ∙ ap ban_ground left)
     (before (by-test _ (c.has_key.ensures ∙ ap (λ k. is_here (has_key k) hub) c.key.ensures))
     (before (by-test _ (c.has_cid.ensures ∙ ap (λ i. is_here (has_cid i) hub) c.cid-2.ensures))
-    refl))))
+    refl)))

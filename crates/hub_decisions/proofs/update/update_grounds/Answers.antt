@@ -1,5 +1,5 @@
-use Rattle.std.proofs.Common.{◌≡◌, ◌∙◌, refl, sym, ap, ap₂, not, List}
-use Rattle.std.specs.Option.{option_copied, unwrap_or}
+use Rattle.std.proofs.Common.{◌≡◌, ◌∙◌, refl, ap, ap₂, not, List}
+use Rattle.std.specs.Option.{unwrap_or}
 use Rattle.inf_fields.specs.Field.{Field, value_of}
 use Rattle.inf_fields.specs.FieldNames.{id_name}
 use Rattle.inf_fields.specs.Merging.{fits}
