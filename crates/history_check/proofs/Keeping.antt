@@ -9,7 +9,9 @@ use Rattle.hub_rules.specs.declared.history.Call.TheVariants.{Line, Quit, Take}
 use Rattle.hub_rules.specs.declared.history.Entry.{Entry}
 use Rattle.hub_rules.specs.declared.history.Reply.{Reply}
 use Rattle.hub_rules.specs.Configured.{Configured}
-use Rattle.hub_rules.specs.Facts.{Facts, after, without_connection, facts, with_lines_taken, happens}
+use Rattle.hub_rules.specs.Facts.{Facts, after, effect_of_line, without_connection, facts, with_lines_taken}
+use Rattle.hub_rules.specs.Effects.{departure}
+use Rattle.hub_invariants.proofs.Becoming.{happens-parts}
 use Rattle.hub_rules.specs.Shares.{About}
 
 -- who joined a connection, and with which challenge
@@ -28,12 +30,15 @@ pub record Kept (after f : Facts) : Type 0 where
 
 pub line-kept : (setup : Configured) (hash : List ℕ → List ℕ) (f : Facts) (caller c : ℕ) (bytes : List ℕ) (now : ℕ)
     → Kept (after setup hash f caller (Line c bytes now)) f
-unfolding after happens
-line-kept setup hash f caller c bytes now = record { joins = refl; alike = λ d. record { owner = refl; challenge = refl } }
+unfolding after
+line-kept setup hash f caller c bytes now =
+    subst (λ g. Kept g f) (sym (happens-parts c (effect_of_line setup hash f c bytes now) f)) (record { joins = refl; alike = λ d. record { owner = refl; challenge = refl } })
 
 pub quit-kept : (setup : Configured) (hash : List ℕ → List ℕ) (f : Facts) (caller c : ℕ) → Kept (after setup hash f caller (Quit c)) f
-unfolding after without_connection happens
-quit-kept setup hash f caller c = record { joins = refl; alike = λ d. record { owner = refl; challenge = refl } }
+unfolding after without_connection
+quit-kept setup hash f caller c =
+    subst (λ g. Kept (without_connection c g) f) (sym (happens-parts c (departure (f.about c).stage (f.about c).sender.sid) f))
+    (record { joins = refl; alike = λ d. record { owner = refl; challenge = refl } })
 
 pub take-kept : (setup : Configured) (hash : List ℕ → List ℕ) (f : Facts) (caller c count : ℕ) → Kept (after setup hash f caller (Take c count)) f
 unfolding after

@@ -1,7 +1,6 @@
 -- As many connections as there are identifiers join and leave, one after another: by induction.
 use Rattle.std.proofs.Common.{◌≡◌, ◌∙◌, ap, refl, sym, subst, ℕ, zero, suc, ◌+◌, ◌<◌, ◌≤◌, true, false, not, ◌||◌, List, [], ◌∷◌, codes, arith}
 use Rattle.std.specs.Prelude.{◌==◌, nat_le, if◌then◌else◌, cond}
-use Rattle.std.proofs.lemmas.Bool.Decides.{nat_tests}
 use Rattle.adc_base32.specs.Turns.{following}
 use Rattle.hub_rules.specs.declared.effect.Effect.{Effect}
 use Rattle.hub_rules.specs.declared.history.Call.{Call}

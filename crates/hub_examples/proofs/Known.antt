@@ -1,11 +1,12 @@
 -- The state of a hub as worked conversations carry it on: the connections that joined are a list.
-use Rattle.std.proofs.Common.{◌≡◌, ◌∙◌, ap, refl, sym, ℕ, ◌≤◌, ◌+◌, suc, Bool, true, false, ◌&&◌, List, [], ◌∷◌, ◌++◌, length, arith}
+use Rattle.std.proofs.Common.{◌≡◌, ◌∙◌, ap, refl, sym, ℕ, ◌≤◌, ◌+◌, suc, Bool, true, false, ◌&&◌, List, [], ◌∷◌, ◌++◌, length, arith, Option, Some, None}
 use Rattle.std.specs.Prelude.{◌==◌, nat_le, cond}
 use Rattle.std.proofs.lemmas.Bool.Decides.{nat_tests}
 use Rattle.operator_acts.specs.declared.ban.Ban.{Ban}
 use Rattle.hub_rules.specs.declared.effect.Effect.{Effect}
 use Rattle.hub_rules.specs.Facts.{Facts, bans_after, with_lines_taken, happens, with_connection, newcomer, next_sid, nobody, present_after, topic_after, with_one}
-use Rattle.hub_rules.specs.Shares.{About, affected_connection, lags_with, owed_with}
+use Rattle.hub_rules.specs.declared.effect.SeatChange.{SeatChange}
+use Rattle.hub_rules.specs.Shares.{About, affected_connection, change_at, changed_by_operator, lags_with, owed_with, owes}
 
 pub record Known : Type 0 where
   pub last : ℕ
@@ -89,9 +90,14 @@ known-among : (c d : ℕ) (k : Known) → is_known c k ≡ true → IsAmong c d 
 known-among c d k known is =
     let both = and-both (nat_le 1 c) (nat_le c (length k.abouts)) known in (grind (arith, nat_tests, both.0), grind (arith, nat_tests, both.1))
 
+nobody-changed : (at : Option (ℕ × SeatChange)) → changed_by_operator at nobody ≡ nobody
+nobody-changed (Some (sid, change)) = refl
+nobody-changed None = refl
+
 nobody-affected : (effect : Effect) → affected_connection false effect nobody ≡ nobody
 unfolding owed_with lags_with
-nobody-affected effect = refl
+nobody-affected effect =
+    ap (λ (a : About). record a { owed = owed_with nobody (owes false effect nobody); lags = lags_with nobody (owes false effect nobody) }) (nobody-changed (change_at effect.change))
 
 pub happens-known : (c : ℕ) (effect : Effect) (k : Known) → is_known c k ≡ true → happens c effect (facts_of k) ≡ facts_of (with_effect c effect k)
 unfolding happens

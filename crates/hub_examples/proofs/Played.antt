@@ -27,7 +27,7 @@ use Rattle.hub_rules.specs.Legal.{Legal, MayCall, is_open, join_reply, reply, ta
 use Rattle.hub_rules.specs.Prepared.{owner_digest, password_digest, password_of, prepared_line, update_of}
 use Rattle.hub_rules.specs.Quiet.{nothing}
 use Rattle.hub_rules.specs.Sights.{PreparedLine}
-use Rattle.hub_examples.proofs.Known.{Known, about_in, facts_of, happens-known, is_known, joins-known, same-number, taken-known, with_effect, with_newcomer, with_taken}
+use Rattle.hub_examples.proofs.Known.{Known, about_in, facts_of, happens-known, is_known, joins-known, taken-known, with_effect, with_newcomer, with_taken}
 
 -- ---- the hash
 
