@@ -1,5 +1,6 @@
 -- A call changes neither who joined a connection nor the challenge that it was given.
-use Rattle.std.proofs.Common.{◌≡◌, ◌∙◌, sym, ap, refl, ℕ, ◌+◌, ◌≤◌, Bool, true, false, ◌&&◌, ◌||◌, ◌==◌, List, [], ◌∷◌, ◌++◌, arith, cond}
+use Rattle.hub_invariants.proofs.Becoming.{about-parts}
+use Rattle.std.proofs.Common.{◌≡◌, ◌∙◌, sym, ap, refl, ℕ, ◌+◌, ◌≤◌, Bool, true, false, ◌&&◌, ◌||◌, ◌==◌, List, [], ◌∷◌, ◌++◌, arith, cond, subst}
 use Rattle.std.proofs.lemmas.Bool.{false≢true, eqb-true, eq-eqb}
 use Rattle.hub_rules.specs.declared.effect.Effect.{Effect}
 use Rattle.hub_rules.specs.declared.history.Call.{Call}
@@ -29,7 +30,7 @@ then a b c x y = record { owner = x.owner ∙ y.owner; challenge = x.challenge �
 
 happens-same : (c : ℕ) (effect : Effect) (f : Facts) (d : ℕ) → Same ((happens c effect f).about d) (f.about d)
 unfolding happens
-happens-same c effect f d = record { owner = refl; challenge = refl }
+happens-same c effect f d = subst (λ a. Same a (f.about d)) (sym (about-parts c effect f.about d)) (record { owner = refl; challenge = refl })
 
 given-same : (count : ℕ) (a : About) (is : Bool) → Same (cond is (with_lines_taken count a) a) a
 given-same count a true = record { owner = refl; challenge = refl }
