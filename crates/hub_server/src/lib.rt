@@ -4,17 +4,20 @@
 mod accepted;
 mod acceptor;
 mod connection;
+mod entries;
 mod free_slot;
 mod left_slot;
-mod serve;
+mod lifetime;
+mod listening;
 mod served_slot;
 mod server;
 mod task;
 mod tasks;
 
 pub use connection::{Connection, HubSession, SlotBell, serve_connection};
+pub use entries::{serve_at, serve_for_journal, serve_on};
 pub use free_slot::{FreeSlot, OfHub};
 pub use left_slot::LeftSlot;
-pub use serve::{serve_at, serve_for_journal, serve_hub, serve_on};
+pub use lifetime::serve_hub;
 pub use server::Server;
 pub use task::cause_of;

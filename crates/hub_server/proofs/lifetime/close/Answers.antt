@@ -1,5 +1,5 @@
 use Rattle.hub_server.proofs.Closing.{served-of}
-use Rattle.hub_server.proofs.serve.close.Goals as goal
+use Rattle.hub_server.proofs.lifetime.close.Goals as goal
 
 pub returns-clause-all : goal.returns-clause-all
 returns-clause-all g c =

@@ -1,4 +1,4 @@
-use Rattle.hub_server.proofs.serve.run.Goals as goal
+use Rattle.hub_server.proofs.lifetime.run.Goals as goal
 
 -- all that came back are of the hub that is named
 pub returns-clause-visitors : goal.returns-clause-visitors

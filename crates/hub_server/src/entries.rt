@@ -1,0 +1,233 @@
+use crate::lifetime::serve_hub;
+use hub_endings::Ending;
+use hub_listener::{Bind, moment};
+use hub_settings::Settings;
+use hub_shared::Report;
+use hub_warnings::{End, Journal, Moment, Warnings};
+use log::{Level, Log, Logged, info};
+use session_hash::SessionHash;
+use std::alloc::AllocGlobal;
+use std::io::Write;
+use std::net::Net;
+use std::random::RandomSource;
+use std::sync::{Arc, Wait};
+use std::thread::Threads;
+use std::time::Clock;
+
+/// Serves a hub with these settings, this hash, and challenges of this seed, and gives the exit status.
+///
+/// On `output` it says `listening` and the address that was bound, as `a.b.c.d:port`, once all of its tasks came to be, and
+/// at the end `joins`, the number of joins that were accepted, `present 0`. On `errors` goes a warning for each session
+/// that ends by a fault of its connection or for want of memory, with the time, the peer's address and the cause. One more goes
+/// there at the start where the system allows fewer descriptors than as many users need as the settings admit. Who writes
+/// there waits: a writer that may take long is to keep the lines, as [`hub_warnings::QueueWriter`] does.
+///
+/// The status is 0 once as many connections were accepted as the settings say, and all are over. It is 3 where the address
+/// cannot be had, or accepting failed 64 times in a row by a fault of the listener. It is 4 where memory or threads cannot
+/// be had at the start, or the runtime cannot go on; 5 where the output failed. One line on `errors` says what went wrong.
+pub fn serve_on<H, R, W, E>(
+    rt: &R,
+    settings: &Settings,
+    hash: Arc<H>,
+    seed: [u8; 32],
+    output: &mut W,
+    errors: &mut E,
+) -> u8
+where
+    H: SessionHash + Send + Sync + Drop,
+    R: Wait + Threads + Clock + Net + RandomSource + AllocGlobal + Sync,
+    W: Write,
+    E: Write + Send,
+{
+    let address = settings.listen();
+    serve_at(rt, settings, hash, seed, address, output, errors)
+}
+
+/// Serves as [`serve_on`] does, but listens at this address, wherever the settings say to listen.
+pub fn serve_at<H, R, A, W, E>(
+    rt: &R,
+    settings: &Settings,
+    hash: Arc<H>,
+    seed: [u8; 32],
+    address: A,
+    output: &mut W,
+    errors: &mut E,
+) -> u8
+where
+    H: SessionHash + Send + Sync + Drop,
+    R: Wait + Threads + Clock + Net + RandomSource + AllocGlobal + Sync,
+    A: Bind,
+    W: Write,
+    E: Write + Send,
+{
+    run_to_status(rt, settings, hash, seed, address, None, output, errors)
+}
+
+/// Serves as [`serve_on`] does, where `errors` is the journal of systemd. Each warning begins with its priority there, as
+/// `<4>`. A line at the start has the version, the path of the settings' file, the address, and how many descriptors are
+/// needed and allowed; one at the end says why the server ended, and how many joins were accepted.
+pub fn serve_for_journal<H, R, W, E>(
+    rt: &R,
+    settings: &Settings,
+    settings_file: &str,
+    hash: Arc<H>,
+    seed: [u8; 32],
+    output: &mut W,
+    errors: &mut E,
+) -> u8
+where
+    H: SessionHash + Send + Sync + Drop,
+    R: Wait + Threads + Clock + Net + RandomSource + AllocGlobal + Sync,
+    W: Write,
+    E: Write + Send,
+{
+    let address = settings.listen();
+    let file = Some(settings_file);
+    run_to_status(rt, settings, hash, seed, address, file, output, errors)
+}
+
+/// Serves, for the journal where there is a path of the settings' file, which it names.
+fn run_to_status<H, R, A, W, E>(
+    rt: &R,
+    settings: &Settings,
+    hash: Arc<H>,
+    seed: [u8; 32],
+    address: A,
+    settings_file: Option<&str>,
+    output: &mut W,
+    errors: &mut E,
+) -> u8
+where
+    H: SessionHash + Send + Sync + Drop,
+    R: Wait + Threads + Clock + Net + RandomSource + AllocGlobal + Sync,
+    A: Bind,
+    W: Write,
+    E: Write + Send,
+{
+    let log = Logged::new(
+        (),
+        Level::Info,
+        Journal::new(rt, settings_file.is_some(), &mut *errors),
+    );
+    let ending = run_and_log_end(
+        rt,
+        settings,
+        &*hash,
+        seed,
+        address,
+        settings_file,
+        output,
+        log,
+    );
+    ending.tell(errors)
+}
+
+/// Serves with this log, and says there at the end, for the journal, why it ended.
+fn run_and_log_end<H, R, A, W, L>(
+    rt: &R,
+    settings: &Settings,
+    hash: &H,
+    seed: [u8; 32],
+    address: A,
+    settings_file: Option<&str>,
+    output: &mut W,
+    log: L,
+) -> Ending
+where
+    H: SessionHash + Send + Sync,
+    R: Wait + Threads + Clock + Net + RandomSource + AllocGlobal + Sync,
+    A: Bind,
+    W: Write,
+    L: Log + Sync + Drop,
+{
+    let warnings = Warnings::new(log);
+    let served = run_and_report(
+        rt,
+        settings,
+        hash,
+        seed,
+        address,
+        settings_file,
+        output,
+        &warnings,
+    );
+    if settings_file.is_some() {
+        say_end(rt, &warnings.log, &served);
+    }
+    drop(warnings);
+    match served {
+        Ok(_) => Ending::Served,
+        Err(ending) => ending,
+    }
+}
+
+/// Says why a server ended, and how many joins were accepted, for who reads the journal.
+fn say_end<R: Clock, L: Log>(rt: &R, log: &L, served: &Result<u64, Ending>) {
+    let (ending, joins) = match served {
+        Ok(joins) => (Ending::Served, Some(*joins)),
+        Err(ending) => (*ending, None),
+    };
+    let end = End {
+        moment: Moment::from_seconds(moment(rt)),
+        why: reason_of(ending),
+        joins,
+    };
+    info!(log; "{}", end);
+}
+
+/// Says why a server ended, for who reads the journal.
+fn reason_of(ending: Ending) -> &'static str {
+    match ending {
+        Ending::Served => "as many connections were served as stop_after says",
+        Ending::Address => "the address cannot be had, or accepting failed",
+        Ending::Memory => "memory or threads cannot be had",
+        Ending::Transfer => "standard output failed",
+        Ending::Usage | Ending::Tables => "it was not started",
+    }
+}
+
+/// Serves, says the report, and gives the number of joins that were accepted.
+fn run_and_report<H, R, A, W, L>(
+    rt: &R,
+    settings: &Settings,
+    hash: &H,
+    seed: [u8; 32],
+    address: A,
+    settings_file: Option<&str>,
+    output: &mut W,
+    warnings: &Warnings<L>,
+) -> Result<u64, Ending>
+where
+    H: SessionHash + Send + Sync,
+    R: Wait + Threads + Clock + Net + RandomSource + AllocGlobal + Sync,
+    A: Bind,
+    W: Write,
+    L: Log + Sync,
+{
+    let report = serve_hub(
+        rt,
+        settings,
+        hash,
+        seed,
+        address,
+        settings_file,
+        output,
+        warnings,
+    )?;
+    say_report(&report, output)?;
+    Ok(report.joins)
+}
+
+fn say_report<W: Write>(report: &Report, output: &mut W) -> Result<(), Ending> {
+    match writeln!(output, "joins {} present {}", report.joins, report.present) {
+        Ok(()) => flush(output),
+        Err(_) => Err(Ending::Transfer),
+    }
+}
+
+fn flush<W: Write>(output: &mut W) -> Result<(), Ending> {
+    match output.flush() {
+        Ok(()) => Ok(()),
+        Err(_) => Err(Ending::Transfer),
+    }
+}
