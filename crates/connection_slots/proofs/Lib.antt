@@ -5,3 +5,7 @@ pub mod Everybody
 pub mod Each
 pub mod LetGo
 pub mod Forgotten
+pub mod Mapped
+pub mod Patience
+pub mod Still
+pub mod Seen

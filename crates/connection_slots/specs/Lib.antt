@@ -1,3 +1,17 @@
+pub mod Amounts
+pub mod Backlogs
+pub mod Becomes
 pub mod Bells
+pub mod Clients
+pub mod Faults
+pub mod GivingWay
+pub mod HandOff
+pub mod Life
+pub mod Lingers
 pub mod Named
+pub mod Patience
 pub mod Rung
+pub mod Senders
+pub mod Sights
+pub mod Start
+pub mod Turns

@@ -1,6 +1,10 @@
 //! The causes for which no connection could be accepted.
 
-use std::io;
+ghost use Rattle.std.specs.Prelude.{◌≡◌, ◌≢◌};
+ghost use Rattle.std.specs.IoError.{error_kind, raw_os_error};
+ghost use Rattle.connection_slots.specs.Faults.{error_by};
+
+use std::io::{self, ErrorKind};
 
 /// The cause for which a listener's call failed.
 #[derive(Clone, Copy, Debug, PartialEq, Eq)]
@@ -16,11 +20,21 @@ pub enum AcceptError {
 }
 
 /// Tells them apart, by Linux's numbers.
-pub fn accept_error_of(error: &io::Error) -> AcceptError {
-    if error.kind() == io::ErrorKind::OutOfMemory {
-        return AcceptError::Memory;
+pub fn accept_error_of(error: &io::Error) -> AcceptError
+    ensures memory { error_kind error.now ≡ ErrorKind.OutOfMemory → result ≡ AcceptError.Memory }
+    ensures others { error_kind error.now ≢ ErrorKind.OutOfMemory → result ≡ error_by (raw_os_error error.now) }
+{
+    match error.kind() {
+        ErrorKind::OutOfMemory => AcceptError::Memory,
+        _ => error_of_number(error.raw_os_error()),
     }
-    match error.raw_os_error() {
+}
+
+/// Tells apart those that are no want of memory.
+fn error_of_number(number: Option<i32>) -> AcceptError
+    ensures { result ≡ error_by number }
+{
+    match number {
         // ENFILE, EMFILE, ENOSPC, ENOBUFS.
         Some(23 | 24 | 28 | 105) => AcceptError::Room,
         // EINTR, EAGAIN, ENONET, EPROTO, ENOPROTOOPT, EOPNOTSUPP, ENETDOWN, ENETUNREACH, ECONNABORTED, ENOTCONN,

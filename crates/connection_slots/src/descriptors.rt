@@ -1,5 +1,7 @@
 //! The descriptors that the system lets the program have.
 
+ghost use Rattle.std.specs.Prelude.{◌≡◌, ◌+◌};
+
 use libc::types::rlimit;
 
 /// The number of descriptors that are needed beside those of the connections: for sockets that linger or are refused, the
@@ -7,7 +9,9 @@ use libc::types::rlimit;
 const BESIDE: u64 = 32;
 
 /// Counts the descriptors that a server of so many users needs.
-pub fn descriptors_needed(users: u32) -> u64 {
+pub fn descriptors_needed(users: u32) -> u64
+    ensures { result ≡ users + 32 }
+{
     u64::from(users) + BESIDE
 }
 

@@ -1,7 +1,9 @@
-ghost use Rattle.futures.specs.Task.{IsArmed, Keeps};
+ghost use Rattle.std.specs.Prelude.{◌≡◌, ◌⊎◌, true, false, None, IfOk, IsSomeAnd};
+ghost use Rattle.futures.specs.Task.{IsArmed, Keeps, Wakes};
+ghost use Rattle.connection_slots.specs.Life.{opened, closed, opening};
 ghost use Rattle.futures.specs.Poll.{OnPending};
 
-use futures::spin::lock;
+use futures::spin::{GaveUp, lock, lock_or_give_up};
 use futures::task::{Context, Poll, Source, Waker};
 use std::sync::Mutex;
 
@@ -31,35 +33,107 @@ struct State {
     waker: Option<Waker>,
 }
 
+/// What a server was told.
+#[derive(Clone, Copy)]
+pub(crate) enum Told {
+    /// All of its tasks came to be.
+    Open,
+    /// Nobody comes any more, because of this where it is a fault.
+    Closed(Option<Fault>),
+}
+
+/// The word of what a server was told, which only its state gives.
+#[derive(Clone, Copy)]
+pub(crate) struct Word {
+    told: Told,
+}
+
+impl State {
+    fn new() -> State
+        ensures { result ≡ record { is_open = false; is_closed = false; fault = None; waker = None } }
+    {
+        State {
+            is_open: false,
+            is_closed: false,
+            fault: None,
+            waker: None,
+        }
+    }
+
+    /// Opens the server, and wakes who waits for it.
+    fn open(&mut self) -> Word
+        ensures opened { self.new ≡ opened self.old }
+        ensures word { result.told ≡ Told.Open }
+    {
+        self.is_open = true;
+        self.waker = None;
+        Word { told: Told::Open }
+    }
+
+    /// Closes the server, and wakes who waits for it.
+    fn close(&mut self, fault: Option<Fault>) -> Word
+        ensures closed { self.new ≡ closed fault self.old }
+        ensures word { result.told ≡ Told.Closed fault }
+    {
+        self.is_closed = true;
+        self.fault = self.fault.or(fault);
+        self.waker = None;
+        Word {
+            told: Told::Closed(fault),
+        }
+    }
+
+    /// Waits until it is open or closed, and answers whether it is open.
+    fn poll_open(&mut self, cx: &mut Context<'_>, source: &Source) -> Poll<bool>
+        ensures answered { result ≡ opening self.old }
+        ensures rests { OnPending result ((cx.new.lacks_waker ≡ true) ⊎ IsSomeAnd self.new.waker (λ waker. Wakes waker cx.old)) }
+        ensures registered { OnPending result (IsArmed cx.new) }
+        ensures kept { Keeps cx.old cx.new }
+        ensures life { self.new ≡ record self.old { waker = self.new.waker } }
+    {
+        if self.is_closed {
+            return Poll::Ready(false);
+        }
+        if self.is_open {
+            return Poll::Ready(true);
+        }
+        cx.register(source, &mut self.waker)
+    }
+}
+
 impl Lifecycle {
     /// Makes that of a server whose tasks are still to come.
     pub fn new() -> Lifecycle {
         Lifecycle {
             source: Source::new(),
-            state: Mutex::new(State {
-                is_open: false,
-                is_closed: false,
-                fault: None,
-                waker: None,
-            }),
+            state: Mutex::new(State::new()),
         }
     }
 
     /// Opens the server: all of its tasks came to be.
     pub fn open(&self) {
-        if let Some(mut state) = lock(&self.state) {
-            state.is_open = true;
-            state.waker = None;
-        }
+        let _ = self.open_by();
+    }
+
+    /// Opens the server, and gives the word that it is.
+    pub(crate) fn open_by(&self) -> Result<Word, GaveUp>
+        ensures { IfOk result (λ word. word.told ≡ Told.Open) }
+    {
+        let mut state = lock_or_give_up(&self.state)?;
+        Ok(state.open())
     }
 
     /// Closes the server, because of this where it is a fault. The first fault counts.
     pub fn close(&self, fault: Option<Fault>) {
-        if let Some(mut state) = lock(&self.state) {
-            state.is_closed = true;
-            state.fault = state.fault.or(fault);
-            state.waker = None;
-        }
+        let _ = self.close_by(fault);
+    }
+
+    /// Closes the server, and gives the word that it is.
+    pub(crate) fn close_by(&self, fault: Option<Fault>) -> Result<Word, GaveUp>
+        ensures { IfOk result (λ word. word.told ≡ Told.Closed fault) }
+    {
+        let mut state = lock_or_give_up(&self.state)?;
+        Ok(state.close(fault))
     }
 
     /// Gives the fault, where there was one.
@@ -73,15 +147,9 @@ impl Lifecycle {
         ensures registered { OnPending result (IsArmed cx.new) }
         ensures kept { Keeps cx.old cx.new }
     {
-        let Some(mut state) = lock(&self.state) else {
-            return cx.yield_now();
-        };
-        if state.is_closed {
-            return Poll::Ready(false);
+        match lock(&self.state) {
+            Some(mut state) => state.poll_open(cx, &self.source),
+            None => cx.yield_now(),
         }
-        if state.is_open {
-            return Poll::Ready(true);
-        }
-        cx.register(&self.source, &mut state.waker)
     }
 }

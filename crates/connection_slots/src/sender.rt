@@ -1,4 +1,7 @@
 //! What a sender gave of late, and for how long it gives way.
+ghost use Rattle.std.specs.Prelude.{◌≡◌, false, None};
+ghost use Rattle.connection_slots.specs.Senders.{given_before, given_of_late, with_given, may_spend, spent_at};
+
 use crate::backlog::PATIENCE;
 
 /// The number of lines that a sender may hand over that gave way for long. After as many for everybody it is looked who is
@@ -27,7 +30,9 @@ pub struct Given {
 
 impl Given {
     /// Makes that of a sender which gave nothing.
-    pub fn new() -> Given {
+    pub fn new() -> Given
+        ensures { result ≡ record { second = 0; now = 0; before = 0 } }
+    {
         Given {
             second: 0,
             now: 0,
@@ -36,7 +41,9 @@ impl Given {
     }
 
     /// Counts so many bytes in this second.
-    pub fn count(&mut self, second: u64, bytes: u64) {
+    pub fn count(&mut self, second: u64, bytes: u64)
+        ensures { self.new ≡ with_given second bytes self.old }
+    {
         if second != self.second {
             self.before = self.before_in(second);
             self.now = 0;
@@ -46,7 +53,9 @@ impl Given {
     }
 
     /// Gives what was given in this second and the one before.
-    pub fn of_late(&self, second: u64) -> u64 {
+    pub fn of_late(&self, second: u64) -> u64
+        ensures { result ≡ given_of_late self.entry.now second }
+    {
         if second == self.second {
             self.now.saturating_add(self.before)
         } else {
@@ -55,7 +64,9 @@ impl Given {
     }
 
     /// Gives what was given in the second before this one, which is not the last in which something was counted.
-    fn before_in(&self, second: u64) -> u64 {
+    fn before_in(&self, second: u64) -> u64
+        ensures { result ≡ given_before self.entry.now second }
+    {
         if second == self.second.saturating_add(1) {
             self.now
         } else {
@@ -76,7 +87,9 @@ pub struct Throttle {
 
 impl Throttle {
     /// Makes that of a sender that gives way to nobody.
-    pub fn new() -> Throttle {
+    pub fn new() -> Throttle
+        ensures { result ≡ record { since = None; left = 0; is_on_the_way = false } }
+    {
         Throttle {
             since: None,
             left: 0,
@@ -85,14 +98,19 @@ impl Throttle {
     }
 
     /// Begins anew, once nobody is behind.
-    pub fn open(&mut self) {
+    pub fn open(&mut self)
+        ensures { self.new ≡ record self.old { since = None; left = 0 } }
+    {
         self.since = None;
         self.left = 0;
     }
 
     /// Takes one of the lines that a sender may hand over at once, if there is one. At this tick there are 16 where it has
     /// given way for long enough.
-    pub fn spend(&mut self, tick: u64) -> bool {
+    pub fn spend(&mut self, tick: u64) -> bool
+        ensures may { result ≡ may_spend self.old tick }
+        ensures spent { self.new ≡ spent_at tick self.old }
+    {
         if let Some(left) = self.left.checked_sub(1) {
             self.left = left;
             return true;

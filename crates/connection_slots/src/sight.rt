@@ -1,4 +1,7 @@
 //! What is seen of the clients that are behind, and who may send then.
+ghost use Rattle.std.specs.Prelude.{◌≡◌};
+ghost use Rattle.connection_slots.specs.Sights.{with_client, would_be_behind, would_be_full, has_ration, rationed};
+
 use crate::amount::Amount;
 use crate::backlog::FAR_BEHIND;
 
@@ -37,7 +40,9 @@ impl Sight {
     };
 
     /// Adds somebody who is waited for, and for whom this waits.
-    pub fn add(&mut self, waiting: Amount, reads: bool) {
+    pub fn add(&mut self, waiting: Amount, reads: bool)
+        ensures { self.new ≡ with_client waiting reads self.old }
+    {
         self.most = self.most.or_more(waiting);
         if waiting.is_beyond(FAR_BEHIND) {
             self.is_behind = true;
@@ -51,19 +56,26 @@ impl Sight {
     }
 
     /// Answers whether somebody would be far behind with so many bytes more.
-    pub fn would_be_behind(&self, bytes: u64) -> bool {
+    pub fn would_be_behind(&self, bytes: u64) -> bool
+        ensures { result ≡ would_be_behind self.now bytes }
+    {
         self.is_behind || self.most.bytes.saturating_add(bytes) > FAR_BEHIND.bytes
     }
 
     /// Answers whether an outbox would be nearly full with so many bytes more.
-    pub fn would_be_full(&self, bytes: u64) -> bool {
+    pub fn would_be_full(&self, bytes: u64) -> bool
+        ensures { result ≡ would_be_full self.now bytes }
+    {
         self.most
             .plus(Amount { lines: 0, bytes })
             .is_beyond(NEARLY_FULL)
     }
 
     /// Takes a line of so many bytes of what may be handed over where an outbox is nearly full, if there is as much.
-    pub fn spend(&mut self, bytes: u64) -> bool {
+    pub fn spend(&mut self, bytes: u64) -> bool
+        ensures there { result ≡ has_ration self.old bytes }
+        ensures taken { self.new ≡ rationed bytes self.old }
+    {
         let line = Amount::of_line(bytes);
         if line.is_beyond(self.ration) {
             return false;

@@ -1,5 +1,7 @@
-ghost use Rattle.std.specs.Prelude.{◌≡◌, ◌≢◌, ◌<◌, ◌⊎◌, ℕ, true, false, None, Some, IsSomeAnd, length, IsTrue, slice_get};
-ghost use Rattle.futures.specs.Task.{IsArmed, Keeps};
+ghost use Rattle.std.specs.Prelude.{◌≡◌, ◌≢◌, ◌<◌, ◌+◌, ◌%◌, ◌^◌, ◌==◌, ◌⊎◌, ℕ, true, false, not, None, Some, IsSomeAnd, IfSome, is_some, length, IsTrue, slice_get};
+ghost use Rattle.futures.specs.Task.{IsArmed, Keeps, Wakes};
+ghost use Rattle.connection_slots.specs.Becomes.{OneBecomes};
+ghost use Rattle.connection_slots.specs.Clients.{newcomer_in, with_line_for, is_behind_at};
 ghost use Rattle.connection_slots.specs.Bells.{is_among};
 ghost use Rattle.connection_slots.specs.Named.{IsSetAt, IsNamed, OthersStayNamed, SameIndex, slot_at};
 ghost use Rattle.connection_slots.specs.Rung.{IsRung, HasHeard, IsAwake, Rests, OthersStay, SameSlots, StaysRung};
@@ -23,7 +25,7 @@ pub(crate) struct Slot {
     // It is among those that give way.
     pub(crate) is_held: bool,
     // That of its client; nobody is waited for where the slot is free.
-    backlog: Option<Backlog>,
+    pub(crate) backlog: Option<Backlog>,
     // What it gave of late to all, and to those who were far behind.
     pub(crate) given: Given,
     // The number of bytes of a long line of its own that is being said.
@@ -51,17 +53,37 @@ pub(crate) struct Slots {
     pub(crate) accept: AcceptWaker,
 }
 
-/// Answers whether the slot has a client that is far behind.
-fn is_far_behind(slot: &Slot, said: Amount) -> bool {
-    match &slot.backlog {
-        Some(backlog) => backlog.is_behind(said),
-        None => false,
-    }
+/// What was done to the slots.
+#[derive(Clone, Copy)]
+pub(crate) enum Deed {
+    /// The slot was given to another session: one with a client, or none.
+    Cleared(usize, bool),
+    /// The session of the slot is known by the identifier.
+    Named(usize, Sid),
+    /// The session with the identifier was woken for a line of so many bytes, which that of the slot gave it.
+    WokeOne(Sid, usize, u64),
+    /// Everybody was woken but the session of the slot.
+    WokeEverybody(usize),
+    /// The session of the slot was woken.
+    WokeSlot(usize),
+    /// It was looked whether the session of the slot was woken.
+    Looked(usize),
+    /// The accept task was called for help, or everybody but the session of the slot.
+    CalledForHelp(usize),
+    /// A tick passed in this second, for which so many were due, and who gave way was woken.
+    Ticked(u64, u64),
+}
+
+/// The word of what was done to the slots. Only they give it, as they do it.
+#[derive(Clone, Copy)]
+pub(crate) struct Receipt {
+    deed: Deed,
 }
 
 /// Takes the identifier from the index, if this slot stands under it.
 fn forget(places: &mut BTreeMap<Sid, usize>, sid: Option<Sid>, place: usize)
-    ensures { (other : ℕ) (slot : ℕ) → slot ≢ place → slot_at places.old.entries other ≡ Some slot → slot_at places.new.entries other ≡ Some slot }
+    ensures forgotten { IfSome sid (λ sid. slot_at places.new.entries sid ≢ Some place) }
+    ensures others { (other : ℕ) (slot : ℕ) → slot ≢ place → slot_at places.old.entries other ≡ Some slot → slot_at places.new.entries other ≡ Some slot }
 {
     let Some(sid) = sid else {
         return;
@@ -102,13 +124,19 @@ impl Slots {
     }
 
     /// Gives the slot to another session, of a client with this backlog, or to none.
-    pub(crate) fn clear(&mut self, slot: usize, backlog: Option<Backlog>)
+    pub(crate) fn clear(&mut self, slot: usize, backlog: Option<Backlog>) -> Receipt
+        ensures given { (was : Slot) → slice_get self.old.slots.items slot ≡ Some was
+            → slice_get self.new.slots.items slot ≡ Some (newcomer_in was backlog) }
+        ensures forgotten { (sid : ℕ) → IsNamed self.old slot sid → slot_at self.new.places.entries sid ≢ Some slot }
+        ensures same { (other : ℕ) → other ≢ slot → slice_get self.new.slots.items other ≡ slice_get self.old.slots.items other }
+        ensures word { result.deed ≡ Deed.Cleared slot (is_some backlog) }
         ensures heard { HasHeard self.new.bells slot }
         ensures woken { IsAwake self.new.bells slot }
         ensures others { OthersStay self.old.bells self.new.bells slot }
         ensures named { OthersStayNamed self.old self.new slot }
     {
         self.bells.reset(slot);
+        self.end_line(slot);
         let place = slot;
         if let Some(slot) = self.slots.get_mut(place) {
             forget(&mut self.places, slot.sid, place);
@@ -116,7 +144,9 @@ impl Slots {
             slot.backlog = backlog;
             slot.given = Given::new();
         }
-        self.end_line(place);
+        Receipt {
+            deed: Deed::Cleared(place, backlog.is_some()),
+        }
     }
 
     /// Notes the identifier by which the session of this slot is known.
@@ -135,8 +165,29 @@ impl Slots {
         }
     }
 
+    /// Notes it as `name` does, and gives the word of it.
+    pub(crate) fn name_by(&mut self, slot: usize, sid: Sid) -> Receipt
+        ensures word { result.deed ≡ Deed.Named slot sid }
+        ensures bells { self.new.bells ≡ self.old.bells }
+        ensures named { slot < length self.old.slots.items
+            → IsSetAt sid (Some slot) self.old.places.entries self.new.places.entries ⊎ ((self.new.lacks_some ≡ true) × (self.new.places.entries ≡ self.old.places.entries)) }
+        ensures known { slot < length self.old.slots.items → IsNamed self.new slot sid }
+    {
+        self.name(slot, sid);
+        Receipt {
+            deed: Deed::Named(slot, sid),
+        }
+    }
+
     /// Wakes the session with this identifier, which was given a line of so many bytes. Answers whether it is behind.
-    pub(crate) fn wake_one(&mut self, sid: Sid, own: usize, bytes: u64, said: Amount) -> bool
+    pub(crate) fn wake_one(
+        &mut self,
+        sid: Sid,
+        own: usize,
+        bytes: u64,
+        said: Amount,
+    ) -> (Receipt, bool)
+        ensures word { result.0.deed ≡ Deed.WokeOne sid own bytes }
         ensures rung { (place : ℕ) → slot_at self.old.places.entries sid ≡ Some place → place ≢ own → IsRung self.new.bells place }
         ensures woken { (place : ℕ) → slot_at self.old.places.entries sid ≡ Some place → place ≢ own → IsAwake self.new.bells place }
         ensures walked { slot_at self.old.places.entries sid ≡ None → self.old.lacks_some ≡ true → (place : ℕ) → IsNamed self.old place sid
@@ -148,9 +199,12 @@ impl Slots {
         ensures slots { SameSlots self.old.bells self.new.bells }
         ensures index { SameIndex self.old self.new }
     {
+        let receipt = Receipt {
+            deed: Deed::WokeOne(sid, own, bytes),
+        };
         match self.place(sid) {
-            Some(place) if place != own => self.wake_for_line(place, bytes, said),
-            _ => false,
+            Some(place) if place != own => (receipt, self.wake_for_line(place, bytes, said)),
+            _ => (receipt, false),
         }
     }
 
@@ -170,26 +224,22 @@ impl Slots {
 
     /// Wakes the session of a slot, which was given a line of so many bytes. Answers whether it is behind.
     fn wake_for_line(&mut self, place: usize, bytes: u64, said: Amount) -> bool
+        ensures behind { result ≡ is_behind_at self.new.slots.items place said }
+        ensures given { OneBecomes (with_line_for bytes) place self.old.slots.items self.new.slots.items }
         ensures rung { IsRung self.new.bells place }
         ensures woken { IsAwake self.new.bells place }
         ensures others { OthersStay self.old.bells self.new.bells place }
         ensures index { SameIndex self.old self.new }
     {
         self.bells.ring(place);
-        let Some(slot) = self.slots.get_mut(place) else {
-            return false;
-        };
-        if let Some(backlog) = &mut slot.backlog {
-            backlog.give(bytes);
-            if backlog.is_waited_for() {
-                self.sight.add(backlog.waiting(said), backlog.reads());
-            }
-        }
-        is_far_behind(slot, said)
+        self.count_line(place, bytes, said)
     }
 
     /// Wakes everybody but the session of this slot.
-    pub(crate) fn wake_everybody(&mut self, own: usize)
+    pub(crate) fn wake_everybody(&mut self, own: usize) -> Receipt
+        ensures word { result.deed ≡ Deed.WokeEverybody own }
+        ensures accept { self.new.accept ≡ self.old.accept }
+        ensures clients { self.new.slots ≡ self.old.slots }
         ensures rung { (slot : ℕ) → slot ≢ own → IsRung self.new.bells slot }
         ensures woken { (slot : ℕ) → slot ≢ own → IsAwake self.new.bells slot }
         ensures own { StaysRung self.old.bells self.new.bells own }
@@ -197,17 +247,28 @@ impl Slots {
         ensures index { SameIndex self.old self.new }
     {
         self.bells.ring_everybody(own);
+        Receipt {
+            deed: Deed::WokeEverybody(own),
+        }
     }
 
     /// Wakes the session of one slot.
-    pub(crate) fn wake_slot(&mut self, slot: usize)
+    pub(crate) fn wake_slot(&mut self, slot: usize) -> Receipt
+        ensures word { result.deed ≡ Deed.WokeSlot slot }
+        ensures clients { self.new.slots ≡ self.old.slots }
         ensures rung { IsRung self.new.bells slot }
         ensures woken { IsAwake self.new.bells slot }
         ensures others { OthersStay self.old.bells self.new.bells slot }
         ensures held { self.new.held ≡ self.old.held }
+        ensures sight { self.new.sight ≡ self.old.sight }
+        ensures ticks { self.new.ticks ≡ self.old.ticks }
+        ensures second { self.new.second ≡ self.old.second }
         ensures index { SameIndex self.old self.new }
     {
         self.bells.ring(slot);
+        Receipt {
+            deed: Deed::WokeSlot(slot),
+        }
     }
 
     /// Answers whether this slot was woken since the last `true`. Where it was not, the next wake wakes the task.
@@ -223,131 +284,60 @@ impl Slots {
         self.bells.was_rung(slot, cx, source)
     }
 
-    /// Counts what the session of this slot gave in this second.
-    pub(crate) fn count_given(&mut self, slot: usize, second: u64, bytes: u64)
-        ensures bells { self.new.bells ≡ self.old.bells }
+    /// Looks whether this slot was woken, and gives the word of it.
+    pub(crate) fn look_at(
+        &mut self,
+        slot: usize,
+        cx: &mut Context<'_>,
+        source: &Source,
+    ) -> (Receipt, bool)
+        ensures word { result.0.deed ≡ Deed.Looked slot }
+        ensures seen { result.1 ≡ false → HasHeard self.old.bells slot }
+        ensures heard { HasHeard self.new.bells slot }
+        ensures rests { result.1 ≡ false → Rests self.new.bells slot cx.old cx.new }
+        ensures others { OthersStay self.old.bells self.new.bells slot }
+        ensures registered { result.1 ≡ false → IsArmed cx.new }
+        ensures kept { Keeps cx.old cx.new }
         ensures index { SameIndex self.old self.new }
     {
-        self.second = second;
-        if let Some(slot) = self.slots.get_mut(slot) {
-            slot.given.count(second, bytes);
-        }
+        let receipt = Receipt {
+            deed: Deed::Looked(slot),
+        };
+        (receipt, self.was_woken(slot, cx, source))
     }
 
-    /// Counts what was taken for the session of this slot.
-    pub(crate) fn count_taken(&mut self, slot: usize, said: Amount, taken: Amount, has_more: bool)
-        ensures bells { self.new.bells ≡ self.old.bells }
+    /// Wakes the accept task, or everybody where there is none. The session of the slot `own` makes the call.
+    pub(crate) fn call_for_help(&mut self, own: usize) -> Receipt
+        ensures word { result.deed ≡ Deed.CalledForHelp own }
+        ensures task { self.new.accept.waker ≡ None }
+        ensures everybody { self.old.accept.is_gone ≡ true → (slot : ℕ) → slot ≢ own → IsRung self.new.bells slot × IsAwake self.new.bells slot }
+        ensures nobody { self.old.accept.is_gone ≡ false → self.new.bells ≡ self.old.bells }
         ensures index { SameIndex self.old self.new }
     {
-        if let Some(slot) = self.slots.get_mut(slot)
-            && let Some(backlog) = &mut slot.backlog
-        {
-            backlog.count_taken(said, taken, has_more);
+        if !self.accept.call() {
+            self.wake_everybody(own);
+        }
+        Receipt {
+            deed: Deed::CalledForHelp(own),
         }
     }
 
-    /// Counts bytes that the socket of this slot took, which had been full.
-    pub(crate) fn count_written(&mut self, slot: usize, bytes: u64)
-        ensures bells { self.new.bells ≡ self.old.bells }
-        ensures index { SameIndex self.old self.new }
-    {
-        if let Some(slot) = self.slots.get_mut(slot)
-            && let Some(backlog) = &mut slot.backlog
-        {
-            backlog.count_written(bytes);
-        }
-    }
-
-    /// Answers whether the client of this slot is far behind.
-    pub(crate) fn is_slot_behind(&self, slot: usize, said: Amount) -> bool {
-        match self.slots.get(slot) {
-            Some(slot) => is_far_behind(slot, said),
-            None => false,
-        }
-    }
-
-    /// Looks who is behind, and answers whether somebody is, so that senders give way.
-    pub(crate) fn look(&mut self, said: Amount) -> bool
-        ensures bells { self.new.bells ≡ self.old.bells }
-        ensures held { self.new.held ≡ self.old.held }
-        ensures index { SameIndex self.old self.new }
-    {
-        let sight = self.sight_of(said);
-        self.sight = sight;
-        sight.is_behind
-    }
-
-    fn sight_of(&self, said: Amount) -> Sight {
-        let mut sight = Sight::CLEAR;
-        for slot in &self.slots {
-            if let Some(backlog) = &slot.backlog
-                && backlog.is_waited_for()
-            {
-                sight.add(backlog.waiting(said), backlog.reads());
-            }
-        }
-        sight
-    }
-
-    /// Answers whether somebody is behind, as was last seen.
-    pub(crate) fn is_behind(&self) -> bool {
-        self.sight.is_behind
-    }
-
-    /// Wakes those who give way.
-    pub(crate) fn let_go(&mut self)
+    /// Counts a tick, as `tick` does, and wakes those who give way. Answers whether somebody is behind.
+    pub(crate) fn pass_tick(&mut self, said: Amount, second: u64, due: u64) -> (Receipt, bool)
+        ensures word { result.0.deed ≡ Deed.Ticked second due }
+        ensures behind { result.1 ≡ self.new.sight.is_behind }
         ensures rung { (slot : ℕ) → IsTrue (is_among slot self.old.held.items) → IsRung self.new.bells slot }
         ensures woken { (slot : ℕ) → IsTrue (is_among slot self.old.held.items) → IsAwake self.new.bells slot }
-        ensures others { (slot : ℕ) → is_among slot self.old.held.items ≡ false
-            → slice_get self.new.bells.bells.items slot ≡ slice_get self.old.bells.bells.items slot }
-        ensures rings { self.new.bells.rings ≡ self.old.bells.rings }
-        ensures slots { SameSlots self.old.bells self.new.bells }
+        ensures ticks { self.new.ticks ≡ (self.old.ticks + 1) % 2 ^ 64 }
+        ensures second { self.new.second ≡ second }
         ensures index { SameIndex self.old self.new }
     {
-        while let Some(place) = self.held.pop() {
-            self.release(place);
-        }
-    }
-
-    /// Wakes the session of a slot, which gave way.
-    fn release(&mut self, place: usize)
-        ensures rung { IsRung self.new.bells place }
-        ensures woken { IsAwake self.new.bells place }
-        ensures others { OthersStay self.old.bells self.new.bells place }
-        ensures held { self.new.held ≡ self.old.held }
-        ensures index { SameIndex self.old self.new }
-    {
-        self.wake_slot(place);
-        if let Some(slot) = self.slots.get_mut(place) {
-            slot.is_held = false;
-        }
-    }
-
-    /// Counts a tick in this second, for which as many were due, for each client that is far behind.
-    pub(crate) fn tick(&mut self, said: Amount, second: u64, due: u64)
-        ensures bells { self.new.bells ≡ self.old.bells }
-        ensures index { SameIndex self.old self.new }
-    {
-        self.ticks = self.ticks.wrapping_add(1);
-        self.second = second;
-        for slot in self.slots.iter_mut() {
-            if let Some(backlog) = &mut slot.backlog {
-                backlog.tick(said, due);
-            }
-        }
-    }
-
-    /// Answers whether somebody gives way. Where nobody does, the ticker is woken once somebody will.
-    pub(crate) fn has_held(&mut self, cx: &mut Context<'_>, source: &Source) -> bool
-        ensures registered { result ≡ false → IsArmed cx.new }
-        ensures kept { Keeps cx.old cx.new }
-        ensures bells { self.new.bells ≡ self.old.bells }
-        ensures index { SameIndex self.old self.new }
-    {
-        if !self.held.is_empty() {
-            return true;
-        }
-        let _: Poll<()> = cx.register(source, &mut self.ticker);
-        false
+        self.tick(said, second, due);
+        let is_behind = self.look(said);
+        self.let_go();
+        let receipt = Receipt {
+            deed: Deed::Ticked(second, due),
+        };
+        (receipt, is_behind)
     }
 }

@@ -1,7 +1,12 @@
+ghost use Rattle.std.specs.Prelude.{◌≡◌, ◌-◌, ◌/◌, min, max, true, false};
+ghost use Rattle.std.specs.Result.{ForOk};
+ghost use Rattle.std.specs.Duration.{as_nanos};
+ghost use Rattle.std.specs.Time.{instant_nanos};
 ghost use Rattle.futures.specs.Task.{IsArmed, Keeps};
 ghost use Rattle.futures.specs.Poll.{OnPending};
 
-use crate::shared::Shared;
+use crate::lingering::{Lingered, NoClock};
+use crate::shared::{Served, Shared};
 use futures::task::{Context, Poll};
 use std::sync::Wait;
 use std::time::{Clock, Duration, Instant};
@@ -22,6 +27,15 @@ pub struct Ticker<'a, T, S, R> {
     timer: Sleep,
     // The moment of the last tick.
     ticked: Option<Instant>,
+}
+
+/// The word that all is over: nobody is served any more, and nobody lingers, as far as the clock tells.
+#[derive(Clone, Copy)]
+struct Over {
+    served: Served,
+    lingered: Result<Lingered, NoClock>,
+    ghost nobody_served: { served.is_over ≡ true },
+    ghost nobody_lingers: { ForOk lingered (λ seen. seen.some ≡ false) },
 }
 
 impl<'a, T, S, R> Drop for Ticker<'a, T, S, R> {
@@ -52,14 +66,28 @@ impl<'a, T, S: AsyncRead + AsyncWrite, R: Wait + Clock> Ticker<'a, T, S, R> {
         ensures registered { OnPending result (IsArmed cx.new) }
         ensures kept { Keeps cx.old cx.new }
     {
+        match self.poll_end(cx) {
+            Poll::Ready(_) => Poll::Ready(()),
+            Poll::Pending => Poll::Pending,
+        }
+    }
+
+    /// Works as a task does, and gives the word that all is over.
+    fn poll_end(&mut self, cx: &mut Context<'_>) -> Poll<Over>
+        ensures registered { OnPending result (IsArmed cx.new) }
+        ensures kept { Keeps cx.old cx.new }
+    {
         let is_end = self.shared.is_over(self.rt);
-        let some_linger = self.shared.lingering.linger_until(self.rt, cx, is_end);
-        if some_linger {
+        let lingered = self.shared.lingering.linger_until(self.rt, cx, is_end);
+        if let Ok(seen) = &lingered
+            && seen.some()
+        {
             return self.wait(cx);
         }
         // It is asked again: what ends before the waker stands wakes nobody.
-        if self.shared.is_over(self.rt) {
-            return Poll::Ready(());
+        let served = self.shared.served(self.rt);
+        if served.is_over() {
+            return Poll::Ready(Over { served, lingered });
         }
         if self.shared.wakers.has_held(cx) {
             return self.wait(cx);
@@ -68,7 +96,8 @@ impl<'a, T, S: AsyncRead + AsyncWrite, R: Wait + Clock> Ticker<'a, T, S, R> {
     }
 
     /// Waits for the next tick, or makes it.
-    fn wait(&mut self, cx: &mut Context<'_>) -> Poll<()>
+    fn wait(&mut self, cx: &mut Context<'_>) -> Poll<Over>
+        ensures waits { result ≡ Poll.Pending }
         ensures registered { OnPending result (IsArmed cx.new) }
         ensures kept { Keeps cx.old cx.new }
     {
@@ -88,15 +117,9 @@ impl<'a, T, S: AsyncRead + AsyncWrite, R: Wait + Clock> Ticker<'a, T, S, R> {
         let Ok(now) = Instant::now(self.rt) else {
             return 1;
         };
-        let before = self.ticked.unwrap_or(now);
+        let due = due_since(self.ticked, now);
         self.ticked = Some(now);
-        let passed = now.saturating_duration_since(before);
-        if passed.as_secs() > 0 {
-            return MOST_DUE;
-        }
-        (u64::from(passed.subsec_millis()) / TICK)
-            .max(1)
-            .min(MOST_DUE)
+        due
     }
 
     fn set(&mut self) {
@@ -106,6 +129,28 @@ impl<'a, T, S: AsyncRead + AsyncWrite, R: Wait + Clock> Ticker<'a, T, S, R> {
             self.timer.reset(next);
         }
     }
+}
+
+/// Counts the ticks that are due now, where the last one was at that moment: one where there was none.
+fn due_since(before: Option<Instant>, now: Instant) -> u64
+    ensures first { before ≡ None → result ≡ 1 }
+    ensures later { (moment : Instant) → before ≡ Some moment → result ≡ max 1 (min 20 ((instant_nanos now - instant_nanos moment) / 1_000_000 / 5)) }
+{
+    match before {
+        Some(moment) => ticks_in(now.saturating_duration_since(moment)),
+        None => 1,
+    }
+}
+
+/// Counts the ticks in so much time: one at least, and 20 at most.
+fn ticks_in(passed: Duration) -> u64
+    ensures { result ≡ max 1 (min 20 (as_nanos passed / 1_000_000 / 5)) }
+{
+    let ticks = passed.as_millis() / u128::from(TICK);
+    if ticks > u128::from(MOST_DUE) {
+        return MOST_DUE;
+    }
+    (ticks as u64).max(1)
 }
 
 /// Gives the seconds since 1970; 0 where the clock cannot be read.

@@ -1,12 +1,12 @@
-ghost use Rattle.std.specs.Prelude.{◌≡◌, false};
+ghost use Rattle.std.specs.Prelude.{◌≡◌, true, false, IfOk};
 ghost use Rattle.futures.specs.Task.{IsArmed, Keeps};
 
 use crate::amount::Amount;
 use crate::backlog::Backlog;
 use crate::sender::{BURST, BURST_BYTES, EACH_LINE, SHORT, Throttle};
-use crate::slots::Slots;
+use crate::slots::{Deed, Receipt, Slots};
 use adc_base32::Sid;
-use futures::spin::lock;
+use futures::spin::{GaveUp, lock, lock_or_give_up};
 use futures::task::{Context, Poll, Source};
 use std::alloc::{AllocError, Global};
 use std::sync::Mutex;
@@ -44,23 +44,38 @@ impl Wakers {
 
     /// Gives the slot to a session.
     pub fn occupy(&self, slot: usize) {
-        if let Some(mut slots) = lock(&self.slots) {
-            slots.clear(slot, Some(Backlog::of_newcomer(self.broadcasts())));
-        }
+        let _ = self.clear(slot, true);
+    }
+
+    /// Gives the slot to a session that has come, or to none, and gives the word of it.
+    fn clear(&self, slot: usize, is_taken: bool) -> Result<Receipt, GaveUp>
+        ensures { IfOk result (λ receipt. receipt.deed ≡ Deed.Cleared slot is_taken) }
+    {
+        let mut slots = lock_or_give_up(&self.slots)?;
+        let newcomer = if is_taken {
+            Some(Backlog::of_newcomer(self.broadcasts()))
+        } else {
+            None
+        };
+        Ok(slots.clear(slot, newcomer))
     }
 
     /// Notes the session identifier by which the session of this slot is known.
     pub fn name(&self, slot: usize, sid: Sid) {
-        if let Some(mut slots) = lock(&self.slots) {
-            slots.name(slot, sid);
-        }
+        let _ = self.name_by(slot, sid);
+    }
+
+    /// Notes it, and gives the word of it.
+    fn name_by(&self, slot: usize, sid: Sid) -> Result<Receipt, GaveUp>
+        ensures { IfOk result (λ receipt. receipt.deed ≡ Deed.Named slot sid) }
+    {
+        let mut slots = lock_or_give_up(&self.slots)?;
+        Ok(slots.name_by(slot, sid))
     }
 
     /// Takes the slot from its session, which is over.
     pub fn vacate(&self, slot: usize) {
-        if let Some(mut slots) = lock(&self.slots) {
-            slots.clear(slot, None);
-        }
+        let _ = self.clear(slot, false);
         if self.is_behind() {
             self.look();
         }
@@ -69,35 +84,71 @@ impl Wakers {
     /// Wakes the session with this identifier, which was given a line of so many bytes by the session of the slot `own` in this
     /// second. A session is not woken by its own call: it takes what waits after each of them.
     pub fn wake_one(&self, sid: Sid, own: usize, bytes: u64, second: u64) {
-        if let Some(mut slots) = lock(&self.slots)
-            && slots.wake_one(sid, own, bytes, self.broadcasts())
-        {
+        let _ = self.tell_one(sid, own, bytes, second);
+    }
+
+    /// Wakes it, and gives the word of it.
+    fn tell_one(&self, sid: Sid, own: usize, bytes: u64, second: u64) -> Result<Receipt, GaveUp>
+        ensures { IfOk result (λ receipt. receipt.deed ≡ Deed.WokeOne sid own bytes) }
+    {
+        let mut slots = lock_or_give_up(&self.slots)?;
+        let (receipt, is_behind) = slots.wake_one(sid, own, bytes, self.broadcasts());
+        if is_behind {
             slots.count_given(own, second, bytes.saturating_add(EACH_LINE));
             self.is_behind.store(true, Ordering::SeqCst);
         }
+        Ok(receipt)
     }
 
     /// Wakes two sessions, each of which was given a line of so many bytes.
     pub fn wake_two(&self, one: Sid, other: Sid, own: usize, bytes: u64, second: u64) {
-        self.wake_one(one, own, bytes, second);
-        self.wake_one(other, own, bytes, second);
+        let _ = self.tell_two(one, other, own, bytes, second);
+    }
+
+    /// Wakes both, and gives the words of it.
+    fn tell_two(
+        &self,
+        one: Sid,
+        other: Sid,
+        own: usize,
+        bytes: u64,
+        second: u64,
+    ) -> Result<(Receipt, Receipt), GaveUp>
+        ensures one { IfOk result (λ receipts. receipts.0.deed ≡ Deed.WokeOne one own bytes) }
+        ensures other { IfOk result (λ receipts. receipts.1.deed ≡ Deed.WokeOne other own bytes) }
+    {
+        let first = self.tell_one(one, own, bytes, second)?;
+        let then = self.tell_one(other, own, bytes, second)?;
+        Ok((first, then))
     }
 
     /// Wakes all sessions but that of the slot `own`, which gave them lines of so many bytes in this second: 256 more count for
     /// each line.
     pub fn wake_everybody(&self, own: usize, given: Amount, second: u64) {
-        if let Some(mut slots) = lock(&self.slots) {
-            let weight = given.lines.saturating_mul(EACH_LINE);
-            slots.count_given(own, second, given.bytes.saturating_add(weight));
-            slots.wake_everybody(own);
-        }
+        let _ = self.tell_everybody(own, given, second);
+    }
+
+    /// Wakes them, and gives the word of it.
+    fn tell_everybody(&self, own: usize, given: Amount, second: u64) -> Result<Receipt, GaveUp>
+        ensures { IfOk result (λ receipt. receipt.deed ≡ Deed.WokeEverybody own) }
+    {
+        let mut slots = lock_or_give_up(&self.slots)?;
+        let weight = given.lines.saturating_mul(EACH_LINE);
+        slots.count_given(own, second, given.bytes.saturating_add(weight));
+        Ok(slots.wake_everybody(own))
     }
 
     /// Wakes the session of one slot.
     pub fn wake_slot(&self, slot: usize) {
-        if let Some(mut slots) = lock(&self.slots) {
-            slots.wake_slot(slot);
-        }
+        let _ = self.tell_slot(slot);
+    }
+
+    /// Wakes it, and gives the word of it.
+    fn tell_slot(&self, slot: usize) -> Result<Receipt, GaveUp>
+        ensures { IfOk result (λ receipt. receipt.deed ≡ Deed.WokeSlot slot) }
+    {
+        let mut slots = lock_or_give_up(&self.slots)?;
+        Ok(slots.wake_slot(slot))
     }
 
     /// Answers whether this slot was woken since the last `true`. Where it was not, the next wake wakes the task.
@@ -105,13 +156,23 @@ impl Wakers {
         ensures registered { result ≡ false → IsArmed cx.new }
         ensures kept { Keeps cx.old cx.new }
     {
-        match lock(&self.slots) {
-            Some(mut slots) => slots.was_woken(slot, cx, &self.source),
-            None => {
+        match self.look_at(slot, cx) {
+            Ok((_, was_woken)) => was_woken,
+            Err(_) => {
                 let _: Poll<()> = cx.yield_now();
                 false
             }
         }
+    }
+
+    /// Looks whether it was, and gives the word of it.
+    fn look_at(&self, slot: usize, cx: &mut Context<'_>) -> Result<(Receipt, bool), GaveUp>
+        ensures word { IfOk result (λ seen. seen.0.deed ≡ Deed.Looked slot) }
+        ensures registered { IfOk result (λ seen. seen.1 ≡ false → IsArmed cx.new) }
+        ensures kept { Keeps cx.old cx.new }
+    {
+        let mut slots = lock_or_give_up(&self.slots)?;
+        Ok(slots.look_at(slot, cx, &self.source))
     }
 
     /// Counts a line of so many bytes that was said to everybody. Now and then it is looked who is behind.
@@ -190,24 +251,25 @@ impl Wakers {
     /// Looks who is behind, and wakes those who gave way where nobody is.
     fn look(&self) {
         if let Some(mut slots) = lock(&self.slots) {
-            let is_behind = slots.look(self.broadcasts());
+            let is_behind = slots.look_and_let_go(self.broadcasts());
             self.is_behind.store(is_behind, Ordering::SeqCst);
-            if !is_behind {
-                slots.let_go();
-            }
         }
     }
 
     /// Counts a tick in this second, for which as many were due as 5 ms have passed: those who give way ask again, and those for
     /// whom they do are waited for once more.
     pub fn tick(&self, second: u64, due: u64) {
-        if let Some(mut slots) = lock(&self.slots) {
-            let said = self.broadcasts();
-            slots.tick(said, second, due);
-            let is_behind = slots.look(said);
-            self.is_behind.store(is_behind, Ordering::SeqCst);
-            slots.let_go();
-        }
+        let _ = self.tick_by(second, due);
+    }
+
+    /// Counts it, and gives the word of it.
+    fn tick_by(&self, second: u64, due: u64) -> Result<Receipt, GaveUp>
+        ensures { IfOk result (λ receipt. receipt.deed ≡ Deed.Ticked second due) }
+    {
+        let mut slots = lock_or_give_up(&self.slots)?;
+        let (receipt, is_behind) = slots.pass_tick(self.broadcasts(), second, due);
+        self.is_behind.store(is_behind, Ordering::SeqCst);
+        Ok(receipt)
     }
 
     /// Answers whether somebody gives way. Where nobody does, the task is woken once somebody will.
@@ -246,11 +308,15 @@ impl Wakers {
 
     /// Wakes the accept task, or everybody where there is none. The session of the slot `own` makes the call.
     pub fn call_for_help(&self, own: usize) {
-        if let Some(mut slots) = lock(&self.slots)
-            && !slots.accept.call()
-        {
-            slots.wake_everybody(own);
-        }
+        let _ = self.help(own);
+    }
+
+    /// Calls for it, and gives the word of it.
+    fn help(&self, own: usize) -> Result<Receipt, GaveUp>
+        ensures { IfOk result (λ receipt. receipt.deed ≡ Deed.CalledForHelp own) }
+    {
+        let mut slots = lock_or_give_up(&self.slots)?;
+        Ok(slots.call_for_help(own))
     }
 
     /// Notes that the listener begins to rest.

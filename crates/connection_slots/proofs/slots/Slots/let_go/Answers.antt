@@ -3,7 +3,7 @@ use Rattle.connection_slots.proofs.LetGo.{Released, one_released, all_released}
 use Rattle.connection_slots.proofs.slots.Slots.let_go.Goals as goal
 
 pub loop-place-init : goal.loop-place-init
-loop-place-init c = ((λ slot there. inl there, λ slot absent. refl, λ slot there. there, refl, refl), (refl, refl))
+loop-place-init c = ((λ slot there. inl there, λ slot absent. refl, λ slot there. there, refl, refl), (refl, refl), refl, refl, refl)
 
 pub loop-place-preserved : goal.loop-place-preserved
 loop-place-preserved c =
@@ -13,6 +13,9 @@ loop-place-preserved c =
       subst (λ left. Released c.args.self.now.held.items c.args.self.now.bells left.items c.release.new.self.bells) (sym c.release.ensures.held)
           (one_released c.args.self.now.held.items c.args.self.now.bells c.loop-place.self.bells c.release.new.self.bells c.pop.new.self.items c.in-Some.place were c.release.ensures.rung c.release.ensures.woken c.release.ensures.others),
       (c.release.ensures.index.0 ∙ c.loop-place.invariant.1.0, c.release.ensures.index.1 ∙ c.loop-place.invariant.1.1),
+      c.release.ensures.sight ∙ c.loop-place.invariant.2,
+      c.release.ensures.ticks ∙ c.loop-place.invariant.3,
+      c.release.ensures.second ∙ c.loop-place.invariant.4,
     )
 
 pub returns-clause-rung : goal.returns-clause-rung

@@ -1,0 +1,4 @@
+pub mod Logs
+pub mod Places
+pub mod Settled
+pub mod Tables

@@ -1,0 +1,4 @@
+pub mod Cursors
+pub mod Entries
+pub mod Logs
+pub mod Tables
