@@ -1,4 +1,0 @@
-pub mod Logs
-pub mod Places
-pub mod Settled
-pub mod Tables

@@ -1,4 +1,0 @@
-pub mod Cursors
-pub mod Entries
-pub mod Logs
-pub mod Tables
