@@ -650,8 +650,14 @@ def refused(table, each, threads):
         hub.stop()
 
 
+def warned_of_memory():
+    with open("warned", "rb") as file:
+        return b"a session ended by Memory" in file.read()
+
+
 def starts(table, threads):
-    """Want of memory or of threads at the start: status 4 before it says that it listens, or it serves."""
+    """Want of memory or of threads at the start: status 4 before it says that it listens, or it serves. With so little room that a client
+    has none it listens, and says of each session that memory ended it."""
     name = "want at the start"
     if not table.wants(name) or table.options.against:
         return
@@ -666,7 +672,7 @@ def starts(table, threads):
     sizes = range(8, 80, 12) if table.options.short else range(4, 80, 2)
     # With less room than its own code takes, the system's loader ends it with status 127 before it begins.
     ways += [({"FROM": 1 << 40}, ((resource.RLIMIT_AS, size << 20),), (4, 127)) for size in sizes]
-    failed, ended, served = 0, 0, 0
+    failed, ended, served, full = 0, 0, 0, 0
     for refuse, limits, statuses in ways:
         hub = Hub([table.options.program, "serve", "hub.toml"], None, limits, **refuse)
         listened = hub.listens(5)
@@ -674,10 +680,12 @@ def starts(table, threads):
             served += 1
         elif not listened and hub.status() in statuses:
             ended += 1
+        elif listened and limits and hub.status() is None and warned_of_memory():
+            full += 1
         else:
             failed += 1
         hub.stop()
-    cells = [f"{served} of {len(ways)} serve", f"{ended} end with their status", "", "", "", ""]
+    cells = [f"{served} of {len(ways)} serve, {full} have no room for a client", f"{ended} end with their status", "", "", "", ""]
     table.row(name, threads, began, cells, failed == 0)
 
 
