@@ -686,7 +686,8 @@ def starts(table, threads):
             failed += 1
         hub.stop()
     cells = [f"{served} of {len(ways)} serve, {full} have no room for a client", f"{ended} end with their status", "", "", "", ""]
-    table.row(name, threads, began, cells, failed == 0)
+    # That room is smaller than the steps between these sizes.
+    table.row(name, threads, began, cells, failed == 0 and full <= 1)
 
 
 OPERATOR = '[[account]]\nnick = "op"\npassword = "sesame"\noperator = true\n'
