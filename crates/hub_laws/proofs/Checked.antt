@@ -1,7 +1,7 @@
 -- The checks that were passed by a line that brings its user in, makes it wait for a password, or changes a nick.
-use Rattle.std.proofs.Common.{◌≡◌, refl, ℕ, Bool, true, false, not, ◌&&◌, ◌||◌, ◌⊎◌, List, [], ◌∷◌, drop, Option, Some, None, arith}
+use Rattle.std.proofs.Common.{◌≡◌, refl, ℕ, Bool, true, false, not, ◌&&◌, ◌||◌, ◌⊎◌, List, ◌∷◌, drop, Option, Some, None, arith}
 use Rattle.operator_acts.specs.declared.left.Left.{Left}
-use Rattle.hub_laws.proofs.Words.{AllFalse, Deny, Field, Listed, Own, Sight, bytes_eq, ban_ground, bytes_eq-Decides, dropped, entry_grounds, first_ground, grounds_of, if◌then◌else◌, is_account, is_digest}
+use Rattle.hub_laws.proofs.Words.{AllFalse, Deny, Field, Listed, Own, Sight, bytes_eq, ban_ground, bytes_eq-Decides, dropped, entry_grounds, first_ground, grounds_of, is_account, is_digest}
 use Rattle.hub_laws.proofs.Words.{key_in, left_of_bans, login_grounds, none-of, option_or, or-parts, password_grounds, update_grounds}
 use Rattle.hub_laws.proofs.Words.denials
 use Rattle.hub_laws.proofs.Words.lefts
@@ -15,15 +15,6 @@ is_for_accounts deny = false
 abbrev pub is_access : Deny → Bool
 is_access (denials.Access word) = true
 is_access deny = false
-
-abbrev is_password : Deny → Bool
-is_password denials.Password = true
-is_password deny = false
-
--- grounds of which those that deny so are looked for otherwise
-abbrev pub with_test : (Deny → Bool) → Bool → List (Bool × Deny) → List (Bool × Deny)
-with_test is_so test [] = []
-with_test is_so test ((old, deny) ∷ more) = (if is_so deny then test else old, deny) ∷ with_test is_so test more
 
 free-ban : (l : Left) (more : List (Bool × Deny)) → first_ground (ban_ground l ∷ more) ≡ None → l ≡ lefts.Free
 free-ban l more none = grind arith
