@@ -1,7 +1,7 @@
 ghost use Rattle.std.specs.Prelude.{◌≡◌, IfOk};
 ghost use Rattle.std.specs.Arc.{arc_value};
 
-use hub_core::{Options, Setup};
+use hub_core::{Options, PlainOptions, Setup};
 use hub_shared::{Host, Hub};
 use session_hash::First24;
 use std::alloc::{AllocError, Global};
@@ -30,7 +30,7 @@ pub fn open_hub(alloc: Global) -> io::Result<(SharedHub, Host<First24>)>
 /// Makes what hubs are set up with here.
 pub fn setup(alloc: Global) -> io::Result<Arc<Setup>> {
     let options = Options {
-        max_users: 900,
+        plain: PlainOptions::for_users(900),
         ..Options::named("Hub")
     };
     match Setup::new(alloc, &options) {

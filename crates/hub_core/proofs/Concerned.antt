@@ -19,13 +19,13 @@ use Rattle.hub_core.specs.Touching.{LineTouches, NamesEffect, NamesOne, NamesOwe
 use Rattle.hub_rules.specs.declared.effect.Change.{Change}
 use Rattle.hub_rules.specs.declared.effect.Change.TheVariants.{Hub, Nothing, Sender}
 use Rattle.hub_rules.specs.declared.effect.Effect.{Effect}
-use Rattle.hub_rules.specs.declared.effect.SeatChange.{SeatChange}
+use Rattle.hub_rules.specs.declared.sender.SeatChange.{SeatChange}
 use Rattle.hub_rules.specs.declared.effect.SenderChange.TheVariants as senders
 use Rattle.hub_rules.specs.declared.history.Call.TheVariants.{Join, Quit, Take}
 use Rattle.hub_rules.specs.Configured.{most_users}
 use Rattle.hub_rules.specs.Effects.{departure, is_over, is_present}
 use Rattle.hub_rules.specs.Facts.{Facts, after, effect_of_line, facts, happens, has_joins, has_place, newcomer, next_sid, own_of, with_connection, with_lines_taken, without_connection}
-use Rattle.hub_rules.specs.Shares.{About, change_at, hears, lags_with, owed_with, owes, waiting}
+use Rattle.hub_rules.specs.Shares.{About, change_at, hears_those, lags_with, owed_with, owes, waiting}
 use Rattle.hub_invariants.specs.Afterwards.{is_gone_at, is_removed, removed_by, stage_after, affected_parts}
 use Rattle.hub_rules.specs.Sights.{PreparedLine}
 use Rattle.hub_invariants.proofs.Members.{both, has, has-filter}
@@ -102,7 +102,7 @@ line-named touched own c d effect a n routed is_own tidy =
     (λ is falls. ap (names touched) (is_own is) ∙ n.fallen falls)
 
 pub line-touches : (old new : CoreState) (c : ℕ) (line : PreparedLine) (now : ℕ) (seat : Seat) (effect : Effect)
-    → old.setup.max_users ≤ most_users
+    → old.setup.plain.max_users ≤ most_users
     → seat ≡ in_seat c (λ s. s) seat old.seats
     → Decided (sight_in old) seat line now effect
     → NamesEffect new.touched (sid_in c old.seats) effect
@@ -133,7 +133,7 @@ left-told : (touched : Touched) (stage : Stage) (sid : ℕ) (is_caller : Bool) (
     → (here ≡ true → (s : ℕ) → names touched s ≡ true) → owes is_caller (departure stage sid) a ≢ [] → names touched a.sender.sid ≡ true
 left-told touched stage sid is_caller a true is all some = all refl a.sender.sid
 left-told touched stage sid is_caller a false is all some =
-    absurd (some (farewell-none (is_present stage) (hears is_caller (departure stage sid).hearers a) is_caller sid is))
+    absurd (some (farewell-none (is_present stage) (is_present a.stage && hears_those is_caller (departure stage sid).hearers a) is_caller sid is))
 
 -- who is open after a connection left is another
 left-other : (c d : ℕ) (xs : List ℕ) → has d (filter (λ x. not (x == c)) xs) ≡ true → (d == c) ≡ true → ⊥

@@ -1,7 +1,7 @@
 -- The parts of the seats that stay where shares are given.
 use Rattle.std.proofs.Common.{◌≡◌, ap, refl, ℕ, suc, Bool, true, false, List, [], ◌∷◌, length, Option}
 use Rattle.std.proofs.lemmas.List.{length-map}
-use Rattle.hub_rules.specs.declared.effect.SeatChange.{SeatChange}
+use Rattle.hub_rules.specs.declared.sender.SeatChange.{SeatChange}
 use Rattle.hub_core.specs.declared.seat.Seat.{Seat}
 use Rattle.hub_core.specs.Leaving.{seat_told, told_all_if}
 use Rattle.hub_core.specs.Seats.{delivered_all}

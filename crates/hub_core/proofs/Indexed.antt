@@ -7,8 +7,7 @@ use Rattle.std.specs.Option.{unwrap_or}
 use Rattle.std.specs.Ordering.{nat_cmp}
 use Rattle.std.proofs.lemmas.Bool.{eqb-true, eq-eqb, false≢true}
 use Rattle.std.proofs.lemmas.List.{map-append}
-use Rattle.hub_rules.specs.declared.effect.SeatChange.{SeatChange}
-use Rattle.hub_rules.specs.declared.effect.SeatChange.TheVariants as seats
+use Rattle.hub_rules.specs.declared.sender.SeatChange.{SeatChange}
 use Rattle.hub_core.specs.declared.seat.Seat.{Seat}
 use Rattle.hub_core.specs.Index.{AreIndexed, IsSetAt, keys, number_at}
 use Rattle.hub_core.specs.Leaving.{others_of, seat_told, told_all_if, told_if}
@@ -37,7 +36,7 @@ abbrev key : Seat → ℕ × ℕ
 key seat = (seat.sender.sid, seat.number)
 
 key-if : (here : Bool) (change : SeatChange) (seat : Seat) → key (seat_after_if here change seat) ≡ key seat
-key-if true seats.Gone seat = refl
+key-if true change seat = refl
 key-if false change seat = refl
 
 key-after : (at : Option (ℕ × SeatChange)) (seat : Seat) → key (seat_after_change_at at seat) ≡ key seat

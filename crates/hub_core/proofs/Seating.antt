@@ -3,7 +3,7 @@ use Rattle.std.proofs.Common.{◌≡◌, ◌∙◌, sym, ap, ap₂, refl, ℕ, B
 use Rattle.std.specs.Prelude.{◌==◌}
 use Rattle.std.specs.List.{list_any}
 use Rattle.std.proofs.lemmas.Bool.{false≢true, eqb-true, eq-eqb}
-use Rattle.hub_rules.specs.declared.effect.SeatChange.{SeatChange}
+use Rattle.hub_rules.specs.declared.sender.SeatChange.{SeatChange}
 use Rattle.hub_core.specs.declared.seat.Seat.{Seat}
 use Rattle.hub_core.specs.Seats.{at_seat, in_seat, seat_of, delivered_seat, delivered_all}
 use Rattle.hub_rules.specs.Shares.{About}

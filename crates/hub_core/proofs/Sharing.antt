@@ -16,16 +16,16 @@ use Rattle.hub_rules.specs.declared.effect.Effect.{Effect}
 use Rattle.hub_rules.specs.declared.effect.Entrant.{Entrant}
 use Rattle.hub_rules.specs.declared.effect.Hearers.{Hearers}
 use Rattle.hub_rules.specs.declared.effect.Hearers.TheVariants.{Others, Those}
-use Rattle.hub_rules.specs.declared.effect.SeatChange.{SeatChange}
-use Rattle.hub_rules.specs.declared.effect.SeatChange.TheVariants as seats
+use Rattle.hub_rules.specs.declared.sender.SeatChange.{SeatChange}
 use Rattle.hub_rules.specs.declared.effect.SenderChange.TheVariants as senders
 use Rattle.hub_rules.specs.Effects.{entrant, is_present}
 use Rattle.hub_rules.specs.Facts.{own_of}
 use Rattle.hub_rules.specs.Identities.{listed_user, su_in}
 use Rattle.inf_fields.specs.Field.{Field}
 use Rattle.std.specs.Prelude.{if◌then◌else◌}
+use Rattle.hub_rules.specs.Senders.{is_removal, notes_by}
 use Rattle.hub_rules.specs.Shares.{About, change_at, has_room, hears_those, lags_with, max_bytes, max_lines, owed_with, owes, waiting}
-use Rattle.hub_invariants.specs.Afterwards.{expected_after, fields_after, is_gone_at, is_removed, removed_by, stage_after, affected_parts}
+use Rattle.hub_invariants.specs.Afterwards.{expected_after, fields_after, is_gone_at, notes_at, stage_after, affected_parts}
 use Rattle.hub_invariants.proofs.Suits.{Routed, Suited, Suits}
 use Rattle.hub_invariants.proofs.Members.{and-false}
 use Rattle.hub_invariants.proofs.Tidy.{waiting-more}
@@ -144,30 +144,50 @@ stage-of stages.Gone a = refl
 pub stage-kept : (d : ℕ) (a : About) → stage_in (seat_with d a).phase ≡ a.stage
 stage-kept d a = stage-of a.stage a
 
-removed-other : (change : Change) (a : About) → (is_present (stage_in (phase_of a)) && is_removed change a.sender.sid) ≡ (is_present a.stage && is_removed change a.sender.sid)
-removed-other change a = ap (λ s. is_present s && is_removed change a.sender.sid) (stage-of a.stage a)
+-- where an operator changes a connection, its user is present in the seat where it is in what is known of it
+abbrev StaysHere : Option (ℕ × SeatChange) → Seat → About → Type 0
+StaysHere (Some at) seat a = is_present (stage_in seat.phase) ≡ is_present a.stage
+StaysHere None seat a = Unit {0}
 
--- the connection that sent the line is shut out by an operator where its phase stays
-removed-self : (change : Change) (a : About) → (is_present (stage_in (phase_after change (phase_of a))) && is_removed change a.sender.sid) ≡ (is_present a.stage && is_removed change a.sender.sid)
-removed-self Nothing a = removed-other Nothing a
-removed-self (Sender change) a = and-false (is_present (stage_in (phase_after (Sender change) (phase_of a)))) ∙ sym (and-false (is_present a.stage))
-removed-self (Hub change) a = removed-other (Hub change) a
+here-other : (at : Option (ℕ × SeatChange)) (seat : Seat) (a : About) → seat.phase ≡ phase_of a → StaysHere at seat a
+here-other (Some at) seat a is = ap is_present (ap stage_in is ∙ stage-of a.stage a)
+here-other None seat a is = tt
 
-abbrev gone_if : Bool → Seat → Seat
-gone_if gone seat = seat_after_if gone seats.Gone seat
+here-self : (change : Change) (seat : Seat) (a : About) → seat.phase ≡ phase_after change (phase_of a) → StaysHere (change_at change) seat a
+here-self Nothing seat a is = tt
+here-self (Sender change) seat a is = tt
+here-self (Hub change) seat a is = here-other (change_at (Hub change)) seat a is
 
-shut-at : (at : Option (ℕ × SeatChange)) (seat : Seat) → seat_after_change_at at seat ≡ gone_if (is_present (stage_in seat.phase) && is_gone_at at seat.sender.sid) seat
-shut-at (Some (sid, seats.Gone)) seat = refl
-shut-at None seat = ap (λ b. gone_if b seat) (sym (and-false (is_present (stage_in seat.phase))))
+-- what an operator's change makes of a seat whose connection is at this stage
+abbrev changed_if : Bool → SeatChange → Seat → Stage → About → Seat
+changed_if here change seat stage b = record seat {
+  sender = record seat.sender { notes = cond here (notes_by change seat.sender.notes) seat.sender.notes };
+  phase = phase_at (cond (here && is_removal change) stages.Gone stage) b;
+}
 
-gone-seat : (gone : Bool) (seat : Seat) (stage : Stage) (b : About) → seat.phase ≡ phase_at stage b → gone_if gone seat ≡ record seat { phase = phase_at (cond gone stages.Gone stage) b }
-gone-seat true seat stage b is = refl
-gone-seat false seat stage b is = ap (λ (p : Phase). record seat { phase = p }) is
+phase-if : (removal : Bool) (seat : Seat) (stage : Stage) (b : About) → seat.phase ≡ phase_at stage b → cond removal phases.Gone seat.phase ≡ phase_at (cond removal stages.Gone stage) b
+phase-if true seat stage b is = refl
+phase-if false seat stage b is = is
 
--- a seat whose connection is at this stage, or is shut out
-removes : (removed : Bool) (change : Change) (seat : Seat) (stage : Stage) (b : About) → (is_present (stage_in seat.phase) && is_removed change seat.sender.sid) ≡ removed → seat.phase ≡ phase_at stage b
-    → seat_after_change_at (change_at change) seat ≡ record seat { phase = phase_at (cond removed stages.Gone stage) b }
-removes removed change seat stage b named is = shut-at (change_at change) seat ∙ ap (λ g. gone_if g seat) named ∙ gone-seat removed seat stage b is
+changes-if : (here : Bool) (change : SeatChange) (seat : Seat) (stage : Stage) (b : About) → seat.phase ≡ phase_at stage b → seat_after_if here change seat ≡ changed_if here change seat stage b
+changes-if true change seat stage b is =
+    ap (λ (p : Phase). record seat { sender = record seat.sender { notes = notes_by change seat.sender.notes }; phase = p }) (phase-if (is_removal change) seat stage b is)
+changes-if false change seat stage b is = ap (λ (p : Phase). record seat { phase = p }) is
+
+swap : (a b c : Bool) → (a && (b && c)) ≡ ((a && c) && b)
+swap a b c = grind arith
+
+changes-at : (at : Option (ℕ × SeatChange)) (seat : Seat) (a b : About) (stage : Stage) → seat.sender.sid ≡ a.sender.sid → StaysHere at seat a → seat.phase ≡ phase_at stage b
+    → seat_after_change_at at seat
+    ≡ record seat { sender = record seat.sender { notes = notes_at at a seat.sender.notes }; phase = phase_at (cond (is_present a.stage && is_gone_at at a.sender.sid) stages.Gone stage) b }
+changes-at (Some (sid, change)) seat a b stage same here is =
+    changes-if _ change seat stage b is
+    ∙ ap₂ (λ p n. changed_if (p && (n == sid)) change seat stage b) here same
+    ∙ ap (λ gone. record seat { sender = record seat.sender { notes = notes_at (Some (sid, change)) a seat.sender.notes }; phase = phase_at (cond gone stages.Gone stage) b })
+    (sym (swap (is_present a.stage) (is_removal change) (a.sender.sid == sid)))
+changes-at None seat a b stage same here is =
+    ap (λ (p : Phase). record seat { phase = p }) is
+    ∙ ap (λ gone. record seat { phase = phase_at (cond gone stages.Gone stage) b }) (sym (and-false (is_present a.stage)))
 
 -- ---- one seat
 
@@ -180,13 +200,14 @@ delivers-by true effect d a few lines bytes suits =
     let seat : Seat = changed_seat effect.change (seat_with d a) in
     let after : About = affected_parts true effect a in
     ap (seat_after_change_at (change_at effect.change)) (gives a (owes true effect a) few lines bytes seat refl)
-    ∙ removes (removed_by effect a) effect.change (record seat { outbox = backlog_with a (owes true effect a) }) (stage_after effect.change a.stage) after (removed-self effect.change a)
+    ∙ changes-at (change_at effect.change) (record seat { outbox = backlog_with a (owes true effect a) }) a after (stage_after effect.change a.stage) refl
+    (here-self effect.change (record seat { outbox = backlog_with a (owes true effect a) }) a refl)
     (changed-phase effect.change a (suits refl).change ∙ kept-phase (stage_after effect.change a.stage) (known_after effect.change a) after refl refl refl)
 delivers-by false effect d a few lines bytes suits =
     let after : About = affected_parts false effect a in
     ap (seat_after_change_at (change_at effect.change)) (gives a (owes false effect a) few lines bytes (seat_with d a) refl)
-    ∙ removes (removed_by effect a) effect.change (record (seat_with d a) { outbox = backlog_with a (owes false effect a) }) a.stage after (removed-other effect.change a)
-    (kept-phase a.stage a after refl refl refl)
+    ∙ changes-at (change_at effect.change) (record (seat_with d a) { outbox = backlog_with a (owes false effect a) }) a after a.stage refl
+    (here-other (change_at effect.change) (record (seat_with d a) { outbox = backlog_with a (owes false effect a) }) a refl) (kept-phase a.stage a after refl refl refl)
 
 pub delivers : (c : ℕ) (effect : Effect) (d : ℕ) (a : About) → Routed effect.hearers → a.taken ≤ length a.owed → length (waiting a) ≤ max_lines → size_of (waiting a) ≤ max_bytes → ((d == c) ≡ true → Suits (own_of a) effect)
     → seat_next c effect d a ≡ seat_with d (affected_parts (d == c) effect a)

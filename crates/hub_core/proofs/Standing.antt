@@ -75,7 +75,7 @@ phase-open setup c effect f open_c =
 
 -- what was decided at the seat of an open connection is what the rules say of its line
 pub effect-is : (old : CoreState) (c : ℕ) (line : PreparedLine) (now : ℕ) (seat : Seat) (effect : Effect)
-    → old.setup.max_users ≤ most_users
+    → old.setup.plain.max_users ≤ most_users
     → seat ≡ in_seat c (λ s. s) seat old.seats
     → Decided (sight_in old) seat line now effect
     → (setup : Configured) (hash : List ℕ → List ℕ) (h : List Entry) → StandsAt setup hash h old → has c (facts setup hash h).opened ≡ true
@@ -84,7 +84,7 @@ pub effect-is : (old : CoreState) (c : ℕ) (line : PreparedLine) (now : ℕ) (s
 unfolding Stands
 effect-is old c line now seat effect small is_seat decided setup hash h at open_c is_line =
     let f : Facts = facts setup hash h in
-    let few : setup.max_users ≤ most_users = subst (λ (s : CoreState). s.setup.max_users ≤ most_users) at.stands small in
+    let few : setup.plain.max_users ≤ most_users = subst (λ (s : CoreState). s.setup.plain.max_users ≤ most_users) at.stands small in
     let mine : seat ≡ seat_of f.about c =
     is_seat ∙ ap (λ (s : CoreState). in_seat c (λ x. x) seat s.seats) at.stands ∙ in-open c (λ s. s) seat f.about f.opened open_c in
     decided-is setup f c line now effect (sound_of setup hash h) (numbered_of setup hash h few) (tidy_of setup hash h c) open_c
@@ -92,7 +92,7 @@ effect-is old c line now seat effect small is_seat decided setup hash h at open_
     ∙ ap (λ l. line_effect (sight_of setup f) (own_of (f.about c)) l now) is_line
 
 pub line-moves : (old new : CoreState) (c : ℕ) (line : PreparedLine) (now : ℕ) (seat : Seat) (effect : Effect) (verdict : Verdict) (touched : Touched)
-    → old.setup.max_users ≤ most_users
+    → old.setup.plain.max_users ≤ most_users
     → seat ≡ in_seat c (λ s. s) seat old.seats
     → Decided (sight_in old) seat line now effect
     → new ≡ noted touched (carried_out c effect old)
@@ -102,7 +102,7 @@ unfolding Legal Stands facts after reply carried_out
 line-moves old new c line now seat effect verdict touched small is_seat decided is_new is_verdict setup hash h caller at may is_line =
     let f : Facts = facts setup hash h in
     let sound : Sound f = sound_of setup hash h in
-    let few : setup.max_users ≤ most_users = subst (λ (s : CoreState). s.setup.max_users ≤ most_users) at.stands small in
+    let few : setup.plain.max_users ≤ most_users = subst (λ (s : CoreState). s.setup.plain.max_users ≤ most_users) at.stands small in
     let n : Numbered setup f = numbered_of setup hash h few in
     let is_effect = effect-is old c line now seat effect small is_seat decided setup hash h at may.0 is_line in
     let stands : noted Nobody new ≡ core_of setup (happens c (effect_of_line setup hash f c line.bytes now) f) =
@@ -229,11 +229,11 @@ left-stands setup c f sound n tidy open_c =
     (ap (λ i. without_sid i (map (user_of f.about) f.present)) sid ∙ users-carried setup f c (leaves (f.about c)) sound n open_c (suits-leaves (f.about c)))
     ∙ ap (λ (g : Facts). core_of setup (without_connection c g)) (sym (happens-parts c (leaves (f.about c)) f))
 
-pub quit-moves : (old new : CoreState) (c : ℕ) (touched : Touched) → old.setup.max_users ≤ most_users → new ≡ noted touched (left_core c old) → Moves old (Quit c) Left new
+pub quit-moves : (old new : CoreState) (c : ℕ) (touched : Touched) → old.setup.plain.max_users ≤ most_users → new ≡ noted touched (left_core c old) → Moves old (Quit c) Left new
 unfolding Legal Stands facts after reply
 quit-moves old new c touched small is_new setup hash h caller at may =
     let f : Facts = facts setup hash h in
-    let few : setup.max_users ≤ most_users = subst (λ (s : CoreState). s.setup.max_users ≤ most_users) at.stands small in
+    let few : setup.plain.max_users ≤ most_users = subst (λ (s : CoreState). s.setup.plain.max_users ≤ most_users) at.stands small in
     record {
       legal = (at.legal, may, refl);
       stands = ap (noted Nobody) is_new ∙ ap (left_core c) at.stands
@@ -244,28 +244,28 @@ quit-moves old new c touched small is_new setup hash h caller at may =
 
 -- whether a join is accepted can be seen at the hub
 places : (setup : Configured) (f : Facts) (old : CoreState) → noted Nobody old ≡ core_of setup f
-    → (has_place setup f ≡ not (nat_le old.setup.max_users (length old.seats))) × (has_joins f ≡ not (nat_le max_joins old.joins))
+    → (has_place setup f ≡ not (nat_le old.setup.plain.max_users (length old.seats))) × (has_joins f ≡ not (nat_le max_joins old.joins))
 places setup f old stands =
     let seats : length old.seats ≡ length f.opened = ap (λ (s : CoreState). length s.seats) stands ∙ length-map f.opened (seat_of f.about) in
-    let most : old.setup.max_users ≡ setup.max_users = ap (λ (s : CoreState). s.setup.max_users) stands in
+    let most : old.setup.plain.max_users ≡ setup.plain.max_users = ap (λ (s : CoreState). s.setup.plain.max_users) stands in
     let joins : old.joins ≡ f.joins = ap (λ (s : CoreState). s.joins) stands in
-    (sym (ap (λ n. not (nat_le n (length old.seats))) most ∙ ap (λ n. not (nat_le setup.max_users n)) seats), sym (ap (λ n. not (nat_le max_joins n)) joins))
+    (sym (ap (λ n. not (nat_le n (length old.seats))) most ∙ ap (λ n. not (nat_le setup.plain.max_users n)) seats), sym (ap (λ n. not (nat_le max_joins n)) joins))
 
-pub full-moves : (old : CoreState) (peer challenge : List ℕ) (now : ℕ) → old.setup.max_users ≤ length old.seats → Moves old (Join peer challenge now) Full old
+pub full-moves : (old : CoreState) (peer challenge : List ℕ) (now : ℕ) → old.setup.plain.max_users ≤ length old.seats → Moves old (Join peer challenge now) Full old
 unfolding Legal Stands facts after reply
 full-moves old peer challenge now full setup hash h caller at may =
     let f : Facts = facts setup hash h in
-    let none : has_place setup f ≡ false = (places setup f old at.stands).0 ∙ ap not (true-le old.setup.max_users (length old.seats) full) in
+    let none : has_place setup f ≡ false = (places setup f old at.stands).0 ∙ ap not (true-le old.setup.plain.max_users (length old.seats) full) in
     record {
       legal = (at.legal, may, sym (ap (λ b. join_reply b (has_joins f) f.joins) none));
       stands = at.stands ∙ ap (core_of setup) (sym (ap (λ b. cond (b && has_joins f) (with_connection f caller peer challenge) f) none));
     }
 
-pub spent-moves : (old : CoreState) (peer challenge : List ℕ) (now : ℕ) → length old.seats < old.setup.max_users → max_joins ≤ old.joins → Moves old (Join peer challenge now) JoinsSpent old
+pub spent-moves : (old : CoreState) (peer challenge : List ℕ) (now : ℕ) → length old.seats < old.setup.plain.max_users → max_joins ≤ old.joins → Moves old (Join peer challenge now) JoinsSpent old
 unfolding Legal Stands facts after reply
 spent-moves old peer challenge now room spent setup hash h caller at may =
     let f : Facts = facts setup hash h in
-    let place : has_place setup f ≡ true = (places setup f old at.stands).0 ∙ ap not (false-le old.setup.max_users (length old.seats) room) in
+    let place : has_place setup f ≡ true = (places setup f old at.stands).0 ∙ ap not (false-le old.setup.plain.max_users (length old.seats) room) in
     let none : has_joins f ≡ false = (places setup f old at.stands).1 ∙ ap not (true-le max_joins old.joins spent) in
     record {
       legal = (at.legal, may, sym (ap (λ b. join_reply b (has_joins f) f.joins) place ∙ ap (λ b. join_reply true b f.joins) none));
@@ -312,14 +312,14 @@ joined-stands setup f caller peer challenge sound =
     (λ d there. ap (λ (a : About). listed_user a.sender.sid a.fields)
     (sym (other-kept f sound mine d (sound.are_open d (not-over (f.about d).stage (sym (sound.entered d) ∙ there)))))))
 
-join-moves-at : (old new : CoreState) (peer challenge : List ℕ) (now sid : ℕ) → length old.seats < old.setup.max_users → old.joins < max_joins
+join-moves-at : (old new : CoreState) (peer challenge : List ℕ) (now sid : ℕ) → length old.seats < old.setup.plain.max_users → old.joins < max_joins
     → sid ≡ next_free old.last (sids_in old.seats)
     → new ≡ joined_core sid peer challenge old
     → Moves old (Join peer challenge now) (Joined (old.joins + 1)) new
 unfolding Legal Stands facts after reply
 join-moves-at old new peer challenge now sid room left is_sid is_new setup hash h caller at may =
     let f : Facts = facts setup hash h in
-    let place : has_place setup f ≡ true = (places setup f old at.stands).0 ∙ ap not (false-le old.setup.max_users (length old.seats) room) in
+    let place : has_place setup f ≡ true = (places setup f old at.stands).0 ∙ ap not (false-le old.setup.plain.max_users (length old.seats) room) in
     let counted : has_joins f ≡ true = (places setup f old at.stands).1 ∙ ap not (false-le max_joins old.joins left) in
     let joins : old.joins ≡ f.joins = ap (λ (s : CoreState). s.joins) at.stands in
     let next : sid ≡ next_sid f =
@@ -331,7 +331,7 @@ join-moves-at old new peer challenge now sid room left is_sid is_new setup hash 
       stands = stands ∙ ap (core_of setup) (sym (ap (λ b. cond (b && has_joins f) (with_connection f caller peer challenge) f) place ∙ ap (λ b. cond b (with_connection f caller peer challenge) f) counted));
     }
 
-pub join-moves : (old new : CoreState) (peer challenge : List ℕ) (now sid n : ℕ) → n ≡ old.joins + 1 → length old.seats < old.setup.max_users → old.joins < max_joins
+pub join-moves : (old new : CoreState) (peer challenge : List ℕ) (now sid n : ℕ) → n ≡ old.joins + 1 → length old.seats < old.setup.plain.max_users → old.joins < max_joins
     → sid ≡ next_free old.last (sids_in old.seats)
     → new ≡ joined_core sid peer challenge old
     → Moves old (Join peer challenge now) (Joined n) new

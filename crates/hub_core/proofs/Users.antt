@@ -16,12 +16,13 @@ use Rattle.hub_rules.specs.declared.effect.Effect.{Effect}
 use Rattle.hub_rules.specs.declared.effect.Entrant.{Entrant}
 use Rattle.hub_rules.specs.declared.effect.HubChange.TheVariants as shared
 use Rattle.hub_rules.specs.declared.effect.SenderChange.{SenderChange}
-use Rattle.hub_rules.specs.declared.effect.SeatChange.TheVariants as seats
+use Rattle.hub_rules.specs.declared.sender.SeatChange.{SeatChange}
 use Rattle.hub_rules.specs.declared.effect.SenderChange.TheVariants as senders
 use Rattle.hub_rules.specs.Configured.{Configured}
 use Rattle.hub_rules.specs.Effects.{is_present}
 use Rattle.hub_rules.specs.Facts.{Facts, enters, own_of, user_of}
 use Rattle.hub_rules.specs.Identities.{listed_user}
+use Rattle.hub_rules.specs.Senders.{is_removal}
 use Rattle.hub_rules.specs.Shares.{About}
 use Rattle.hub_invariants.specs.Afterwards.{fields_after, is_removed, removed_by, stage_after}
 use Rattle.hub_invariants.proofs.Kept.{differs-sid}
@@ -244,10 +245,16 @@ module _ (setup : Configured) (f : Facts) (c : ℕ) (effect : Effect) where
   by-sender sound n open_c quiet (senders.Searches now) is suited = done-kept sound (Sender (senders.Searches now)) is (λ sid. refl) (λ s. refl) (λ fs. refl)
   by-sender sound n open_c quiet senders.Falls is suited = sym (all-fall sound n open_c quiet is) ∙ nobody-new _
 
+  -- an operator changes a user's connection, and shuts it out or not
+  done-at : Sound f → (target : ℕ) (change : SeatChange) → effect.change ≡ Hub (shared.At target change) → (removal : Bool) → is_removal change ≡ removal
+      → cond removal (without_sid target (map (user_of f.about) f.present)) (map (user_of f.about) f.present) ≡ map (user_of next) (filter stays f.present) ++ []
+  done-at sound target change is true removal = done-removed sound (Hub (shared.At target change)) is target (λ sid. ap (λ b. b && eqb sid target) removal) (λ s. refl) (λ fs. refl)
+  done-at sound target change is false removal = done-kept sound (Hub (shared.At target change)) is (λ sid. ap (λ b. b && eqb sid target) removal) (λ s. refl) (λ fs. refl)
+
   by-change : Sound f → Numbered setup f → has c f.opened ≡ true → (change : Change) → effect.change ≡ change → Suited (own_of (f.about c)) change → Done change
   by-change sound n open_c Nothing is suited = done-kept sound Nothing is (λ sid. refl) (λ s. refl) (λ fs. refl)
   by-change sound n open_c (Sender change) is suited = by-sender sound n open_c (λ sid. ap (λ t. is_removed t sid) is) change is suited
-  by-change sound n open_c (Hub (shared.At target seats.Gone)) is suited = done-removed sound (Hub (shared.At target seats.Gone)) is target (λ sid. refl) (λ s. refl) (λ fs. refl)
+  by-change sound n open_c (Hub (shared.At target change)) is suited = done-at sound target change is (is_removal change) refl
   by-change sound n open_c (Hub (shared.Ban banned)) is suited = done-removed sound (Hub (shared.Ban banned)) is banned.sid (λ sid. refl) (λ s. refl) (λ fs. refl)
   by-change sound n open_c (Hub (shared.Unban cid)) is suited = done-kept sound (Hub (shared.Unban cid)) is (λ sid. refl) (λ s. refl) (λ fs. refl)
   by-change sound n open_c (Hub (shared.Topic text)) is suited = done-kept sound (Hub (shared.Topic text)) is (λ sid. refl) (λ s. refl) (λ fs. refl)

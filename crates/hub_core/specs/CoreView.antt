@@ -24,5 +24,5 @@ core_view c = record {
 -- and are found by their session identifiers; the lines that are kept are those of the users who are present
 abbrev pub IsCore : Inside → Type 0
 IsCore c =
-    ((arc_value c.setup).max_users ≤ most_users) × (c.last < 1_048_576) × Ordered c.joins c.seats.items × AreIndexed c.index (keys c.seats.items)
+    ((arc_value c.setup).plain.max_users ≤ most_users) × (c.last < 1_048_576) × Ordered c.joins c.seats.items × AreIndexed c.index (keys c.seats.items)
     × AreTold (arc_value c.setup) c.commons.present

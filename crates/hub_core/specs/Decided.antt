@@ -62,4 +62,4 @@ pub record IsHandled (c : ℕ) (line : PreparedLine) (now : ℕ) (old new : Core
   pub touched : Touched
   pub carried : new ≡ noted touched (carried_out c effect old)
   pub named : NamesEffect touched (sid_in c old.seats) effect
-  pub few : old.setup.max_users ≤ most_users
+  pub few : old.setup.plain.max_users ≤ most_users

@@ -17,7 +17,7 @@ use Rattle.hub_rules.specs.History.{View, sid, totals, view}
 
 -- fewer connections are open than are admitted, and a number is left for one more
 abbrev pub HasRoom : CoreState → Type 0
-HasRoom core = (length core.seats < core.setup.max_users) × (core.joins < 18_446_744_073_709_551_615)
+HasRoom core = (length core.seats < core.setup.plain.max_users) × (core.joins < 18_446_744_073_709_551_615)
 
 -- A join is an entry of the history, refused for want of room or of numbers too. Memory may be wanting only where there is
 -- room, and then all is as before.

@@ -7,11 +7,11 @@ use Rattle.hub_core.specs.declared.seat.Seat.{Seat}
 use Rattle.hub_core.specs.Phases.{phase_after, phase_hears, phase_of, stage_in}
 use Rattle.hub_rules.specs.declared.effect.Change.{Change}
 use Rattle.hub_rules.specs.declared.effect.Effect.{Effect}
-use Rattle.hub_rules.specs.declared.effect.SeatChange.{SeatChange}
-use Rattle.hub_rules.specs.declared.effect.SeatChange.TheVariants.{Gone}
+use Rattle.hub_rules.specs.declared.sender.SeatChange.{SeatChange}
 use Rattle.hub_rules.specs.declared.sender.Sender.{Sender}
 use Rattle.hub_rules.specs.Effects.{is_present}
 use Rattle.hub_invariants.specs.Afterwards.{sender_after}
+use Rattle.hub_rules.specs.Senders.{is_removal, notes_by}
 use Rattle.hub_rules.specs.Shares.{About, max_bytes, max_lines, waiting}
 
 -- what waits for a connection
@@ -53,7 +53,10 @@ given_seat (line ∷ lines) seat = record seat { outbox = backlog_after seat.out
 
 -- an operator changes the connection
 abbrev pub seat_after : SeatChange → Seat → Seat
-seat_after Gone seat = record seat { phase = phases.Gone }
+seat_after change seat = record seat {
+  sender = record seat.sender { notes = notes_by change seat.sender.notes };
+  phase = if is_removal change then phases.Gone else seat.phase;
+}
 
 abbrev pub seat_after_if : Bool → SeatChange → Seat → Seat
 seat_after_if true change seat = seat_after change seat

@@ -1,5 +1,5 @@
 -- The state of a hub, the state after an effect, and when it stands at a history.
-use Rattle.std.specs.Prelude.{◌≡◌, ℕ, ◌==◌, Bool, true, List, [], ◌∷◌, ◌++◌, map, position, Some}
+use Rattle.std.specs.Prelude.{◌≡◌, ℕ, ◌==◌, Bool, true, List, [], ◌∷◌, ◌++◌, map, position, Some, if◌then◌else◌}
 use Rattle.std.specs.List.{list_any}
 use Rattle.user_table.specs.Changes.{given_key}
 use Rattle.user_table.specs.Listed.{Listed}
@@ -14,11 +14,11 @@ use Rattle.hub_rules.specs.declared.effect.Change.{Change}
 use Rattle.hub_rules.specs.declared.effect.Change.TheVariants.{Hub, Sender}
 use Rattle.hub_rules.specs.declared.effect.Effect.{Effect}
 use Rattle.hub_rules.specs.declared.effect.HubChange.TheVariants as shared
-use Rattle.hub_rules.specs.declared.effect.SeatChange.TheVariants as seats
 use Rattle.hub_rules.specs.declared.effect.SenderChange.TheVariants as senders
 use Rattle.hub_rules.specs.declared.history.Entry.{Entry}
 use Rattle.hub_rules.specs.Configured.{Configured}
 use Rattle.hub_rules.specs.Facts.{Facts, bans_after, facts, topic_after, user_of}
+use Rattle.hub_rules.specs.Senders.{is_removal}
 use Rattle.hub_rules.specs.Shares.{change_at}
 
 -- what is kept of a hub, with no hint
@@ -60,7 +60,7 @@ users_after (Sender senders.Enters) sid phase users = users ++ users_awaited pha
 users_after (Sender (senders.EntersAs newcomer)) sid phase users = users ++ newcomer.user ∷ []
 users_after (Sender (senders.Updates revision)) sid phase users = with_update sid revision.update (given_key revision.nick) users
 users_after (Sender senders.Falls) sid phase users = without_sid sid users
-users_after (Hub (shared.At target seats.Gone)) sid phase users = without_sid target users
+users_after (Hub (shared.At target change)) sid phase users = if is_removal change then without_sid target users else users
 users_after (Hub (shared.Ban banned)) sid phase users = without_sid banned.sid users
 users_after change sid phase users = users
 

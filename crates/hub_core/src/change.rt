@@ -13,7 +13,7 @@ ghost use Rattle.hub_rules.specs.Facts.{bans_after, topic_after};
 
 use crate::present::Present;
 use crate::seat::{Phase, Seat};
-use hub_rules::{Banned, Change, Entrant, HubChange, Revision, SeatChange, SenderChange, Topic};
+use hub_rules::{Banned, Change, Entrant, HubChange, Revision, SenderChange, Topic};
 use hub_setup::Setup;
 use operator_acts::Bans;
 use std::alloc::{AllocError, Global};
@@ -47,8 +47,10 @@ impl Commons {
             Change::Nothing => Ok(()),
             Change::Sender(change) => change_sender(alloc, setup, &mut self.present, seat, change),
             Change::Hub(change) => match change {
-                HubChange::At(sid, SeatChange::Gone) => {
-                    self.present.remove(sid);
+                HubChange::At(sid, change) => {
+                    if change.is_removal() {
+                        self.present.remove(sid);
+                    }
                     Ok(())
                 }
                 HubChange::Ban(banned) => ban(&mut self.present, &mut self.bans, banned),
@@ -111,7 +113,7 @@ fn change_sender(
         }
         SenderChange::Updates(revision) => update(alloc, setup, present, seat, revision),
         SenderChange::Searches(now) => {
-            seat.sender.searched = Some(now);
+            seat.sender.notes.searched = Some(now);
             Ok(())
         }
         SenderChange::Falls => {

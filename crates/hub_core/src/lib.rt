@@ -17,7 +17,7 @@ pub use connection::Connection as Conn;
 pub use hub::Core;
 pub use hub_rules::{LineRefused, Verdict};
 pub use hub_setup::{
-    Account, MenuEntry, MenuItem, Options, Prepared, Setup, SetupRefused, prepare,
+    Account, MenuEntry, MenuItem, Options, PlainOptions, Prepared, Setup, SetupRefused, prepare,
 };
 pub use login_state::Stage;
 pub use look::Look;

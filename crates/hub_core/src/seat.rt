@@ -147,8 +147,9 @@ impl Seat {
     fn change(&mut self, change: SeatChange)
         ensures { self.new ≡ seat_after change self.old }
     {
-        match change {
-            SeatChange::Gone => self.phase = Phase::Gone,
+        self.sender.notes.change(change);
+        if change.is_removal() {
+            self.phase = Phase::Gone;
         }
     }
 

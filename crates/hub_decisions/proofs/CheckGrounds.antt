@@ -1,15 +1,16 @@
 -- The checks deny what the grounds deny: each check as its ground does, where none before it holds.
 use Rattle.std.proofs.Common.{◌≡◌, ◌∙◌, ap, refl, sym, ℕ, ◌==◌, Bool, true, false, not, ◌&&◌, ◌||◌, List, [], ◌∷◌, length, Option, Some, None, is_some, unwrap_or, arith}
-use Rattle.std.specs.Prelude.{chars, codes, if◌then◌else◌}
+use Rattle.std.specs.Prelude.{chars, codes, map, if◌then◌else◌}
+use Rattle.std.specs.List.{find}
+use Rattle.std.specs.Option.{option_map}
 use Rattle.std.specs.Str.{bytes_eq}
 use Rattle.std.proofs.lemmas.Bool.{eqb-true, false≢true}
 use Rattle.std.proofs.lemmas.Slice.Eq.{bytes_eq-Decides}
 use Rattle.adc_base32.specs.Spelled.{spelled_bytes}
 use Rattle.adc_ids.specs.Nicks.{is_nick}
-use Rattle.inf_fields.specs.Amounts.{is_bad_number}
 use Rattle.inf_fields.specs.Cleaning.{any_address, clean, dotted_decimal}
 use Rattle.inf_fields.specs.Field.{Field, value_of}
-use Rattle.inf_fields.specs.FieldNames.{id_name, private_id_name, nick_name, share_size_name, shared_files_name, address_name}
+use Rattle.inf_fields.specs.FieldNames.{id_name, private_id_name, nick_name, address_name}
 use Rattle.inf_fields.specs.Merging.{fits}
 use Rattle.login_state.specs.declared.deny.Deny.{Deny}
 use Rattle.login_state.specs.declared.deny.Deny.TheVariants as denials
@@ -24,19 +25,20 @@ use Rattle.login_state.specs.declared.named_field.NamedField.{NamedField}
 use Rattle.login_state.specs.declared.named_field.NamedField.TheVariants as fields
 use Rattle.login_state.specs.Checks.{first_denial}
 use Rattle.login_state.specs.Mentions.{base, tigr}
+use Rattle.login_state.specs.NamedFields.{checked_fields}
 use Rattle.login_state.specs.Orders.{entry_rules, inf_rules, pass_rules, sup_rules, update_rules}
-use Rattle.login_state.specs.Rules.{account_touched, bad_field, bad_nick, bad_nick_of_login, bad_required, ban_denial, cid_taken, foreign_id, foreign_pid, missing, nick_taken, too_many_fields, unless, registration_denial, wrong_address}
+use Rattle.login_state.specs.Rules.{account_touched, bad_nick, bad_nick_of_login, bad_required, bad_value, ban_denial, cid_taken, first_bad, foreign_id, foreign_pid, missing, nick_taken, too_many_fields, unless, registration_denial, wrong_address}
 use Rattle.login_state.specs.Support.{has_feature}
 use Rattle.operator_acts.specs.Bans.{left_of_bans}
 use Rattle.operator_acts.specs.declared.left.Left.{Left}
 use Rattle.operator_acts.specs.declared.left.Left.TheVariants as lefts
 use Rattle.user_table.specs.Listed.{Listed}
 use Rattle.user_table.specs.Tables.{has_cid, has_key}
-use Rattle.hub_rules.specs.Grounds.{differs, entry_grounds, first_ground, ban_ground, is_bad_nick, is_digest, is_empty, is_wrong_address, login_grounds, sup_grounds, touches_account, update_grounds}
+use Rattle.hub_rules.specs.Grounds.{differs, entry_grounds, first_ground, ban_ground, is_bad, is_bad_nick, is_digest, is_empty, is_wrong_address, login_grounds, sup_grounds, touches_account, update_grounds, value_ground}
 use Rattle.hub_rules.specs.Identities.{value_or_empty, key_in, nick_in}
 use Rattle.hub_rules.specs.Sights as sights
 use Rattle.hub_rules.specs.Sights.{Sight, another_has_key, is_account, is_here}
-use Rattle.hub_decisions.specs.Asks.{address_found, ban_found, denial_of, entry_ask, good_if, login_ask, nick_found, own_if_given, required_found, taken_if, update_ask}
+use Rattle.hub_decisions.specs.Asks.{address_found, ban_found, denial_of, entry_ask, good_if, login_ask, nick_found, own_if_given, required_found, taken_if, update_ask, values_found}
 
 -- what a rule answers whose ground this is
 abbrev deny_if : Bool → Deny → Option Deny
@@ -69,9 +71,27 @@ nick-if valid [] some = absurd (false≢true (sym some))
 nick-if true (b ∷ more) some = refl
 nick-if false (b ∷ more) some = refl
 
-number-if : (severity : Severity) (bad : Bool) (field : NamedField) → bad_field severity (good_if (not bad)) field ≡ deny_if bad (denials.BadField severity field)
-number-if severity true field = refl
-number-if severity false field = refl
+first-value : (is_bad : NamedField → Bool) (test : Bool) (field : NamedField) (more : List NamedField) → is_bad field ≡ test
+    → first_bad more (map (λ f. good_if (not (is_bad f))) more) ≡ find is_bad more
+    → first_bad (field ∷ more) (good_if (not test) ∷ map (λ f. good_if (not (is_bad f))) more) ≡ find is_bad (field ∷ more)
+first-value is_bad true field more is later = rw is refl
+first-value is_bad false field more is later = rw is later
+
+first-bad : (is_bad : NamedField → Bool) (fields : List NamedField) → first_bad fields (map (λ f. good_if (not (is_bad f))) fields) ≡ find is_bad fields
+first-bad is_bad [] = refl
+first-bad is_bad (field ∷ more) = first-value is_bad (is_bad field) field more refl (first-bad is_bad more)
+
+-- the first of the checked fields with a bad value
+found-step : (severity : Severity) (found : Option NamedField) (grounds : List (Bool × Deny)) (rules : List (Option Deny)) → Agree rules grounds
+    → Agree (option_map (denials.BadField severity) found ∷ rules) ((is_some found, denials.BadField severity (unwrap_or found fields.Id)) ∷ grounds)
+found-step severity None grounds rules later = later
+found-step severity (Some field) grounds rules later = refl
+
+value-step : (severity : Severity) (u : List Field) (grounds : List (Bool × Deny)) (rules : List (Option Deny)) → Agree rules grounds
+    → Agree (bad_value severity (values_found u) ∷ rules) (value_ground severity u ∷ grounds)
+value-step severity u grounds rules later =
+    ap (λ found. denial_of (first_denial (option_map (denials.BadField severity) found ∷ rules))) (first-bad (is_bad u) checked_fields)
+    ∙ found-step severity (find (is_bad u) checked_fields) grounds rules later
 
 identity-if : (same : Bool) → foreign_pid (if same then Own else Foreign) ≡ deny_if (not same) denials.BadPid
 identity-if true = refl
@@ -143,22 +163,20 @@ login-grounds hub own now digest u user =
     let nick = value_or_empty nick_name u in
     let cid = spelled_bytes 24 id in
     let is_nick_good = is_nick (chars (nick_in u)) in
-    let is_bad = λ (name : List ℕ). is_bad_number (value_or_empty name u) in
-    let barred = hub.setup.registered_only && not (is_account hub user.key) in
+    let barred = hub.setup.plain.registered_only && not (is_account hub user.key) in
     step (is_empty id) (denials.Missing fields.Id) _ _ _ (missing-if (is_some cid) id fields.Id) (λ has_id.
     step (is_empty pid) (denials.Missing fields.PrivateId) _ _ _ (missing-if (is_some digest) pid fields.PrivateId) (λ has_pid.
     step (is_empty nick) (denials.Missing fields.Nick) _ _ _ (missing-if is_nick_good nick fields.Nick) (λ has_nick.
     step (not (is_some cid)) (denials.BadField Fatal fields.Id) _ _ _ (bad-if (is_some cid) id fields.Id has_id) (λ is_cid.
     step (not (is_some digest)) (denials.BadField Fatal fields.PrivateId) _ _ _ (bad-if (is_some digest) pid fields.PrivateId has_pid) (λ is_pid.
-    step (is_bad share_size_name) (denials.BadField Fatal fields.ShareSize) _ _ _ (number-if Fatal (is_bad share_size_name) fields.ShareSize) (λ size.
-    step (is_bad shared_files_name) (denials.BadField Fatal fields.SharedFiles) _ _ _ (number-if Fatal (is_bad shared_files_name) fields.SharedFiles) (λ files.
+    value-step Fatal u _ _ (
     step (not (is_digest user.cid digest)) denials.BadPid _ _ _ (identity-if (is_digest user.cid digest)) (λ own_pid.
     step (not is_nick_good) (denials.BadNick Fatal) _ _ _ (nick-if is_nick_good nick has_nick) (λ good_nick.
     ban-step (left_of_bans hub.bans user.cid now) _ _
     (step (is_wrong_address own.sender.peer (value_or_empty address_name u)) (denials.Address Fatal own.sender.peer) _ _ _ (address-if Fatal own.sender.peer (value_or_empty address_name u)) (λ address.
     step barred denials.Registered _ _ _ (admission-if barred) (λ admitted.
     step (is_here (has_key user.key) hub) (denials.NickTaken Fatal) _ _ _ (taken-nick Fatal (is_here (has_key user.key) hub)) (λ free_nick.
-    step (is_here (has_cid user.cid) hub) denials.CidTaken _ _ _ (taken-cid (is_here (has_cid user.cid) hub)) (λ free_cid. refl))))))))))))))
+    step (is_here (has_cid user.cid) hub) denials.CidTaken _ _ _ (taken-cid (is_here (has_cid user.cid) hub)) (λ free_cid. refl)))))))))))))
 
 -- ---- updates
 
@@ -195,12 +213,10 @@ unfolding update_ask update_grounds
 update-grounds hub own u user =
     let touched = touches_account hub (key_in own.fields) user.key in
     let few = fits own.fields (clean u own.sender.peer) in
-    let is_bad = λ (name : List ℕ). is_bad_number (value_or_empty name u) in
     step (differs (unwrap_or (value_of id_name u) (value_or_empty id_name own.fields)) (value_or_empty id_name own.fields)) (denials.BadField Recoverable fields.Id) _ _ _ (id-if own.fields (value_of id_name u)) (λ own_id.
-    step (is_bad share_size_name) (denials.BadField Recoverable fields.ShareSize) _ _ _ (number-if Recoverable (is_bad share_size_name) fields.ShareSize) (λ size.
-    step (is_bad shared_files_name) (denials.BadField Recoverable fields.SharedFiles) _ _ _ (number-if Recoverable (is_bad shared_files_name) fields.SharedFiles) (λ files.
+    value-step Recoverable u _ _ (
     step (is_bad_nick (value_of nick_name u)) (denials.BadNick Recoverable) _ _ _ (new-nick-if (value_of nick_name u)) (λ nick.
     step touched (denials.Access (codes "BINF")) _ _ _ (account-if touched) (λ account.
     step (is_wrong_address own.sender.peer (value_or_empty address_name u)) (denials.Address Recoverable own.sender.peer) _ _ _ (address-if Recoverable own.sender.peer (value_or_empty address_name u)) (λ address.
     step (not few) denials.Protocol _ _ _ (size-if few) (λ fitting.
-    step (another_has_key hub own.sender.sid user.key) (denials.NickTaken Recoverable) _ _ _ (taken-nick Recoverable (another_has_key hub own.sender.sid user.key)) (λ free. refl))))))))
+    step (another_has_key hub own.sender.sid user.key) (denials.NickTaken Recoverable) _ _ _ (taken-nick Recoverable (another_has_key hub own.sender.sid user.key)) (λ free. refl)))))))

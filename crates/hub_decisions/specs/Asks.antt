@@ -1,12 +1,11 @@
 -- The questions of the checks of a login, of an update and of a password, by what the rules look at (ADC 1.0, "INF", "PAS").
-use Rattle.std.specs.Prelude.{ℕ, ◌==◌, ◌&&◌, ◌||◌, not, Bool, true, false, List, [], ◌∷◌, length, chars, Option, Some, None, is_some, if◌then◌else◌}
+use Rattle.std.specs.Prelude.{ℕ, ◌==◌, ◌&&◌, ◌||◌, not, Bool, true, false, List, [], ◌∷◌, map, length, chars, Option, Some, None, is_some, if◌then◌else◌}
 use Rattle.std.specs.Str.{bytes_eq}
 use Rattle.adc_base32.specs.Spelled.{spelled_bytes}
 use Rattle.adc_ids.specs.Nicks.{is_nick}
-use Rattle.inf_fields.specs.Amounts.{is_bad_number}
 use Rattle.inf_fields.specs.Cleaning.{any_address, clean, dotted_decimal}
 use Rattle.inf_fields.specs.Field.{Field, value_of}
-use Rattle.inf_fields.specs.FieldNames.{id_name, private_id_name, nick_name, share_size_name, shared_files_name, address_name}
+use Rattle.inf_fields.specs.FieldNames.{id_name, private_id_name, nick_name, address_name}
 use Rattle.inf_fields.specs.Merging.{fits}
 use Rattle.login_state.specs.declared.asks.EntryAsk.{EntryAsk}
 use Rattle.login_state.specs.declared.asks.InfAsk.{InfAsk}
@@ -31,10 +30,12 @@ use Rattle.login_state.specs.declared.findings.Required.TheVariants as required
 use Rattle.login_state.specs.declared.findings.Size.TheVariants.{Fits, TooMany}
 use Rattle.login_state.specs.declared.findings.Validity.{Validity}
 use Rattle.login_state.specs.declared.findings.Validity.TheVariants.{Bad, Good}
+use Rattle.login_state.specs.declared.named_field.NamedField.{NamedField}
+use Rattle.login_state.specs.NamedFields.{checked_fields}
 use Rattle.operator_acts.specs.Bans.{left_of_bans}
 use Rattle.operator_acts.specs.declared.left.Left.{Left}
 use Rattle.operator_acts.specs.declared.left.Left.TheVariants as lefts
-use Rattle.hub_rules.specs.Grounds.{is_digest}
+use Rattle.hub_rules.specs.Grounds.{is_bad, is_digest}
 use Rattle.hub_rules.specs.Identities.{value_or_empty, meaning, nick_in, key_in}
 use Rattle.hub_rules.specs.Sights as sights
 use Rattle.hub_rules.specs.Sights.{Sight, is_account, is_here, another_has_key}
@@ -60,9 +61,8 @@ required_found valid [] = required.Missing
 required_found true (b ∷ more) = required.Good
 required_found false (b ∷ more) = required.Bad
 
--- a field that is to be a number
-abbrev pub good_number : List ℕ → List Field → Validity
-good_number name u = good_if (not (is_bad_number (value_or_empty name u)))
+abbrev pub values_found : List Field → List Validity
+values_found u = map (λ (field : NamedField). good_if (not (is_bad u field))) checked_fields
 
 -- an address: none, one that the hub is to fill in, or the one that it sees
 abbrev pub address_found : List ℕ → List ℕ → Address
@@ -75,7 +75,7 @@ ban_found (lefts.For seconds) = found_bans.For seconds
 ban_found lefts.Ever = found_bans.Ever
 
 abbrev pub admission_found : Sight → List ℕ → Admission
-admission_found hub key = if hub.setup.registered_only && not (is_account hub key) then RegisteredOnly else Admitted
+admission_found hub key = if hub.setup.plain.registered_only && not (is_account hub key) then RegisteredOnly else Admitted
 
 -- of a user who is to enter: what may have changed since its login, once its password is right
 unfoldable pub entry_ask : Sight → ℕ → Listed → EntryAsk
@@ -92,8 +92,7 @@ login_ask hub now peer digest u user = record {
   id = required_found (is_some (spelled_bytes 24 (value_or_empty id_name u))) (value_or_empty id_name u);
   pid = required_found (is_some digest) (value_or_empty private_id_name u);
   nick = required_found (is_nick (chars (nick_in u))) (value_or_empty nick_name u);
-  share_size = good_number share_size_name u;
-  shared_files = good_number shared_files_name u;
+  values = values_found u;
   identity = if is_digest user.cid digest then Own else Foreign;
   address = address_found peer (value_or_empty address_name u);
   admission = admission_found hub user.key;
@@ -120,8 +119,7 @@ unfoldable pub update_ask : Sight → sights.Own → List Field → Listed → U
 update_ask hub own u user = record {
   words = Good;
   identity = own_if_given own.fields (value_of id_name u);
-  share_size = good_number share_size_name u;
-  shared_files = good_number shared_files_name u;
+  values = values_found u;
   nick = nick_found (value_of nick_name u);
   account = account_found hub (key_in own.fields) user.key;
   address = address_found own.sender.peer (value_or_empty address_name u);

@@ -1,5 +1,5 @@
 -- The effect of a line that asks for one thing, by the rules of that.
-use Rattle.std.specs.Prelude.{◌≡◌, ℕ, List, MatchResult, Ok, Err, Option, None, Result, Some}
+use Rattle.std.specs.Prelude.{◌≡◌, ℕ, Bool, if◌then◌else◌, List, MatchResult, Ok, Err, Option, None, Result, Some}
 use Rattle.inf_fields.specs.Field.{Field}
 use Rattle.adc_line.specs.Lines as lines
 use Rattle.adc_line.specs.Lines.{Reading}
@@ -8,12 +8,13 @@ use Rattle.login_state.specs.declared.deny.Deny.TheVariants.{Protocol}
 use Rattle.login_state.specs.declared.fault.SupFault.{SupFault}
 use Rattle.login_state.specs.Requests.{request_at}
 use Rattle.login_state.specs.SupportAnswers.{support_after}
-use Rattle.hub_rules.specs.declared.effect.Change.TheVariants.{Sender}
+use Rattle.hub_rules.specs.declared.effect.Change.{Change}
+use Rattle.hub_rules.specs.declared.effect.Change.TheVariants.{Nothing, Sender}
 use Rattle.hub_rules.specs.declared.effect.Effect.{Effect}
 use Rattle.hub_rules.specs.declared.effect.SenderChange.TheVariants.{Enters, Searches}
 use Rattle.login_state.specs.declared.request.Request.{Request}
 use Rattle.hub_rules.specs.Acts.{act_denied, act_effect}
-use Rattle.hub_rules.specs.Denied.{login_denied, password_denied, request_denied, search_denied, sup_denied, update_denied}
+use Rattle.hub_rules.specs.Denied.{login_denied, message_denied, password_denied, request_denied, sup_denied, update_denied}
 use Rattle.hub_rules.specs.Effects.{accepted_effect, denial, enters, greets, learns, logs_in, passes_on, unless_denied, updates_user}
 use Rattle.hub_rules.specs.Identities.{listed_user}
 use Rattle.hub_rules.specs.Prepared.{update_of}
@@ -48,8 +49,12 @@ effect_of_password hub own now params = unless_denied own (password_denied hub o
 abbrev pub effect_of_act : Sight → Own → ℕ → List (List ℕ) → Effect
 effect_of_act hub own now params = unless_denied own (act_denied hub own now params) (act_effect hub own now params)
 
-abbrev pub effect_of_search : Sight → Own → ℕ → Reading → Effect
-effect_of_search hub own now line = unless_denied own (search_denied hub own now) (passes_on hub line (Sender (Searches now)))
+-- what a message to users changes at its sender
+abbrev pub change_of_route : ℕ → Bool → Change
+change_of_route now search = if search then Sender (Searches now) else Nothing
+
+abbrev pub effect_of_route : Sight → Own → ℕ → Reading → Bool → Effect
+effect_of_route hub own now line search = unless_denied own (message_denied hub own now search) (passes_on hub line (change_of_route now search))
 
 abbrev pub effect_of_request : Sight → Own → PreparedLine → ℕ → Reading → Request → Effect
 effect_of_request hub own prepared now line request = unless_denied own (request_denied hub own prepared now line request) (accepted_effect hub own prepared now line request)

@@ -1,12 +1,14 @@
-ghost use Rattle.std.specs.Prelude.{◌≡◌, IfOk, Some};
+ghost use Rattle.std.specs.Prelude.{◌≡◌, ◌∷◌, [], IfOk, Some};
 ghost use Rattle.adc_line.specs.WordsLeft.{words_left};
 ghost use Rattle.hub_decisions.specs.Commands.{answer_for, effect_of_asked, effect_of_command};
-ghost use Rattle.hub_rules.specs.Acts.{effect_for_all, if_present, is_command, kick, topic, unban, user_called};
+ghost use Rattle.hub_rules.specs.Acts.{effect_for_all, if_present, is_command, kick, unban, user_called};
 ghost use Rattle.operator_acts.specs.declared.act.Act.TheVariants as acts;
 ghost use Rattle.hub_decisions.specs.Known.{IsUser};
 ghost use Rattle.hub_decisions.specs.Requested.{effect_of_act};
+ghost use Rattle.hub_rules.specs.declared.effect.HubChange.TheVariants as shared;
 ghost use Rattle.hub_rules.specs.Accounts.{operates};
 ghost use Rattle.hub_rules.specs.Sights.{account_of};
+ghost use Rattle.hub_rules.specs.Texts.{topic_line};
 ghost use Rattle.operator_acts.specs.Acts.{act_at};
 
 use crate::denial::denial;
@@ -186,7 +188,7 @@ fn unban<'a>(
 }
 
 fn topic<'a>(alloc: Global, text: &FreeText<'_>) -> Result<Effect<'a>, AllocError>
-    ensures { IfOk result (λ effect. effect ≡ effect_for_all (topic text.now)) }
+    ensures { IfOk result (λ effect. effect ≡ effect_for_all (record { others = topic_line text.now ∷ []; change = shared.Topic text.now })) }
 {
     let line = topic_line(alloc, text.as_str())?;
     let topic = Topic::new(alloc, text.as_str())?;

@@ -13,7 +13,7 @@ use crate::sight::Sight;
 use crate::{act, login, message, password, sup, update};
 use adc_base32::Sid;
 use adc_line::Line;
-use hub_rules::{Change, Effect};
+use hub_rules::Effect;
 use hub_setup::{Prepared, Says};
 use login_state::{Deny, Request, Stage};
 use std::alloc::{AllocError, Global};
@@ -101,8 +101,8 @@ fn decide_request<'a>(
             None => Ok(nothing(alloc)),
         },
         Ok(Request::Support) => sup::decide_support(alloc, own, message.params()),
-        Ok(Request::Search) => message::decide_search(alloc, hub, own, message, now),
-        Ok(Request::Message) => message::decide_route(alloc, hub, message, Change::Nothing),
+        Ok(Request::Search) => message::decide_route(alloc, hub, own, message, true, now),
+        Ok(Request::Message) => message::decide_route(alloc, hub, own, message, false, now),
         Ok(Request::Nothing) => Ok(nothing(alloc)),
     }
 }

@@ -1,11 +1,12 @@
 //! The grounds on which a login, an update and a password are denied: a test each, and what is said where it holds (ADC 1.0, "INF", "PAS").
 
 ghost use Rattle.std.specs.Prelude.{◌≡◌, IfOk};
-ghost use Rattle.hub_rules.specs.Grounds.{ban_ground, first_ground, is_digest, is_empty, is_wrong_address, number_ground};
+ghost use Rattle.std.specs.List.{find};
+ghost use Rattle.hub_rules.specs.Grounds.{ban_ground, first_ground, is_bad, is_digest, is_empty, is_wrong_address, value_ground};
 
 use crate::given::value_in_update;
 use inf_fields::{Update, dotted_decimal, is_bad_number};
-use login_state::{Deny, NamedField, Severity};
+use login_state::{CHECKED_FIELDS, Deny, NamedField, Severity};
 use operator_acts::Left;
 use std::alloc::{AllocError, Global};
 
@@ -40,14 +41,32 @@ pub(crate) fn is_digest(expected: &[u8; 24], digest: Option<[u8; 24]>) -> bool
     }
 }
 
-/// Makes the ground that a field which is to be a number is none.
-pub(crate) fn number_ground(severity: Severity, field: NamedField, update: &Update) -> (bool, Deny)
-    ensures { result ≡ number_ground severity field update.now }
+/// Makes the ground that the value of a checked field is none of its kind: the first such field.
+pub(crate) fn value_ground(severity: Severity, update: &Update) -> (bool, Deny)
+    ensures { result ≡ value_ground severity update.now }
 {
-    (
-        is_bad_number(value_in_update(update, field.name())),
-        Deny::BadField(severity, field),
-    )
+    match first_bad(update, &CHECKED_FIELDS) {
+        Some(field) => (true, Deny::BadField(severity, field)),
+        None => (false, Deny::BadField(severity, NamedField::Id)),
+    }
+}
+
+fn first_bad(update: &Update, fields: &[NamedField]) -> Option<NamedField>
+    ensures { result ≡ find (is_bad update.now) fields.now }
+{
+    for field in fields {
+        if is_bad(update, *field) {
+            return Some(*field);
+        }
+    }
+    None
+}
+
+/// Tells whether a field's value is none of its kind: a number.
+fn is_bad(update: &Update, field: NamedField) -> bool
+    ensures { result ≡ is_bad update.now field }
+{
+    is_bad_number(value_in_update(update, field.name()))
 }
 
 /// Tells whether an address is wrong: it is neither empty, nor `0.0.0.0`, nor the peer's. Refused only where memory runs out.

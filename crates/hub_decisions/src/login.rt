@@ -17,7 +17,7 @@ use crate::effect::{answer, one};
 use crate::entering;
 use crate::given::{passed_on, value_in_fields, value_in_update};
 use crate::grounds::{
-    ban_ground, first_ground, is_digest, is_empty, is_wrong_address, number_ground,
+    ban_ground, first_ground, is_digest, is_empty, is_wrong_address, value_ground,
 };
 use crate::own::Own;
 use crate::present::{has_cid, has_key, is_account};
@@ -184,7 +184,7 @@ fn entrant_grounds(
     inf: &Inf,
     cid: Cid,
     now: u64,
-) -> Result<[(bool, Deny); 10], AllocError>
+) -> Result<[(bool, Deny); 9], AllocError>
     ensures { IfOk result (λ grounds. (user : Listed) → user.cid ≡ cid → user.key ≡ key_in inf.now → grounds ≡ entrant_grounds hub.now own.now now owner inf.now user) }
 {
     let severity = Severity::Fatal;
@@ -195,8 +195,7 @@ fn entrant_grounds(
     let left = hub.bans.left(cid, now);
     Ok([
         (!has_owner, Deny::BadField(severity, NamedField::PrivateId)),
-        number_ground(severity, NamedField::ShareSize, update),
-        number_ground(severity, NamedField::SharedFiles, update),
+        value_ground(severity, update),
         (!is_digest(&cid.bytes(), owner), Deny::BadPid),
         (!inf.is_nick(), Deny::BadNick(severity)),
         ban_ground(left),
@@ -209,7 +208,7 @@ fn entrant_grounds(
 
 /// Tells whether the hub lets accounts alone in, and the nick of this key is none's.
 fn is_barred(hub: &Sight<'_>, key: &str) -> bool
-    ensures { result ≡ (hub.now.setup.registered_only && not (is_account hub.now key.now)) }
+    ensures { result ≡ (hub.now.setup.plain.registered_only && not (is_account hub.now key.now)) }
 {
     hub.setup.registered_only() && !is_account(hub, key)
 }

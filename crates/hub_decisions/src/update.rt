@@ -17,7 +17,7 @@ ghost use Rattle.user_table.specs.Tables.{has_sid};
 use crate::denial::denial;
 use crate::effect::{one, publish};
 use crate::given::{passed_on, value_in_fields, value_in_update};
-use crate::grounds::{first_ground, is_wrong_address, number_ground};
+use crate::grounds::{first_ground, is_wrong_address, value_ground};
 use crate::own::Own;
 use crate::present::is_account;
 use crate::sight::Sight;
@@ -79,7 +79,7 @@ fn update_grounds(
     user: &User,
     inf: &Inf,
     cleaned: &Update,
-) -> Result<[(bool, Deny); 8], AllocError>
+) -> Result<[(bool, Deny); 7], AllocError>
     requires { cleaned.now ≡ clean inf.now own.now.sender.peer }
     ensures { IfOk result (λ grounds. IsUser own.now user.now → grounds ≡ update_grounds hub.now own.now inf.now (user_after own.now inf.now)) }
 {
@@ -92,8 +92,7 @@ fn update_grounds(
             changes_id(user.fields(), update),
             Deny::BadField(severity, NamedField::Id),
         ),
-        number_ground(severity, NamedField::ShareSize, update),
-        number_ground(severity, NamedField::SharedFiles, update),
+        value_ground(severity, update),
         (is_bad_nick(inf), Deny::BadNick(severity)),
         (
             touches_account(hub, user.key(), key),

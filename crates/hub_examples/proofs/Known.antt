@@ -5,7 +5,7 @@ use Rattle.std.proofs.lemmas.Bool.Decides.{nat_tests}
 use Rattle.operator_acts.specs.declared.ban.Ban.{Ban}
 use Rattle.hub_rules.specs.declared.effect.Effect.{Effect}
 use Rattle.hub_rules.specs.Facts.{Facts, bans_after, with_lines_taken, happens, with_connection, newcomer, next_sid, nobody, present_after, topic_after, with_one}
-use Rattle.hub_rules.specs.declared.effect.SeatChange.{SeatChange}
+use Rattle.hub_rules.specs.declared.sender.SeatChange.{SeatChange}
 use Rattle.hub_rules.specs.Shares.{About, affected_connection, change_at, changed_by_operator, lags_with, owed_with, owes}
 
 pub record Known : Type 0 where

@@ -4,7 +4,7 @@ use Rattle.hub_rules.specs.declared.history.Call.TheVariants.{Join}
 use Rattle.hub_rules.specs.declared.history.Entry.{Entry}
 use Rattle.hub_rules.specs.declared.history.Reply.TheVariants.{Full}
 use Rattle.hub_rules.specs.declared.history.Verdict.TheVariants.{Kept}
-use Rattle.hub_rules.specs.Configured.{Configured}
+use Rattle.hub_rules.specs.Configured.{Configured, plain_for}
 use Rattle.hub_rules.specs.History.{lines_owed, sid}
 use Rattle.hub_rules.specs.Legal.{Legal}
 use Rattle.hub_examples.specs.Conversations.{greeting_of, peer, plain, sup_text, zeros}
@@ -13,7 +13,7 @@ use Rattle.hub_examples.specs.Talking.{joins, quits, says}
 -- ---- a hub for two
 
 abbrev pub for_two : Configured
-for_two = record plain { max_users = 2 }
+for_two = record plain { plain = plain_for 2 }
 
 -- two connections are open, and a third caller is turned away
 abbrev pub turned_away : List Entry

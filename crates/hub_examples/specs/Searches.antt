@@ -12,7 +12,7 @@ use Rattle.hub_examples.specs.Visitors.{ana_text, ana_told}
 
 -- a hub where 10 seconds must be between two searches
 abbrev pub patient : Configured
-patient = record plain { search_interval = 10 }
+patient = record plain { plain = record plain.plain { search_interval = 10 } }
 
 abbrev pub patient_asked : List Entry
 patient_asked = says 1 sup_text 0 Kept (joins 1 0 [])

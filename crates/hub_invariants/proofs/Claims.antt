@@ -90,9 +90,9 @@ pub login-free : (hub : Sight) (own : sights.Own) (now : ℕ) (digest : Option (
     → Unclaimed hub user
 unfolding login_grounds
 login-free hub own now digest u user none =
-    let behind = dropped 10 (login_grounds hub own now digest u user) none in
-    let nick : AllFalse (grounds_of is_nick_taken (drop 10 (login_grounds hub own now digest u user))) = none-of is_nick_taken (drop 10 (login_grounds hub own now digest u user)) behind in
-    let cid : AllFalse (grounds_of is_cid_taken (drop 10 (login_grounds hub own now digest u user))) = none-of is_cid_taken (drop 10 (login_grounds hub own now digest u user)) behind in
+    let behind = dropped 9 (login_grounds hub own now digest u user) none in
+    let nick : AllFalse (grounds_of is_nick_taken (drop 9 (login_grounds hub own now digest u user))) = none-of is_nick_taken (drop 9 (login_grounds hub own now digest u user)) behind in
+    let cid : AllFalse (grounds_of is_cid_taken (drop 9 (login_grounds hub own now digest u user))) = none-of is_cid_taken (drop 9 (login_grounds hub own now digest u user)) behind in
     (nick.0, cid.0)
 
 same-value : (value other : List ℕ) (same : Bool) → bytes_eq value other ≡ same → not same ≡ false → value ≡ other

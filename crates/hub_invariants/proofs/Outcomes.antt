@@ -28,11 +28,11 @@ use Rattle.hub_rules.specs.Configured.{Configured}
 use Rattle.hub_rules.specs.Facts.{Facts, effect_of_line, own_of, sight_of}
 use Rattle.hub_rules.specs.Prepared.{prepared_line}
 use Rattle.hub_rules.specs.declared.effect.Banned.{Banned}
-use Rattle.hub_rules.specs.declared.effect.Change.TheVariants.{Nothing, Sender}
+use Rattle.hub_rules.specs.declared.effect.Change.TheVariants.{Hub, Nothing, Sender}
 use Rattle.hub_rules.specs.declared.effect.Effect.{Effect}
 use Rattle.hub_rules.specs.declared.effect.HubChange.{HubChange}
 use Rattle.hub_rules.specs.declared.effect.HubChange.TheVariants as shared
-use Rattle.hub_rules.specs.declared.effect.SeatChange.TheVariants as seats
+use Rattle.hub_rules.specs.declared.sender.SeatChange.TheVariants as seats
 use Rattle.hub_rules.specs.declared.effect.SenderChange.TheVariants as senders
 use Rattle.login_state.specs.declared.request.Request.{Request}
 use Rattle.login_state.specs.declared.request.Request.TheVariants as requests
@@ -42,8 +42,10 @@ use Rattle.hub_rules.specs.Effects as effects
 use Rattle.hub_rules.specs.Effects.{tells_others, tells_sender, accepted_effect, admits, denial, enters, farewell, effect_of_reading, is_over, line_effect, logs_in, passes_on, unless_denied, update_effect, updates_user}
 use Rattle.hub_rules.specs.Identities.{listed_user}
 use Rattle.hub_rules.specs.Quiet.{nothing}
+use Rattle.hub_rules.specs.Senders.{is_removal}
 use Rattle.login_state.specs.Requests.{request_at}
 use Rattle.hub_rules.specs.Requests.{refusal_of, request_of}
+use Rattle.hub_invariants.specs.Afterwards.{is_removed}
 use Rattle.hub_invariants.specs.Said.{accepted_line, kept_unless, unless_refused}
 use Rattle.hub_rules.specs.Sights.{Own, PreparedLine, Sight, is_account, user_after}
 use Rattle.hub_rules.specs.Texts.{removal_line, topic_line}
@@ -79,6 +81,16 @@ abbrev pub request_in : Own → Option Reading → Request
 request_in own None = requests.Nothing
 request_in own (Some reading) = request_of own.stage reading.kind reading.command
 
+-- a change of which users are told nothing: it shuts nobody out, and sets neither a ban nor the topic
+abbrev pub is_silent : HubChange → Bool
+is_silent (shared.At sid change) = not (is_removal change)
+is_silent (shared.Ban banned) = false
+is_silent (shared.Topic text) = false
+is_silent change = true
+
+pub silent-keeps : (change : HubChange) (sid : ℕ) → is_silent change ≡ true → is_removed (Hub change) sid ≡ false
+silent-keeps change sid is = grind arith
+
 -- what an act does that is carried out, by what it changes
 pub data Does (users : List Listed) (bans : List (List ℕ × Ban)) (operator : ℕ) : Act → List (List ℕ) → HubChange → Type 0 where
   kicks : (nick reason : List ℕ) (target : Listed) → user_called users nick ≡ Some target
@@ -86,7 +98,7 @@ pub data Does (users : List Listed) (bans : List (List ℕ × Ban)) (operator : 
   bans_user : {seconds : ℕ} (nick : List ℕ) (reason : List ℕ) (target : Listed) (banned : Banned) → user_called users nick ≡ Some target → banned.sid ≡ target.sid
       → is_full bans banned.cid ≡ false
       → Does users bans operator (commands.Ban nick seconds reason) (removal_line banned.sid operator (Some banned.ban.seconds) reason ∷ []) (shared.Ban banned)
-  unbans : (cid : List ℕ) → Does users bans operator (commands.Unban cid) [] (shared.Unban cid)
+  silent : {act : Act} (change : HubChange) → is_silent change ≡ true → Does users bans operator act [] change
   sets_topic : (text : List ℕ) → Does users bans operator (commands.Topic text) (topic_line text ∷ []) (shared.Topic text)
 
 abbrev pub DoesIt : List Listed → List (List ℕ × Ban) → ℕ → Act → Result Done Deny → Type 0
@@ -105,7 +117,7 @@ if-room users bans operator seconds nick reason target banned called same false 
 
 if-held : (users : List Listed) (bans : List (List ℕ × Ban)) (operator : ℕ) (cid : List ℕ) (is_held : Bool)
     → DoesIt users bans operator (commands.Unban cid) (if is_held then Ok (record { others = []; change = shared.Unban cid }) else Err denials.NoBan)
-if-held users bans operator cid true = unbans cid
+if-held users bans operator cid true = silent (shared.Unban cid) refl
 if-held users bans operator cid false = tt
 
 does : (users : List Listed) (bans : List (List ℕ × Ban)) (operator now : ℕ) (act : Act) → DoesIt users bans operator act (answer_of users bans operator now act)

@@ -22,7 +22,7 @@ pub record Numbered (setup : Configured) (f : Facts) : Type 0 where
   pub apart_sids : apart (sids f) ≡ true
   pub given_sids : (d : ℕ) → has d f.opened ≡ true → (0 < (f.about d).sender.sid) × ((f.about d).sender.sid < 1_048_576)
   pub last_in : f.last < 1_048_576
-  pub few : length f.opened ≤ setup.max_users
+  pub few : length f.opened ≤ setup.plain.max_users
 
 -- ---- lists
 
@@ -108,7 +108,7 @@ new-sid : (f : Facts) (owner : ℕ) (peer challenge : List ℕ)
     → (with_one (f.joins + 1) (λ a. newcomer owner (next_sid f) peer challenge) f.about (f.joins + 1)).sender.sid ≡ next_sid f
 new-sid f owner peer challenge = ap (λ b. (cond b (newcomer owner (next_sid f) peer challenge) (f.about (f.joins + 1))).sender.sid) (eq-eqb (f.joins + 1) (f.joins + 1) refl)
 
-fresh-sid : (setup : Configured) (f : Facts) → setup.max_users ≤ most_users → Numbered setup f → has_place setup f ≡ true → has (next_sid f) (sids f) ≡ false
+fresh-sid : (setup : Configured) (f : Facts) → setup.plain.max_users ≤ most_users → Numbered setup f → has_place setup f ≡ true → has (next_sid f) (sids f) ≡ false
 fresh-sid setup f few n place = grind (arith, room-by, has-is_taken, next_free-free, length-map)
 
 joined-given : (f : Facts) (owner : ℕ) (peer challenge : List ℕ) → Sound f → (setup : Configured) → Numbered setup f → (d : ℕ) (before : Bool)
@@ -117,20 +117,20 @@ joined-given : (f : Facts) (owner : ℕ) (peer challenge : List ℕ) → Sound f
     × ((with_one (f.joins + 1) (λ a. newcomer owner (next_sid f) peer challenge) f.about d).sender.sid < 1_048_576)
 joined-given f owner peer challenge sound setup n d before is there = grind (arith, joined-sid, eqb-true, or-false, new-sid, next_free-range)
 
-joined-numbered : (setup : Configured) (f : Facts) (owner : ℕ) (peer challenge : List ℕ) → setup.max_users ≤ most_users → has_place setup f ≡ true → Sound f
+joined-numbered : (setup : Configured) (f : Facts) (owner : ℕ) (peer challenge : List ℕ) → setup.plain.max_users ≤ most_users → has_place setup f ≡ true → Sound f
     → Numbered setup f → Numbered setup (with_connection f owner peer challenge)
 unfolding with_connection
 joined-numbered setup f owner peer challenge small place sound n = grind (arith, map-end, map-same_on, joined-sid, new-sid, apart-push, fresh-sid, joined-given, has-append, next_free-range, room-by, length-append)
 
 -- ---- every call
 
-join-numbered : (setup : Configured) (f : Facts) (owner : ℕ) (peer challenge : List ℕ) (place counted : Bool) → has_place setup f ≡ place → setup.max_users ≤ most_users
+join-numbered : (setup : Configured) (f : Facts) (owner : ℕ) (peer challenge : List ℕ) (place counted : Bool) → has_place setup f ≡ place → setup.plain.max_users ≤ most_users
     → Sound f → Numbered setup f → Numbered setup (cond (place && counted) (with_connection f owner peer challenge) f)
 join-numbered setup f owner peer challenge true true is small sound n = joined-numbered setup f owner peer challenge small is sound n
 join-numbered setup f owner peer challenge true false is small sound n = n
 join-numbered setup f owner peer challenge false counted is small sound n = n
 
-after-numbered : (setup : Configured) (hash : List ℕ → List ℕ) (f : Facts) (caller : ℕ) (call : Call) → setup.max_users ≤ most_users → Sound f
+after-numbered : (setup : Configured) (hash : List ℕ → List ℕ) (f : Facts) (caller : ℕ) (call : Call) → setup.plain.max_users ≤ most_users → Sound f
     → Numbered setup f → Numbered setup (after setup hash f caller call)
 unfolding after
 after-numbered setup hash f caller (Join peer challenge now) small sound n =
@@ -140,7 +140,7 @@ after-numbered setup hash f caller (Quit c) small sound n =
     closed-numbered setup c _ (happens-numbered setup c (departure (f.about c).stage (f.about c).sender.sid) f n)
 after-numbered setup hash f caller (Take c count) small sound n = taken-numbered setup c count f n
 
-pub numbered_of : (setup : Configured) (hash : List ℕ → List ℕ) (h : List Entry) → setup.max_users ≤ most_users → Numbered setup (facts setup hash h)
+pub numbered_of : (setup : Configured) (hash : List ℕ → List ℕ) (h : List Entry) → setup.plain.max_users ≤ most_users → Numbered setup (facts setup hash h)
 unfolding facts
 numbered_of setup hash [] small = record {
   apart_sids = refl;

@@ -33,18 +33,18 @@ OthersAreOut = (setup : Configured) (hash : List ℕ → List ℕ) (h : List Ent
 -- two open connections have two identifiers
 abbrev pub SidsDiffer : Type 0
 SidsDiffer =
-    (setup : Configured) (hash : List ℕ → List ℕ) (h : List Entry) → setup.max_users ≤ most_users → (c d : ℕ) → is_in c (open_connections setup hash h) ≡ true → is_in d (open_connections setup hash h) ≡ true
+    (setup : Configured) (hash : List ℕ → List ℕ) (h : List Entry) → setup.plain.max_users ≤ most_users → (c d : ℕ) → is_in c (open_connections setup hash h) ≡ true → is_in d (open_connections setup hash h) ≡ true
     → sid setup hash h c ≡ sid setup hash h d → c ≡ d
 
 -- none of them is the first, AAAA, and all have four digits
 abbrev pub SidsAreGiven : Type 0
 SidsAreGiven =
-    (setup : Configured) (hash : List ℕ → List ℕ) (h : List Entry) → setup.max_users ≤ most_users → (c : ℕ) → is_in c (open_connections setup hash h) ≡ true
+    (setup : Configured) (hash : List ℕ → List ℕ) (h : List Entry) → setup.plain.max_users ≤ most_users → (c : ℕ) → is_in c (open_connections setup hash h) ≡ true
     → (0 < sid setup hash h c) × (sid setup hash h c < 1_048_576)
 
 -- no more connections are open than the hub admits
 abbrev pub FewAreOpen : Type 0
-FewAreOpen = (setup : Configured) (hash : List ℕ → List ℕ) (h : List Entry) → setup.max_users ≤ most_users → length (open_connections setup hash h) ≤ setup.max_users
+FewAreOpen = (setup : Configured) (hash : List ℕ → List ℕ) (h : List Entry) → setup.plain.max_users ≤ most_users → length (open_connections setup hash h) ≤ setup.plain.max_users
 
 -- ---- takes
 

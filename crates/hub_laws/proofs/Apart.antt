@@ -83,7 +83,7 @@ after-differ of setup hash f caller (Take c count) sound differ clears = subst (
 
 -- ---- every history
 
-pub nicks_differ_in : (setup : Configured) (hash : List ℕ → List ℕ) (h : List Entry) → setup.max_users ≤ most_users → Differ key_in (facts setup hash h)
+pub nicks_differ_in : (setup : Configured) (hash : List ℕ → List ℕ) (h : List Entry) → setup.plain.max_users ≤ most_users → Differ key_in (facts setup hash h)
 unfolding facts
 nicks_differ_in setup hash [] small = λ c d there-c there-d same. absurd (false≢true there-c)
 nicks_differ_in setup hash (e ∷ h) small =
@@ -93,7 +93,7 @@ nicks_differ_in setup hash (e ∷ h) small =
     (clear-line (sight_of setup (facts setup hash h)) (own_of ((facts setup hash h).about c)) (prepared_line setup hash ((facts setup hash h).about c).sender.challenge bytes) now
     (infs setup hash h c) (told_of setup hash h c).tells).nick)
 
-pub cids_differ_in : (setup : Configured) (hash : List ℕ → List ℕ) (h : List Entry) → setup.max_users ≤ most_users → Differ cid_in (facts setup hash h)
+pub cids_differ_in : (setup : Configured) (hash : List ℕ → List ℕ) (h : List Entry) → setup.plain.max_users ≤ most_users → Differ cid_in (facts setup hash h)
 unfolding facts
 cids_differ_in setup hash [] small = λ c d there-c there-d same. absurd (false≢true there-c)
 cids_differ_in setup hash (e ∷ h) small =

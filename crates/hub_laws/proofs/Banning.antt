@@ -1,7 +1,7 @@
 -- After every history the bans are few, and on one client identifier each.
-use Rattle.std.proofs.Common.{◌≡◌, sym, subst, ℕ, false, ◌&&◌, List, [], ◌∷◌, Option}
+use Rattle.std.proofs.Common.{◌≡◌, sym, subst, ℕ, true, false, ◌&&◌, List, [], ◌∷◌, Option}
 use Rattle.hub_laws.proofs.Words.{Act, Ban, Call, Change, Configured, Does, Effect, Entry, Facts, Hub, HubChange, Join, Line, Listed, Outcome, Own, PreparedLine, Quit, Reading, Request, Sight, Take}
-use Rattle.hub_laws.proofs.Words.{acts, after, bans_after, bans_user, effect_of_line, facts, happens, has_joins, has_place, is_full, line-outcome, without_connection}
+use Rattle.hub_laws.proofs.Words.{acts, after, bans_after, bans_user, effect_of_line, facts, happens, has_joins, has_place, false≢true, is_full, is_silent, line-outcome, silent, without_connection}
 use Rattle.hub_laws.proofs.Words.shared
 use Rattle.hub_laws.specs.Holding.{BansAreApart, BansAreFew}
 use Rattle.hub_laws.proofs.Holding.{AreHeld, held-none, held-with, held-without}
@@ -12,9 +12,14 @@ abbrev HasRoom : List (List ℕ × Ban) → Change → Type 0
 HasRoom bans (Hub (shared.Ban banned)) = is_full bans banned.cid ≡ false
 HasRoom bans change = Unit {0}
 
+room-silent : (bans : List (List ℕ × Ban)) (change : HubChange) → is_silent change ≡ true → HasRoom bans (Hub change)
+room-silent bans (shared.Ban banned) is = absurd (false≢true is)
+room-silent bans _ is = tt
+
 room-act : {users : List Listed} {bans : List (List ℕ × Ban)} {operator : ℕ} {act : Act} {others : List (List ℕ)} {change : HubChange} → Does users bans operator act others change
     → HasRoom bans (Hub change)
 room-act (bans_user nick reason target banned called same room) = room
+room-act {bans = bans} (silent change is) = room-silent bans change is
 room-act _ = tt
 
 module _ {hub : Sight} {own : Own} {line : PreparedLine} {now : ℕ} where

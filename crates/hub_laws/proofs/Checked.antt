@@ -21,7 +21,7 @@ free-ban l more none = grind arith
 
 -- only accounts are let in, and this nick is none
 abbrev pub is_barred : Sight → List ℕ → Bool
-is_barred hub key = hub.setup.registered_only && not (is_account hub key)
+is_barred hub key = hub.setup.plain.registered_only && not (is_account hub key)
 
 pub entry-unbanned : (hub : Sight) (now : ℕ) (user : Listed) → first_ground (entry_grounds hub now user) ≡ None → left_of_bans hub.bans user.cid now ≡ lefts.Free
 unfolding entry_grounds
@@ -31,10 +31,10 @@ pub login-rules : (hub : Sight) (own : Own) (now : ℕ) (digest : Option (List �
     → (left_of_bans hub.bans user.cid now ≡ lefts.Free) × (is_barred hub user.key ≡ false)
 unfolding login_grounds
 login-rules hub own now digest u user none =
-    let behind = dropped 10 (login_grounds hub own now digest u user) none in
-    let accounts : AllFalse (grounds_of is_for_accounts (drop 10 (login_grounds hub own now digest u user))) =
-    none-of is_for_accounts (drop 10 (login_grounds hub own now digest u user)) behind in
-    (free-ban (left_of_bans hub.bans user.cid now) (drop 10 (login_grounds hub own now digest u user)) (dropped 9 (login_grounds hub own now digest u user) none), accounts.0)
+    let behind = dropped 9 (login_grounds hub own now digest u user) none in
+    let accounts : AllFalse (grounds_of is_for_accounts (drop 9 (login_grounds hub own now digest u user))) =
+    none-of is_for_accounts (drop 9 (login_grounds hub own now digest u user)) behind in
+    (free-ban (left_of_bans hub.bans user.cid now) (drop 9 (login_grounds hub own now digest u user)) (dropped 8 (login_grounds hub own now digest u user) none), accounts.0)
 
 -- an update leaves the nick, or neither the one before nor the one afterwards is an account's
 abbrev pub KeepsNick : Sight → List ℕ → List ℕ → Type 0

@@ -6,7 +6,7 @@ use Rattle.operator_acts.specs.Acts.{act_at}
 use Rattle.operator_acts.specs.Bans.{left_of, left_of_bans}
 use Rattle.operator_acts.specs.declared.act.Act.{Act}
 use Rattle.operator_acts.proofs.Entries.{ban_on-with_ban, ban_on-without_ban, equal-bytes}
-use Rattle.hub_rules.specs.Acts.{answer_of, ban, banned_for, if_present, kick, removal, topic}
+use Rattle.hub_rules.specs.Acts.{answer_of, ban, banned_for, if_present, kick, removal}
 use Rattle.hub_laws.proofs.Words.{About, Configured, Done, Effect, Entry, Facts, IsAddressed, Kind, Listed, Own, PreparedLine, Reading, Sight, about_after, accepted_effect, about-parts}
 use Rattle.hub_laws.proofs.Words.{act_denied, act_effect, after, ban_on, bytes_eq-Decides, cid_in, denial_of, effect_for_all, effect_of_line}
 use Rattle.hub_laws.proofs.Words.{eq-eqb, facts, false≢true, happens, has, has_key, is_command, is_full, is_operator, is_present, key_in, key_of_points, listed_user}
@@ -141,7 +141,7 @@ user-key : (about : ℕ → About) (key : List ℕ) (d : ℕ) → has_key key (u
 unfolding listed_user
 user-key about key d is = (bytes_eq-Decides _ _).0 is
 
-called : (setup : Configured) (hash : List ℕ → List ℕ) (h : List Entry) (d : ℕ) (nick : List ℕ) → setup.max_users ≤ most_users → IsPresentAs setup hash h d nick
+called : (setup : Configured) (hash : List ℕ → List ℕ) (h : List Entry) (d : ℕ) (nick : List ℕ) → setup.plain.max_users ≤ most_users → IsPresentAs setup hash h d nick
     → user_called (map (user_of (facts setup hash h).about) (facts setup hash h).present) nick ≡ Some (user_of (facts setup hash h).about d)
 called setup hash h d nick small named =
     let f : Facts = facts setup hash h in
@@ -200,4 +200,5 @@ unbans_are_carried_out setup hash h e now cid asks held moment =
 
 pub topics_are_carried_out : TopicsAreCarriedOut
 unfolding happens
-topics_are_carried_out setup hash h e now text asks = ap (λ (g : Facts). g.topic) (step asks (topic text) refl)
+topics_are_carried_out setup hash h e now text asks =
+    let done : Done = record { others = _; change = shared.Topic text } in ap (λ (g : Facts). g.topic) (step asks done refl)

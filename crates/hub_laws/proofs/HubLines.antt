@@ -1,5 +1,5 @@
 -- Each line of the type I is a command and parameters, with one blank before each.
-use Rattle.std.proofs.Common.{◌≡◌, sym, refl, subst, ℕ, zero, suc, ◌<◌, Bool, true, false, ◌==◌, List, [], ◌∷◌, ◌++◌, append_assoc, length, map, replicate, take, drop, arith}
+use Rattle.std.proofs.Common.{◌≡◌, sym, refl, subst, ℕ, zero, suc, ◌<◌, Bool, true, false, ◌==◌, List, [], ◌∷◌, ◌++◌, append_assoc, append-nil, length, map, replicate, take, drop, arith}
 use Rattle.std.specs.Prelude.{Option, Some, None, codes, if◌then◌else◌}
 use Rattle.std.specs.Fmt.{decimal}
 use Rattle.std.specs.Str.{IsUtf8}
@@ -17,7 +17,6 @@ use Rattle.login_state.specs.Denials.{denial_line, denial_text}
 use Rattle.login_state.specs.NamedFields.{name_of}
 use Rattle.login_state.specs.declared.deny.Severity.TheVariants.{Fatal, Recoverable}
 use Rattle.login_state.specs.declared.named_field.NamedField.{NamedField}
-use Rattle.login_state.specs.declared.named_field.NamedField.TheVariants as named_fields
 use Rattle.hub_rules.specs.Configured.{MenuEntry}
 use Rattle.hub_rules.specs.Effects.{ping_of}
 use Rattle.hub_rules.specs.Texts.{ban_field, challenge_line, client_type, done_line, hub_line, identifier_line, menu_item, menu_line, ping_fields, removal_line, support_line, text_field, topic_line}
@@ -200,39 +199,36 @@ plain-of (b ∷ word) is = let tests = both (is_plain_byte b) (is_plain word) is
 flagged : (text : List ℕ) → are_words (words text) ≡ true → (a b : ℕ) (word : List ℕ) → IsPlain (a ∷ b ∷ []) → IsSpelt word → HubLine (with_line_feed (text ++ 32 ∷ a ∷ b ∷ word))
 flagged text is a b word plain spelt = written text is (32 ∷ a ∷ b ∷ word) (told-last (a ∷ b ∷ word) (named a (b ∷ []) word plain spelt))
 
+name-plain : (field : NamedField) → is_plain (name_of field) ≡ true
+unfolding is_plain
+name-plain field = grind arith
+
 name-spelt : (field : NamedField) → IsSpelt (name_of field)
-unfolding escaped_text
-name-spelt named_fields.Id = (codes "ID", refl)
-name-spelt named_fields.PrivateId = (codes "PD", refl)
-name-spelt named_fields.Nick = (codes "NI", refl)
-name-spelt named_fields.ShareSize = (codes "SS", refl)
-name-spelt named_fields.SharedFiles = (codes "SF", refl)
+name-spelt field = plain-spelt (name_of field) (plain-of (name_of field) (name-plain field))
+
+-- whether a flag stands behind the text of a denial
+abbrev has_flag : Deny → Bool
+has_flag (denials.BadStage word) = true
+has_flag (denials.Missing field) = true
+has_flag (denials.BadField severity field) = true
+has_flag (denials.BannedFor seconds) = true
+has_flag (denials.Address severity peer) = true
+has_flag (denials.Access word) = true
+has_flag deny = false
+
+-- with none, the text is words
+flagless : (deny : Deny) → has_flag deny ≡ false → are_words (words (denial_text deny)) ≡ true
+unfolding denial_text is_escaped escape_means
+flagless deny none = grind arith
 
 pub status-is : (deny : Deny) → is_said deny ≡ true → HubLine (denial_line deny)
 unfolding denial_text is_escaped escape_means
-status-is denials.Protocol said = written (codes "ISTA 140 Protocol\\serror") refl [] none-told
-status-is denials.WrongSid said = written (codes "ISTA 240 Wrong\\sSID") refl [] none-told
 status-is (denials.BadStage word) said = flagged (codes "ISTA 144 Invalid\\sstate") refl 70 67 word (refl, (refl, tt)) (plain-spelt word (plain-of word said))
-status-is denials.NoBase said = written (codes "ISTA 245 Feature\\smissing FCBASE") refl [] none-told
-status-is denials.NoHash said = written (codes "ISTA 247 No\\scommon\\shash") refl [] none-told
 status-is (denials.Missing field) said = flagged (codes "ISTA 243 INF\\sfield\\smissing") refl 70 77 (name_of field) (refl, (refl, tt)) (name-spelt field)
 status-is (denials.BadField Recoverable field) said = flagged (codes "ISTA 143 INF\\sfield\\sbad") refl 70 66 (name_of field) (refl, (refl, tt)) (name-spelt field)
 status-is (denials.BadField Fatal field) said = flagged (codes "ISTA 243 INF\\sfield\\sbad") refl 70 66 (name_of field) (refl, (refl, tt)) (name-spelt field)
-status-is denials.BadPid said = written (codes "ISTA 227 Invalid\\sPID") refl [] none-told
-status-is (denials.BadNick Recoverable) said = written (codes "ISTA 121 Invalid\\snick") refl [] none-told
-status-is (denials.BadNick Fatal) said = written (codes "ISTA 221 Invalid\\snick") refl [] none-told
-status-is denials.BannedEver said = written (codes "ISTA 231 Banned") refl [] none-told
 status-is (denials.BannedFor seconds) said = flagged (codes "ISTA 232 Banned") refl 84 76 (decimal seconds) (refl, (refl, tt)) (decimal-spelt seconds)
 status-is (denials.Address Recoverable peer) said = flagged (codes "ISTA 146 Wrong\\saddress") refl 73 52 (dotted_decimal peer) (refl, (refl, tt)) (address-spelt peer)
 status-is (denials.Address Fatal peer) said = flagged (codes "ISTA 246 Wrong\\saddress") refl 73 52 (dotted_decimal peer) (refl, (refl, tt)) (address-spelt peer)
-status-is denials.Registered said = written (codes "ISTA 226 Registered\\susers\\sonly") refl [] none-told
-status-is (denials.NickTaken Recoverable) said = written (codes "ISTA 122 Nick\\staken") refl [] none-told
-status-is (denials.NickTaken Fatal) said = written (codes "ISTA 222 Nick\\staken") refl [] none-told
-status-is denials.CidTaken said = written (codes "ISTA 224 CID\\staken") refl [] none-told
-status-is denials.Password said = written (codes "ISTA 223 Invalid\\spassword") refl [] none-told
 status-is (denials.Access word) said = flagged (codes "ISTA 125 Access\\sdenied") refl 70 67 word (refl, (refl, tt)) (plain-spelt word (plain-of word said))
-status-is denials.SearchSoon said = written (codes "ISTA 100 Search\\stoo\\ssoon") refl [] none-told
-status-is denials.BadCommand said = written (codes "ISTA 100 Bad\\scommand") refl [] none-told
-status-is denials.NoUser said = written (codes "ISTA 100 No\\ssuch\\suser") refl [] none-told
-status-is denials.NoBan said = written (codes "ISTA 100 No\\ssuch\\sban") refl [] none-told
-status-is denials.BansFull said = written (codes "ISTA 100 Ban\\slist\\sfull") refl [] none-told
+status-is deny said = subst (λ (text : List ℕ). HubLine (with_line_feed text)) (append-nil (denial_text deny)) (written (denial_text deny) (flagless deny refl) [] none-told)

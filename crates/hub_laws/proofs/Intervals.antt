@@ -1,9 +1,11 @@
 -- A search that went out came at least the interval after the last.
-use Rattle.std.proofs.Common.{◌≡◌, ◌∙◌, sym, ap, refl, ℕ, ◌-◌, ◌≤◌, Bool, true, ◌&&◌, ◌⊎◌, inl, inr, ◌==◌, List, [], ◌∷◌, ◌++◌, Option, Some, None, arith}
+use Rattle.std.proofs.Common.{◌≡◌, ◌∙◌, sym, ap, refl, ℕ, ◌-◌, ◌≤◌, Bool, true, not, ◌&&◌, ◌⊎◌, inl, inr, ◌==◌, List, [], ◌∷◌, ◌++◌, Option, Some, None, arith}
 use Rattle.std.specs.Prelude.{if◌then◌else◌}
 use Rattle.std.specs.Option.{option_or}
 use Rattle.std.proofs.lemmas.Bool.{leb-true}
 use Rattle.search_pass.specs.Searches.{may_search}
+use Rattle.hub_rules.specs.Denied.{is_search_due}
+use Rattle.hub_rules.specs.declared.plain_options.PlainOptions.{PlainOptions}
 use Rattle.hub_laws.proofs.Words.{Call, Configured, Entry, Facts, Join, Line, Own, PreparedLine, Quit, Reading, Request, Sight, Take, accepted_line, and_parts, eqb-true, facts, later-none, own_of}
 use Rattle.hub_laws.proofs.Words.{prepared_line, refusal_of, request_denied, request_of, sight_of}
 use Rattle.hub_laws.proofs.Words.denials
@@ -21,17 +23,17 @@ moment-is b now moment is = grind arith
 search-asked : (request : Request) → is_search request ≡ true → request ≡ requests.Search
 search-asked request is = grind arith
 
-not-soon : (may : Bool) → (if may then None else Some denials.SearchSoon) ≡ None → may ≡ true
-not-soon may is = grind arith
+not-soon : (due : Bool) → (if not due then Some denials.SearchSoon else None) ≡ None → due ≡ true
+not-soon due is = grind arith
 
 by-request : (hub : Sight) (own : Own) (line : PreparedLine) (now : ℕ) (reading : Reading) (request : Request) → request ≡ requests.Search
-    → request_denied hub own line now reading request ≡ None → may_search own.sender.searched now hub.setup.search_interval ≡ true
+    → request_denied hub own line now reading request ≡ None → is_search_due hub.setup.plain own.sender.notes.searched now ≡ true
 unfolding request_denied
 by-request hub own line now reading request is none =
-    not-soon (may_search own.sender.searched now hub.setup.search_interval) (sym (ap (request_denied hub own line now reading) is) ∙ none)
+    not-soon (is_search_due hub.setup.plain own.sender.notes.searched now) (sym (ap (request_denied hub own line now reading) is) ∙ none)
 
 by-said : (hub : Sight) (own : Own) (line : PreparedLine) (now : ℕ) (said : Option Reading) → accepted_line hub own line now ≡ said → searches own said ≡ true
-    → may_search own.sender.searched now hub.setup.search_interval ≡ true
+    → is_search_due hub.setup.plain own.sender.notes.searched now ≡ true
 by-said hub own line now (Some reading) is asks =
     by-request hub own line now reading _ (search-asked (request_of own.stage reading.kind reading.command) asks)
     (later-none (refusal_of own.stage own.sender.sid reading) _ (is-accepted hub own line now reading is).allowed)
@@ -41,16 +43,19 @@ no-moment : {moment : ℕ} → None ≡ Some moment → ⊥
 no-moment is = cc is
 
 went-out : (setup : Configured) (hash : List ℕ → List ℕ) (f : Facts) (c : ℕ) (call : Call) (moment : ℕ) → search_in setup hash f c call ≡ Some moment
-    → may_search (f.about c).sender.searched moment setup.search_interval ≡ true
+    → is_search_due setup.plain (f.about c).sender.notes.searched moment ≡ true
 went-out setup hash f c (Line d bytes now) moment is =
     let at = moment-is ((c == d) && searches (own_of (f.about d)) (accepted_line (sight_of setup f) (own_of (f.about d)) (prepared_line setup hash (f.about d).sender.challenge bytes) now)) now moment is in
     let parts = and_parts (c == d) _ at.0 in
-    ap (λ x. may_search (f.about x).sender.searched moment setup.search_interval) (eqb-true c d parts.0)
-    ∙ ap (λ n. may_search (f.about d).sender.searched n setup.search_interval) (sym at.1)
+    ap (λ x. is_search_due setup.plain (f.about x).sender.notes.searched moment) (eqb-true c d parts.0)
+    ∙ ap (λ n. is_search_due setup.plain (f.about d).sender.notes.searched n) (sym at.1)
     ∙ by-said (sight_of setup f) (own_of (f.about d)) (prepared_line setup hash (f.about d).sender.challenge bytes) now _ refl parts.1
 went-out setup hash f c (Join peer challenge now) moment is = absurd (no-moment is)
 went-out setup hash f c (Quit d) moment is = absurd (no-moment is)
 went-out setup hash f c (Take d count) moment is = absurd (no-moment is)
+
+due-apart : (plain : PlainOptions) (last : Option ℕ) (now : ℕ) → is_search_due plain last now ≡ true → may_search last now plain.search_interval ≡ true
+due-apart plain last now due = grind arith
 
 -- ---- the last search since one
 
@@ -75,17 +80,18 @@ since-next interval moment (Some now) last may since = record { before = now; is
 
 module _ (setup : Configured) (hash : List ℕ → List ℕ) (c : ℕ) where
   may-by : (h : List Entry) (e : Entry) (now : ℕ) → search_in setup hash (facts setup hash h) c e.call ≡ Some now
-      → may_search (last_search setup hash h c) now setup.search_interval ≡ true
+      → may_search (last_search setup hash h c) now setup.plain.search_interval ≡ true
   may-by h e now is =
-      ap (λ last. may_search last now setup.search_interval) (sym (search_is_the_last setup hash h c)) ∙ went-out setup hash (facts setup hash h) c e.call now is
+      due-apart setup.plain (last_search setup hash h c) now
+      (ap (λ last. is_search_due setup.plain last now) (sym (search_is_the_last setup hash h c)) ∙ went-out setup hash (facts setup hash h) c e.call now is)
 
   since : (between h : List Entry) (first : Entry) (moment : ℕ) → search_in setup hash (facts setup hash h) c first.call ≡ Some moment
-      → IsSince setup.search_interval moment (last_search setup hash (between ++ (first ∷ h)) c)
+      → IsSince setup.plain.search_interval moment (last_search setup hash (between ++ (first ∷ h)) c)
   unfolding last_search
   since [] h first moment is = record { before = moment; is = ap (λ o. option_or o (last_search setup hash h c)) is; apart = inl refl }
   since (e ∷ between) h first moment is =
-      since-next setup.search_interval moment _ _ (may-by (between ++ (first ∷ h)) e) (since between h first moment is)
+      since-next setup.plain.search_interval moment _ _ (may-by (between ++ (first ∷ h)) e) (since between h first moment is)
 
 pub searches_are_apart : SearchesAreApart
 searches_are_apart setup hash between h first second c moment later first-out second-out =
-    since-then setup.search_interval moment later _ (may-by setup hash c (between ++ (first ∷ h)) second later second-out) (since setup hash c between h first moment first-out)
+    since-then setup.plain.search_interval moment later _ (may-by setup hash c (between ++ (first ∷ h)) second later second-out) (since setup hash c between h first moment first-out)

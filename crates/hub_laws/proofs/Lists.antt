@@ -38,7 +38,7 @@ StepBy f c effect d = Step f.about (about_parts c effect f.about) f.present (pre
 
 -- ---- the connections of a hub
 
-module _ (setup : Configured) (hash : List ℕ → List ℕ) (h : List Entry) (small : setup.max_users ≤ most_users) where
+module _ (setup : Configured) (hash : List ℕ → List ℕ) (h : List Entry) (small : setup.plain.max_users ≤ most_users) where
   abbrev f : Facts
   f = facts setup hash h
 
@@ -355,7 +355,7 @@ taken-entry count same about x = refl
 
 -- ---- every call, and every history
 
-module _ (setup : Configured) (hash : List ℕ → List ℕ) (h : List Entry) (small : setup.max_users ≤ most_users) where
+module _ (setup : Configured) (hash : List ℕ → List ℕ) (h : List Entry) (small : setup.plain.max_users ≤ most_users) where
   line-step : (caller c : ℕ) (bytes : List ℕ) (now : ℕ) (d : ℕ) → StepBy (facts setup hash h) c (effect_of_line setup hash (facts setup hash h) c bytes now) d
   unfolding facts after happens
   line-step caller c bytes now d =
@@ -392,7 +392,7 @@ module _ (setup : Configured) (hash : List ℕ → List ℕ) (h : List Entry) (s
         early = λ is fine. (lists d).early is fine;
       })
 
-lists_of : (setup : Configured) (hash : List ℕ → List ℕ) (h : List Entry) → setup.max_users ≤ most_users → (d : ℕ) → Lists (facts setup hash h).about (facts setup hash h).present ((facts setup hash h).about d)
+lists_of : (setup : Configured) (hash : List ℕ → List ℕ) (h : List Entry) → setup.plain.max_users ≤ most_users → (d : ℕ) → Lists (facts setup hash h).about (facts setup hash h).present ((facts setup hash h).about d)
 unfolding facts
 lists_of setup hash [] small d = record { here = λ there fine. absurd (false≢true there); early = λ is fine. after-none }
 lists_of setup hash (e ∷ h) small d = next setup hash h small e.caller e.call (lists_of setup hash h small) d

@@ -164,7 +164,7 @@ module _ {setup : Configured} {hash : List ℕ → List ℕ} {h : List Entry} {e
       let free = unclaimed setup hash h user.key user.cid (subst (λ (key : List ℕ). IsFree setup hash h key user.cid) (sym key-is)
       (subst (IsFree setup hash h (key_in fields)) (sym cid-is) login.free)) in
       all-pass (login_grounds hub own login.now prepared.owner fields user)
-      (spelled-some (value_or_empty id_name fields) _ login.shows, (spelled-some (value_or_empty private_id_name fields) _ login.owns, (nick-some (value_or_empty nick_name fields) nick, (not-so _ (ap is_some login.shows), (not-so _ (ap is_some digest), (login.share, (login.files, (same-digest user.cid prepared.owner (digest ∙ ap Some (sym cid-is)), (not-so _ nick, (left, (login.address, (registered setup.registered_only (is_account hub user.key) (λ only. ap (is_account hub) key-is ∙ login.registered only), (free.0, (free.1, tt))))))))))))))
+      (spelled-some (value_or_empty id_name fields) _ login.shows, (spelled-some (value_or_empty private_id_name fields) _ login.owns, (nick-some (value_or_empty nick_name fields) nick, (not-so _ (ap is_some login.shows), (not-so _ (ap is_some digest), (ap is_some login.values, (same-digest user.cid prepared.owner (digest ∙ ap Some (sym cid-is)), (not-so _ nick, (left, (login.address, (registered setup.plain.registered_only (is_account hub user.key) (λ only. ap (is_account hub) key-is ∙ login.registered only), (free.0, (free.1, tt)))))))))))))
 
   goes : effect_of_line setup hash f c login.bytes login.now ≡ admits hub own prepared (is_account hub (user_after own fields).key) (user_after own fields)
   unfolding request_denied accepted_effect

@@ -1,5 +1,5 @@
 -- No rule denies a message to users, but a search within the interval.
-use Rattle.std.proofs.Common.{◌≡◌, ◌||◌, ◌++◌, ◌∙◌, ap, ap₂, refl, ℕ, Bool, true, false, not, ◌==◌, List, [], ◌∷◌, length, Option, Some, None, Ok, Err, arith}
+use Rattle.std.proofs.Common.{◌≡◌, ◌||◌, ◌++◌, ◌∙◌, ap, ap₂, refl, ℕ, Bool, true, false, not, ◌==◌, List, [], ◌∷◌, length, Some, None, Ok, Err, arith}
 use Rattle.std.specs.Prelude.{if◌then◌else◌, codes}
 use Rattle.std.specs.List.{join_with_byte}
 use Rattle.adc_line.proofs.ReadsLemmas.{reading-of}
@@ -7,10 +7,9 @@ use Rattle.adc_line.specs.Grammar.{Reads}
 use Rattle.adc_line.specs.Header.{letter}
 use Rattle.adc_line.specs.Words.{blank}
 use Rattle.login_state.specs.Requests.{is_of_the_hub, is_to_the_hub, to_users}
-use Rattle.search_pass.specs.Searches.{may_search}
 use Rattle.hub_invariants.specs.Said.{kept_unless}
-use Rattle.hub_rules.specs.Denied.{search_denied}
-use Rattle.hub_laws.proofs.Words.{Configured, Deny, Entry, Facts, Kind, Own, PreparedLine, Reading, Request, Sight, accepted_line, bytes_eq, denial_of, eq-eqb, facts, false≢true, names_another, or-parts, own_of}
+use Rattle.hub_rules.specs.Denied.{is_search_due, message_denied}
+use Rattle.hub_laws.proofs.Words.{Configured, Entry, Facts, Kind, Own, PreparedLine, Reading, Request, Sight, accepted_line, bytes_eq, denial_of, eq-eqb, facts, false≢true, names_another, or-parts, own_of}
 use Rattle.hub_laws.proofs.Words.{prepared_line, request_at, request_denied, sight_of}
 use Rattle.hub_laws.proofs.Words.denials
 use Rattle.hub_laws.proofs.Words.kinds
@@ -67,19 +66,14 @@ asks-users kinds.Udp command search users other is = absurd (false≢true users)
 own-named : (sid : ℕ) → names_another sid (Some sid) ≡ false
 own-named sid = ap not (eq-eqb sid sid refl)
 
--- what may deny it
-abbrev denied_if : Sight → Own → ℕ → Bool → Option Deny
-denied_if hub own now true = search_denied hub own now
-denied_if hub own now false = None
-
-by-request : (hub : Sight) (own : Own) (line : PreparedLine) (now : ℕ) (reading : Reading) (search : Bool) → request_denied hub own line now reading (search_or_message search) ≡ denied_if hub own now search
+by-request : (hub : Sight) (own : Own) (line : PreparedLine) (now : ℕ) (reading : Reading) (search : Bool) → request_denied hub own line now reading (search_or_message search) ≡ message_denied hub own now search
 unfolding request_denied
 by-request hub own line now reading true = refl
 by-request hub own line now reading false = refl
 
 denial-is : (hub : Sight) (own : Own) (line : PreparedLine) (now : ℕ) (reading : Reading) (search : Bool) → own.stage ≡ stages.Normal → reading.from ≡ Some own.sender.sid
     → request_at stages.Normal reading.kind reading.command ≡ Ok (search_or_message search)
-    → denial_of hub own line now reading ≡ denied_if hub own now search
+    → denial_of hub own line now reading ≡ message_denied hub own now search
 denial-is hub own line now reading search at from asks = grind (arith, own-named, by-request)
 
 accepted-if : (hub : Sight) (own : Own) (line : PreparedLine) (now : ℕ) (reading : Reading) → own.stage ≡ stages.Normal → (length line.bytes == 0) ≡ false
@@ -98,9 +92,9 @@ some-joined a word (w ∷ ws) = more-than-none a _
 pub some-read : (bytes : List ℕ) (line : Reading) → Reads bytes line → (length bytes == 0) ≡ false
 some-read bytes line reads = ap (λ (bs : List ℕ). length bs == 0) reads.spelt ∙ some-joined (letter line.kind) line.command (reads.addresses ++ line.params)
 
-kept-search : (hub : Sight) (own : Own) (now : ℕ) (line : Reading) (may : Bool) → may_search own.sender.searched now hub.setup.search_interval ≡ may
-    → kept_unless (search_denied hub own now) line ≡ (if may then Some line else None)
-kept-search hub own now line may is = grind arith
+kept-search : (hub : Sight) (own : Own) (now : ℕ) (line : Reading) (due : Bool) → is_search_due hub.setup.plain own.sender.notes.searched now ≡ due
+    → kept_unless (message_denied hub own now true) line ≡ (if due then Some line else None)
+kept-search hub own now line due is = grind arith
 
 module _ (setup : Configured) (hash : List ℕ → List ℕ) (h : List Entry) (c : ℕ) (bytes : List ℕ) (now : ℕ) (line : Reading) (message : IsToUsers setup hash h c bytes line) where
   abbrev f : Facts
@@ -115,7 +109,7 @@ module _ (setup : Configured) (hash : List ℕ → List ℕ) (h : List Entry) (c
   abbrev prepared : PreparedLine
   prepared = prepared_line setup hash (f.about c).sender.challenge bytes
 
-  accepted-as : (search : Bool) → is_search_command line.command ≡ search → accepted_line hub own prepared now ≡ kept_unless (denied_if hub own now search) line
+  accepted-as : (search : Bool) → is_search_command line.command ≡ search → accepted_line hub own prepared now ≡ kept_unless (message_denied hub own now search) line
   accepted-as search is =
       let same = prepared-bytes setup hash (f.about c).sender.challenge bytes in
       let reads : lines.reading bytes ≡ Ok line = reading-of bytes line message.grammar in
@@ -130,4 +124,4 @@ pub searches_are_accepted : SearchesAreAccepted
 searches_are_accepted setup hash h c bytes now line message search =
     accepted-as setup hash h c bytes now line message true search
     ∙ kept-search (sight_of setup (facts setup hash h)) (own_of ((facts setup hash h).about c)) now line _ refl
-    ∙ ap (λ last. if may_search last now setup.search_interval then Some line else None) (search_is_the_last setup hash h c)
+    ∙ ap (λ last. if is_search_due setup.plain last now then Some line else None) (search_is_the_last setup hash h c)

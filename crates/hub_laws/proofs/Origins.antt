@@ -19,7 +19,7 @@ module _ {setup : Configured} {hash : List ℕ → List ℕ} {h : List Entry} {e
   origin-of (from_menu item there) = of_the_hub _ refl
   origin-of from_done = of_the_hub _ refl
   origin-of (from_removal target operator seconds reason small smaller) = of_the_hub _ refl
-  origin-of (from_status line is) = of_the_hub _ (is.2 ∙ ap (λ (text : List ℕ). text ++ 10 ∷ []) (status is.0).is)
+  origin-of (from_status line is) = of_the_hub _ (is.2 ∙ ap (λ (text : List ℕ). text ++ 10 ∷ []) (status is.0))
   origin-of (from_quit c) = of_the_hub _ refl
   origin-of (from_user c at) = of_user c at refl
   origin-of (from_entrant c at) = of_entrant c at refl

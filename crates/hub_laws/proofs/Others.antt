@@ -1,20 +1,18 @@
 -- The lines that tell of no user who enters, changes or leaves; and what each line of a connection tells.
-use Rattle.std.proofs.Common.{◌≡◌, ◌∙◌, sym, ap, refl, subst, ℕ, Bool, true, false, ◌==◌, List, [], ◌∷◌, ◌++◌, map, Option, Some, None, Ok, cond, arith}
+use Rattle.std.proofs.Common.{◌≡◌, ◌∙◌, sym, ap, refl, subst, ℕ, Bool, true, false, ◌==◌, List, [], ◌∷◌, ◌++◌, map, take, drop, Option, Some, None, Ok, cond, arith}
 use Rattle.std.specs.Prelude.{codes}
 use Rattle.std.specs.List.{join_with_byte}
 use Rattle.adc_line.specs.Grammar.{IsCommand, Reads}
 use Rattle.adc_line.specs.Header.{letter}
 use Rattle.adc_line.specs.Words.{blank}
 use Rattle.login_state.specs.Denials.{denial_line, denial_text}
-use Rattle.login_state.specs.declared.deny.Severity.TheVariants.{Fatal, Recoverable}
 use Rattle.hub_rules.specs.Configured.{Configured, MenuEntry}
 use Rattle.hub_rules.specs.Texts.{challenge_line, done_line, hub_line, identifier_line, menu_line, support_line, topic_line}
 use Rattle.hub_laws.proofs.Words.{Act, AllByRecursion, Deny, Does, Effect, Field, Hub, HubChange, Kind, Listed, Others, Outcome, Own, PreparedLine, Reading, Reads-of, Request, Sender, Sight, Stage, Those}
 use Rattle.hub_laws.proofs.Words.{Done, effect_for_all, eq-eqb, user_called, acts, bans_user, bytes_eq, bytes_eq-Decides, chats, clean, denies, enters, false≢true, farewell, fields_after, greets, has_feature, ignores, is_present, is_removed, kicks}
 use Rattle.hub_laws.proofs.Words.{learns, lets_in, line_effect, line_of, line_unless_empty, listed_user, merged_with, outcome, passes, proves, quiet, removal_line, request_at, request_in, request_of, revises, searches, sets_topic, shuts_out}
-use Rattle.hub_laws.proofs.Words.{stage_after, ucmd, unbans, waits, with_line_feed}
+use Rattle.hub_laws.proofs.Words.{silent, silent-keeps, stage_after, ucmd, waits, with_line_feed}
 use Rattle.hub_laws.proofs.Words.audiences
-use Rattle.hub_laws.proofs.Words.denials
 use Rattle.hub_laws.proofs.Words.kinds
 use Rattle.hub_laws.proofs.Words.lines
 use Rattle.hub_laws.proofs.Words.requests
@@ -77,43 +75,19 @@ other-done : IsOther done_line
 unfolding done_line
 other-done = starting 73 83 84 65 _ _ refl (refl, (refl, (refl, (refl, tt)))) refl refl
 
-pub record IsStatus (text : List ℕ) : Type 0 where
-  pub rest : List ℕ
-  pub is : text ≡ 73 ∷ 83 ∷ 84 ∷ 65 ∷ rest
+by-four : (text : List ℕ) → take 4 text ≡ codes "ISTA" → text ≡ 73 ∷ 83 ∷ 84 ∷ 65 ∷ drop 4 text
+by-four text is = grind arith
 
-pub status : (deny : Deny) → IsStatus (denial_text deny)
+first-four : (deny : Deny) → take 4 (denial_text deny) ≡ codes "ISTA"
 unfolding denial_text
-status denials.Protocol = record { rest = _; is = refl }
-status denials.WrongSid = record { rest = _; is = refl }
-status (denials.BadStage word) = record { rest = _; is = refl }
-status denials.NoBase = record { rest = _; is = refl }
-status denials.NoHash = record { rest = _; is = refl }
-status (denials.Missing field) = record { rest = _; is = refl }
-status (denials.BadField Recoverable field) = record { rest = _; is = refl }
-status (denials.BadField Fatal field) = record { rest = _; is = refl }
-status denials.BadPid = record { rest = _; is = refl }
-status (denials.BadNick Recoverable) = record { rest = _; is = refl }
-status (denials.BadNick Fatal) = record { rest = _; is = refl }
-status denials.BannedEver = record { rest = _; is = refl }
-status (denials.BannedFor seconds) = record { rest = _; is = refl }
-status (denials.Address Recoverable peer) = record { rest = _; is = refl }
-status (denials.Address Fatal peer) = record { rest = _; is = refl }
-status denials.Registered = record { rest = _; is = refl }
-status (denials.NickTaken Recoverable) = record { rest = _; is = refl }
-status (denials.NickTaken Fatal) = record { rest = _; is = refl }
-status denials.CidTaken = record { rest = _; is = refl }
-status denials.Password = record { rest = _; is = refl }
-status (denials.Access word) = record { rest = _; is = refl }
-status denials.SearchSoon = record { rest = _; is = refl }
-status denials.BadCommand = record { rest = _; is = refl }
-status denials.NoUser = record { rest = _; is = refl }
-status denials.NoBan = record { rest = _; is = refl }
-status denials.BansFull = record { rest = _; is = refl }
+first-four deny = grind arith
+
+pub status : (deny : Deny) → denial_text deny ≡ 73 ∷ 83 ∷ 84 ∷ 65 ∷ drop 4 (denial_text deny)
+status deny = by-four (denial_text deny) (first-four deny)
 
 other-denial : (deny : Deny) → IsOther (denial_line deny)
 other-denial deny =
-    let is = status deny in
-    starting 73 83 84 65 (is.rest ++ 10 ∷ []) (denial_line deny) (ap (λ (text : List ℕ). text ++ 10 ∷ []) is.is) (refl, (refl, (refl, (refl, tt)))) refl refl
+    starting 73 83 84 65 _ (denial_line deny) (ap (λ (text : List ℕ). text ++ 10 ∷ []) (status deny)) (refl, (refl, (refl, (refl, tt)))) refl refl
 
 -- ---- messages of users
 
@@ -292,7 +266,7 @@ does-tell hub own done (bans_user nick reason target banned called same room) =
     removal_of target nick called
     (subst (IsRemoval (effect_for_all done)) same
     (removal-as (effect_for_all done) (shared.Ban banned) banned.sid own.sender.sid (Some banned.ban.seconds) reason refl (λ sid. refl) refl refl (other-done, tt)))
-does-tell hub own done (unbans cid) = nobody (still-as own (effect_for_all done) (other-done, tt) tt refl refl (λ sid. refl) refl)
+does-tell hub own done (silent change is) = nobody (still-as own (effect_for_all done) (other-done, tt) tt refl refl (λ sid. silent-keeps change sid is) refl)
 does-tell hub own done (sets_topic text) = nobody (still-as own (effect_for_all done) (other-done, tt) (other-topic text, tt) refl refl (λ sid. refl) refl)
 
 module _ {hub : Sight} {own : Own} {line : PreparedLine} {now : ℕ} where

@@ -25,8 +25,8 @@ pub login-right : (hub : Sight) (own : Own) (now : ℕ) (digest : Option (List �
     → IsRightAddress own.sender.peer u
 unfolding login_grounds
 login-right hub own now digest u user none =
-    let address : AllFalse (grounds_of is_address (drop 10 (login_grounds hub own now digest u user))) =
-    none-of is_address (drop 10 (login_grounds hub own now digest u user)) (dropped 10 (login_grounds hub own now digest u user) none) in address.0
+    let address : AllFalse (grounds_of is_address (drop 9 (login_grounds hub own now digest u user))) =
+    none-of is_address (drop 9 (login_grounds hub own now digest u user)) (dropped 9 (login_grounds hub own now digest u user) none) in address.0
 
 pub update-right : (hub : Sight) (own : Own) (u : List Field) (user : Listed) → first_ground (update_grounds hub own u user) ≡ None → IsRightAddress own.sender.peer u
 unfolding update_grounds

@@ -4,7 +4,7 @@ use Rattle.hub_invariants.specs.Promises.{is_in}
 use Rattle.hub_laws.proofs.Words.{About, Act, Ban, Call, Change, Configured, Does, Done, Effect, Entry, Facts, Hub, HubChange, Line, Listed, Outcome, Own, PreparedLine, Reading, Request, Sight, Stage}
 use Rattle.hub_laws.proofs.Words.{acts, after, all_fit, bans_user, bytes_eq, bytes_eq-Decides, change_of, cond, done_line, effect_for_all, eq-eqb, eqb-true, facts, false≢true, happens, has_key}
 use Rattle.hub_laws.proofs.Words.{if◌then◌else◌, info, is-normal, is_present, is_removed, key_in, key_of_points, kicks, lags, line-outcome, lines_owed, listed-sid, most_users, or-true}
-use Rattle.hub_laws.proofs.Words.{present_are_users, removal_line, share, sid, stage, user_by_key, user_called, user_of}
+use Rattle.hub_laws.proofs.Words.{present_are_users, removal_line, share, sid, silent, silent-keeps, stage, user_by_key, user_called, user_of}
 use Rattle.hub_laws.proofs.Words.stages
 use Rattle.hub_laws.specs.Ordering.{lines_added}
 use Rattle.hub_laws.specs.Removing.{HasNick, NamesakesComeLater, OnlyUsersAreRemoved, RemovalsAreHeard, RemovalsComeFirst, Removes, TakesNick, seconds_of}
@@ -94,6 +94,7 @@ NamesUser users effect =
 names-act : {users : List Listed} {bans : List (List ℕ × Ban)} {operator : ℕ} {act : Act} (done : Done) → Does users bans operator act done.others done.change → NamesUser users (effect_for_all done)
 names-act done (kicks nick reason target called) named is = (target, nick, called, sym (eqb-true named target.sid is))
 names-act done (bans_user nick reason target banned called same room) named is = (target, nick, called, sym same ∙ sym (eqb-true named banned.sid is))
+names-act done (silent change quiet) named is = absurd (false≢true (sym (silent-keeps change named quiet) ∙ is))
 names-act done _ named is = absurd (false≢true is)
 
 module _ {hub : Sight} {own : Own} {line : PreparedLine} {now : ℕ} where
@@ -143,7 +144,7 @@ module _ (setup : Configured) (hash : List ℕ → List ℕ) where
   unfolding facts
   remains h e c n removes is = call-remains (facts setup hash h) e.caller e.call c n removes.present removes.named is
 
-  nobody-has : (h : List Entry) (e : Entry) (c n : ℕ) → setup.max_users ≤ most_users → Removes setup hash h e c → HasNick setup hash (e ∷ h) n (key_in (info setup hash h c)) → ⊥
+  nobody-has : (h : List Entry) (e : Entry) (c n : ℕ) → setup.plain.max_users ≤ most_users → Removes setup hash h e c → HasNick setup hash (e ∷ h) n (key_in (info setup hash h c)) → ⊥
   nobody-has h e c n small removes has =
       let was = remains h e c n removes has.0 in
       was.other

@@ -1,10 +1,13 @@
 -- A connection's last search is the last of its accepted searches.
 use Rattle.std.proofs.Common.{◌≡◌, ◌∙◌, sym, ap, ap₂, refl, subst, ℕ, ◌+◌, ◌<◌, Bool, true, false, ◌&&◌, ◌==◌, List, [], ◌∷◌, length, map, Option, None, arith}
 use Rattle.user_table.specs.declared.totals.Totals.{Totals}
+use Rattle.hub_rules.specs.declared.sender.Notes.{Notes}
+use Rattle.hub_rules.specs.declared.sender.SeatChange.{SeatChange}
+use Rattle.hub_rules.specs.Shares.{change_at}
 use Rattle.hub_laws.specs.Searched.{SearchIsTheLast, TotalsAreSums, is_search, last_search, moment_if, search_in, searches}
 use Rattle.hub_laws.proofs.Words.{About, Becomes, Call, Change, Configured, Effect, Entry, Facts, Field, Line, Listed, Outcome, Own, PreparedLine, Reading, Request, Sender, Sight, Sound, about_parts}
 use Rattle.hub_laws.proofs.Words.{accepted_line, amount, becomes, effect_of_line, eqb-true, facts, is_over, joins-grow, length-map, line_effect, listed_user, option_or, outcome}
-use Rattle.hub_laws.proofs.Words.{over-beyond, own_of, prepared_line, request_in, own_change, searched_after, share_size_name, shared_files_name, sight_of, sound_of, sum_by, sum_by-cons, unheard}
+use Rattle.hub_laws.proofs.Words.{over-beyond, own_of, prepared_line, request_in, notes_at, own_change, searched_after, share_size_name, shared_files_name, sight_of, sound_of, sum_by, sum_by-cons, unheard}
 use Rattle.hub_laws.proofs.Words.{user_of}
 use Rattle.hub_laws.proofs.Words.senders
 
@@ -33,12 +36,17 @@ search-one : (is_caller is_searching : Bool) (now : ℕ) (change : Change) (befo
 search-one true is_searching now change before is = is
 search-one false is_searching now change before is = refl
 
+-- no operator changes it
+operator-keeps : (at : Option (ℕ × SeatChange)) (a : About) (notes : Notes) → (notes_at at a notes).searched ≡ notes.searched
+operator-keeps at a notes = grind arith
+
 -- a line of connection d
 line-searched : (setup : Configured) (hash : List ℕ → List ℕ) (f : Facts) (c d : ℕ) (bytes : List ℕ) (now : ℕ)
-    → (about_parts d (effect_of_line setup hash f d bytes now) f.about c).sender.searched ≡ option_or (search_in setup hash f c (Line d bytes now)) (f.about c).sender.searched
+    → (about_parts d (effect_of_line setup hash f d bytes now) f.about c).sender.notes.searched ≡ option_or (search_in setup hash f c (Line d bytes now)) (f.about c).sender.notes.searched
 line-searched setup hash f c d bytes now =
-    search-one (c == d) _ now (effect_of_line setup hash f d bytes now).change (f.about c).sender.searched
-    (finds-line (sight_of setup f) (own_of (f.about d)) (prepared_line setup hash (f.about d).sender.challenge bytes) now (f.about c).sender.searched)
+    operator-keeps (change_at (effect_of_line setup hash f d bytes now).change) (f.about c) _
+    ∙ search-one (c == d) _ now (effect_of_line setup hash f d bytes now).change (f.about c).sender.notes.searched
+    (finds-line (sight_of setup f) (own_of (f.about d)) (prepared_line setup hash (f.about d).sender.challenge bytes) now (f.about c).sender.notes.searched)
 
 -- a connection that leaves does not search
 searched-kept : (same : Bool) (before : Option ℕ) → searched_after (own_change same (Sender senders.Falls)) before ≡ before
@@ -58,17 +66,17 @@ quiet-one setup hash f c d bytes now false is over = refl
 -- ---- every call, and every history
 
 module _ {setup : Configured} {hash : List ℕ → List ℕ} {f : Facts} {caller c : ℕ} where
-  searched-after : {call : Call} {a : About} → Becomes setup hash f caller c call a → (f.joins < c → (f.about c).sender.searched ≡ None)
-      → a.sender.searched ≡ option_or (search_in setup hash f c call) (f.about c).sender.searched
+  searched-after : {call : Call} {a : About} → Becomes setup hash f caller c call a → (f.joins < c → (f.about c).sender.notes.searched ≡ None)
+      → a.sender.notes.searched ≡ option_or (search_in setup hash f c call) (f.about c).sender.notes.searched
   searched-after (Becomes.joins peer challenge now place is) fresh = sym (fresh (omega (arith, is)))
   searched-after (Becomes.says d bytes now) fresh = line-searched setup hash f c d bytes now
-  searched-after (Becomes.quits d) fresh = searched-kept (c == d) (f.about c).sender.searched
+  searched-after (Becomes.quits d) fresh = searched-kept (c == d) (f.about c).sender.notes.searched
   searched-after _ fresh = refl
 
 no-search : (setup : Configured) (hash : List ℕ → List ℕ) (f : Facts) (call : Call) (c : ℕ) → Sound f → f.joins < c → search_in setup hash f c call ≡ None
 no-search setup hash f call c sound beyond = grind (arith, quiet-one, over-beyond)
 
-never-searched : (setup : Configured) (hash : List ℕ → List ℕ) (h : List Entry) (c : ℕ) → (facts setup hash h).joins < c → ((facts setup hash h).about c).sender.searched ≡ None
+never-searched : (setup : Configured) (hash : List ℕ → List ℕ) (h : List Entry) (c : ℕ) → (facts setup hash h).joins < c → ((facts setup hash h).about c).sender.notes.searched ≡ None
 unfolding facts
 never-searched setup hash [] c beyond = refl
 never-searched setup hash (e ∷ h) c beyond =

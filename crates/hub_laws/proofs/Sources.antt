@@ -16,7 +16,7 @@ use Rattle.hub_rules.specs.Texts.{challenge_line, done_line, hub_line, identifie
 use Rattle.hub_laws.proofs.Words.{Act, About, AllByRecursion, Becomes, Call, Configured, Deny, Does, Done, Effect, Entry, Facts, Field, Join, Kind, Line, Listed, Outcome, Own, PreparedLine, Quit, Reading, Reads-of, Request, Stage, Take}
 use Rattle.hub_laws.proofs.Words.{accepted_line, acts, bans_user, becomes, bytes_eq, chats, clean, denies, departure, effect_for_all, effect_of_line, eqb-true, facts, false≢true, greets}
 use Rattle.hub_laws.proofs.Words.{has, ignores, is-normal, is_present, key_of_points, kicks, learns, lets_in, outcome, owes, own_of, passes, prepared_line, present_are_users, proves, quiet, quit_line}
-use Rattle.hub_laws.proofs.Words.{request_at, request_in, request_of, revises, searches, sets_topic, share, shuts_out, sid, sight_of, stage, stage_after, unbans, user_called, waits, with_line_feed}
+use Rattle.hub_laws.proofs.Words.{request_at, request_in, request_of, revises, searches, sets_topic, share, shuts_out, sid, sight_of, stage, silent, stage_after, user_called, waits, with_line_feed}
 use Rattle.hub_laws.proofs.Words.denials
 use Rattle.hub_laws.proofs.Words.kinds
 use Rattle.hub_laws.proofs.Words.requests
@@ -203,7 +203,7 @@ module _ (setup : Configured) (hash : List ℕ → List ℕ) (h : List Entry) (e
       own = λ me. (from_done, tt);
       others = (from_removal _ _ _ _ (subst (λ n. n < sid_count) (sym same) (small-target nick target called)) (small-sid setup hash h c), tt);
     }
-    does-speak done (unbans cid) = record { own = λ same. (from_done, tt); others = tt }
+    does-speak done (silent change is) = record { own = λ same. (from_done, tt); others = tt }
     does-speak done (sets_topic text) = record { own = λ same. (from_done, tt); others = (from_topic text, tt) }
 
     -- what was read of a line, and what it asks for

@@ -12,7 +12,7 @@ use Rattle.login_state.specs.SupportAnswers.{support_after}
 use Rattle.login_state.specs.declared.fault.SupFault.{SupFault}
 use Rattle.operator_acts.specs.declared.act.Act.{Act}
 use Rattle.operator_acts.specs.declared.left.Left.{Left}
-use Rattle.hub_rules.specs.Denied.{sup_denied}
+use Rattle.hub_rules.specs.Denied.{message_denied, sup_denied}
 use Rattle.hub_rules.specs.Grounds.{sup_grounds}
 use Rattle.hub_invariants.specs.Said.{kept_unless, unless_refused}
 use Rattle.hub_laws.proofs.Words.{AllByRecursion, Deny, Effect, Kind, LineFault, Own, PreparedLine, Reading, Reads-of, Request, Sight, Stage, accepted_line, act_denied, answer_to, denial, denial_of, effect_of_reading, farewell, left_of_bans, ban_ground}
@@ -81,6 +81,9 @@ said-act : (hub : Sight) (own : Own) (now : ℕ) (params : List (List ℕ)) → 
 unfolding act_denied is_plain
 said-act hub own now params = grind (arith, said-answer)
 
+said-message : (hub : Sight) (own : Own) (now : ℕ) (search : Bool) → are_said (message_denied hub own now search) ≡ true
+said-message hub own now search = grind arith
+
 said-request : (hub : Sight) (own : Own) (line : PreparedLine) (now : ℕ) (reading : Reading) (request : Request) → are_said (request_denied hub own line now reading request) ≡ true
 unfolding request_denied entry_grounds
 said-request hub own line now reading requests.Greeting = said-sup (support_after own.sender.features reading.params)
@@ -91,8 +94,8 @@ said-request hub own line now reading requests.Password =
 said-request hub own line now reading requests.Update = said-update hub own (updates.reading reading.params)
 said-request hub own line now reading requests.Support = said-sup (support_after own.sender.features reading.params)
 said-request hub own line now reading requests.Act = said-act hub own now reading.params
-said-request hub own line now reading requests.Search = grind arith
-said-request hub own line now reading requests.Message = refl
+said-request hub own line now reading requests.Search = said-message hub own now true
+said-request hub own line now reading requests.Message = said-message hub own now false
 said-request hub own line now reading requests.Nothing = refl
 
 -- ---- the rules of every line

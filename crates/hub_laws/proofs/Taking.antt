@@ -1,10 +1,12 @@
 -- Whatever is decided of a line, the table of users and the list of bans take it.
-use Rattle.std.proofs.Common.{◌≡◌, ◌∙◌, sym, ap, refl, subst, ℕ, Bool, false, not, ◌&&◌, List, [], ◌∷◌, ◌++◌, Option, Some, None, Ok, arith}
+use Rattle.std.proofs.Common.{◌≡◌, ◌∙◌, sym, ap, refl, subst, ℕ, Bool, true, false, not, ◌&&◌, List, [], ◌∷◌, ◌++◌, Option, Some, None, Ok, arith}
 use Rattle.user_table.specs.Changes.{cid_taken, given_key, held_by_other, is_other, nick_taken, users_after_entry, users_after_update}
 use Rattle.hub_laws.proofs.Words.{Act, Ban, Does, Effect, Field, Hub, HubChange, Listed, Outcome, Own, PreparedLine, Reading, Request, Sight, Unclaimed, acts, another_has_key, bans_user, changed_key}
 use Rattle.hub_laws.proofs.Words.{chars, clean, cond, digest_given, facts, find, given-after, has_key, has_sid, infs, is_full, key_in, key_of, lets_in, list_any, listed_user, login-free, meaning}
 use Rattle.hub_laws.proofs.Words.{merged_fields, nick_name, option_map, or-parts, outcome, own_of, password-free, prepared_line, proves, revises, revision, sight_of, told_of, unwrap_or}
 use Rattle.hub_laws.proofs.Words.{update-free, update_denied, user_after, user_by_key, value_or_empty, with_update}
+use Rattle.hub_laws.proofs.Words.{false≢true, is_silent, silent}
+use Rattle.hub_laws.proofs.Words.shared
 use Rattle.hub_laws.proofs.Clearing.{listed-key}
 use Rattle.hub_laws.specs.Taking.{DecidedIsTaken, IsTaken}
 
@@ -60,9 +62,14 @@ takes-update hub own infs u known none = grind (arith, held-by, revised-key, upd
 
 -- ---- bans
 
+takes-silent : (hub : Sight) (own : Own) (change : HubChange) → is_silent change ≡ true → IsTaken hub own (Hub change)
+takes-silent hub own (shared.Ban banned) is = absurd (false≢true is)
+takes-silent hub own _ is = tt
+
 takes-act : {users : List Listed} {bans : List (List ℕ × Ban)} {operator : ℕ} {act : Act} {others : List (List ℕ)} {change : HubChange} → (hub : Sight) (own : Own) → hub.bans ≡ bans
     → Does users bans operator act others change → IsTaken hub own (Hub change)
 takes-act hub own same (bans_user nick reason target banned called is room) = subst (λ bs. is_full bs banned.cid ≡ false) (sym same) room
+takes-act hub own same (silent change is) = takes-silent hub own change is
 takes-act hub own same _ = tt
 
 -- ---- every line

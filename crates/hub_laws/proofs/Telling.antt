@@ -1,8 +1,8 @@
 -- The lines owed by an operator's act.
-use Rattle.std.proofs.Common.{◌≡◌, ◌∙◌, ap, refl, subst, ℕ, Bool, false, ◌⊎◌, inl, inr, ◌==◌, List, [], ◌∷◌, ◌++◌, Option, Some, cond, arith}
+use Rattle.std.proofs.Common.{◌≡◌, ◌∙◌, sym, ap, refl, subst, ℕ, Bool, true, false, ◌⊎◌, inl, inr, ◌==◌, List, [], ◌∷◌, ◌++◌, Option, Some, cond, arith}
 use Rattle.hub_laws.proofs.Words.{About, Act, Ban, Call, Change, Configured, Does, Done, Effect, Facts, Hub, HubChange, Line, Listed, Nothing, Outcome, Own, PreparedLine, Reading, Request, Sight}
 use Rattle.hub_laws.proofs.Words.{Reads-of, Those, acts, bans_user, change_of, done_line, effect_for_all, effect_of_line, facts, holds_words, is_present, kicks, line-outcome, owes, own_of, sets_topic, sight_of, text_in}
-use Rattle.hub_laws.proofs.Words.{share, unbans}
+use Rattle.hub_laws.proofs.Words.{is_silent, share, silent}
 use Rattle.hub_laws.proofs.Words.audiences
 use Rattle.adc_line.specs.Grammar.{Reads}
 use Rattle.operator_acts.specs.Acts.{act_at}
@@ -30,11 +30,14 @@ record Tells (own : Own) (said : Option Reading) (effect : Effect) : Type 0 wher
   asks : act_at (text_in reading.params) ≡ Some act
   told : IsTold own effect act
 
+no-news : (change : HubChange) (operator : ℕ) (reason : List ℕ) → is_silent change ≡ true → news_of change operator reason ≡ []
+no-news change operator reason quiet = grind arith
+
 told-act : {users : List Listed} {bans : List (List ℕ × Ban)} {own : Own} {act : Act} (done : Done) → Does users bans own.sender.sid act done.others done.change
     → IsTold own (effect_for_all done) act
 told-act done (kicks nick reason target called) = record { others = refl; hearers = refl; done = refl }
 told-act done (bans_user nick reason target banned called same room) = record { others = refl; hearers = refl; done = refl }
-told-act done (unbans cid) = record { others = refl; hearers = refl; done = refl }
+told-act {own = own} {act = act} done (silent change quiet) = record { others = sym (no-news change own.sender.sid (reason_of act) quiet); hearers = refl; done = refl }
 told-act done (sets_topic text) = record { others = refl; hearers = refl; done = refl }
 
 module _ {hub : Sight} {own : Own} {line : PreparedLine} {now : ℕ} where

@@ -195,14 +195,14 @@ module _ (hub : Sight) (accounts : List Account) (own : Own) (expected : List �
   -- ---- which rule denies a line
 
   barred-alike : (key : List ℕ) → is_barred hub key ≡ is_barred (other_hub hub accounts) key
-  barred-alike key = ap (λ b. hub.setup.registered_only && not b) (account-alike key)
+  barred-alike key = ap (λ b. hub.setup.plain.registered_only && not b) (account-alike key)
 
   login-denied-alike : (digest : Option (List ℕ)) (r : Result (List Field) InfFault)
       → login_denied hub own digest now r ≡ login_denied (other_hub hub accounts) (other_own own expected) digest now r
   unfolding login_grounds
   login-denied-alike digest (Ok u) =
       let grounds : List (Bool × Deny) = login_grounds hub own now digest u (user_after own u) in
-      ap (λ b. first_ground (take 11 grounds ++ (b, denials.Registered) ∷ drop 12 grounds)) (barred-alike (user_after own u).key)
+      ap (λ b. first_ground (take 10 grounds ++ (b, denials.Registered) ∷ drop 11 grounds)) (barred-alike (user_after own u).key)
   login-denied-alike digest (Err fault) = refl
 
   touched-alike : (before after : List ℕ) → touches_account hub before after ≡ touches_account (other_hub hub accounts) before after

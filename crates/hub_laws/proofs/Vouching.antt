@@ -18,7 +18,7 @@ use Rattle.hub_laws.proofs.Passing.{key-merged}
 -- what is so of the user of a connection, by its stage, its fields, the digest that is waited for and the challenge
 pub record IsVouched (setup : Configured) (hash : List ℕ → List ℕ) (h : List Entry) (c : ℕ) (stage : Stage) (fields : List Field) (expected challenge : List ℕ) : Type 0 where
   pub waits : stage ≡ stages.Verify → password_of hash challenge (account_with (key_in fields) setup.accounts) ≡ Some expected
-  pub admitted : stage ≡ stages.Normal → setup.registered_only ≡ true → is_some (account_with (key_in fields) setup.accounts) ≡ true
+  pub admitted : stage ≡ stages.Normal → setup.plain.registered_only ≡ true → is_some (account_with (key_in fields) setup.accounts) ≡ true
   pub proved : stage ≡ stages.Normal → (account : Account) → account_with (key_in fields) setup.accounts ≡ Some account → HasGiven setup hash h c (hash (account.password ++ challenge))
 
 abbrev pub VouchedBy : Configured → (List ℕ → List ℕ) → List Entry → ℕ → About → Type 0
@@ -153,7 +153,7 @@ Enters setup hash f c now said effect =
 
 module _ (setup : Configured) (hash : List ℕ → List ℕ) where
   admitted-after : (h : List Entry) (c now : ℕ) (said : Option Reading) (effect : Effect) → VouchedBy setup hash h c ((facts setup hash h).about c)
-      → Enters setup hash (facts setup hash h) c now said effect → setup.registered_only ≡ true
+      → Enters setup hash (facts setup hash h) c now said effect → setup.plain.registered_only ≡ true
       → is_some (accounts_of setup (fields_after effect.change ((facts setup hash h).about c).fields)) ≡ true
   admitted-after h c now said effect vouched enters only = grind arith
 

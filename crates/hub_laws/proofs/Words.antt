@@ -15,7 +15,7 @@ pub use Rattle.hub_invariants.proofs.Kept.{sids_differ, taken_is_the_sum, users_
 pub use Rattle.hub_invariants.proofs.Lines.{fits-line}
 pub use Rattle.hub_invariants.proofs.Members.{and-false, has, has-append, has-filter, or-parts}
 pub use Rattle.hub_invariants.proofs.Outcomes.{Asked, Does, Logs, Outcome, acts, bans_user, by-request, chats, denies, greets, ignores, kicks, later-none, learns, lets_in, line-outcome, outcome, passes}
-pub use Rattle.hub_invariants.proofs.Outcomes.{proves, quiet, request-asks, request_in, revises, searches, sets_topic, shuts_out, unbans, waits}
+pub use Rattle.hub_invariants.proofs.Outcomes.{proves, quiet, request-asks, request_in, revises, is_silent, searches, sets_topic, shuts_out, silent, silent-keeps, waits}
 pub use Rattle.hub_invariants.proofs.Saying.{features_are_last_added, info_is_merged, over-beyond, said-read, said_by, same-chosen, told_of, unheard}
 pub use Rattle.hub_invariants.proofs.Sound.{Sound, eqb-sym, happens-open, parts-open, happens-sound, not-over, or-true}
 pub use Rattle.hub_invariants.proofs.Sound.{stage_next}
@@ -53,7 +53,7 @@ pub use Rattle.hub_invariants.specs.Said.{cleaned_update, inf_update, infs, list
 unfoldable pub use Rattle.hub_invariants.specs.Said.{accepted_line}
 pub use Rattle.hub_rules.specs.Shares.{About, affected_connection, has_room_for, hears_those, owes}
 pub use Rattle.hub_invariants.specs.Afterwards.{affected_parts, expected_after, fields_after, is_removed}
-pub use Rattle.hub_invariants.specs.Afterwards.{features_after, own_change, searched_after}
+pub use Rattle.hub_invariants.specs.Afterwards.{features_after, notes_at, own_change, searched_after}
 pub use Rattle.hub_rules.specs.Shares.{waiting}
 pub use Rattle.hub_invariants.specs.Afterwards.{removed_by, stage_after}
 unfoldable pub use Rattle.hub_rules.specs.Shares.{lags_with, owed_with}
@@ -104,7 +104,7 @@ pub use Rattle.adc_line.specs.Lines as lines
 pub use Rattle.adc_line.specs.declared.header.Kind.TheVariants as kinds
 pub use Rattle.feature_route.specs.declared.hearers.Audience.TheVariants as audiences
 pub use Rattle.hub_rules.specs.declared.effect.HubChange.TheVariants as shared
-pub use Rattle.hub_rules.specs.declared.effect.SeatChange.TheVariants as seats
+pub use Rattle.hub_rules.specs.declared.sender.SeatChange.TheVariants as seats
 pub use Rattle.hub_rules.specs.declared.effect.SenderChange.TheVariants as senders
 pub use Rattle.inf_fields.specs.Updates as updates
 pub use Rattle.login_state.specs.declared.deny.Deny.TheVariants as denials

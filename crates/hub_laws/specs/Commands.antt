@@ -40,14 +40,14 @@ IsPresentAs setup hash h d nick = (stage setup hash h d ≡ Normal) × (key_in (
 -- a kick of a user who is present shuts it out
 abbrev pub KicksAreCarriedOut : Type 0
 KicksAreCarriedOut =
-    (setup : Configured) (hash : List ℕ → List ℕ) (h : List Entry) (e : Entry) (d now : ℕ) (nick reason : List ℕ) → setup.max_users ≤ most_users
+    (setup : Configured) (hash : List ℕ → List ℕ) (h : List Entry) (e : Entry) (d now : ℕ) (nick reason : List ℕ) → setup.plain.max_users ≤ most_users
     → Commands setup hash h e now (Kick nick reason) → IsPresentAs setup hash h d nick
     → stage setup hash (e ∷ h) d ≡ Gone
 
 -- and so does a ban, which holds from now on, unless so many bans are held as may be, and none on its CID
 abbrev pub BansAreCarriedOut : Type 0
 BansAreCarriedOut =
-    (setup : Configured) (hash : List ℕ → List ℕ) (h : List Entry) (e : Entry) (d now : ℕ) (nick : List ℕ) (seconds : ℕ) (reason : List ℕ) → setup.max_users ≤ most_users
+    (setup : Configured) (hash : List ℕ → List ℕ) (h : List Entry) (e : Entry) (d now : ℕ) (nick : List ℕ) (seconds : ℕ) (reason : List ℕ) → setup.plain.max_users ≤ most_users
     → Commands setup hash h e now (Ban nick seconds reason) → IsPresentAs setup hash h d nick → is_full (facts setup hash h).bans (cid_in (info setup hash h d)) ≡ false
     → (stage setup hash (e ∷ h) d ≡ Gone)
     × ((moment : ℕ) → ban setup hash (e ∷ h) (cid_in (info setup hash h d)) moment ≡ left_of (Some (record { seconds = seconds; moment = now })) moment)

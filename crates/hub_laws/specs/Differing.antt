@@ -10,7 +10,7 @@ use Rattle.hub_invariants.specs.Promises.{is_in}
 -- two users who are present differ in this
 abbrev pub DifferIn : (List Field → List ℕ) → Type 0
 DifferIn of =
-    (setup : Configured) (hash : List ℕ → List ℕ) (h : List Entry) → setup.max_users ≤ most_users → (c d : ℕ) → is_in c (present setup hash h) ≡ true → is_in d (present setup hash h) ≡ true
+    (setup : Configured) (hash : List ℕ → List ℕ) (h : List Entry) → setup.plain.max_users ≤ most_users → (c d : ℕ) → is_in c (present setup hash h) ≡ true → is_in d (present setup hash h) ≡ true
     → of (info setup hash h c) ≡ of (info setup hash h d) → c ≡ d
 
 -- nicks are compared by their normal forms C

@@ -1,9 +1,9 @@
 -- Two searches of a connection that went out are at least the interval apart, and a search is refused only within the interval of the last.
 use Rattle.std.specs.Prelude.{◌≡◌, ℕ, ◌-◌, ◌≤◌, true, List, ◌∷◌, ◌++◌, Some, None, if◌then◌else◌}
 use Rattle.adc_line.specs.Lines.{Reading}
-use Rattle.search_pass.specs.Searches.{may_search}
 use Rattle.hub_rules.specs.declared.history.Entry.{Entry}
 use Rattle.hub_rules.specs.Configured.{Configured}
+use Rattle.hub_rules.specs.Denied.{is_search_due}
 use Rattle.hub_rules.specs.Facts.{facts}
 use Rattle.hub_laws.specs.Messages.{IsToUsers, is_search_command}
 use Rattle.hub_laws.specs.Refusals.{accepted}
@@ -17,11 +17,11 @@ GoesOutAt setup hash h e c moment = search_in setup hash (facts setup hash h) c 
 abbrev pub SearchesAreApart : Type 0
 SearchesAreApart =
     (setup : Configured) (hash : List ℕ → List ℕ) (between h : List Entry) (first second : Entry) (c moment later : ℕ) → GoesOutAt setup hash h first c moment
-    → GoesOutAt setup hash (between ++ (first ∷ h)) second c later → setup.search_interval ≤ later - moment
+    → GoesOutAt setup hash (between ++ (first ∷ h)) second c later → setup.plain.search_interval ≤ later - moment
 
--- a search of a user who is present goes out where none went out before, or where the interval passed since the last that did
+-- a search of a user who is present goes out where it is due after the last that did
 abbrev pub SearchesAreAccepted : Type 0
 SearchesAreAccepted =
     (setup : Configured) (hash : List ℕ → List ℕ) (h : List Entry) (c : ℕ) (bytes : List ℕ) (now : ℕ) (line : Reading) → IsToUsers setup hash h c bytes line
     → is_search_command line.command ≡ true
-    → accepted setup hash h c bytes now ≡ (if may_search (last_search setup hash h c) now setup.search_interval then Some line else None)
+    → accepted setup hash h c bytes now ≡ (if is_search_due setup.plain (last_search setup hash h c) now then Some line else None)

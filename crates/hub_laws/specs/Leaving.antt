@@ -4,7 +4,7 @@ use Rattle.login_state.specs.declared.stage.Stage.TheVariants.{Gone, Normal}
 use Rattle.hub_rules.specs.declared.effect.Banned.{Banned}
 use Rattle.hub_rules.specs.declared.effect.Change.TheVariants.{Hub}
 use Rattle.hub_rules.specs.declared.effect.HubChange.TheVariants.{At, Ban}
-use Rattle.hub_rules.specs.declared.effect.SeatChange.TheVariants as seats
+use Rattle.hub_rules.specs.declared.sender.SeatChange.TheVariants as seats
 use Rattle.hub_rules.specs.declared.history.Call.{Call}
 use Rattle.hub_rules.specs.declared.history.Entry.{Entry}
 use Rattle.hub_rules.specs.Configured.{Configured}

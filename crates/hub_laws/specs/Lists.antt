@@ -69,5 +69,5 @@ users_present setup hash h = map (λ c. (sid_text (sid setup hash h c), info set
 -- whoever is present and does not lag lists exactly these; so any two of them list the same
 abbrev pub AllListTheSame : Type 0
 AllListTheSame =
-    (setup : Configured) (hash : List ℕ → List ℕ) (h : List Entry) (d : ℕ) → setup.max_users ≤ most_users → stage setup hash h d ≡ Normal → lags setup hash h d ≡ false
+    (setup : Configured) (hash : List ℕ → List ℕ) (h : List Entry) (d : ℕ) → setup.plain.max_users ≤ most_users → stage setup hash h d ≡ Normal → lags setup hash h d ≡ false
     → list_after (lines_owed setup hash h d) ≡ users_present setup hash h

@@ -1,13 +1,13 @@
 -- A login that meets every check enters, or is asked for a password where its nick is an account's; and the right password enters.
-use Rattle.std.specs.Prelude.{◌≡◌, ℕ, true, false, List, ◌∷◌, ◌++◌, chars, codes, Some, Ok, is_some, if◌then◌else◌}
+use Rattle.std.specs.Prelude.{◌≡◌, ℕ, true, false, List, ◌∷◌, ◌++◌, chars, codes, Some, None, Ok, is_some, if◌then◌else◌}
+use Rattle.std.specs.List.{find}
 use Rattle.adc_base32.specs.Spelled.{spelled_bytes}
 use Rattle.adc_ids.specs.Nicks.{IsNick}
 use Rattle.adc_line.specs.Grammar.{Reads}
 use Rattle.adc_line.specs.Lines.{Reading}
 use Rattle.adc_line.specs.declared.header.Kind.TheVariants.{Broadcast, Hub}
-use Rattle.inf_fields.specs.Amounts.{is_bad_number}
 use Rattle.inf_fields.specs.Field.{Field}
-use Rattle.inf_fields.specs.FieldNames.{address_name, id_name, private_id_name, share_size_name, shared_files_name}
+use Rattle.inf_fields.specs.FieldNames.{address_name, id_name, private_id_name}
 use Rattle.inf_fields.specs.Updates as updates
 use Rattle.login_state.specs.declared.stage.Stage.TheVariants.{Identify, Normal, Verify}
 use Rattle.operator_acts.specs.declared.left.Left.TheVariants.{Free}
@@ -16,7 +16,8 @@ use Rattle.hub_rules.specs.declared.history.Entry.{Entry}
 use Rattle.hub_rules.specs.Accounts.{account_with}
 use Rattle.hub_rules.specs.Configured.{Account, Configured}
 use Rattle.hub_rules.specs.Denied.{digest_given}
-use Rattle.hub_rules.specs.Grounds.{is_wrong_address}
+use Rattle.login_state.specs.NamedFields.{checked_fields}
+use Rattle.hub_rules.specs.Grounds.{is_bad, is_wrong_address}
 use Rattle.hub_rules.specs.History.{about, ban, info, sid, stage}
 use Rattle.hub_rules.specs.Identities.{cid_in, key_in, nick_in, value_or_empty}
 use Rattle.hub_laws.specs.Registered.{account_at}
@@ -44,12 +45,11 @@ pub record LogsIn (setup : Configured) (hash : List ℕ → List ℕ) (h : List 
   pub shows : spelled_bytes 24 (value_or_empty id_name fields) ≡ Some (hash pid)
   -- NI spells a nick; SS and SF are numbers, or are not there; I4 is the address that the hub sees, or is left to the hub
   pub nick : IsNick (chars (nick_in fields))
-  pub share : is_bad_number (value_or_empty share_size_name fields) ≡ false
-  pub files : is_bad_number (value_or_empty shared_files_name fields) ≡ false
+  pub values : find (is_bad fields) checked_fields ≡ None
   pub address : is_wrong_address (about setup hash h c).sender.peer (value_or_empty address_name fields) ≡ false
   -- it is not banned, registered where it has to be, and nobody has its nick or its CID
   pub unbanned : ban setup hash h (hash pid) now ≡ Free
-  pub registered : setup.registered_only ≡ true → is_some (account_with (key_in fields) setup.accounts) ≡ true
+  pub registered : setup.plain.registered_only ≡ true → is_some (account_with (key_in fields) setup.accounts) ≡ true
   pub free : IsFree setup hash h (key_in fields) (hash pid)
 
 -- it enters, or waits for its password

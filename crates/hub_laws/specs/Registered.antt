@@ -41,5 +41,5 @@ NicksAreProved =
 -- where only registered users may enter, whoever is present has the nick of an account
 abbrev pub OnlyAccountsEnter : Type 0
 OnlyAccountsEnter =
-    (setup : Configured) (hash : List ℕ → List ℕ) (h : List Entry) (c : ℕ) → setup.registered_only ≡ true → stage setup hash h c ≡ Normal
+    (setup : Configured) (hash : List ℕ → List ℕ) (h : List Entry) (c : ℕ) → setup.plain.registered_only ≡ true → stage setup hash h c ≡ Normal
     → is_some (account_at setup hash h c) ≡ true

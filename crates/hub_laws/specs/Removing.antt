@@ -71,6 +71,6 @@ pub record TakesNick (setup : Configured) (hash : List ℕ → List ℕ) (later 
 -- whoever is present under that nick afterwards took it later: nobody has it when the user is shut out
 abbrev pub NamesakesComeLater : Type 0
 NamesakesComeLater =
-    (setup : Configured) (hash : List ℕ → List ℕ) (later earlier : List Entry) (e : Entry) (c n : ℕ) → setup.max_users ≤ most_users → Removes setup hash earlier e c
+    (setup : Configured) (hash : List ℕ → List ℕ) (later earlier : List Entry) (e : Entry) (c n : ℕ) → setup.plain.max_users ≤ most_users → Removes setup hash earlier e c
     → HasNick setup hash (later ++ e ∷ earlier) n (key_in (info setup hash earlier c))
     → TakesNick setup hash later (e ∷ earlier) n (key_in (info setup hash earlier c))

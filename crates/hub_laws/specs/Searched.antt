@@ -44,7 +44,8 @@ last_search setup hash (e ∷ h) c = option_or (search_in setup hash (facts setu
 
 -- the interval is counted from the last accepted search
 abbrev pub SearchIsTheLast : Type 0
-SearchIsTheLast = (setup : Configured) (hash : List ℕ → List ℕ) (h : List Entry) (c : ℕ) → (about setup hash h c).sender.searched ≡ last_search setup hash h c
+SearchIsTheLast =
+    (setup : Configured) (hash : List ℕ → List ℕ) (h : List Entry) (c : ℕ) → (about setup hash h c).sender.notes.searched ≡ last_search setup hash h c
 
 -- The totals are the number of users who are present, and the sums of their fields SS and SF, in which a field that is missing or no
 -- number counts nothing.

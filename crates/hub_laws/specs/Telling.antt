@@ -9,7 +9,6 @@ use Rattle.hub_rules.specs.Acts.{text_in}
 use Rattle.hub_rules.specs.declared.effect.Change.TheVariants.{Hub}
 use Rattle.hub_rules.specs.declared.effect.HubChange.{HubChange}
 use Rattle.hub_rules.specs.declared.effect.HubChange.TheVariants as shared
-use Rattle.hub_rules.specs.declared.effect.SeatChange.TheVariants as seats
 use Rattle.hub_rules.specs.declared.history.Call.{Call}
 use Rattle.hub_rules.specs.declared.history.Call.TheVariants.{Line}
 use Rattle.hub_rules.specs.declared.history.Entry.{Entry}
@@ -17,23 +16,23 @@ use Rattle.hub_rules.specs.Configured.{Configured}
 use Rattle.hub_rules.specs.Effects.{is_present}
 use Rattle.hub_rules.specs.Facts.{facts}
 use Rattle.hub_rules.specs.History.{sid, stage}
+use Rattle.hub_rules.specs.Senders.{is_removal}
 use Rattle.hub_invariants.specs.Lagging.{share}
 use Rattle.hub_rules.specs.Texts.{done_line, removal_line, topic_line}
 use Rattle.hub_invariants.specs.World.{change_of}
 
 -- the line that tells of it: who was shut out, by which operator, for how long and why; or the new topic
 abbrev pub news_of : HubChange → ℕ → List ℕ → List (List ℕ)
-news_of (shared.At target seats.Gone) operator reason = removal_line target operator None reason ∷ []
+news_of (shared.At target change) operator reason = if is_removal change then removal_line target operator None reason ∷ [] else []
 news_of (shared.Ban banned) operator reason = removal_line banned.sid operator (Some banned.ban.seconds) reason ∷ []
-news_of (shared.Unban cid) operator reason = []
 news_of (shared.Topic text) operator reason = topic_line text ∷ []
+news_of change operator reason = []
 
 -- the reason that an act gives
 abbrev pub reason_of : Act → List ℕ
 reason_of (acts.Kick nick reason) = reason
 reason_of (acts.Ban nick seconds reason) = reason
-reason_of (acts.Unban cid) = []
-reason_of (acts.Topic text) = []
+reason_of act = []
 
 -- the call is a line of this connection, and its text asks for this act
 pub record Asks (call : Call) (c : ℕ) (act : Act) : Type 0 where

@@ -57,8 +57,8 @@ pub fn hearing_laws()
     ensures same { AllHearTheSame }
 {}
 
-/// Says that what must work works for messages: a line of the grammar of the type B, D, E or F, of a user who is present, under its own
-/// SID, is accepted, unless its command is the hub's own or a search (ADC 1.0, "Message types").
+/// Says that what must work works for messages: those of a user who is present are accepted, in the grammar and under its own SID, but
+/// for the few that `MessagesAreAccepted` names (ADC 1.0, "Message types").
 pub fn message_laws()
     ensures { MessagesAreAccepted }
 {}

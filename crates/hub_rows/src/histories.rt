@@ -3,7 +3,7 @@ use crate::hub::shared_setup;
 use crate::refusal::holds;
 use crate::spelling::append;
 use history_check::report_history;
-use hub_core::{Account, Options, Setup};
+use hub_core::{Account, Options, PlainOptions, Setup};
 use second_try::again;
 use session_hash::First24;
 use std::alloc::{AllocError, AllocGlobal, Global};
@@ -228,7 +228,7 @@ fn setup(rt: &impl Abort, alloc: Global) -> Arc<Setup> {
     }];
     let options = Options {
         accounts: &accounts,
-        max_users: 4,
+        plain: PlainOptions::for_users(4),
         ..Options::named("Hub")
     };
     shared_setup(rt, alloc, &options)

@@ -94,10 +94,10 @@ fn set<'a>(rt: &impl Abort, mut options: Options<'a>, name: &str, rest: &'a str)
     match name {
         "name" => options.name = rest,
         "topic" => options.topic = rest,
-        "interval" => options.search_interval = number(rt, rest),
-        "max_users" => options.max_users = number(rt, rest),
-        "opening" => options.opening = u64::from(number(rt, rest)),
-        "registered_only" if rest.is_empty() => options.registered_only = true,
+        "interval" => options.plain.search_interval = number(rt, rest),
+        "max_users" => options.plain.max_users = number(rt, rest),
+        "opening" => options.plain.opening = u64::from(number(rt, rest)),
+        "registered_only" if rest.is_empty() => options.plain.registered_only = true,
         _ => unknown(rt, "setting", name),
     }
     options

@@ -18,7 +18,7 @@ use Rattle.hub_rules.specs.declared.effect.Effect.{Effect}
 use Rattle.hub_rules.specs.declared.effect.Hearers.TheVariants.{Those}
 use Rattle.hub_rules.specs.declared.effect.HubChange.{HubChange}
 use Rattle.hub_rules.specs.declared.effect.HubChange.TheVariants as shared
-use Rattle.hub_rules.specs.declared.effect.SeatChange.TheVariants as seats
+use Rattle.hub_rules.specs.declared.sender.SeatChange.TheVariants as seats
 use Rattle.hub_rules.specs.Accounts.{operates}
 use Rattle.hub_rules.specs.Identities.{meaning, key_in, key_of_points}
 use Rattle.hub_rules.specs.Quiet.{nothing}
@@ -67,15 +67,12 @@ ban bans operator reason banned = if is_full bans banned.cid then Err denials.Ba
 abbrev pub unban : List (List ℕ × Ban) → List ℕ → Result Done Deny
 unban bans cid = if is_some (ban_on bans cid) then Ok (record { others = []; change = shared.Unban cid }) else Err denials.NoBan
 
-abbrev pub topic : List ℕ → Done
-topic text = record { others = topic_line text ∷ []; change = shared.Topic text }
-
 abbrev pub answer_of : List Listed → List (List ℕ × Ban) → ℕ → ℕ → Act → Result Done Deny
 answer_of users bans operator now (acts.Kick nick reason) = if_present (user_called users nick) (kick operator reason)
 answer_of users bans operator now (acts.Ban nick seconds reason) =
     if_present (user_called users nick) (λ user. ban bans operator reason (banned_for seconds now user))
 answer_of users bans operator now (acts.Unban cid) = unban bans cid
-answer_of users bans operator now (acts.Topic text) = Ok (topic text)
+answer_of users bans operator now (acts.Topic text) = Ok (record { others = topic_line text ∷ []; change = shared.Topic text })
 
 -- ---- all of them
 

@@ -1,5 +1,6 @@
 -- The setup of a hub, as contracts see it.
 use Rattle.std.specs.Prelude.{ℕ, Bool, false, List, [], Option}
+use Rattle.hub_rules.specs.declared.plain_options.PlainOptions.{PlainOptions}
 
 -- how many connections a hub may admit at once
 abbrev pub most_users : ℕ
@@ -24,21 +25,13 @@ pub record Configured : Type 0 where
   pub topic : List ℕ
   pub accounts : List Account
   pub menu : List MenuEntry
-  pub registered_only : Bool
-  pub search_interval : ℕ
-  pub max_users : ℕ
-  -- the moment at which the hub opens, in seconds
-  pub opening : ℕ
+  -- what is neither a text nor a list
+  pub plain : PlainOptions
 
--- the hub of this name with nothing that settings may add, for 512 users, opened at moment 0
+-- for so many users, with nothing that settings may add, opened at moment 0
+abbrev pub plain_for : ℕ → PlainOptions
+plain_for users = record { registered_only = false; search_interval = 0; max_users = users; opening = 0 }
+
+-- the hub of this name with nothing that settings may add, for 512 users
 abbrev pub plain_hub : List ℕ → Configured
-plain_hub name = record {
-  name = name;
-  topic = [];
-  accounts = [];
-  menu = [];
-  registered_only = false;
-  search_interval = 0;
-  max_users = 512;
-  opening = 0;
-}
+plain_hub name = record { name = name; topic = []; accounts = []; menu = []; plain = plain_for 512 }

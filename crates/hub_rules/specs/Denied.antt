@@ -1,6 +1,6 @@
 -- Which rule denies a line, if one does: the first that applies.
 use Rattle.std.specs.Option.{option_or}
-use Rattle.std.specs.Prelude.{ℕ, List, [], ◌∷◌, Option, Some, None, Result, Ok, Err, if◌then◌else◌}
+use Rattle.std.specs.Prelude.{ℕ, ◌&&◌, not, Bool, true, false, List, [], ◌∷◌, Option, Some, None, Result, Ok, Err, if◌then◌else◌}
 use Rattle.adc_base32.specs.Spelled.{spelled_bytes}
 use Rattle.adc_line.specs.Lines.{Reading}
 use Rattle.inf_fields.specs.Field.{Field}
@@ -13,6 +13,7 @@ use Rattle.login_state.specs.SupportAnswers.{support_after}
 use Rattle.search_pass.specs.Searches.{may_search}
 use Rattle.login_state.specs.declared.request.Request.{Request}
 use Rattle.login_state.specs.declared.request.Request.TheVariants as requests
+use Rattle.hub_rules.specs.declared.plain_options.PlainOptions.{PlainOptions}
 use Rattle.hub_rules.specs.Acts.{act_denied}
 use Rattle.hub_rules.specs.Grounds.{first_ground, sup_grounds, login_grounds, password_grounds, update_grounds}
 use Rattle.hub_rules.specs.Requests.{request_of, refusal_of}
@@ -43,9 +44,13 @@ abbrev pub update_denied : Sight → Own → Result (List Field) InfFault → Op
 update_denied hub own (Ok u) = first_ground (update_grounds hub own u (user_after own u))
 update_denied hub own (Err fault) = Some denials.Protocol
 
--- of a search: the time since the last one
-abbrev pub search_denied : Sight → Own → ℕ → Option Deny
-search_denied hub own now = if may_search own.sender.searched now hub.setup.search_interval then None else Some denials.SearchSoon
+-- whether a search may go out at this moment, where the last one that did was at that
+abbrev pub is_search_due : PlainOptions → Option ℕ → ℕ → Bool
+is_search_due plain last now = may_search last now plain.search_interval
+
+-- of a message to users: where it is a search, when it comes
+abbrev pub message_denied : Sight → Own → ℕ → Bool → Option Deny
+message_denied hub own now search = if search && not (is_search_due hub.setup.plain own.sender.notes.searched now) then Some denials.SearchSoon else None
 
 -- the rules of what the line asks for
 unfoldable pub request_denied : Sight → Own → PreparedLine → ℕ → Reading → Request → Option Deny
@@ -55,8 +60,8 @@ request_denied hub own prepared now line requests.Password = password_denied hub
 request_denied hub own prepared now line requests.Update = update_denied hub own (updates.reading line.params)
 request_denied hub own prepared now line requests.Support = sup_denied (support_after own.sender.features line.params)
 request_denied hub own prepared now line requests.Act = act_denied hub own now line.params
-request_denied hub own prepared now line requests.Search = search_denied hub own now
-request_denied hub own prepared now line requests.Message = None
+request_denied hub own prepared now line requests.Search = message_denied hub own now true
+request_denied hub own prepared now line requests.Message = message_denied hub own now false
 request_denied hub own prepared now line requests.Nothing = None
 
 -- why a line is denied, if it is

@@ -86,7 +86,7 @@ departure stage sid = tells_others [] (farewell stage sid) (Sender senders.Falls
 -- what a client hears that asked about the hub
 abbrev pub ping_of : Sight → ℕ → List (List ℕ) → List ℕ
 ping_of hub now features =
-    if has_feature ping features then ping_fields (totals_of hub.users) hub.setup.max_users (now - hub.setup.opening) else []
+    if has_feature ping features then ping_fields (totals_of hub.users) hub.setup.plain.max_users (now - hub.setup.plain.opening) else []
 
 abbrev pub greeting : Sight → ℕ → ℕ → List (List ℕ) → List (List ℕ)
 greeting hub now sid features = support_line ∷ identifier_line sid ∷ hub_line hub.setup hub.topic (ping_of hub now features) ∷ []

@@ -102,7 +102,7 @@ max_joins = 18_446_744_073_709_551_615
 
 -- a join is accepted where there is room, and joins can still be counted
 abbrev pub has_place : Configured → Facts → Bool
-has_place setup f = not (nat_le setup.max_users (length f.opened))
+has_place setup f = not (nat_le setup.plain.max_users (length f.opened))
 
 abbrev pub has_joins : Facts → Bool
 has_joins f = not (nat_le max_joins f.joins)

@@ -1,5 +1,6 @@
 -- The grounds on which a SUP, a login, a password or an update is denied, in the order in which they are looked at (ADC 1.0, "SUP", "INF", "PAS").
 use Rattle.std.specs.Prelude.{ℕ, ◌&&◌, ◌||◌, not, Bool, true, false, List, [], ◌∷◌, ◌++◌, chars, codes, Option, Some, None, is_some}
+use Rattle.std.specs.List.{find}
 use Rattle.std.specs.Option.{unwrap_or, option_map_or}
 use Rattle.std.specs.Str.{bytes_eq}
 use Rattle.adc_base32.specs.Spelled.{spelled_bytes}
@@ -15,7 +16,7 @@ use Rattle.login_state.specs.declared.deny.Severity.{Severity}
 use Rattle.login_state.specs.declared.deny.Severity.TheVariants.{Fatal, Recoverable}
 use Rattle.login_state.specs.declared.named_field.NamedField.{NamedField}
 use Rattle.login_state.specs.declared.named_field.NamedField.TheVariants as fields
-use Rattle.login_state.specs.NamedFields.{name_of}
+use Rattle.login_state.specs.NamedFields.{checked_fields, name_of}
 use Rattle.login_state.specs.Mentions.{base, tigr}
 use Rattle.login_state.specs.Support.{has_feature}
 use Rattle.operator_acts.specs.Bans.{left_of_bans}
@@ -47,9 +48,13 @@ is_empty (b ∷ more) = false
 abbrev pub differs : List ℕ → List ℕ → Bool
 differs value other = not (bytes_eq value other)
 
--- a field that is to be a number
-abbrev pub number_ground : Severity → NamedField → List Field → Bool × Deny
-number_ground severity field u = (is_bad_number (value_or_empty (name_of field) u), denials.BadField severity field)
+-- its value is none of its kind: a number
+abbrev pub is_bad : List Field → NamedField → Bool
+is_bad u field = is_bad_number (value_or_empty (name_of field) u)
+
+-- the first of the checked fields with such a value
+abbrev pub value_ground : Severity → List Field → Bool × Deny
+value_ground severity u = (is_some (find (is_bad u) checked_fields), denials.BadField severity (unwrap_or (find (is_bad u) checked_fields) fields.Id))
 
 -- an address that is neither left to the hub nor the one that it sees
 abbrev pub is_wrong_address : List ℕ → List ℕ → Bool
@@ -95,13 +100,12 @@ identifier_grounds u =
 abbrev pub entrant_grounds : Sight → Own → ℕ → Option (List ℕ) → List Field → Listed → List (Bool × Deny)
 entrant_grounds hub own now digest u user =
     (not (is_some digest), denials.BadField Fatal fields.PrivateId)
-    ∷ number_ground Fatal fields.ShareSize u
-    ∷ number_ground Fatal fields.SharedFiles u
+    ∷ value_ground Fatal u
     ∷ (not (is_digest user.cid digest), denials.BadPid)
     ∷ (not (is_nick (chars (nick_in u))), denials.BadNick Fatal)
     ∷ ban_ground (left_of_bans hub.bans user.cid now)
     ∷ (is_wrong_address own.sender.peer (value_or_empty address_name u), denials.Address Fatal own.sender.peer)
-    ∷ (hub.setup.registered_only && not (is_account hub user.key), denials.Registered)
+    ∷ (hub.setup.plain.registered_only && not (is_account hub user.key), denials.Registered)
     ∷ (is_here (has_key user.key) hub, denials.NickTaken Fatal)
     ∷ (is_here (has_cid user.cid) hub, denials.CidTaken)
     ∷ []
@@ -119,8 +123,7 @@ touches_account hub before afterwards = differs afterwards before && (is_account
 unfoldable pub update_grounds : Sight → Own → List Field → Listed → List (Bool × Deny)
 update_grounds hub own u user =
     (differs (unwrap_or (value_of id_name u) (value_or_empty id_name own.fields)) (value_or_empty id_name own.fields), denials.BadField Recoverable fields.Id)
-    ∷ number_ground Recoverable fields.ShareSize u
-    ∷ number_ground Recoverable fields.SharedFiles u
+    ∷ value_ground Recoverable u
     ∷ (is_bad_nick (value_of nick_name u), denials.BadNick Recoverable)
     ∷ (touches_account hub (key_in own.fields) user.key, denials.Access (codes "BINF"))
     ∷ (is_wrong_address own.sender.peer (value_or_empty address_name u), denials.Address Recoverable own.sender.peer)

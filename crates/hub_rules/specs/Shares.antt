@@ -12,13 +12,14 @@ use Rattle.hub_rules.specs.declared.effect.Effect.{Effect}
 use Rattle.hub_rules.specs.declared.effect.Hearers.{Hearers}
 use Rattle.hub_rules.specs.declared.effect.Hearers.TheVariants.{Others, Those}
 use Rattle.hub_rules.specs.declared.effect.HubChange.TheVariants as shared
-use Rattle.hub_rules.specs.declared.effect.SeatChange.{SeatChange}
-use Rattle.hub_rules.specs.declared.effect.SeatChange.TheVariants as seats
+use Rattle.hub_rules.specs.declared.sender.SeatChange.{SeatChange}
+use Rattle.hub_rules.specs.declared.sender.SeatChange.TheVariants as seats
 use Rattle.hub_rules.specs.declared.effect.SenderChange.{SenderChange}
 use Rattle.hub_rules.specs.declared.effect.SenderChange.TheVariants as senders
 use Rattle.hub_rules.specs.declared.sender.Sender.{Sender}
 use Rattle.hub_rules.specs.Effects.{is_present}
 use Rattle.hub_rules.specs.Identities.{su_in}
+use Rattle.hub_rules.specs.Senders.{is_removal, notes_by}
 
 -- what belongs to one connection
 pub record About : Type 0 where
@@ -69,13 +70,10 @@ abbrev pub hears_those : Bool → Hearers → About → Bool
 hears_those is_caller Others a = not is_caller
 hears_those is_caller (Those audience) a = holds audience a.sender.sid (su_in a.fields)
 
--- a connection hears what is said to users, where its own is present and one of those for whom it is said
-abbrev pub hears : Bool → Hearers → About → Bool
-hears is_caller hearers a = is_present a.stage && hears_those is_caller hearers a
-
--- what an effect owes a connection: what users hear, and then what the sender of the line alone hears
+-- what an effect owes a connection: what users hear, where its own is present and one of those for whom it is said, and then what the sender of the line
+-- alone hears
 abbrev pub owes : Bool → Effect → About → List (List ℕ)
-owes is_caller effect a = (if hears is_caller effect.hearers a then effect.others else []) ++ (if is_caller then effect.own else [])
+owes is_caller effect a = (if is_present a.stage && hears_those is_caller effect.hearers a then effect.others else []) ++ (if is_caller then effect.own else [])
 
 -- ---- what becomes of a connection
 
@@ -87,7 +85,7 @@ changed (senders.Waits entrant expected) a = record a { stage = stages.Verify; f
 changed senders.Enters a = record a { stage = stages.Normal; expected = [] }
 changed (senders.EntersAs entrant) a = record a { stage = stages.Normal; fields = entrant.user.fields }
 changed (senders.Updates revision) a = record a { fields = merged_with a.fields revision.update }
-changed (senders.Searches now) a = record a { sender = record a.sender { searched = Some now } }
+changed (senders.Searches now) a = record a { sender = record a.sender { notes = record a.sender.notes { searched = Some now } } }
 changed senders.Falls a = record a { stage = stages.Gone }
 
 abbrev pub changed_by_sender : Bool → Change → About → About
@@ -100,11 +98,12 @@ change_at (changes.Hub (shared.At sid change)) = Some (sid, change)
 change_at (changes.Hub (shared.Ban banned)) = Some (banned.sid, seats.Gone)
 change_at change = None
 
-abbrev pub seat_changed : SeatChange → About → About
-seat_changed seats.Gone a = record a { stage = stages.Gone }
+-- what an operator's change makes of it
+abbrev pub operated : SeatChange → About → About
+operated change a = record a { sender = record a.sender { notes = notes_by change a.sender.notes }; stage = if is_removal change then stages.Gone else a.stage }
 
 abbrev pub changed_by_operator : Option (ℕ × SeatChange) → About → About
-changed_by_operator (Some (sid, change)) a = if is_present a.stage && (a.sender.sid == sid) then seat_changed change a else a
+changed_by_operator (Some (sid, change)) a = if is_present a.stage && (a.sender.sid == sid) then operated change a else a
 changed_by_operator None a = a
 
 -- A connection after an effect: it changes where it sent the line, or is the one that an operator changes; and it is owed its share.

@@ -1,5 +1,6 @@
 ghost use Rattle.std.specs.Prelude.{◌≡◌, IfOk};
 
+use crate::sender::SeatChange;
 use adc_base32::Sid;
 use adc_ids::{Cid, Nick};
 use feature_route::{Audience, FeatureSet};
@@ -94,13 +95,6 @@ impl Topic {
     {
         self.text.as_str()
     }
-}
-
-/// A change of the connection of a user who is present, by an operator.
-#[derive(Clone, Copy)]
-pub enum SeatChange {
-    /// The removal of the user: the connection is shut out.
-    Gone,
 }
 
 /// A change of one user's connection or of what all connections share, by an operator.

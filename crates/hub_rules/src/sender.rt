@@ -1,9 +1,45 @@
 ghost use Rattle.std.specs.Prelude.{◌≡◌};
-ghost use Rattle.hub_rules.specs.Senders.{new_sender};
+ghost use Rattle.hub_rules.specs.Senders.{is_removal, notes_by, new_sender};
 
 use adc_base32::Sid;
 use login_state::Features;
 use std::alloc::Global;
+
+/// A change of the connection of a user who is present, by an operator.
+#[derive(Clone, Copy)]
+pub enum SeatChange {
+    /// The removal of the user: the connection is shut out.
+    Gone,
+}
+
+impl SeatChange {
+    /// Answers whether it shuts the connection out.
+    pub fn is_removal(self) -> bool
+        ensures { result ≡ is_removal self }
+    {
+        match self {
+            SeatChange::Gone => true,
+        }
+    }
+}
+
+/// What is noted of a connection, for decisions on its later lines.
+#[derive(Clone, Copy)]
+pub struct Notes {
+    /// The moment of its last search that went out, in seconds.
+    pub searched: Option<u64>,
+}
+
+impl Notes {
+    /// Notes the change of the connection that an operator asked for.
+    pub fn change(&mut self, change: SeatChange)
+        ensures { self.new ≡ notes_by change self.old }
+    {
+        match change {
+            SeatChange::Gone => {}
+        }
+    }
+}
 
 /// The plain fields of a connection: what is kept of it beside how far it has come. A decision reads them of the connection
 /// that sent the line.
@@ -17,8 +53,8 @@ pub struct Sender {
     pub challenge: [u8; 24],
     /// The features that its client supports.
     pub features: Features,
-    /// The moment of its last search that went out, in seconds.
-    pub searched: Option<u64>,
+    /// What was noted of its lines and by operators.
+    pub notes: Notes,
 }
 
 impl Sender {
@@ -31,7 +67,7 @@ impl Sender {
             peer,
             challenge,
             features: Features::new(alloc),
-            searched: None,
+            notes: Notes { searched: None },
         }
     }
 }

@@ -7,6 +7,7 @@ use Rattle.toml.specs.Data.{Data, Members, get_member}
 use Rattle.hub_rules.specs.Configured as hub
 use Rattle.hub_rules.specs.Configured.{Configured}
 use Rattle.hub_rules.specs.Configured.{most_users}
+use Rattle.hub_rules.specs.declared.plain_options.PlainOptions.{PlainOptions}
 use Rattle.hub_setup.specs.Settings.{hub_with}
 use Rattle.hub_settings.specs.declared.hash_name.HashName.{HashName}
 use Rattle.hub_settings.specs.declared.plain_keys.PlainKeys.{PlainKeys}
@@ -64,6 +65,14 @@ IsSpelled (Some text) None = (address : SocketAddrV4) → IsSocketV4Text text ad
 abbrev pub Listens : Members → Option SocketAddrV4 → Type 0
 Listens ms address = IsSpelled (address_for (kind_of (codes "listen")) (get_member (codes "listen") ms)) address
 
+-- the keys of the options that are neither texts nor lists, of a hub that opens at this moment
+unfoldable pub plain_options : ℕ → Members → Result PlainOptions (List ℕ)
+plain_options opening ms =
+    and_then (read truth_for (codes "registered_only") ms) (λ registered_only.
+    and_then (read number_for (codes "search_interval") ms) (λ search_interval.
+    and_then (read number_for (codes "max_users") ms) (λ max_users.
+    Ok (record { registered_only = registered_only; search_interval = search_interval; max_users = max_users; opening = opening }))))
+
 -- the keys that are no lists, of a hub that opens at this moment and of a server that listens at this address
 unfoldable pub plain_keys : ℕ → Option SocketAddrV4 → Members → Result ServerSettings (List ℕ)
 plain_keys opening address ms =
@@ -72,30 +81,19 @@ plain_keys opening address ms =
     and_then (ok_or address (codes "listen")) (λ listen.
     and_then (read hash_for (codes "hash") ms) (λ hash.
     and_then (read text_for (codes "tables") ms) (λ tables.
-    and_then (read truth_for (codes "registered_only") ms) (λ registered_only.
-    and_then (read number_for (codes "search_interval") ms) (λ search_interval.
-    and_then (read number_for (codes "max_users") ms) (λ max_users.
+    and_then (plain_options opening ms) (λ plain.
     and_then (read number_for (codes "threads") ms) (λ threads.
     and_then (read number_for (codes "stop_after") ms) (λ stop_after.
     and_then (read text_for (codes "seed_file") ms) (λ seed_file.
     Ok (record {
-      hub = record {
-        name = name;
-        topic = topic;
-        accounts = [];
-        menu = [];
-        registered_only = registered_only;
-        search_interval = search_interval;
-        max_users = max_users;
-        opening = opening;
-      };
+      hub = record { name = name; topic = topic; accounts = []; menu = []; plain = plain };
       listen = listen;
       hash = hash;
       tables = tables;
       threads = threads;
       stop_after = stop_after;
       seed_file = seed_file;
-    }))))))))))))
+    }))))))))))
 
 -- what is kept of these keys
 abbrev pub settings_of : PlainKeys → ServerSettings

@@ -1,15 +1,16 @@
-ghost use Rattle.std.specs.Prelude.{◌≡◌, map};
+ghost use Rattle.std.specs.Prelude.{◌≡◌, ◌≤◌, map, IfOk};
 ghost use Rattle.std.specs.Option.{option_map};
 ghost use Rattle.toml.specs.View.{table_view};
+ghost use Rattle.hub_rules.specs.Configured.{most_users};
 ghost use Rattle.hub_settings.specs.Answers.{Reads};
 ghost use Rattle.hub_settings.specs.Kinds.{key_seen, kind_among, kind_seen, names};
-ghost use Rattle.hub_settings.specs.Settings.{kind_of, known_keys, plain_keys, settings_of};
+ghost use Rattle.hub_settings.specs.Settings.{kind_of, known_keys, plain_keys, plain_options, settings_of};
 ghost use Rattle.hub_settings.specs.Unknown.{first_unknown, is_among};
 
 use crate::kinds::Kind;
 use crate::plain_keys::PlainKeys;
 use crate::values::{hash, number, some_text, text, truth};
-use hub_setup::{DEFAULT_USERS, MOST_USERS, Options};
+use hub_setup::{DEFAULT_USERS, MOST_USERS, Options, PlainOptions};
 use std::net::SocketAddrV4;
 use toml::Table;
 
@@ -45,19 +46,14 @@ pub(crate) fn plain_keys(
     let listen = listen.ok_or("listen")?;
     let hash = hash(table, "hash")?;
     let tables = text(table, "tables")?;
-    let registered_only = truth(table, "registered_only")?;
-    let search_interval = number(table, "search_interval")?;
-    let max_users = number(table, "max_users")?;
+    let plain = plain_options(table, opening)?;
     let threads = number(table, "threads")?;
     let stop_after = number(table, "stop_after")?;
     let seed_file = text(table, "seed_file")?;
     Ok(PlainKeys {
         options: Options {
             topic,
-            registered_only,
-            search_interval,
-            max_users,
-            opening,
+            plain,
             ..Options::named(name)
         },
         listen,
@@ -66,6 +62,24 @@ pub(crate) fn plain_keys(
         threads,
         stop_after,
         seed_file,
+    })
+}
+
+/// Reads the keys of the options that are neither texts nor lists, or gives the first whose value is not one that it may have.
+#[tactic(auto, unfolding(crate::specs::Settings::plain_options, crate::specs::Settings::kind_of))]
+fn plain_options(table: &Table, opening: u64) -> Result<PlainOptions, &'static str>
+    ensures some { IfOk result (λ plain. 1 ≤ plain.max_users) }
+    ensures few { IfOk result (λ plain. plain.max_users ≤ most_users) }
+    ensures exact { Reads (λ plain. plain) result (plain_options opening (table_view table.entry.now)) }
+{
+    let registered_only = truth(table, "registered_only")?;
+    let search_interval = number(table, "search_interval")?;
+    let max_users = number(table, "max_users")?;
+    Ok(PlainOptions {
+        registered_only,
+        search_interval,
+        max_users,
+        opening,
     })
 }
 

@@ -17,6 +17,6 @@ pub(crate) struct PlainKeys<'a> {
     pub(crate) stop_after: u32,
     pub(crate) seed_file: &'a str,
     ghost named: { 1 ≤ length options.name.now },
-    ghost some: { 1 ≤ options.max_users },
-    ghost few: { options.max_users ≤ most_users },
+    ghost some: { 1 ≤ options.plain.max_users },
+    ghost few: { options.plain.max_users ≤ most_users },
 }

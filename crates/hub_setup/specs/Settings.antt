@@ -5,13 +5,13 @@ use Rattle.std.specs.Str.{bytes_eq}
 use Rattle.adc_ids.specs.Nicks.{is_nick}
 use Rattle.hub_rules.specs.Configured as hub
 use Rattle.hub_rules.specs.Configured.{most_users, Configured}
+use Rattle.hub_rules.specs.declared.plain_options.PlainOptions.{PlainOptions}
 use Rattle.hub_rules.specs.Identities.{key_of}
 use Rattle.hub_setup.specs.declared.options.Account.{Account}
 use Rattle.hub_setup.specs.declared.options.MenuEntry.{MenuEntry}
 use Rattle.hub_setup.specs.declared.options.MenuItem.{MenuItem}
 use Rattle.hub_setup.specs.declared.options.MenuItem.TheVariants.{Text, Separator}
 use Rattle.hub_setup.specs.declared.options.Options.{Options}
-use Rattle.hub_setup.specs.declared.options.PlainOptions.{PlainOptions}
 use Rattle.hub_setup.specs.declared.refused.ListRefused.{ListRefused}
 use Rattle.hub_setup.specs.declared.refused.ListRefused.TheVariants as lists
 use Rattle.hub_setup.specs.declared.refused.SetupRefused.{SetupRefused}
@@ -84,34 +84,16 @@ menu_of entries =
 -- a list or a number is past what the hub takes
 abbrev pub is_past_limit : Options → Bool
 is_past_limit o =
-    nat_lt most_accounts (length o.accounts.now) || nat_lt most_commands (length o.commands.now) || o.max_users == 0
-    || nat_lt most_users o.max_users
-
--- the options that are neither texts nor lists
-abbrev pub plain_of : Options → PlainOptions
-plain_of o = record {
-  registered_only = o.registered_only;
-  search_interval = o.search_interval;
-  max_users = o.max_users;
-  opening = o.opening;
-}
+    nat_lt most_accounts (length o.accounts.now) || nat_lt most_commands (length o.commands.now) || o.plain.max_users == 0
+    || nat_lt most_users o.plain.max_users
 
 -- the hub of this name and topic, these registered users, this menu and these plain options
 abbrev pub hub_of : List ℕ → List ℕ → List hub.Account → List hub.MenuEntry → PlainOptions → Configured
-hub_of name topic accounts menu plain = record {
-  name = name;
-  topic = topic;
-  accounts = accounts;
-  menu = menu;
-  registered_only = plain.registered_only;
-  search_interval = plain.search_interval;
-  max_users = plain.max_users;
-  opening = plain.opening;
-}
+hub_of name topic accounts menu plain = record { name = name; topic = topic; accounts = accounts; menu = menu; plain = plain }
 
 -- the hub of these options with these registered users and this menu
 abbrev pub hub_with : Options → List hub.Account → List hub.MenuEntry → Configured
-hub_with o accounts menu = hub_of o.name.now o.topic.now accounts menu (plain_of o)
+hub_with o accounts menu = hub_of o.name.now o.topic.now accounts menu o.plain
 
 -- what follows from a list, or its refusal: this one where an entry is at fault
 abbrev pub or_refused : {X Y : Type 0} → SetupRefused → Result X ListRefused → (X → Result Y SetupRefused) → Result Y SetupRefused

@@ -12,11 +12,11 @@ mod texts;
 mod user_texts;
 
 pub use accounts::{Accounts, Registered};
+pub use hub_rules::PlainOptions;
 pub use inf::Inf;
 pub use menu::Menu;
 pub use options::{
     Account, DEFAULT_USERS, MOST_ACCOUNTS, MOST_COMMANDS, MOST_USERS, MenuEntry, MenuItem, Options,
-    PlainOptions,
 };
 pub use preparation::{Prepared, Says, prepare};
 pub use refused::{ListRefused, SetupRefused};

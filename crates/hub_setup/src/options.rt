@@ -1,6 +1,8 @@
 ghost use Rattle.std.specs.Prelude.{◌≡◌, ◌≢◌, [], Ok, length};
 ghost use Rattle.hub_rules.specs.Configured.{plain_hub};
-ghost use Rattle.hub_setup.specs.Settings.{configured_hub, hub_with, plain_of};
+ghost use Rattle.hub_setup.specs.Settings.{configured_hub, hub_with};
+
+use hub_rules::PlainOptions;
 
 /// The most registered users that a hub may have.
 pub const MOST_ACCOUNTS: usize = 32;
@@ -56,27 +58,8 @@ pub struct Options<'a> {
     pub accounts: &'a [Account<'a>],
     /// The entries for the clients' menus, at most 64.
     pub commands: &'a [MenuEntry<'a>],
-    /// Admission of registered users alone, where it is true.
-    pub registered_only: bool,
-    /// The number of seconds between two searches of one user, at least.
-    pub search_interval: u32,
-    /// The number of connections that are admitted at once, from 1 to 900.
-    pub max_users: u32,
-    /// The moment at which the hub opens, in seconds.
-    pub opening: u64,
-}
-
-/// The options of a hub that are neither texts nor lists.
-#[derive(Clone, Copy)]
-pub struct PlainOptions {
-    /// Admission of registered users alone, where it is true.
-    pub registered_only: bool,
-    /// The number of seconds between two searches of one user, at least.
-    pub search_interval: u32,
-    /// The number of connections that are admitted at once, from 1 to 900.
-    pub max_users: u32,
-    /// The moment at which the hub opens, in seconds.
-    pub opening: u64,
+    /// What is neither a text nor a list.
+    pub plain: PlainOptions,
 }
 
 impl<'a> Options<'a> {
@@ -94,22 +77,7 @@ impl<'a> Options<'a> {
             topic: "",
             accounts: &[],
             commands: &[],
-            registered_only: false,
-            search_interval: 0,
-            max_users: DEFAULT_USERS,
-            opening: 0,
-        }
-    }
-
-    /// Gives the options that are neither texts nor lists.
-    pub(crate) fn plain(&self) -> PlainOptions
-        ensures { result ≡ plain_of self.now }
-    {
-        PlainOptions {
-            registered_only: self.registered_only,
-            search_interval: self.search_interval,
-            max_users: self.max_users,
-            opening: self.opening,
+            plain: PlainOptions::for_users(DEFAULT_USERS),
         }
     }
 }

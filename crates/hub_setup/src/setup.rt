@@ -3,12 +3,13 @@ ghost use Rattle.std.specs.Option.{option_copied};
 ghost use Rattle.hub_rules.specs.Accounts.{account_with};
 ghost use Rattle.hub_rules.specs.Texts.{menu_line};
 ghost use Rattle.hub_rules.specs.Configured.{most_users};
-ghost use Rattle.hub_setup.specs.Settings.{configured_hub, hub_of, hub_with, is_past_limit, IsConfigured, IsNamedWithinLimits};
+ghost use Rattle.hub_setup.specs.Settings.{configured_hub, hub_with, is_past_limit, IsConfigured, IsNamedWithinLimits};
 
 use crate::accounts::{Accounts, Registered};
 use crate::menu::Menu;
-use crate::options::{MOST_ACCOUNTS, MOST_COMMANDS, MOST_USERS, Options, PlainOptions};
+use crate::options::{MOST_ACCOUNTS, MOST_COMMANDS, MOST_USERS, Options};
 use crate::refused::{ListRefused, SetupRefused};
+use hub_rules::PlainOptions;
 use outboxes::Batch;
 use std::alloc::{AllocError, Global};
 use std::marker::Model;
@@ -95,8 +96,8 @@ impl Setup {
         menu: Menu,
     ) -> Result<Setup, AllocError>
         requires named { length options.now.name.now ≢ 0 }
-        requires some { 1 ≤ options.now.max_users }
-        requires few { options.now.max_users ≤ most_users }
+        requires some { 1 ≤ options.now.plain.max_users }
+        requires few { options.now.plain.max_users ≤ most_users }
         ensures { IfOk result (λ setup. setup ≡ hub_with options.now accounts menu) }
     {
         Ok(Setup {
@@ -104,7 +105,7 @@ impl Setup {
             topic: String::from_str(alloc, options.topic)?,
             accounts,
             menu,
-            plain: options.plain(),
+            plain: options.plain,
         })
     }
 
@@ -124,37 +125,37 @@ impl Setup {
 
     /// Gives what is set beside texts and lists.
     pub fn plain(&self) -> PlainOptions
-        ensures { hub_of self.now.name self.now.topic self.now.accounts self.now.menu result ≡ self.now }
+        ensures { result ≡ self.now.plain }
     {
         self.plain
     }
 
     /// Answers whether only registered users are admitted.
     pub fn registered_only(&self) -> bool
-        ensures { result ≡ self.now.registered_only }
+        ensures { result ≡ self.now.plain.registered_only }
     {
         self.plain.registered_only
     }
 
     /// Gives how many seconds lie between two searches of one user, at least.
     pub fn search_interval(&self) -> u64
-        ensures { result ≡ self.now.search_interval }
+        ensures { result ≡ self.now.plain.search_interval }
     {
         u64::from(self.plain.search_interval)
     }
 
     /// Gives the moment at which the hub opens, in seconds.
     pub fn opening(&self) -> u64
-        ensures { result ≡ self.now.opening }
+        ensures { result ≡ self.now.plain.opening }
     {
         self.plain.opening
     }
 
     /// Gives how many connections are admitted at once, from 1 to 900.
     pub fn max_users(&self) -> u32
-        ensures exact { result ≡ self.now.max_users }
-        ensures some { 1 ≤ self.now.max_users }
-        ensures few { self.now.max_users ≤ most_users }
+        ensures exact { result ≡ self.now.plain.max_users }
+        ensures some { 1 ≤ self.now.plain.max_users }
+        ensures few { self.now.plain.max_users ≤ most_users }
     {
         self.plain.max_users
     }
@@ -180,6 +181,6 @@ fn is_past_limit(options: &Options<'_>) -> bool
 {
     options.accounts.len() > MOST_ACCOUNTS
         || options.commands.len() > MOST_COMMANDS
-        || options.max_users == 0
-        || options.max_users > MOST_USERS
+        || options.plain.max_users == 0
+        || options.plain.max_users > MOST_USERS
 }

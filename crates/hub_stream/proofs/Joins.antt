@@ -23,7 +23,7 @@ use Rattle.hub_stream.specs.Serving.{IsAlone, Starts, taken_in}
 has_room : (most : ℕ) → 1 ≤ most → nat_le most 0 ≡ false
 has_room most h = grind (arith, nat_tests)
 
-module _ (setup : Configured) (hash : List ℕ → List ℕ) (old new : CoreState) (empty : StandsAt setup hash [] old) (admits : 1 ≤ setup.max_users) (answer : Reply) (moves : Moves old join answer new) where
+module _ (setup : Configured) (hash : List ℕ → List ℕ) (old new : CoreState) (empty : StandsAt setup hash [] old) (admits : 1 ≤ setup.plain.max_users) (answer : Reply) (moves : Moves old join answer new) where
   abbrev asking : Entry
   asking = entry first join answer
 
@@ -32,7 +32,7 @@ module _ (setup : Configured) (hash : List ℕ → List ℕ) (old new : CoreStat
 
   answer_joined : answer ≡ Joined first
   unfolding Legal reply facts
-  answer_joined = stands_joined.legal.2 ∙ ap (λ b. join_reply (not b) true 0) (has_room setup.max_users admits)
+  answer_joined = stands_joined.legal.2 ∙ ap (λ b. join_reply (not b) true 0) (has_room setup.plain.max_users admits)
 
   -- the hub with the connection alone on it
   abbrev with_first : Facts
@@ -40,7 +40,7 @@ module _ (setup : Configured) (hash : List ℕ → List ℕ) (old new : CoreStat
 
   facts_joined : facts setup hash (asking ∷ []) ≡ with_first
   unfolding facts after
-  facts_joined = ap (λ b. cond (not b && true) with_first (start setup)) (has_room setup.max_users admits)
+  facts_joined = ap (λ b. cond (not b && true) with_first (start setup)) (has_room setup.plain.max_users admits)
 
   join_alone : IsAlone setup hash (asking ∷ []) new
   unfolding with_connection
@@ -76,7 +76,7 @@ module _ (setup : Configured) (hash : List ℕ → List ℕ) (old new : CoreStat
   not_spent : answer ≡ JoinsSpent → ⊥
   not_spent e = let same : JoinsSpent ≡ Joined first = sym e ∙ answer_joined in cc
 
-module _ (setup : Configured) (hash : List ℕ → List ℕ) (old new : CoreState) (empty : StandsAt setup hash [] old) (admits : 1 ≤ setup.max_users) where
+module _ (setup : Configured) (hash : List ℕ → List ℕ) (old new : CoreState) (empty : StandsAt setup hash [] old) (admits : 1 ≤ setup.plain.max_users) where
   pub join_not_full : JoinMoves (Err refusals.Full) old join new → ⊥
   join_not_full moves = not_full setup hash old new empty admits Full moves.0 refl
 

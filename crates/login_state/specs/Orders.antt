@@ -8,7 +8,7 @@ use Rattle.login_state.specs.declared.deny.Deny.{Deny}
 use Rattle.login_state.specs.declared.deny.Deny.TheVariants.{NoBase, NoHash}
 use Rattle.login_state.specs.declared.deny.Severity.TheVariants.{Recoverable, Fatal}
 use Rattle.login_state.specs.Mentions.{base, tigr}
-use Rattle.login_state.specs.Rules.{wrong_words, missing, bad_required, bad_field, foreign_pid, bad_nick_of_login, ban_denial, wrong_address, registration_denial, nick_taken, cid_taken, foreign_id, bad_nick, account_touched, too_many_fields, unless_supported, wrong_password}
+use Rattle.login_state.specs.Rules.{wrong_words, missing, bad_required, bad_value, foreign_pid, bad_nick_of_login, ban_denial, wrong_address, registration_denial, nick_taken, cid_taken, foreign_id, bad_nick, account_touched, too_many_fields, unless_supported, wrong_password}
 
 -- after a SUP, by the features that are left
 abbrev pub sup_rules : List (List ℕ) → List (Option Deny)
@@ -23,8 +23,7 @@ inf_rules ask =
     ∷ missing ask.nick fields.Nick
     ∷ bad_required ask.id fields.Id
     ∷ bad_required ask.pid fields.PrivateId
-    ∷ bad_field Fatal ask.share_size fields.ShareSize
-    ∷ bad_field Fatal ask.shared_files fields.SharedFiles
+    ∷ bad_value Fatal ask.values
     ∷ foreign_pid ask.identity
     ∷ bad_nick_of_login ask.nick
     ∷ ban_denial ask.entry.ban
@@ -39,8 +38,7 @@ abbrev pub update_rules : UpdateAsk → List (Option Deny)
 update_rules ask =
     wrong_words ask.words
     ∷ foreign_id ask.identity
-    ∷ bad_field Recoverable ask.share_size fields.ShareSize
-    ∷ bad_field Recoverable ask.shared_files fields.SharedFiles
+    ∷ bad_value Recoverable ask.values
     ∷ bad_nick ask.nick
     ∷ account_touched ask.account
     ∷ wrong_address Recoverable ask.address

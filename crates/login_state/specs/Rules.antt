@@ -1,5 +1,6 @@
 -- Each check by itself: what is denied for what was found (ADC 1.0, "INF", "PAS", "SUP").
-use Rattle.std.specs.Prelude.{ℕ, Bool, true, false, List, codes, Option, Some, None}
+use Rattle.std.specs.Prelude.{ℕ, Bool, true, false, List, [], ◌∷◌, codes, Option, Some, None}
+use Rattle.std.specs.Option.{option_map}
 use Rattle.std.specs.Str.{bytes_eq}
 use Rattle.login_state.specs.declared.named_field.NamedField.{NamedField}
 use Rattle.login_state.specs.declared.named_field.NamedField.TheVariants as fields
@@ -25,6 +26,7 @@ use Rattle.login_state.specs.declared.findings.Size.{Size}
 use Rattle.login_state.specs.declared.findings.Size.TheVariants.{Fits, TooMany}
 use Rattle.login_state.specs.declared.findings.Validity.{Validity}
 use Rattle.login_state.specs.declared.findings.Validity.TheVariants.{Bad, Good}
+use Rattle.login_state.specs.NamedFields.{checked_fields}
 use Rattle.login_state.specs.Support.{has_feature}
 
 abbrev pub wrong_words : Validity → Option Deny
@@ -41,10 +43,15 @@ bad_required required.Missing field = None
 bad_required required.Bad field = Some (denials.BadField Fatal field)
 bad_required required.Good field = None
 
--- a field that is to be a number
-abbrev pub bad_field : Severity → Validity → NamedField → Option Deny
-bad_field severity Bad field = Some (denials.BadField severity field)
-bad_field severity Good field = None
+-- the first of these fields whose value is not valid
+abbrev pub first_bad : List NamedField → List Validity → Option NamedField
+first_bad (field ∷ fields) (Bad ∷ values) = Some field
+first_bad (field ∷ fields) (Good ∷ values) = first_bad fields values
+first_bad (field ∷ fields) [] = None
+first_bad [] values = None
+
+abbrev pub bad_value : Severity → List Validity → Option Deny
+bad_value severity values = option_map (denials.BadField severity) (first_bad checked_fields values)
 
 -- the identifier of a login is not the hash of the private one
 abbrev pub foreign_pid : Identity → Option Deny

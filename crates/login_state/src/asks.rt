@@ -1,6 +1,7 @@
 use crate::findings::{
     Account, Address, Admission, Ban, Claim, Identity, Required, Size, Validity,
 };
+use crate::named_field::CHECKED;
 
 /// The findings of a login, one finding for each check (ADC 1.0, "INF").
 #[derive(Clone, Copy)]
@@ -13,11 +14,9 @@ pub struct InfAsk {
     pub pid: Required,
     /// NI, the nick. `Bad`: it is there, and no nick.
     pub nick: Required,
-    /// SS, the number of bytes shared: good where it is missing, empty, or 1 to 20 decimal digits with a value below 2 to the
-    /// 64th.
-    pub share_size: Validity,
-    /// SF, the number of files shared, likewise.
-    pub shared_files: Validity,
+    /// SS, the number of bytes shared, and SF, the number of files, as in [`CHECKED_FIELDS`](crate::CHECKED_FIELDS): good
+    /// where the field is missing, empty, or 1 to 20 decimal digits with a value below 2 to the 64th.
+    pub values: [Validity; CHECKED],
     /// The identifier is the hash of the private one, or not.
     pub identity: Identity,
     /// I4: right where it is missing, empty, `0.0.0.0` or the peer's.
@@ -35,10 +34,8 @@ pub struct UpdateAsk {
     pub words: Validity,
     /// ID: foreign where it is given, were it empty, and is not the user's own.
     pub identity: Identity,
-    /// SS, as in a login.
-    pub share_size: Validity,
-    /// SF, as in a login.
-    pub shared_files: Validity,
+    /// SS and SF, as in a login.
+    pub values: [Validity; CHECKED],
     /// NI: bad where it is given, and is empty or no nick.
     pub nick: Validity,
     /// The change of nick concerns an account, or not.

@@ -9,7 +9,7 @@ use crate::feature::Feature;
 use crate::features::Features;
 use crate::named_field::NamedField;
 use crate::rules::{
-    account_touched, bad_field, bad_nick, bad_nick_of_login, bad_required, ban_denial, cid_taken,
+    account_touched, bad_nick, bad_nick_of_login, bad_required, bad_value, ban_denial, cid_taken,
     foreign_id, foreign_pid, missing, nick_taken, registration_denial, too_many_fields,
     wrong_address, wrong_words,
 };
@@ -50,8 +50,7 @@ pub fn check_inf(ask: &InfAsk) -> Check
         missing(ask.nick, NamedField::Nick),
         bad_required(ask.id, NamedField::Id),
         bad_required(ask.pid, NamedField::PrivateId),
-        bad_field(Severity::Fatal, ask.share_size, NamedField::ShareSize),
-        bad_field(Severity::Fatal, ask.shared_files, NamedField::SharedFiles),
+        bad_value(Severity::Fatal, &ask.values),
         foreign_pid(ask.identity),
         bad_nick_of_login(ask.nick),
         ban_denial(ask.entry.ban),
@@ -72,12 +71,7 @@ pub fn check_update(ask: &UpdateAsk) -> Check
     first_denial(&[
         wrong_words(ask.words),
         foreign_id(ask.identity),
-        bad_field(Severity::Recoverable, ask.share_size, NamedField::ShareSize),
-        bad_field(
-            Severity::Recoverable,
-            ask.shared_files,
-            NamedField::SharedFiles,
-        ),
+        bad_value(Severity::Recoverable, &ask.values),
         bad_nick(ask.nick),
         account_touched(ask.account),
         wrong_address(Severity::Recoverable, ask.address),

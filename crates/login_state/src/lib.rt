@@ -20,6 +20,6 @@ pub use fault::SupFault;
 pub use feature::Feature;
 pub use features::Features;
 pub use findings::{Account, Address, Admission, Ban, Claim, Identity, Required, Size, Validity};
-pub use named_field::NamedField;
+pub use named_field::{CHECKED, CHECKED_FIELDS, NamedField};
 pub use request::Request;
 pub use stage::Stage;

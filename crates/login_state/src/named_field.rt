@@ -18,6 +18,12 @@ pub enum NamedField {
     SharedFiles,
 }
 
+/// How many fields are checked.
+pub const CHECKED: usize = 2;
+
+/// The fields whose values are checked at a login and at an update, in their order: each is missing, empty, or a number.
+pub const CHECKED_FIELDS: [NamedField; CHECKED] = [NamedField::ShareSize, NamedField::SharedFiles];
+
 impl NamedField {
     /// Gives its name.
     pub fn name(self) -> FieldName

@@ -1,11 +1,11 @@
 ghost use Rattle.std.specs.Prelude.{◌≡◌};
-ghost use Rattle.login_state.specs.Rules.{wrong_words, missing, bad_required, bad_field, foreign_pid, bad_nick_of_login, ban_denial, wrong_address, registration_denial, nick_taken, cid_taken, foreign_id, bad_nick, account_touched, too_many_fields};
+ghost use Rattle.login_state.specs.Rules.{wrong_words, missing, bad_required, bad_value, first_bad, foreign_pid, bad_nick_of_login, ban_denial, wrong_address, registration_denial, nick_taken, cid_taken, foreign_id, bad_nick, account_touched, too_many_fields};
 
 use crate::deny::{Deny, Severity};
 use crate::findings::{
     Account, Address, Admission, Ban, Claim, Identity, Required, Size, Validity,
 };
-use crate::named_field::NamedField;
+use crate::named_field::{CHECKED, CHECKED_FIELDS, NamedField};
 
 pub(crate) fn wrong_words(words: Validity) -> Option<Deny>
     ensures { result ≡ wrong_words words }
@@ -34,13 +34,26 @@ pub(crate) fn bad_required(found: Required, field: NamedField) -> Option<Deny>
     }
 }
 
-/// Denies a login or an update with a field that is to be a number and is none.
-pub(crate) fn bad_field(severity: Severity, found: Validity, field: NamedField) -> Option<Deny>
-    ensures { result ≡ bad_field severity found field }
+/// Denies a login or an update by the first of the checked fields whose value is not valid.
+pub(crate) fn bad_value(severity: Severity, found: &[Validity; CHECKED]) -> Option<Deny>
+    ensures { result ≡ bad_value severity found.now }
 {
-    match found {
-        Validity::Bad => Some(Deny::BadField(severity, field)),
-        Validity::Good => None,
+    match first_bad(&CHECKED_FIELDS, found) {
+        Some(field) => Some(Deny::BadField(severity, field)),
+        None => None,
+    }
+}
+
+fn first_bad(fields: &[NamedField], values: &[Validity]) -> Option<NamedField>
+    ensures { result ≡ first_bad fields.now values.now }
+{
+    match fields {
+        [field, fields @ ..] => match values {
+            [Validity::Bad, ..] => Some(*field),
+            [Validity::Good, values @ ..] => first_bad(fields, values),
+            [] => None,
+        },
+        [] => None,
     }
 }
 

@@ -14,12 +14,12 @@ use Rattle.operator_acts.specs.Gives.{Gives, fault_of}
 use Rattle.operator_acts.proofs.Cuts.{some-word}
 
 -- a nick that is read, and one that is none
-nick-there : (word nick : List ℕ) → nick ≡ chars word → is_nick nick ≡ true → nick_at word ≡ Some nick
+pub nick-there : (word nick : List ℕ) → nick ≡ chars word → is_nick nick ≡ true → nick_at word ≡ Some nick
 unfolding nick_at
 nick-there word nick is good =
     ap (λ n. cond (is_nick n) (Some n) None) (sym is) ∙ ap (λ b. cond b (Some nick) None) good
 
-nick-none : (word : List ℕ) → is_nick (chars word) ≡ false → nick_at word ≡ None
+pub nick-none : (word : List ℕ) → is_nick (chars word) ≡ false → nick_at word ≡ None
 unfolding nick_at
 nick-none word bad = ap (λ b. cond b (Some (chars word)) None) bad
 

@@ -60,6 +60,6 @@ act_of command arguments =
     else if bytes_eq command (codes "!topic") then Some (acts.Topic (rest_of arguments))
     else None
 
--- the act that a text asks for, where it has one of the four forms
+-- the act that a text asks for, where it has one of these forms
 unfoldable pub act_at : List ℕ → Option Act
 act_at text = act_of (slice_index_or (words text) 0 []) (drop 1 (words text))

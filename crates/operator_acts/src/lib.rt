@@ -1,5 +1,4 @@
-//! The acts that operators ask of a hub in a text: to kick, to ban and to unban users, and to set the topic; and the bans
-//! that are held.
+//! The acts that operators ask of a hub in a text, as `!kick NICK`; and the bans that are held.
 #![tactic(auto)]
 
 mod act;

@@ -8,7 +8,7 @@ mod record;
 use crate::histories::play::{Way, plays};
 use crate::histories::record::{is_same_history, write_history};
 use history_check::{Entry, Judgement, Reply, check_history, read_history};
-use hub_core::{Account, Options, Setup};
+use hub_core::{Account, Options, PlainOptions, Setup};
 use second_try::again;
 use session_hash::First24;
 use std::alloc::{AllocError, AllocGlobal, Global};
@@ -113,7 +113,7 @@ fn setup_for(alloc: Global, users: u32) -> Result<Arc<Setup>, AllocError> {
     }];
     let options = Options {
         accounts: &accounts,
-        max_users: users,
+        plain: PlainOptions::for_users(users),
         ..Options::named("Hub")
     };
     match Setup::new(alloc, &options) {

@@ -7,7 +7,7 @@ use Rattle.settings_report.specs.declared.summary.Summary.{Summary}
 
 abbrev pub Summarizes : ServerSettings → Summary → Type 0
 Summarizes settings summary =
-    (summary.listen ≡ settings.listen) × (summary.hash ≡ settings.hash) × (summary.descriptors ≡ settings.hub.max_users + 32)
+    (summary.listen ≡ settings.listen) × (summary.hash ≡ settings.hash) × (summary.descriptors ≡ settings.hub.plain.max_users + 32)
 
 -- the hash as the settings call it
 abbrev pub hash_word : HashName → List ℕ

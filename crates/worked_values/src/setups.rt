@@ -5,7 +5,8 @@ pub(crate) mod texts;
 use crate::rows::{say_bytes, twice, unknown};
 use bytes::Bytes;
 use hub_setup::{
-    Account, Accounts, ListRefused, Menu, MenuEntry, MenuItem, Options, Setup, SetupRefused,
+    Account, Accounts, ListRefused, Menu, MenuEntry, MenuItem, Options, PlainOptions, Setup,
+    SetupRefused,
 };
 use std::alloc::{AllocError, AllocGlobal};
 use std::io::Print;
@@ -14,7 +15,7 @@ use std::process::Abort;
 /// Gives the options of a hub of this name, with no accounts and no menu, for one connection.
 fn options<'a>(name: &'a str) -> Options<'a> {
     Options {
-        max_users: 1,
+        plain: PlainOptions::for_users(1),
         ..Options::named(name)
     }
 }

@@ -1,7 +1,9 @@
 use crate::hub::{Hub, shared_setup};
 use crate::refusal::holds;
 use crate::refused::halls::LOGINS;
-use hub_core::{Answer, Ask, Asked, Conn, Core, Options, Setup, Totals, Verdict, run_calls};
+use hub_core::{
+    Answer, Ask, Asked, Conn, Core, Options, PlainOptions, Setup, Totals, Verdict, run_calls,
+};
 use second_try::{again, tell};
 use std::alloc::Global;
 use std::io::Print;
@@ -10,7 +12,7 @@ use std::sync::Arc;
 
 fn options() -> Options<'static> {
     Options {
-        max_users: 3,
+        plain: PlainOptions::for_users(3),
         ..Options::named("Hub")
     }
 }

@@ -6,8 +6,8 @@ ghost use Rattle.session_hash.specs.First24.{first_24};
 
 use crate::hub::shared_setup;
 use hub_core::{
-    JoinRefused, LineRefused, Look, Options, Prepared, Setup, Stage, TakeRefused, Taken, Verdict,
-    prepare,
+    JoinRefused, LineRefused, Look, Options, PlainOptions, Prepared, Setup, Stage, TakeRefused,
+    Taken, Verdict, prepare,
 };
 use hub_shared::{Host, Hub, Pass, Visitor};
 use second_try::{again, once, tell};
@@ -36,7 +36,7 @@ pub(crate) struct Guest {
 /// Makes a hub's setup for so many users.
 pub(crate) fn setup_for(rt: &impl Abort, alloc: Global, max_users: u32) -> Arc<Setup> {
     let options = Options {
-        max_users,
+        plain: PlainOptions::for_users(max_users),
         ..Options::named("Hub")
     };
     shared_setup(rt, alloc, &options)

@@ -1,8 +1,8 @@
 use super::say_check;
 use crate::rows::{Part, number, pair, play, unknown};
 use login_state::{
-    Account, Address, Admission, Ban, Check, Claim, EntryAsk, Identity, InfAsk, Required, Size,
-    UpdateAsk, Validity, check_entry, check_inf, check_update,
+    Account, Address, Admission, Ban, CHECKED, Check, Claim, EntryAsk, Identity, InfAsk, Required,
+    Size, UpdateAsk, Validity, check_entry, check_inf, check_update,
 };
 use std::alloc::AllocGlobal;
 use std::io::Print;
@@ -29,8 +29,8 @@ impl Part for Login {
             "id" => self.ask.id = required_of(rt, text),
             "pid" => self.ask.pid = required_of(rt, text),
             "nick" => self.ask.nick = required_of(rt, text),
-            "share_size" => self.ask.share_size = Validity::Good,
-            "shared_files" => self.ask.shared_files = Validity::Good,
+            "share_size" => self.ask.values[0] = Validity::Good,
+            "shared_files" => self.ask.values[1] = Validity::Good,
             "identity" => self.ask.identity = Identity::Own,
             "address" => self.ask.address = Address::Right,
             "admission" => self.ask.admission = Admission::Admitted,
@@ -72,8 +72,7 @@ fn checks_a_login_in_order(rt: HostRuntime) {
         id: Required::Missing,
         pid: Required::Missing,
         nick: Required::Missing,
-        share_size: Validity::Bad,
-        shared_files: Validity::Bad,
+        values: [Validity::Bad; CHECKED],
         identity: Identity::Foreign,
         address: Address::Wrong([10, 0, 0, 1]),
         admission: Admission::RegisteredOnly,
@@ -123,8 +122,8 @@ impl Part for Renewal {
             "asks" => {}
             "words" => self.ask.words = Validity::Good,
             "identity" => self.ask.identity = Identity::Own,
-            "share_size" => self.ask.share_size = Validity::Good,
-            "shared_files" => self.ask.shared_files = Validity::Good,
+            "share_size" => self.ask.values[0] = Validity::Good,
+            "shared_files" => self.ask.values[1] = Validity::Good,
             "nick" => self.ask.nick = Validity::Good,
             "account" => self.ask.account = Account::Untouched,
             "address" => self.ask.address = Address::Right,
@@ -141,8 +140,7 @@ fn checks_an_update_in_order(rt: HostRuntime) {
     let ask = UpdateAsk {
         words: Validity::Bad,
         identity: Identity::Foreign,
-        share_size: Validity::Bad,
-        shared_files: Validity::Bad,
+        values: [Validity::Bad; CHECKED],
         nick: Validity::Bad,
         account: Account::Touched,
         address: Address::Wrong([10, 0, 0, 1]),

@@ -66,7 +66,7 @@ fn refusal_name(refused: SetupRefused) -> &'static str {
 
 fn max_users(rt: &(impl Abort + AllocGlobal + Print), max_users: u32, said: &mut Vec<u8>) {
     let options = Options {
-        max_users,
+        plain: PlainOptions::for_users(max_users),
         ..options("Hub")
     };
     say_refusal(rt, said, &options);
@@ -139,7 +139,7 @@ fn faults(rt: &(impl Abort + AllocGlobal + Print), text: &str, said: &mut Vec<u8
         } else {
             &[]
         },
-        max_users: if text.contains("limit") { 0 } else { 1 },
+        plain: PlainOptions::for_users(if text.contains("limit") { 0 } else { 1 }),
         ..options(name)
     };
     say_refusal(rt, said, &options);
@@ -166,10 +166,12 @@ fn of_two(rt: &(impl Abort + AllocGlobal + Print)) -> Setup {
     let options = Options {
         topic: "new one",
         accounts: &accounts,
-        registered_only: true,
-        search_interval: 7,
-        max_users: 512,
-        opening: 1_000,
+        plain: PlainOptions {
+            registered_only: true,
+            search_interval: 7,
+            opening: 1_000,
+            ..PlainOptions::for_users(512)
+        },
         ..options("Hub")
     };
     setup(rt, &options)

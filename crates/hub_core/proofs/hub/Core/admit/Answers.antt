@@ -20,7 +20,7 @@ pub returns-then-len-max_users : goal.returns-then-len-max_users
 returns-then-len-max_users c =
     let setups : arc_value c.self.inside.setup ≡ c.args.self.now.setup = ap (λ (s : CoreState). s.setup) c.self.view_is in
     let seats : c.self.inside.seats.items ≡ c.args.self.now.seats = ap (λ (s : CoreState). s.seats) c.self.view_is in
-    (full-moves _ _ _ _ (omega (arith, c.if-len-max_users.true, c.max_users.ensures.exact, ap (λ s. s.max_users) (c.deref.ensures ∙ setups), c.len.ensures, c.self.inside.seats.ok.0, ap length seats)), refl)
+    (full-moves _ _ _ _ (omega (arith, c.if-len-max_users.true, c.max_users.ensures.exact, ap (λ s. s.plain.max_users) (c.deref.ensures ∙ setups), c.len.ensures, c.self.inside.seats.ok.0, ap length seats)), refl)
 
 pub returns-then-self : goal.returns-then-self
 returns-then-self c =
@@ -28,7 +28,7 @@ returns-then-self c =
     let seats : c.self.inside.seats.items ≡ c.args.self.now.seats = ap (λ (s : CoreState). s.seats) c.self.view_is in
     let joins : c.self.inside.joins ≡ c.args.self.now.joins = ap (λ (s : CoreState). s.joins) c.self.view_is in (
       spent-moves _ _ _ _
-          (omega (arith, c.if-len-max_users.false, c.max_users.ensures.exact, ap (λ s. s.max_users) (c.deref.ensures ∙ setups), c.len.ensures, c.self.inside.seats.ok.0, ap length seats))
+          (omega (arith, c.if-len-max_users.false, c.max_users.ensures.exact, ap (λ s. s.plain.max_users) (c.deref.ensures ∙ setups), c.len.ensures, c.self.inside.seats.ok.0, ap length seats))
           (omega (arith, c.if-self.true, joins)),
       refl,
     )
@@ -39,7 +39,7 @@ returns c =
     let seats : c.self.inside.seats.items ≡ c.args.self.now.seats = ap (λ (s : CoreState). s.seats) c.self.view_is in
     let joins : c.self.inside.joins ≡ c.args.self.now.joins = ap (λ (s : CoreState). s.joins) c.self.view_is in
     join-moves _ _ _ _ _ c.next_free-sid.result _ (ap (λ n. n + 1) joins)
-    (omega (arith, c.if-len-max_users.false, c.max_users.ensures.exact, ap (λ s. s.max_users) (c.deref.ensures ∙ setups), c.len.ensures, c.self.inside.seats.ok.0, ap length seats))
+    (omega (arith, c.if-len-max_users.false, c.max_users.ensures.exact, ap (λ s. s.plain.max_users) (c.deref.ensures ∙ setups), c.len.ensures, c.self.inside.seats.ok.0, ap length seats))
     (omega (arith, c.if-self.false, c.self.ranges, joins))
     (c.next_free-sid.ensures.exact
     ∙ ap₂ next_free (ap (λ (s : CoreState). s.last) c.self.view_is) (c.deref-3.ensures.value ∙ c.in_ok-taken.ensures ∙ ap sids_in (c.deref-2.ensures.value ∙ seats)))

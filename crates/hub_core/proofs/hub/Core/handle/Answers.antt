@@ -26,5 +26,5 @@ returns-clause-handled c = record {
       c.index.ensures)
       ∙ ap (λ (s : CoreState). sid_in c.args.number s.seats) c.self.view_is)
       c.touched_by_line-touched.ensures;
-  few = subst (λ (s : CoreState). s.setup.max_users ≤ most_users) c.self.view_is c.self.invariant.0;
+  few = subst (λ (s : CoreState). s.setup.plain.max_users ≤ most_users) c.self.view_is c.self.invariant.0;
 }

@@ -17,7 +17,7 @@ returns c =
     let at = at-core c.args.self.now.seats c.args.connection c.connection.inside.number c.self.inside.seats.items c.deref.result.now c.place-place.result c.index.result.now
     c.deref.ensures.value (ap (λ (s : CoreState). s.seats) c.self.view_is) c.connection.view_is c.place-place.ensures c.index.ensures in
     record {
-      moves = quit-moves _ _ _ touched (subst (λ (s : CoreState). s.setup.max_users ≤ most_users) c.self.view_is c.self.invariant.0)
+      moves = quit-moves _ _ _ touched (subst (λ (s : CoreState). s.setup.plain.max_users ≤ most_users) c.self.view_is c.self.invariant.0)
           (c.note.ensures ∙ ap (noted touched) (c.leave.ensures ∙ ap (λ n. left_core n c.args.self.now) c.connection.view_is));
       touched = quit-touches c.args.self.now c.note.new.self c.args.connection
           (λ here sid. ap (λ (s : CoreState). names s.touched sid) c.note.ensures
