@@ -1,8 +1,8 @@
-mod fakes;
+pub(crate) mod fakes;
 
 use crate::checks::{are_same, are_so_many, begins, refused_twice};
 use crate::streams::fakes::{Input, Output};
-use crate::texts::{ENTERED, GREETING, LOGIN};
+use crate::texts::{ENTERED, GREETING, told};
 use hub_core::{MenuEntry, MenuItem, Options, Setup};
 use hub_stream::{Counting, Failures, RunFault, run_one};
 use second_try::again;
@@ -11,11 +11,12 @@ use std::alloc::{AllocGlobal, Global};
 use std::process::Abort;
 use std::sync::Arc;
 
-const GREET: &[u8] = b"HSUP ADBASE ADTIGR\n";
-
-/// The greeting, and what a line is answered that is none.
-const GREETING_AND_DENIAL: &[u8] =
-    b"ISUP ADBASE ADTIGR ADPING ADUCMD\nISID AAAB\nIINF CT32 NIHub VEadc-hub\\s1.0\nISTA 140 Protocol\\serror\n";
+/// Ana is greeted, and says what is no line.
+const DENIED: &str = r"
+ana is greeted AAAB
+ana says <x78>
+ana hears ISTA 140 Protocol\serror
+";
 
 /// What is counted where each call succeeded.
 const NONE: Failures = Failures {
@@ -153,13 +154,22 @@ fn padded(rt: &impl Abort, alloc: Global, front: &[u8], length: usize) -> Vec<u8
     bytes
 }
 
+/// Stops the test unless a run answers this input by just this, however it reads.
+fn is_answered<R: AllocGlobal + Abort>(rt: &R, input: &[u8], wanted: &[u8]) {
+    for most in [1, 2, 7, 4096] {
+        drop(ends(rt, Input::of(input, most), Ok(()), wanted));
+    }
+}
+
 #[test]
 fn answers_the_lines_that_it_reads(rt: HostRuntime) {
+    for text in [GREETING, ENTERED, "ana says\nana says\nana is greeted AAAB"] {
+        let ana = told(&rt, rt.alloc(), text, "ana");
+        is_answered(&rt, &ana.said, &ana.heard);
+        drop(ana);
+    }
     let denied: &[u8] = b"ISTA 140 Protocol\\serror\n";
-    let rows: [(&[u8], &[u8]); 8] = [
-        (GREET, GREETING),
-        (LOGIN, ENTERED),
-        (b"\n\nHSUP ADBASE ADTIGR\n", GREETING),
+    let rows: [(&[u8], &[u8]); 5] = [
         (b"x\n", denied),
         (b"x\nx", denied),
         (b"HSTA 000 x\n", b""),
@@ -167,9 +177,7 @@ fn answers_the_lines_that_it_reads(rt: HostRuntime) {
         (b"", b""),
     ];
     for (input, wanted) in rows {
-        for most in [1, 2, 7, 4096] {
-            drop(ends(&rt, Input::of(input, most), Ok(()), wanted));
-        }
+        is_answered(&rt, input, wanted);
     }
 }
 
@@ -189,6 +197,16 @@ fn ends_once_the_connection_is_shut_out(rt: HostRuntime) {
     drop(long);
 }
 
+/// Ana enters, and is owed too much.
+const OWED: &str = r"
+ana says HSUP ADBASE ADTIGR ADUCM0
+ana hears ISUP ADBASE ADTIGR ADPING ADUCMD
+ana hears ISID AAAB
+ana hears IINF CT32 NIHub VEadc-hub\s1.0
+ana says BINF AAAB ID<P0> PD<P0> NIana
+ana says BMSG AAAB hi
+";
+
 #[test]
 fn ends_once_the_connection_is_owed_too_much(rt: HostRuntime) {
     // A newcomer is owed its own line and 64 commands at once, of over 20,000 bytes each: over 1,048,576 bytes together.
@@ -202,38 +220,39 @@ fn ends_once_the_connection_is_owed_too_much(rt: HostRuntime) {
         item: MenuItem::Text(text),
     };
     let menu = [entry; 64];
-    let first = b"HSUP ADBASE ADTIGR ADUCM0\nBINF AAAB IDAAAAAAAAAAAAAAAAAAAAAAAAAAAAAAAAAAAAAAA \
-PDAAAAAAAAAAAAAAAAAAAAAAAAAAAAAAAAAAAAAAA NIana\nBMSG AAAB hi\n";
+    let ana = told(&rt, rt.alloc(), OWED, "ana");
     // All that comes behind the line that is owed too much is not read.
-    let ran = run_with(&rt, &menu, Input::of(first, 1), 4096, 0, GREETING);
+    let ran = run_with(&rt, &menu, Input::of(&ana.said, 1), 4096, 0, &ana.heard);
     answers(&rt, 0, &ran, Ok(()));
-    are_same(&rt, &ran.output.get_ref().got, GREETING);
+    are_same(&rt, &ran.output.get_ref().got, &ana.heard);
     are_same(&rt, ran.input.get_ref().rest, b"BMSG AAAB hi\n");
     drop(ran);
 }
 
 #[test]
 fn stops_at_a_line_that_is_too_long(rt: HostRuntime) {
+    let ana = told(&rt, rt.alloc(), GREETING, "ana");
     // A line of 65,536 bytes may come to an end yet, and one of 65,537 is too long.
-    let bytes = padded(&rt, rt.alloc(), GREET, 65_555);
-    drop(ends(&rt, Input::of(&bytes, 4096), Ok(()), GREETING));
+    let bytes = padded(&rt, rt.alloc(), &ana.said, 65_555);
+    drop(ends(&rt, Input::of(&bytes, 4096), Ok(()), &ana.heard));
     drop(bytes);
-    let bytes = padded(&rt, rt.alloc(), GREET, 65_556);
+    let bytes = padded(&rt, rt.alloc(), &ana.said, 65_556);
     let answer = Err(RunFault::TooLong);
-    drop(ends(&rt, Input::of(&bytes, 4096), answer, GREETING));
+    drop(ends(&rt, Input::of(&bytes, 4096), answer, &ana.heard));
     drop(bytes);
 }
 
 #[test]
 fn writes_on_as_the_writer_takes(rt: HostRuntime) {
-    let input = Input::of(GREET, 4096);
+    let ana = told(&rt, rt.alloc(), GREETING, "ana");
+    let input = Input::of(&ana.said, 4096);
     for most in [1, 2, 73] {
-        let ran = run_with(&rt, &[], input, most, 0, GREETING);
+        let ran = run_with(&rt, &[], input, most, 0, &ana.heard);
         answers(&rt, most, &ran, Ok(()));
-        wrote(&rt, most, &ran, GREETING);
+        wrote(&rt, most, &ran, &ana.heard);
         drop(ran);
     }
-    let ran = run_with(&rt, &[], input, 0, 0, GREETING);
+    let ran = run_with(&rt, &[], input, 0, 0, &ana.heard);
     answers(&rt, 0, &ran, Err(RunFault::Write));
     are_same(&rt, &ran.output.get_ref().got, b"");
     failed(&rt, 0, ran.output.failures(), ONE);
@@ -242,8 +261,9 @@ fn writes_on_as_the_writer_takes(rt: HostRuntime) {
 
 #[test]
 fn stops_at_a_write_that_fails(rt: HostRuntime) {
-    let input = Input::of(b"HSUP ADBASE ADTIGR\nx\n", 4096);
-    let whole = GREETING_AND_DENIAL;
+    let ana = told(&rt, rt.alloc(), DENIED, "ana");
+    let input = Input::of(&ana.said, 4096);
+    let whole = ana.heard.as_slice();
     let good = run_with(&rt, &[], input, 10, 0, whole);
     answers(&rt, 0, &good, Ok(()));
     are_same(&rt, &good.output.get_ref().got, whole);
@@ -262,9 +282,15 @@ fn stops_at_a_write_that_fails(rt: HostRuntime) {
 
 #[test]
 fn stops_at_a_read_that_fails(rt: HostRuntime) {
+    let ana = told(&rt, rt.alloc(), GREETING, "ana");
     // The 19 bytes of the line come in three reads.
-    for (bad, wanted) in [(1, b"".as_slice()), (2, b""), (3, b""), (4, GREETING)] {
-        let mut input = Input::of(GREET, 7);
+    for (bad, wanted) in [
+        (1, b"".as_slice()),
+        (2, b""),
+        (3, b""),
+        (4, ana.heard.as_slice()),
+    ] {
+        let mut input = Input::of(&ana.said, 7);
         input.bad = bad;
         let ran = ends(&rt, input, Err(RunFault::Read), wanted);
         failed(&rt, bad, ran.input.failures(), ONE);

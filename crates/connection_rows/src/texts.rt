@@ -1,13 +1,21 @@
 // What one says to a hub, and what it gets.
+use crate::checks::refused_twice;
+use second_try::{Transcript, transcript_of};
+use std::alloc::Global;
+use std::process::Abort;
 
-pub(crate) const GREETING: &[u8] =
-    b"ISUP ADBASE ADTIGR ADPING ADUCMD\nISID AAAB\nIINF CT32 NIHub VEadc-hub\\s1.0\n";
+pub(crate) const GREETING: &str = "ana is greeted AAAB\n";
 
-/// The identifiers of a client are 39 letters A each, which are 24 zero bytes.
-pub(crate) const LOGIN: &[u8] =
-    b"HSUP ADBASE ADTIGR\nBINF AAAB IDAAAAAAAAAAAAAAAAAAAAAAAAAAAAAAAAAAAAAAA \
-PDAAAAAAAAAAAAAAAAAAAAAAAAAAAAAAAAAAAAAAA NIana SS10 SF2 I40.0.0.0 SUTCP4,SEGA\n";
+pub(crate) const ENTERED: &str = "\
+ana is greeted AAAB
+ana says BINF AAAB ID<P0> PD<P0> NIana SS10 SF2 I40.0.0.0 SUTCP4,SEGA
+ana hears BINF AAAB ID<P0> NIana SS10 SF2 I4127.0.0.1 SUTCP4,SEGA
+";
 
-pub(crate) const ENTERED: &[u8] =
-    b"ISUP ADBASE ADTIGR ADPING ADUCMD\nISID AAAB\nIINF CT32 NIHub VEadc-hub\\s1.0\n\
-BINF AAAB IDAAAAAAAAAAAAAAAAAAAAAAAAAAAAAAAAAAAAAAA NIana SS10 SF2 I4127.0.0.1 SUTCP4,SEGA\n";
+/// Gives what one says and hears in a conversation.
+pub(crate) fn told(rt: &impl Abort, alloc: Global, text: &str, who: &str) -> Transcript {
+    match transcript_of(alloc, text, who) {
+        Some(transcript) => transcript,
+        None => refused_twice(rt),
+    }
+}

@@ -1,50 +1,9 @@
+use crate::streams::fakes::Output;
 use flushed_writes::{CountedRead, Counting, write_and_flush, write_and_flush_counted};
 use second_try::again;
-use std::alloc::{AllocError, AllocGlobal, Global};
-use std::io::{self, Read, Write};
+use std::alloc::AllocGlobal;
+use std::io::{self, Read};
 use std::process::Abort;
-
-/// A writer that takes at most `most` bytes a write, and fails at the call of number `bad`, from 1 on.
-#[derive(Drop)]
-struct Taker {
-    got: Vec<u8>,
-    most: usize,
-    bad: usize,
-    calls: usize,
-}
-
-impl Taker {
-    /// Makes a writer with room for all that these tests write, so that no write asks for memory.
-    fn new(alloc: Global, most: usize, bad: usize) -> Result<Taker, AllocError> {
-        Ok(Taker {
-            got: Vec::with_capacity(alloc, 16)?,
-            most,
-            bad,
-            calls: 0,
-        })
-    }
-
-    fn call(&mut self) -> io::Result<()> {
-        self.calls = self.calls.saturating_add(1);
-        if self.calls == self.bad {
-            return Err(io::ErrorKind::BrokenPipe.into());
-        }
-        Ok(())
-    }
-}
-
-impl Write for Taker {
-    fn write(&mut self, buf: &[u8]) -> io::Result<usize> {
-        self.call()?;
-        let count = self.most.min(buf.len());
-        self.got.extend_from_slice(&buf[..count])?;
-        Ok(count)
-    }
-
-    fn flush(&mut self) -> io::Result<()> {
-        self.call()
-    }
-}
 
 /// Gives what a write answered, of an error its kind.
 fn kinds(answer: io::Result<()>) -> Result<(), io::ErrorKind> {
@@ -64,15 +23,11 @@ fn writes<R: AllocGlobal + Abort>(
     got: &[u8],
     calls: usize,
 ) {
-    let mut taker = again!(rt; Taker::new(rt.alloc(), most, bad));
+    let mut taker = again!(rt; Output::new(rt.alloc(), most, bad));
     let answer = kinds(write_and_flush(&mut taker, bytes));
     assert!(rt; answer == wanted, "by {most}, bad {bad}: {answer:?}");
-    assert!(rt; taker.got.as_slice() == got, "by {most}, bad {bad}");
-    assert!(rt;
-        taker.calls == calls,
-        "by {most}, bad {bad}: {} calls",
-        taker.calls
-    );
+    let is_written = taker.got.as_slice() == got && taker.calls == calls;
+    assert!(rt; is_written, "by {most}, bad {bad}");
     drop(taker);
 }
 
@@ -99,16 +54,14 @@ fn counts<R: AllocGlobal + Abort>(
     got: &[u8],
     failed: u64,
 ) {
-    let mut taker = Counting::new(again!(rt; Taker::new(rt.alloc(), most, bad)));
+    let mut taker = Counting::new(again!(rt; Output::new(rt.alloc(), most, bad)));
     let answer = kinds(write_and_flush_counted(&mut taker, bytes));
     assert!(rt; answer == wanted, "by {most}, bad {bad}: {answer:?}");
-    assert!(rt;
-        taker.get_ref().got.as_slice() == got,
-        "by {most}, bad {bad}"
-    );
     let failures = taker.failures();
+    let is_counted = failures.count == failed && failures.is_last == (failed > 0);
+    let is_written = taker.get_ref().got.as_slice() == got;
     assert!(rt;
-        failures.count == failed && failures.is_last == (failed > 0),
+        is_counted && is_written,
         "by {most}, bad {bad}: {failures:?}"
     );
     drop(taker);

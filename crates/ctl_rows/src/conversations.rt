@@ -4,27 +4,36 @@ use hub_client::{
     Client, ClientFault, Entry, Identity, NickText, Request, User, act_line, chat_line, field_text,
     login_line, password_line,
 };
-use second_try::again;
+use second_try::{Machine, again, transcript_of};
 use session_hash::First24;
-use std::alloc::{AllocError, AllocGlobal, Global};
-use std::process::Abort;
+use std::alloc::{AllocError, Global};
 
-const HELLO: &str =
-    "ISUP ADBASE ADTIGR ADPING ADUCMD\nISID AAAC\nIINF CT32 NIHub VEadc-hub\\s1.0 DEBe\\skind\n";
+/// The client greets, is greeted, and sends its login.
+const HELLO: &str = r"
+op says HSUP ADBASE ADTIGR
+op hears ISUP ADBASE ADTIGR ADPING ADUCMD
+op hears ISID AAAC
+op hears IINF CT32 NIHub VEadc-hub\s1.0 DEBe\skind
+op says BINF AAAC ID<P0> PD<P0> NIop SS0 SF0 VEadc-hubctl\s1.0
+";
 
-const ASKED: &str = "IGPA AAAAAAAAAAAAAAAAAAAAAAAAAAAAAAAAAAAAAAA\n";
+/// It answers a challenge of zeros, by the password `secret` and the hash of tests.
+const ASKED: &str = r"
+op hears IGPA <39*A>
+op says HPAS <secret>
+";
 
-const LIST: &str =
-    "BINF AAAB IDMFXGCAAAAAAAAAAAAAAAAAAAAAAAAAAAAAAAAAA NIana SS10 SF2 DEa\\sb I4127.0.0.1\n";
+const LIST: &str = r"
+op hears BINF AAAB IDMFXGC<34*A> NIana SS10 SF2 DEa\sb I4127.0.0.1
+";
 
-const OWN: &str = "BINF AAAC IDAAAAAAAAAAAAAAAAAAAAAAAAAAAAAAAAAAAAAAA NIop SS0 SF0 CT4\n";
+const OWN: &str = r"
+op hears BINF AAAC ID<P0> NIop SS0 SF0 CT4
+";
 
-/// The client's lines up to its login.
-const LOGIN: &str =
-    "HSUP ADBASE ADTIGR\nBINF AAAC IDAAAAAAAAAAAAAAAAAAAAAAAAAAAAAAAAAAAAAAA PDAAAAAAAAAAAAAAAAAAAAAAAAAAAAAAAAAAAAAAA NIop SS0 SF0 VEadc-hubctl\\s1.0\n";
-
-/// The answer to the challenge of zeros, by the password `secret` and the hash of tests.
-const ANSWER: &str = "HPAS ONSWG4TFOQAAAAAAAAAAAAAAAAAAAAAAAAAAAAA\n";
+const KICK: &str = r"
+op says HMSG !kick\sana\sbe\skind
+";
 
 /// A deed of an operator.
 #[derive(Clone, Copy)]
@@ -113,223 +122,153 @@ fn outcome_text(alloc: Global, memory: &mut Memory<'_>, deed: Deed) -> Result<St
     }
 }
 
-/// Gives the client's lines and the outcome, where the hub says these parts.
+/// Gives what the client says and the outcome, where the hub says this.
 fn converse(
     alloc: Global,
-    parts: &[&str],
+    heard: &[u8],
     rest: Rest,
     deed: Deed,
-) -> Result<(String, String), ClientFault> {
-    let mut lines = String::new(alloc);
-    for part in parts {
-        lines.push_str(part)?;
-    }
-    let mut memory = Memory::new(alloc, &lines, rest)?;
+) -> Result<(Vec<u8>, String), ClientFault> {
+    let mut memory = Memory::new(alloc, heard, rest)?;
     let told = outcome_text(alloc, &mut memory, deed)?;
-    let Ok(said) = str::from_utf8(&memory.said) else {
-        return Err(ClientFault::NotAdc);
-    };
-    Ok((String::from_str(alloc, said)?, told))
+    Ok((memory.said, told))
 }
 
-/// Compares what the client says, in parts, and what became of it.
-fn plays(
-    rt: &(impl Abort + AllocGlobal),
-    parts: &[&str],
-    rest: Rest,
-    deed: Deed,
-    says: &[&str],
-    wanted: &str,
-) {
-    let (said, told) = again!(rt; converse(rt.alloc(), parts, rest, deed));
-    assert_eq!(rt; told.as_str(), wanted);
-    let mut left = said.as_str();
-    for part in says {
-        let Some(more) = left.strip_prefix(*part) else {
-            panic!(rt; "said {left:?} and not {part:?}");
-        };
-        left = more;
+/// Compares what the client says in a conversation, which is told in parts, and what becomes of it.
+fn plays(rt: &impl Machine, parts: &[&str], rest: Rest, deed: Deed, wanted: &str) {
+    let (mut said, mut heard) = (Vec::new(rt.alloc()), Vec::new(rt.alloc()));
+    for part in parts {
+        let part = transcript_of(rt.alloc(), part, "op").expect(rt, part);
+        again!(rt; second_try::append(&mut said, &part.said));
+        again!(rt; second_try::append(&mut heard, &part.heard));
     }
-    assert_eq!(rt; left, "");
+    let (got, told) = again!(rt; converse(rt.alloc(), &heard, rest, deed));
+    assert_eq!(rt; told.as_str(), wanted);
+    assert!(rt; got == said, "said {got:?} and not {said:?}");
+}
+
+/// Plays a conversation whose last part stands in the test.
+macro_rules! talk {
+    ($rt:ident, $deed:ident, $rest:ident, [$($part:expr),+], $wanted:expr) => {
+        plays(&$rt, &[$($part),+], Rest::$rest, Deed::$deed, $wanted)
+    };
 }
 
 #[test]
 fn operators_act(rt: HostRuntime) {
-    let kick = "HMSG !kick\\sana\\sbe\\skind\n";
-    let quit = "IQUI AAAB IDAAAC MSbe\\skind\n";
-    plays(
-        &rt,
-        &[HELLO, ASKED, LIST, OWN, quit, "\nISTA 000 Done\n"],
-        Rest::Waits,
-        Deed::Kick,
-        &[LOGIN, ANSWER, kick],
-        "Done ana MFXGCAAAAAAAAAAAAAAAAAAAAAAAAAAAAAAAAAA",
-    );
-    plays(
-        &rt,
-        &[
-            HELLO,
-            ASKED,
-            OWN,
-            "BMSG AAAB hi\nISTA 100 No\\ssuch\\suser\n",
-        ],
-        Rest::Waits,
-        Deed::Kick,
-        &[LOGIN, ANSWER, kick],
-        "Other: No such user",
-    );
-    plays(
-        &rt,
-        &[HELLO, OWN, "ISTA 125 Access\\sdenied FCHMSG\n"],
-        Rest::Waits,
-        Deed::Kick,
-        &[LOGIN, kick],
-        "Other: Access denied (HMSG)",
-    );
-    plays(
-        &rt,
-        &[HELLO, LIST, OWN],
-        Rest::Waits,
-        Deed::List,
-        &[LOGIN],
-        "ana|user|MFXGCAAAAAAAAAAAAAAAAAAAAAAAAAAAAAAAAAA|127.0.0.1|10|a b|",
-    );
-    let chat = "BMSG AAAC hi\\sall\n";
-    plays(
-        &rt,
-        &[HELLO, LIST, OWN, "BMSG AAAB hi\\sall\n", chat],
-        Rest::Waits,
-        Deed::Say,
-        &[LOGIN, chat],
-        "said",
-    );
+    talk! { rt, Kick, Waits, [HELLO, ASKED, LIST, OWN, KICK, r"
+        op hears IQUI AAAB IDAAAC MSbe\skind
+        op hears
+        op hears ISTA 000 Done
+    "], "Done ana MFXGCAAAAAAAAAAAAAAAAAAAAAAAAAAAAAAAAAA" }
+    talk! { rt, Kick, Waits, [HELLO, ASKED, OWN, KICK, r"
+        op hears BMSG AAAB hi
+        op hears ISTA 100 No\ssuch\suser
+    "], "Other: No such user" }
+    talk! { rt, Kick, Waits, [HELLO, OWN, KICK, r"
+        op hears ISTA 125 Access\sdenied FCHMSG
+    "], "Other: Access denied (HMSG)" }
+    talk! { rt, List, Waits, [HELLO, LIST, OWN],
+        "ana|user|MFXGCAAAAAAAAAAAAAAAAAAAAAAAAAAAAAAAAAA|127.0.0.1|10|a b|" }
+    talk! { rt, Say, Waits, [HELLO, LIST, OWN, r"
+        op hears BMSG AAAB hi\sall
+        op says BMSG AAAC hi\sall
+        op hears BMSG AAAC hi\sall
+    "], "said" }
 }
 
 #[test]
 fn others_answer_otherwise(rt: HostRuntime) {
-    let kick = "HMSG !kick\\sana\\sbe\\skind\n";
     // Whom others sent away, who left by itself, and a session identifier that begins like a field's name.
-    plays(
-        &rt,
-        &[
-            HELLO,
-            LIST,
-            "BINF IDAA IDGEZDGAAAAAAAAAAAAAAAAAAAAAAAAAAAAAAAAAA NIold CT5\n",
-            OWN,
-            "IQUI AAAB IDAAAD TL5\nIQUI AAAB\nBINF IDAA NInew\nIQUI IDAA IDAAAC TL5 MSa\nISTA 000 Done\n",
-        ],
-        Rest::Waits,
-        Deed::Kick,
-        &[LOGIN, kick],
-        "Done new GEZDGAAAAAAAAAAAAAAAAAAAAAAAAAAAAAAAAAA",
-    );
-    plays(
-        &rt,
-        &[HELLO, OWN, "IMSG no\\ssuch\\scommand\n"],
-        Rest::Waits,
-        Deed::Kick,
-        &[LOGIN, kick],
-        "this hub does not answer operators' commands; it may be another kind",
-    );
-    plays(
-        &rt,
-        &[HELLO, "ISTA 140 TLS\\srequired\n"],
-        Rest::Waits,
-        Deed::Kick,
-        &[LOGIN],
-        "Other: TLS required",
-    );
+    talk! { rt, Kick, Waits, [HELLO, LIST, r"
+        op hears BINF IDAA IDGEZDG<34*A> NIold CT5
+    ", OWN, KICK, r"
+        op hears IQUI AAAB IDAAAD TL5
+        op hears IQUI AAAB
+        op hears BINF IDAA NInew
+        op hears IQUI IDAA IDAAAC TL5 MSa
+        op hears ISTA 000 Done
+    "], "Done new GEZDGAAAAAAAAAAAAAAAAAAAAAAAAAAAAAAAAAA" }
+    talk! { rt, Kick, Waits, [HELLO, OWN, KICK, r"
+        op hears IMSG no\ssuch\scommand
+    "], "this hub does not answer operators' commands; it may be another kind" }
+    talk! { rt, Kick, Waits, [HELLO, r"
+        op hears ISTA 140 TLS\srequired
+    "], "Other: TLS required" }
 }
 
 #[test]
 fn logins_are_refused(rt: HostRuntime) {
     for (status, wanted) in [
-        ("ISTA 231 Banned\n", "Banned: Banned"),
-        ("ISTA 232 Banned TL59\n", "Banned: Banned for 59 seconds"),
-        ("ISTA 222 Nick\\staken\n", "Other: Nick taken"),
+        (r"op hears ISTA 231 Banned", "Banned: Banned"),
         (
-            "ISTA 243 INF\\sfield\\sbad FBSS\n",
+            r"op hears ISTA 232 Banned TL59",
+            "Banned: Banned for 59 seconds",
+        ),
+        (r"op hears ISTA 222 Nick\staken", "Other: Nick taken"),
+        (
+            r"op hears ISTA 243 INF\sfield\sbad FBSS",
             "Other: INF field bad (SS)",
         ),
     ] {
-        plays(
-            &rt,
-            &[HELLO, status],
-            Rest::Waits,
-            Deed::Kick,
-            &[LOGIN],
-            wanted,
-        );
+        plays(&rt, &[HELLO, status], Rest::Waits, Deed::Kick, wanted);
     }
-    let wrong = "ISTA 223 Invalid\\spassword\n";
-    plays(
-        &rt,
-        &[HELLO, ASKED, wrong],
-        Rest::Closes,
-        Deed::Kick,
-        &[LOGIN, ANSWER],
-        "Password: Invalid password",
-    );
-    plays(
-        &rt,
-        &["ISTA 211 Hub\\sfull\n"],
-        Rest::Closes,
-        Deed::Kick,
-        &["HSUP ADBASE ADTIGR\n"],
-        "Other: Hub full",
-    );
+    talk! { rt, Kick, Closes, [HELLO, ASKED, r"
+        op hears ISTA 223 Invalid\spassword
+    "], "Password: Invalid password" }
+    talk! { rt, Kick, Closes, [r"
+        op says HSUP ADBASE ADTIGR
+        op hears ISTA 211 Hub\sfull
+    "], "Other: Hub full" }
 }
 
 #[test]
 fn connections_fail(rt: HostRuntime) {
-    let hello = "HSUP ADBASE ADTIGR\n";
-    plays(
-        &rt,
-        &["HTTP/1.1 400 Bad Request\n"],
-        Rest::Closes,
-        Deed::Kick,
-        &[hello],
-        "this is no ADC hub",
-    );
+    talk! { rt, Kick, Closes, ["
+        op says HSUP ADBASE ADTIGR
+        op hears HTTP/1.1 400 Bad Request
+    "], "this is no ADC hub" }
     for (rest, wanted) in [
         (Rest::Closes, "the hub closed the connection"),
         (Rest::Waits, "the hub did not answer in time"),
         (Rest::Fails, "the connection failed"),
     ] {
-        plays(
-            &rt,
-            &["ISUP ADBASE\nISID AA"],
-            rest,
-            Deed::Say,
-            &[hello],
-            wanted,
-        );
-        plays(&rt, &[HELLO, LIST], rest, Deed::Say, &[LOGIN], wanted);
+        plays(&rt, &[BROKEN], rest, Deed::Say, wanted);
+        plays(&rt, &[HELLO, LIST], rest, Deed::Say, wanted);
     }
 }
 
-/// Gives a pinger's lines, and then the answers to them.
-fn ping_transcript(alloc: Global) -> Result<String, ClientFault> {
-    let hub = "ISUP ADBASE\nISID AAAB\nIINF CT32 NIThe\\sHub UC3 SS36893488147419103230\n";
-    let mut memory = Memory::new(alloc, hub, Rest::Waits)?;
+/// A line of the hub that does not end.
+const BROKEN: &str = "
+op says HSUP ADBASE ADTIGR
+op hears ISUP ADBASE
+op hears a part ISID AA
+";
+
+/// A hub that tells a pinger of itself.
+const PINGED: &str = r"
+op says HSUP ADBASE ADTIGR ADPING
+op hears ISUP ADBASE
+op hears ISID AAAB
+op hears IINF CT32 NIThe\sHub UC3 SS36893488147419103230
+";
+
+/// Gives what a pinger says, and what it is told.
+fn ping(alloc: Global, heard: &[u8]) -> Result<(Vec<u8>, String), ClientFault> {
+    let mut memory = Memory::new(alloc, heard, Rest::Waits)?;
     let facts = Client::new(alloc, &mut memory).hello(true)?.hub;
     let mut text = String::new(alloc);
     for name in ["NI", "UC", "SS", "DE"] {
         text.push_str(&field_text(alloc, &facts, name)?)?;
         text.push_str("|")?;
     }
-    let Ok(said) = str::from_utf8(&memory.said) else {
-        return Err(ClientFault::NotAdc);
-    };
-    text.push_str(said)?;
-    Ok(text)
+    Ok((memory.said, text))
 }
 
 #[test]
 fn pingers_are_told(rt: HostRuntime) {
-    let text = again!(&rt; ping_transcript(rt.alloc()));
-    assert_eq!(rt;
-        text.as_str(),
-        "The Hub|3|36893488147419103230||HSUP ADBASE ADTIGR ADPING\n"
-    );
+    let hub = transcript_of(rt.alloc(), PINGED, "op").expect(&rt, PINGED);
+    let (said, text) = again!(&rt; ping(rt.alloc(), &hub.heard));
+    assert_eq!(rt; text.as_str(), "The Hub|3|36893488147419103230||");
+    assert!(rt; said == hub.said, "said {said:?}");
 }

@@ -21,10 +21,14 @@ pub(crate) struct Memory<'a> {
 }
 
 impl<'a> Memory<'a> {
-    /// One on which the hub says these lines.
-    pub(crate) fn new(alloc: Global, lines: &'a str, rest: Rest) -> Result<Memory<'a>, AllocError> {
+    /// One on which the hub says this.
+    pub(crate) fn new(
+        alloc: Global,
+        heard: &'a [u8],
+        rest: Rest,
+    ) -> Result<Memory<'a>, AllocError> {
         Ok(Memory {
-            left: lines.as_bytes(),
+            left: heard,
             rest,
             said: Vec::with_capacity(alloc, 1024)?,
         })

@@ -1,8 +1,7 @@
 use hub_settings::KEYS;
-use second_try::again;
+use second_try::{Machine, again};
 use settings_report::{Report, Summary, Warning, report_file};
-use std::alloc::{AllocError, AllocGlobal, Global};
-use std::process::Abort;
+use std::alloc::{AllocError, Global};
 
 /// Reports on settings, in which `;` stands for the end of a line.
 pub(crate) fn report_on(alloc: Global, text: &str) -> Result<String, AllocError> {
@@ -37,14 +36,33 @@ fn said_of_well(
     Ok(said)
 }
 
-/// Compares what is said of each text with what is wanted, at whose end `KEYS` stands for the names of all keys.
-pub(crate) fn play(rt: &(impl Abort + AllocGlobal), rows: &[(&str, &str)]) {
-    for (text, wanted) in rows {
-        let got = again!(rt; report_on(rt.alloc(), text));
-        let wanted = again!(rt; with_keys(rt.alloc(), wanted));
-        assert_eq!(rt; got.as_str(), wanted.as_str(), "{text}");
+/// Compares what is said of the settings of each row, `SETTINGS -> WHAT IS SAID`, at whose end `KEYS` stands for the names of all keys.
+pub(crate) fn play(rt: &impl Machine, rows: &str) {
+    for row in rows.lines() {
+        let row = row.trim();
+        if !row.is_empty() {
+            play_row(rt, row);
+        }
     }
 }
+
+fn play_row(rt: &impl Machine, row: &str) {
+    let Some((text, wanted)) = row.split_once("-> ") else {
+        panic!(rt; "{row}: no row")
+    };
+    let got = again!(rt; report_on(rt.alloc(), text.trim_end()));
+    let wanted = again!(rt; with_keys(rt.alloc(), wanted));
+    assert_eq!(rt; got.as_str(), wanted.as_str(), "{text}");
+}
+
+/// Plays rows that stand in a test.
+macro_rules! settings {
+    ($rt:ident, $rows:expr) => {
+        crate::wrong_settings::play(&$rt, $rows)
+    };
+}
+
+pub(crate) use settings;
 
 fn with_keys(alloc: Global, wanted: &str) -> Result<String, AllocError> {
     let Some(start) = wanted.strip_suffix("KEYS") else {
@@ -62,20 +80,11 @@ fn with_keys(alloc: Global, wanted: &str) -> Result<String, AllocError> {
 
 #[test]
 fn nothing_is_wrong(rt: HostRuntime) {
-    play(
-        &rt,
-        &[
-            ("", "127.0.0.1:4111 tiger 0 0 544"),
-            (
-                "hash = \"first24\";listen = \"0.0.0.0:511\";max_users = 900",
-                "0.0.0.0:511 first24 0 0 932",
-            ),
-            (
-                "[[account]];nick = \"op\";password = \"p\";operator = true;[[command]];name = \"Topic\";context = 3;text = \"HMSG !topic\\n\"",
-                "127.0.0.1:4111 tiger 1 1 544",
-            ),
-        ],
-    );
+    settings! { rt, r#"
+        -> 127.0.0.1:4111 tiger 0 0 544
+        hash = "first24";listen = "0.0.0.0:511";max_users = 900 -> 0.0.0.0:511 first24 0 0 932
+        [[account]];nick = "op";password = "p";operator = true;[[command]];name = "Topic";context = 3;text = "HMSG !topic\n" -> 127.0.0.1:4111 tiger 1 1 544
+    "# }
 }
 
 #[test]
@@ -126,149 +135,56 @@ fn warned(alloc: Global, flaws: [bool; 3]) -> Result<String, AllocError> {
 
 #[test]
 fn texts_are_wrong(rt: HostRuntime) {
-    play(
-        &rt,
-        &[
-            (
-                "name = \"\"",
-                "1:1: name: found \"\"; allowed: a text that is not empty",
-            ),
-            (
-                "name = 7",
-                "1:1: name: found 7; allowed: a text that is not empty",
-            ),
-            ("topic = true", "1:1: topic: found true; allowed: a text"),
-            (
-                ";  listen = \"localhost:4111\"",
-                "2:3: listen: found \"localhost:4111\"; allowed: an IPv4 address and a port, as 127.0.0.1:4111",
-            ),
-            (
-                "listen = \"127.0.0.1\"",
-                "1:1: listen: found \"127.0.0.1\"; allowed: an IPv4 address and a port, as 127.0.0.1:4111",
-            ),
-            (
-                "hash = \"md5\"",
-                "1:1: hash: found \"md5\"; allowed: tiger or first24",
-            ),
-            ("tables = 8192", "1:1: tables: found 8192; allowed: a text"),
-            (
-                "seed_file = []",
-                "1:1: seed_file: found a list; allowed: a text",
-            ),
-        ],
-    );
+    settings! { rt, r#"
+        name = "" -> 1:1: name: found ""; allowed: a text that is not empty
+        name = 7 -> 1:1: name: found 7; allowed: a text that is not empty
+        topic = true -> 1:1: topic: found true; allowed: a text
+        ;  listen = "localhost:4111" -> 2:3: listen: found "localhost:4111"; allowed: an IPv4 address and a port, as 127.0.0.1:4111
+        listen = "127.0.0.1" -> 1:1: listen: found "127.0.0.1"; allowed: an IPv4 address and a port, as 127.0.0.1:4111
+        hash = "md5" -> 1:1: hash: found "md5"; allowed: tiger or first24
+        tables = 8192 -> 1:1: tables: found 8192; allowed: a text
+        seed_file = [] -> 1:1: seed_file: found a list; allowed: a text
+    "# }
 }
 
 #[test]
 fn numbers_are_wrong(rt: HostRuntime) {
-    play(
-        &rt,
-        &[
-            (
-                "registered_only = \"yes\"",
-                "1:1: registered_only: found \"yes\"; allowed: true or false",
-            ),
-            (
-                "registered_only = 1",
-                "1:1: registered_only: found 1; allowed: true or false",
-            ),
-            (
-                "search_interval = -1",
-                "1:1: search_interval: found -1; allowed: a whole number from 0 to 4294967295",
-            ),
-            (
-                "search_interval = 4294967296",
-                "1:1: search_interval: found 4294967296; allowed: a whole number from 0 to 4294967295",
-            ),
-            (
-                "max_users = 0",
-                "1:1: max_users: found 0; allowed: a whole number from 1 to 900",
-            ),
-            (
-                "max_users = 901",
-                "1:1: max_users: found 901; allowed: a whole number from 1 to 900",
-            ),
-            (
-                "max_users = 12.5",
-                "1:1: max_users: found 12.5; allowed: a whole number from 1 to 900",
-            ),
-            (
-                "threads = 65",
-                "1:1: threads: found 65; allowed: a whole number from 1 to 64",
-            ),
-            (
-                "threads = \"2\"",
-                "1:1: threads: found \"2\"; allowed: a whole number from 1 to 64",
-            ),
-            (
-                "stop_after = 65537",
-                "1:1: stop_after: found 65537; allowed: a whole number from 0 to 65536",
-            ),
-        ],
-    );
+    settings! { rt, r#"
+        registered_only = "yes" -> 1:1: registered_only: found "yes"; allowed: true or false
+        registered_only = 1 -> 1:1: registered_only: found 1; allowed: true or false
+        search_interval = -1 -> 1:1: search_interval: found -1; allowed: a whole number from 0 to 4294967295
+        search_interval = 4294967296 -> 1:1: search_interval: found 4294967296; allowed: a whole number from 0 to 4294967295
+        max_users = 0 -> 1:1: max_users: found 0; allowed: a whole number from 1 to 900
+        max_users = 901 -> 1:1: max_users: found 901; allowed: a whole number from 1 to 900
+        max_users = 12.5 -> 1:1: max_users: found 12.5; allowed: a whole number from 1 to 900
+        threads = 65 -> 1:1: threads: found 65; allowed: a whole number from 1 to 64
+        threads = "2" -> 1:1: threads: found "2"; allowed: a whole number from 1 to 64
+        stop_after = 65537 -> 1:1: stop_after: found 65537; allowed: a whole number from 0 to 65536
+    "# }
 }
 
 #[test]
 fn keys_are_unknown_and_statements_long(rt: HostRuntime) {
-    play(
-        &rt,
-        &[
-            (
-                "name = \"Hub\";nam = \"x\"",
-                "2:1: nam: found an unknown key; allowed: KEYS",
-            ),
-            (
-                "max_users = 0;name = \"\"",
-                "2:1: name: found \"\"; allowed: a text that is not empty",
-            ),
-            (
-                "# a comment;;topic = \"\"\";two lines;\"\"\";max_users = 901",
-                "6:1: max_users: found 901; allowed: a whole number from 1 to 900",
-            ),
-            (
-                "topic = \"\"\";# no comment, \"\" \\\"\"\" [[account]];\"\"\"\";tables = '''[\\;''' # ];name = '\\' # \"\"\";topic2 = 0",
-                "7:1: topic2: found an unknown key; allowed: KEYS",
-            ),
-            (
-                "command = [ # ];{ name = \"a]\", context = 1, text = \"\" }, ;];[[account]] # [;# ;  nick = '';password = \"#\"",
-                "6:3: account 1, nick: found \"\"; allowed: a text of 1 to 64 characters, none of them a blank",
-            ),
-            (
-                ";# é;stop_after = [;1,;2 ]",
-                "3:1: stop_after: found a list; allowed: a whole number from 0 to 65536",
-            ),
-        ],
-    );
+    settings! { rt, r##"
+        name = "Hub";nam = "x" -> 2:1: nam: found an unknown key; allowed: KEYS
+        max_users = 0;name = "" -> 2:1: name: found ""; allowed: a text that is not empty
+        # a comment;;topic = """;two lines;""";max_users = 901 -> 6:1: max_users: found 901; allowed: a whole number from 1 to 900
+        topic = """;# no comment, "" \""" [[account]];"""";tables = '''[\;''' # ];name = '\' # """;topic2 = 0 -> 7:1: topic2: found an unknown key; allowed: KEYS
+        command = [ # ];{ name = "a]", context = 1, text = "" }, ;];[[account]] # [;# ;  nick = '';password = "#" -> 6:3: account 1, nick: found ""; allowed: a text of 1 to 64 characters, none of them a blank
+        ;# é;stop_after = [;1,;2 ] -> 3:1: stop_after: found a list; allowed: a whole number from 0 to 65536
+    "## }
 }
 
 #[test]
 fn texts_are_no_toml(rt: HostRuntime) {
-    play(
-        &rt,
-        &[
-            (
-                "name \"Hub\"",
-                "1:6: no TOML: key with no value, expected `=`",
-            ),
-            (
-                "max_users = 5;name = \"Hub\" \"x\"",
-                "2:14: no TOML: unexpected key or value, expected newline, `#`",
-            ),
-            (
-                "[[account]",
-                "1:11: no TOML: unclosed array table, expected `]]`",
-            ),
-            (
-                ";= 5",
-                "2:1: no TOML: invalid key, expected letters, numbers, `-`, `_` or a quoted key",
-            ),
-            (
-                "topic = \"é\" x",
-                "1:13: no TOML: unexpected key or value, expected newline, `#`",
-            ),
-            ("max_users = 5;max_users = 6", "2:1: no TOML: duplicate key"),
-        ],
-    );
+    settings! { rt, r#"
+        name "Hub" -> 1:6: no TOML: key with no value, expected `=`
+        max_users = 5;name = "Hub" "x" -> 2:14: no TOML: unexpected key or value, expected newline, `#`
+        [[account] -> 1:11: no TOML: unclosed array table, expected `]]`
+        ;= 5 -> 2:1: no TOML: invalid key, expected letters, numbers, `-`, `_` or a quoted key
+        topic = "é" x -> 1:13: no TOML: unexpected key or value, expected newline, `#`
+        max_users = 5;max_users = 6 -> 2:1: no TOML: duplicate key
+    "# }
     let got = again!(&rt; said_of_bytes(rt.alloc(), b"\nname = \"\xff\""));
     assert_eq!(rt; got.as_str(), "2:9: no TOML: a byte that is not UTF-8");
 }

@@ -1,6 +1,6 @@
 -- The text that is written for a request asks for what was requested.
-use Rattle.std.proofs.Common.{◌≡◌, ◌≢◌, ◌∙◌, sym, ap, refl, ℕ, ◌<◌, ◌≤◌, ◌^◌, ◌&&◌, true, false, not, List, [], ◌∷◌, ◌++◌, length, Some, Bool, append_assoc, option_map, arith}
-use Rattle.std.specs.Prelude.{chars, codes, drop, slice_index_or, Option, None, cond, option_map, IfOk, Result, Ok, Err}
+use Rattle.std.proofs.Common.{◌≡◌, ◌≢◌, ◌∙◌, sym, ap, refl, ℕ, ◌<◌, ◌≤◌, ◌^◌, ◌&&◌, true, false, not, List, [], ◌∷◌, ◌++◌, length, Some, Bool, append_assoc, arith}
+use Rattle.std.specs.Prelude.{chars, codes, drop, slice_index_or, Option, None, cond, IfOk, Result, Ok, Err}
 use Rattle.std.specs.Char.{is_ascii_digit}
 use Rattle.std.specs.Fmt.{decimal}
 use Rattle.std.specs.List.{All, list_all}
@@ -8,7 +8,6 @@ use Rattle.std.specs.Str.{all_ascii_digits}
 use Rattle.std.specs.Str.Parse.{digits_value}
 use Rattle.std.proofs.lemmas.Bool.{false≢true, not-true, and_from, le-leb, lt-ltb}
 use Rattle.std.proofs.lemmas.Fmt.{digits_decimal, digits_value-decimal, length-decimal-le, decimal_nonempty}
-use Rattle.std.proofs.lemmas.Grind.{common_steps}
 use Rattle.std.proofs.lemmas.Bool.Decides.{nat_tests}
 use Rattle.std.proofs.lemmas.List.{append-nil}
 use Rattle.std.proofs.lemmas.List.Elements.{All-cons, All-nil}

@@ -1,3 +1,11 @@
+mod Addressing
 mod Asking
+mod Conversing
+mod FirstField
+mod Hearing
+mod LastField
 mod Messages
+mod OneField
+mod OneWord
 mod Supporting
+mod Telling

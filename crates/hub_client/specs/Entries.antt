@@ -1,8 +1,10 @@
 -- What the lines of a hub say to a client that waits for an answer.
-use Rattle.std.specs.Prelude.{◌≡◌, ℕ, ◌⊎◌, true, false, List, [], codes, drop, get_or, Option, Some, None}
-use Rattle.adc_base32.specs.Sids.{sid_text}
+use Rattle.std.specs.Prelude.{◌≡◌, ℕ, ◌⊎◌, ◌&&◌, Bool, bytes_eq, true, false, List, [], codes, drop, get_or, Option, Some, None}
+use Rattle.std.specs.Option.{option_and_then}
+use Rattle.adc_base32.specs.Sids.{sid_at}
 use Rattle.adc_base32.specs.Spelled.{spelled_bytes}
 use Rattle.adc_line.specs.Lines.{Reading}
+use Rattle.adc_line.specs.declared.header.Kind.{Kind}
 use Rattle.adc_line.specs.declared.header.Kind.TheVariants as kinds
 use Rattle.hub_client.specs.declared.client.Entry.{Entry}
 use Rattle.hub_client.specs.declared.client.Entry.TheVariants.{Inside, Challenged}
@@ -15,6 +17,21 @@ use Rattle.hub_client.specs.Statuses.{IsStatus, is_well}
 -- a message that only a hub sends, with this command
 abbrev pub IsInfo : Reading → List ℕ → Type 0
 IsInfo line command = (line.kind ≡ kinds.Info) × (line.command ≡ command)
+
+abbrev pub is_info_kind : Kind → Bool
+is_info_kind kinds.Info = true
+is_info_kind kind = false
+
+abbrev pub is_broadcast_kind : Kind → Bool
+is_broadcast_kind kinds.Broadcast = true
+is_broadcast_kind kind = false
+
+-- the same of the commands QUI and INF as tests
+abbrev pub is_quit_line : Reading → Bool
+is_quit_line line = is_info_kind line.kind && bytes_eq line.command (codes "QUI")
+
+abbrev pub is_user_line : Reading → Bool
+is_user_line line = is_broadcast_kind line.kind && bytes_eq line.command (codes "INF")
 
 -- the hub tells of a user
 abbrev pub IsUserLine : Reading → Type 0
@@ -59,7 +76,14 @@ IsRefusal line faults.Unanswered = ⊥
 IsRefusal line faults.Closed = ⊥
 IsRefusal line faults.Broken = ⊥
 
+-- the session identifier of the user who sent another away, if a departure names it
+abbrev pub IsSender : Reading → Option ℕ → Type 0
+IsSender line sid = (word : Option (List ℕ)) × IsField (codes "ID") (drop 1 line.params) word × (sid ≡ option_and_then sid_at word)
+
 -- the user of this session identifier is gone, sent away by an operator
 abbrev pub IsSentAway : Reading → ℕ → ℕ → Type 0
-IsSentAway line sid operator =
-    (get_or line.params 0 [] ≡ sid_text sid) × IsField (codes "ID") (drop 1 line.params) (Some (sid_text operator))
+IsSentAway line sid operator = (sid_at (get_or line.params 0 []) ≡ Some sid) × IsSender line (Some operator)
+
+-- the line is a status, and its refusal is this
+abbrev pub IsBadStatus : Reading → ClientFault → Type 0
+IsBadStatus line fault = IsInfo line (codes "STA") × IsRefusal line fault

@@ -1,5 +1,5 @@
 -- The fields of a message: parameters that begin with a name.
-use Rattle.std.specs.Prelude.{◌≡◌, ◌≢◌, ℕ, List, [], ◌∷◌, ◌++◌, Option, Some, None}
+use Rattle.std.specs.Prelude.{◌≡◌, ◌⊎◌, IsSome, ◌≢◌, ℕ, List, [], ◌∷◌, ◌++◌, Option, Some, None}
 use Rattle.std.specs.List.{All}
 use Rattle.adc_line.specs.Escapes.{unescaped_text}
 
@@ -21,3 +21,8 @@ spelt_text None = Some []
 -- the text of the field with this name; empty where there is none
 abbrev pub IsFieldText : List ℕ → List (List ℕ) → List ℕ → Type 0
 IsFieldText name words text = (value : Option (List ℕ)) × IsField name words value × (spelt_text value ≡ Some text)
+
+-- the value of the first of these fields that the parameters have, if they have one
+abbrev pub IsFirstField : List (List ℕ) → List (List ℕ) → Option (List ℕ) → Type 0
+IsFirstField [] words value = value ≡ None
+IsFirstField (name ∷ names) words value = (IsField name words value × IsSome value) ⊎ (IsField name words None × IsFirstField names words value)

@@ -1,3 +1,6 @@
+pub mod Addresses
+pub mod Broken
+pub mod Conversations
 pub mod Entries
 pub mod Fields
 pub mod Identities
@@ -5,5 +8,6 @@ pub mod Requests
 pub mod Roles
 pub mod Sayings
 pub mod Statuses
+pub mod Talks
 pub mod Unanswered
 pub mod Users

@@ -21,11 +21,14 @@ nick_bytes nick = nick.text.now
 abbrev pub cid_bytes : CidText → List ℕ
 cid_bytes cid = cid.text.now
 
+abbrev pub cid_value : CidText → List ℕ
+cid_value cid = cid.cid
+
 -- the act that is asked for
 abbrev pub act_asked : Request → Act
 act_asked (Kick nick reason) = acts.Kick (chars (nick_bytes nick)) reason.now
 act_asked (Ban nick seconds reason) = acts.Ban (chars (nick_bytes nick)) seconds reason.now
-act_asked (Unban cid) = acts.Unban cid.cid
+act_asked (Unban cid) = acts.Unban (cid_value cid)
 act_asked (Topic text) = acts.Topic text.now
 
 -- what stands behind the words of a text, with a blank before it where it is not empty

@@ -1,18 +1,22 @@
 -- The status messages of a hub (ADC 1.0, "STA").
-use Rattle.std.specs.Prelude.{◌≡◌, ℕ, ◌==◌, ◌&&◌, ◌||◌, Bool, List, [], ◌∷◌, codes, drop, get_or, slice_index, Some, if◌then◌else◌}
+use Rattle.std.specs.Prelude.{◌≡◌, ℕ, ◌==◌, ◌&&◌, ◌||◌, Bool, List, [], ◌∷◌, ◌++◌, codes, drop, get_or, slice_index, Option, Some, if◌then◌else◌}
 use Rattle.std.specs.String.{string_bytes}
 use Rattle.adc_line.specs.Escapes.{unescaped_text}
-use Rattle.adc_line.specs.Lines.{Reading}
-use Rattle.adc_line.specs.declared.header.Kind.TheVariants as kinds
-use Rattle.hub_client.specs.Fields.{IsFieldText}
+use Rattle.hub_client.specs.Fields.{IsFieldText, IsFirstField, spelt_text}
 use Rattle.hub_client.specs.declared.status.Refusal.{Refusal}
 use Rattle.hub_client.specs.declared.status.Refusal.TheVariants.{Password, Banned, Other}
 use Rattle.hub_client.specs.declared.status.Status.{Status}
 
--- the parameters are those of this status: its number, its text, and the seconds that it lasts
+-- the text of the first of the fields I4, FB, FM and FC that there is; empty where there is none
+abbrev pub IsSubject : List (List ℕ) → List ℕ → Type 0
+IsSubject words text =
+    (value : Option (List ℕ)) × IsFirstField (codes "I4" ∷ codes "FB" ∷ codes "FM" ∷ codes "FC" ∷ []) words value × (spelt_text value ≡ Some text)
+
+-- the parameters are those of this status: its number, its text, its subject, and the seconds that it lasts
 pub record IsStatus (params : List (List ℕ)) (status : Status) : Type 0 where
   pub number : get_or params 0 [] ≡ status.number
   pub text : unescaped_text (get_or params 1 []) ≡ Some (string_bytes status.text)
+  pub about : IsSubject (drop 2 params) (string_bytes status.about)
   pub seconds : IsFieldText (codes "TL") (drop 2 params) (string_bytes status.seconds)
 
 -- the first digit of a status is its severity: 0 is success
@@ -28,3 +32,17 @@ refusal_by number =
     if has_code number 50 51 then Password
     else if has_code number 51 49 || has_code number 51 50 then Banned
     else Other
+
+-- the subject of a status, in brackets; an empty text is none
+abbrev pub subject_text : List ℕ → List ℕ
+subject_text [] = []
+subject_text (b ∷ bs) = codes " (" ++ (b ∷ bs ++ codes ")")
+
+-- the seconds that it lasts; an empty text is none
+abbrev pub seconds_text : List ℕ → List ℕ
+seconds_text [] = []
+seconds_text (b ∷ bs) = codes " for " ++ (b ∷ bs ++ codes " seconds")
+
+-- a status as it is printed
+abbrev pub status_text : Status → List ℕ
+status_text status = string_bytes status.text ++ (subject_text (string_bytes status.about) ++ seconds_text (string_bytes status.seconds))

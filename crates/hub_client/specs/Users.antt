@@ -1,12 +1,15 @@
 -- A user, by the parameters of a message of the type INF (ADC 1.0, "INF").
-use Rattle.std.specs.Prelude.{◌≡◌, ℕ, ◌<◌, ◌^◌, List, codes, Option, Some, None}
+use Rattle.std.specs.Prelude.{◌≡◌, ℕ, ◌<◌, ◌^◌, List, ◌∷◌, ◌++◌, codes, Option, Some, None}
+use Rattle.std.specs.List.{All}
 use Rattle.std.specs.Str.Parse.{IsNumeral, digits_value, without_leading_plus}
 use Rattle.std.specs.String.{string_bytes}
 use Rattle.adc_line.specs.Escapes.{unescaped_text}
-use Rattle.hub_client.specs.Fields.{IsField, IsFieldText}
+use Rattle.hub_client.specs.Fields.{IsField, IsFieldText, spelt_text}
 use Rattle.hub_client.specs.Roles.{role_of}
 use Rattle.hub_client.specs.declared.role.Role.{Role}
 use Rattle.hub_client.specs.declared.user.User.{User}
+use Rattle.hub_client.specs.declared.user.Who.{Who}
+use Rattle.adc_line.specs.Lines.{Reading}
 
 -- decimal digits of a number of 32 bits
 abbrev pub IsNumber : List ℕ → Type 0
@@ -35,3 +38,23 @@ pub record IsUser (params : List (List ℕ)) (user : User) : Type 0 where
   pub address : IsAddress params (string_bytes user.address)
   pub share : IsFieldText (codes "SS") params (string_bytes user.share)
   pub description : IsFieldText (codes "DE") params (string_bytes user.description)
+
+-- a message does not have this field, or tells of another user
+abbrev pub IsSilentOn : List ℕ → ℕ → Reading → Type 0
+IsSilentOn name sid line = line.from ≡ Some sid → IsField name line.params None
+
+-- the value of a field in the last message of a user that has it, if one has it
+abbrev pub IsLastField : List ℕ → ℕ → List Reading → Option (List ℕ) → Type 0
+IsLastField name sid lines None = All (IsSilentOn name sid) lines
+IsLastField name sid lines (Some value) =
+    (front : List Reading) × (line : Reading) × (behind : List Reading) × (lines ≡ front ++ line ∷ behind) × (line.from ≡ Some sid)
+    × IsField name line.params (Some value) × All (IsSilentOn name sid) behind
+
+-- the text of that field; empty where no message has it
+abbrev pub IsSaidLast : List ℕ → ℕ → List Reading → List ℕ → Type 0
+IsSaidLast name sid lines text = (value : Option (List ℕ)) × IsLastField name sid lines value × (spelt_text value ≡ Some text)
+
+-- what messages tell last of the user with this session identifier
+pub record IsTold (lines : List Reading) (sid : ℕ) (who : Who) : Type 0 where
+  pub nick : IsSaidLast (codes "NI") sid lines (string_bytes who.nick)
+  pub cid : IsSaidLast (codes "ID") sid lines (string_bytes who.cid)

@@ -1,5 +1,7 @@
 ghost use Rattle.std.specs.Prelude.{◌≡◌, ◌≢◌, ◌⊎◌, true};
 ghost use Rattle.adc_line.specs.declared.fault.LineFault.TheVariants as lines;
+ghost use Rattle.std.specs.IoError.{error_kind};
+ghost use Rattle.hub_client.specs.Broken.{fault_by};
 ghost use Rattle.hub_client.specs.Unanswered.{unanswered};
 ghost use Rattle.hub_client.specs.declared.fault.ClientFault.TheVariants.{Memory, NotAdc, Unsayable};
 
@@ -63,6 +65,8 @@ impl From<FrameFault> for ClientFault {
 }
 
 impl From<io::Error> for ClientFault {
+    ghost from_gives = { λ error fault. fault ≡ fault_by (error_kind error) };
+
     fn from(error: io::Error) -> ClientFault {
         match error.kind() {
             io::ErrorKind::OutOfMemory => ClientFault::Memory,

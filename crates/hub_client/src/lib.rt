@@ -4,8 +4,10 @@
 mod address;
 mod cid_text;
 mod client;
+mod departures;
 mod fault;
 mod fields;
+mod lines;
 mod login;
 mod nick_text;
 mod operator_line;

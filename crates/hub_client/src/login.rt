@@ -1,4 +1,4 @@
-ghost use Rattle.std.specs.Prelude.{◌≡◌, IfOk, IfErr};
+ghost use Rattle.std.specs.Prelude.{◌≡◌, ◌⊎◌, IfOk, IfErr};
 ghost use Rattle.adc_line.specs.Grammar.{Reads};
 ghost use Rattle.adc_line.specs.Lines.{Reading};
 ghost use Rattle.hub_client.specs.Requests.{nick_bytes};
@@ -53,7 +53,8 @@ pub fn login_line(
     identity: &Identity,
     nick: &NickText<'_>,
 ) -> Result<Line, ClientFault>
-    ensures { IfOk result (λ line. line.text ≡ login_text sid identity.now.cid identity.now.private (nick_bytes nick.now)) }
+    ensures exact { IfOk result (λ line. line.text ≡ login_text sid identity.now.cid identity.now.private (nick_bytes nick.now)) }
+    ensures refused { IfErr result (λ fault. (fault ≡ ClientFault.Memory) ⊎ (fault ≡ ClientFault.Unsayable)) }
 {
     let mut line = identifiers(alloc, sid, identity)?;
     line.extend_from_slice(b" NI")?;
@@ -83,7 +84,8 @@ pub fn password_line<H: SessionHash>(
     password: &str,
     challenge: &[u8; 24],
 ) -> Result<Line, ClientFault>
-    ensures { IfOk result (λ line. line.text ≡ password_text (H.digest_of hash.now) password.now challenge.now) }
+    ensures exact { IfOk result (λ line. line.text ≡ password_text (H.digest_of hash.now) password.now challenge.now) }
+    ensures refused { IfErr result (λ fault. (fault ≡ ClientFault.Memory) ⊎ (fault ≡ ClientFault.Unsayable)) }
 {
     let mut secret = Vec::new(alloc);
     secret.extend_from_slice(password.as_bytes())?;
@@ -96,7 +98,8 @@ pub fn password_line<H: SessionHash>(
 
 /// Makes the message that says a text to all who are present. Refused: `Unsayable` if the text is empty or too long; `Memory`.
 pub fn chat_line(alloc: Global, sid: Sid, text: &str) -> Result<Line, ClientFault>
-    ensures { IfOk result (λ line. line.text ≡ chat_text sid text.now) }
+    ensures exact { IfOk result (λ line. line.text ≡ chat_text sid text.now) }
+    ensures refused { IfErr result (λ fault. (fault ≡ ClientFault.Memory) ⊎ (fault ≡ ClientFault.Unsayable)) }
 {
     let mut line = Vec::new(alloc);
     line.extend_from_slice(b"BMSG ")?;
@@ -110,6 +113,7 @@ pub fn chat_line(alloc: Global, sid: Sid, text: &str) -> Result<Line, ClientFaul
 fn message_of(alloc: Global, bytes: &[u8]) -> Result<Line, ClientFault>
     ensures text { IfOk result (λ line. line.text ≡ bytes.now) }
     ensures refused { (line : Reading) → Reads bytes.now line → IfErr result (λ fault. fault ≡ ClientFault.Memory) }
+    ensures unsayable { IfErr result (λ fault. (fault ≡ ClientFault.Memory) ⊎ (fault ≡ ClientFault.Unsayable)) }
 {
     match Line::parse(alloc, bytes) {
         Ok(line) => Ok(line),

@@ -1,4 +1,4 @@
-ghost use Rattle.std.specs.Prelude.{◌≡◌, true, chars, not, IfOk};
+ghost use Rattle.std.specs.Prelude.{◌≡◌, true, false, chars, not, IfErr, IfOk};
 ghost use Rattle.std.specs.List.{list_all};
 ghost use Rattle.adc_ids.specs.Nicks.{is_nick};
 ghost use Rattle.operator_acts.specs.Acts.{is_blank};
@@ -19,13 +19,14 @@ impl<'a> NickText<'a> {
 
     /// The nick that a text is. Refused: `Invalid` where it is none (1 to 64 code points above 32), `Memory` where memory
     /// runs out.
+    #[tactic(auto, using(crate::proofs::OneWord::nick_is_one_word))]
     pub fn parse(alloc: Global, text: &'a str) -> Result<NickText<'a>, NickFault>
-        ensures { IfOk result (λ nick. nick_bytes nick ≡ text.now) }
+        ensures same { IfOk result (λ nick. nick_bytes nick ≡ text.now) }
+        ensures nick { IfOk result (λ _. is_nick (chars text.now) ≡ true) }
+        ensures invalid { IfErr result (λ fault. fault ≡ NickFault.Invalid → is_nick (chars text.now) ≡ false) }
+        ensures memory { IfErr result (λ fault. fault ≡ NickFault.Memory → is_nick (chars text.now) ≡ true) }
     {
         Nick::parse(alloc, text)?;
-        if !is_one_word(text) {
-            return Err(NickFault::Invalid);
-        }
         Ok(NickText { text })
     }
 
@@ -35,11 +36,4 @@ impl<'a> NickText<'a> {
     {
         self.text
     }
-}
-
-/// Tests whether a text has no blank.
-pub(crate) fn is_one_word(text: &str) -> bool
-    ensures { result ≡ list_all (λ b. not (is_blank b)) text.now }
-{
-    text.as_bytes().iter().all(|b| *b != b' ')
 }

@@ -17,14 +17,18 @@ pub enum Request<'a> {
 }
 
 impl<'a> Request<'a> {
-    ghost use Rattle.std.specs.Prelude.{◌≡◌, Some, IfOk, IfSome, chars, option_map};
+    ghost use Rattle.std.specs.Prelude.{◌≡◌, Some, None, true, false, IfErr, IfNone, IfOk, IfSome, chars, option_map};
     ghost use Rattle.adc_base32.specs.Spelled.{spelled_bytes};
+    ghost use Rattle.adc_ids.specs.Nicks.{is_nick};
     ghost use Rattle.operator_acts.specs.declared.act.Act.TheVariants as acts;
     ghost use Rattle.hub_client.specs.Requests.{act_asked};
 
     /// Asks to kick the user of this nick. Refused: `Invalid` where the text is no nick; `Memory`.
     pub fn kick(alloc: Global, nick: &'a str, reason: &'a str) -> Result<Request<'a>, NickFault>
-        ensures { IfOk result (λ request. act_asked request ≡ acts.Kick (chars nick.entry.now) reason.entry.now) }
+        ensures asks { IfOk result (λ request. act_asked request ≡ acts.Kick (chars nick.entry.now) reason.entry.now) }
+        ensures nick { IfOk result (λ _. is_nick (chars nick.entry.now) ≡ true) }
+        ensures invalid { IfErr result (λ fault. fault ≡ NickFault.Invalid → is_nick (chars nick.entry.now) ≡ false) }
+        ensures memory { IfErr result (λ fault. fault ≡ NickFault.Memory → is_nick (chars nick.entry.now) ≡ true) }
     {
         Ok(Request::Kick(NickText::parse(alloc, nick)?, reason))
     }
@@ -37,14 +41,18 @@ impl<'a> Request<'a> {
         seconds: u32,
         reason: &'a str,
     ) -> Result<Request<'a>, NickFault>
-        ensures { IfOk result (λ request. act_asked request ≡ acts.Ban (chars nick.entry.now) seconds reason.entry.now) }
+        ensures asks { IfOk result (λ request. act_asked request ≡ acts.Ban (chars nick.entry.now) seconds reason.entry.now) }
+        ensures nick { IfOk result (λ _. is_nick (chars nick.entry.now) ≡ true) }
+        ensures invalid { IfErr result (λ fault. fault ≡ NickFault.Invalid → is_nick (chars nick.entry.now) ≡ false) }
+        ensures memory { IfErr result (λ fault. fault ≡ NickFault.Memory → is_nick (chars nick.entry.now) ≡ true) }
     {
         Ok(Request::Ban(NickText::parse(alloc, nick)?, seconds, reason))
     }
 
     /// Asks to take back the ban of a client identifier; `None` where the text is none.
     pub fn unban(cid: &'a str) -> Option<Request<'a>>
-        ensures { IfSome result (λ request. option_map acts.Unban (spelled_bytes 24 cid.entry.now) ≡ Some (act_asked request)) }
+        ensures asks { IfSome result (λ request. option_map acts.Unban (spelled_bytes 24 cid.entry.now) ≡ Some (act_asked request)) }
+        ensures none { IfNone result (spelled_bytes 24 cid.entry.now ≡ None) }
     {
         match CidText::parse(cid) {
             Some(cid) => Some(Request::Unban(cid)),

@@ -1,5 +1,5 @@
-ghost use Rattle.std.specs.Prelude.{◌≡◌, ◌≤◌};
-ghost use Rattle.hub_client.specs.Roles.{has_bit, role_of};
+ghost use Rattle.std.specs.Prelude.{◌≡◌, ◌≤◌, Some};
+ghost use Rattle.hub_client.specs.Roles.{has_bit, role_name, role_of};
 
 use std::fmt;
 
@@ -45,7 +45,9 @@ impl Role {
     }
 
     /// Gives its name: one word.
-    pub fn name(self) -> &'static str {
+    pub fn name(self) -> &'static str
+        ensures { result.now ≡ role_name self }
+    {
         match self {
             Role::Hub => "hub",
             Role::Owner => "owner",
@@ -67,6 +69,8 @@ fn has_bit(number: u32, value: u32) -> bool
 }
 
 impl fmt::Display for Role {
+    ghost output = { λ role. Some (role_name role) };
+
     fn fmt<W: fmt::Write>(&self, f: &mut fmt::Formatter<W>) -> fmt::Result {
         f.write_str(self.name())
     }

@@ -1,5 +1,10 @@
-ghost use Rattle.std.specs.Prelude.{◌≡◌, ◌⊎◌, IfErr, IfOk};
-ghost use Rattle.hub_client.specs.Statuses.{IsStatus, is_well, refusal_by};
+ghost use Rattle.std.specs.Prelude.{◌≡◌, ◌⊎◌, Some, IfErr, IfOk, map};
+ghost use Rattle.std.specs.Option.{option_copied};
+ghost use Rattle.std.specs.String.{string_bytes};
+ghost use Rattle.adc_line.specs.WordsLeft.{words_left};
+ghost use Rattle.hub_client.specs.Fields.{IsFirstField};
+ghost use Rattle.std.specs.Fmt.{WritesOnOk};
+ghost use Rattle.hub_client.specs.Statuses.{IsStatus, IsSubject, is_well, refusal_by, seconds_text, status_text, subject_text};
 
 use crate::fault::ClientFault;
 use crate::fields::{field_among, field_text_among};
@@ -69,27 +74,53 @@ impl Status {
 
 /// Returns the subject of a status: the text of its field `I4`, `FB`, `FM` or `FC`, the first of these that it has.
 fn about(alloc: Global, words: Words<'_>) -> Result<String, ClientFault>
-    ensures { IfErr result (λ fault. (fault ≡ ClientFault.Memory) ⊎ (fault ≡ ClientFault.NotAdc)) }
+    ensures subject { IfOk result (λ text. IsSubject (words_left words.entry) (string_bytes text)) }
+    ensures refused { IfErr result (λ fault. (fault ≡ ClientFault.Memory) ⊎ (fault ≡ ClientFault.NotAdc)) }
 {
-    for name in ["I4", "FB", "FM", "FC"] {
+    match first_field(words, &["I4", "FB", "FM", "FC"]) {
+        Some(value) => Ok(unescape(alloc, value)?),
+        None => Ok(String::new(alloc)),
+    }
+}
+
+/// Returns the value of the first of these fields that the words have.
+fn first_field<'a>(words: Words<'a>, names: &[&str]) -> Option<&'a str>
+    ensures { IsFirstField (map (λ name. name.now) names.now) (words_left words.entry) (option_copied result) }
+{
+    for name in names {
         if let Some(value) = field_among(words, name) {
-            return Ok(unescape(alloc, value)?);
+            return Some(value);
         }
     }
-    Ok(String::new(alloc))
+    None
 }
 
 impl fmt::Display for Status {
+    ghost output = { λ status. Some (status_text status) };
+
     fn fmt<W: fmt::Write>(&self, f: &mut fmt::Formatter<W>) -> fmt::Result {
         f.write_str(&self.text)?;
-        if !self.about.is_empty() {
-            let about = self.about.as_str();
-            write!(f, " ({about})")?;
-        }
-        if !self.seconds.is_empty() {
-            let seconds = self.seconds.as_str();
-            write!(f, " for {seconds} seconds")?;
-        }
-        Ok(())
+        write_subject(f, &self.about)?;
+        write_seconds(f, &self.seconds)
     }
+}
+
+/// Writes the subject of a status in brackets; nothing of an empty text.
+fn write_subject<W: fmt::Write>(f: &mut fmt::Formatter<W>, about: &str) -> fmt::Result
+    ensures { WritesOnOk W.write_str_gives f.old result (subject_text about.now) f.new }
+{
+    if !about.is_empty() {
+        write!(f, " ({about})")?;
+    }
+    Ok(())
+}
+
+/// Writes the seconds that a status lasts; nothing of an empty text.
+fn write_seconds<W: fmt::Write>(f: &mut fmt::Formatter<W>, seconds: &str) -> fmt::Result
+    ensures { WritesOnOk W.write_str_gives f.old result (seconds_text seconds.now) f.new }
+{
+    if !seconds.is_empty() {
+        write!(f, " for {seconds} seconds")?;
+    }
+    Ok(())
 }

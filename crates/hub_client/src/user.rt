@@ -1,7 +1,8 @@
-ghost use Rattle.std.specs.Prelude.{IfOk};
+ghost use Rattle.std.specs.Prelude.{◌≡◌, ◌⊎◌, Some, IfErr, IfNone, IfOk, IfSome};
 ghost use Rattle.std.specs.Option.{option_copied};
 ghost use Rattle.std.specs.String.{string_bytes};
-ghost use Rattle.hub_client.specs.Users.{AreBits, IsAddress, IsRole, IsUser};
+ghost use Rattle.hub_client.specs.Fields.{IsField};
+ghost use Rattle.hub_client.specs.Users.{AreBits, IsAddress, IsLastField, IsRole, IsSaidLast, IsSilentOn, IsTold, IsUser};
 
 use crate::fault::ClientFault;
 use crate::fields::{field, field_text};
@@ -28,9 +29,10 @@ pub struct User {
 }
 
 impl User {
-    /// Reads a message of the type INF.
+    /// Reads a message of the type INF. Refused: `NotAdc` if a field of it spells no text; `Memory`.
     pub fn read(alloc: Global, line: &Line) -> Result<User, ClientFault>
-        ensures { IfOk result (λ user. IsUser line.now.params user) }
+        ensures user { IfOk result (λ user. IsUser line.now.params user) }
+        ensures refused { IfErr result (λ fault. (fault ≡ ClientFault.Memory) ⊎ (fault ≡ ClientFault.NotAdc)) }
     {
         Ok(User {
             nick: field_text(alloc, line, "NI")?,
@@ -44,7 +46,8 @@ impl User {
 }
 
 fn address(alloc: Global, line: &Line) -> Result<String, ClientFault>
-    ensures { IfOk result (λ text. IsAddress line.now.params (string_bytes text)) }
+    ensures text { IfOk result (λ text. IsAddress line.now.params (string_bytes text)) }
+    ensures refused { IfErr result (λ fault. (fault ≡ ClientFault.Memory) ⊎ (fault ≡ ClientFault.NotAdc)) }
 {
     match field(line, "I4") {
         Some(value) => Ok(unescape(alloc, value)?),
@@ -79,7 +82,10 @@ pub struct Who {
 
 impl Who {
     /// Gives what messages of the type INF said last of whom this session identifier names. What they do not say is empty.
-    pub fn in_lines(alloc: Global, lines: &[Line], sid: Sid) -> Result<Who, ClientFault> {
+    pub fn in_lines(alloc: Global, lines: &[Line], sid: Sid) -> Result<Who, ClientFault>
+        ensures told { IfOk result (IsTold lines.now sid) }
+        ensures refused { IfErr result (λ fault. (fault ≡ ClientFault.Memory) ⊎ (fault ≡ ClientFault.NotAdc)) }
+    {
         Ok(Who {
             nick: said_last(alloc, lines, sid, "NI")?,
             cid: said_last(alloc, lines, sid, "ID")?,
@@ -87,12 +93,36 @@ impl Who {
     }
 }
 
-fn said_last(alloc: Global, lines: &[Line], sid: Sid, name: &str) -> Result<String, ClientFault> {
-    let mut found = String::new(alloc);
+fn said_last(alloc: Global, lines: &[Line], sid: Sid, name: &str) -> Result<String, ClientFault>
+    ensures text { IfOk result (λ text. IsSaidLast name.now sid lines.now (string_bytes text)) }
+    ensures refused { IfErr result (λ fault. (fault ≡ ClientFault.Memory) ⊎ (fault ≡ ClientFault.NotAdc)) }
+{
+    match last_field(lines, sid, name) {
+        Some(value) => Ok(unescape(alloc, value)?),
+        None => Ok(String::new(alloc)),
+    }
+}
+
+/// Returns the value of a field in the last of these messages of a user that has it.
+fn last_field<'a>(lines: &'a [Line], sid: Sid, name: &str) -> Option<&'a str>
+    ensures { IsLastField name.now sid lines.now (option_copied result) }
+{
+    let mut last = None;
     for line in lines {
-        if line.from() == Some(sid) && field(line, name).is_some() {
-            found = field_text(alloc, line, name)?;
+        if let Some(value) = field_of(line, sid, name) {
+            last = Some(value);
         }
     }
-    Ok(found)
+    last
+}
+
+/// Returns the value of a field of a message, if it tells of this user.
+fn field_of<'a>(line: &'a Line, sid: Sid, name: &str) -> Option<&'a str>
+    ensures found { IfSome (option_copied result) (λ value. (line.now.from ≡ Some sid) × IsField name.now line.now.params (Some value)) }
+    ensures none { IfNone result (IsSilentOn name.now sid line.now) }
+{
+    if line.from() == Some(sid) {
+        return field(line, name);
+    }
+    None
 }

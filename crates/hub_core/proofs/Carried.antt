@@ -16,7 +16,9 @@ use Rattle.hub_core.specs.declared.share.Touched.{Touched}
 use Rattle.hub_core.specs.CoreState.{CoreState}
 use Rattle.hub_core.specs.Decided.{Decided, DecidedFor, sight_in, user_at}
 use Rattle.hub_core.specs.Phases.{phase_at}
-use Rattle.hub_core.specs.Seats.{at_seat, changed_seat, seat_of, seat_share, delivered_all}
+use Rattle.hub_core.specs.Seats.{at_seat, changed_seat, seat_after_change_at, seat_of, seat_share}
+use Rattle.hub_core.specs.Waiting.{given_backlog, given_each}
+use Rattle.outboxes.specs.Backlogs.{Backlog}
 use Rattle.hub_core.specs.State.{carried_out, core_of, users_after}
 use Rattle.hub_rules.specs.declared.effect.Effect.{Effect}
 use Rattle.hub_rules.specs.Configured.{Configured}
@@ -33,33 +35,42 @@ use Rattle.hub_invariants.proofs.Sids.{Numbered}
 use Rattle.hub_invariants.proofs.Sound.{Sound, not-over, or-true}
 use Rattle.hub_invariants.proofs.Suits.{Suits, listed-sid}
 use Rattle.hub_invariants.proofs.Tidy.{Tidy, is_unasked, is_unnamed}
-use Rattle.hub_core.proofs.Seating.{at-one, in-open, map-seats, not-self, seat_one, seats-same, delivered-map}
+use Rattle.hub_core.proofs.Seating.{at-one, backlog_at, each-given, each-same, in-open, map-seats, not-self, seat_one}
 use Rattle.hub_core.proofs.Places.{StandsFirst, phase-at, set-read, sid-at}
-use Rattle.hub_core.proofs.Sharing.{delivers}
+use Rattle.hub_core.proofs.Sharing.{backlog-by, seat-by, share-same}
 use Rattle.hub_core.proofs.Users.{users-carried}
 
 -- ---- one equation for a hub
 
-pub same-core : (setup : Configured) (joins last : ℕ) {s t : List Seat} {us vs : List Listed} {bans : List (List ℕ × Ban)} {topic : List ℕ} {touched : Touched} → s ≡ t → us ≡ vs
-    → ◌≡◌ {A = CoreState} (record { setup = setup; joins = joins; last = last; seats = s; users = us; bans = bans; topic = topic; touched = touched })
-    (record { setup = setup; joins = joins; last = last; seats = t; users = vs; bans = bans; topic = topic; touched = touched })
-same-core setup joins last {s} {t} {us} {vs} {bans} {topic} {touched} seats users =
-    ap₂ (λ (x : List Seat) (y : List Listed). record { setup = setup; joins = joins; last = last; seats = x; users = y; bans = bans; topic = topic; touched = touched }) seats users
+pub same-core : (setup : Configured) (joins last : ℕ) {s t : List Seat} {os ps : List Backlog} {us vs : List Listed} {bans : List (List ℕ × Ban)} {topic : List ℕ} {touched : Touched} → s ≡ t → os ≡ ps → us ≡ vs
+    → ◌≡◌ {A = CoreState} (record { setup = setup; joins = joins; last = last; seats = s; backlogs = os; users = us; bans = bans; topic = topic; touched = touched })
+    (record { setup = setup; joins = joins; last = last; seats = t; backlogs = ps; users = vs; bans = bans; topic = topic; touched = touched })
+same-core setup joins last {s} {t} {os} {ps} {us} {vs} {bans} {topic} {touched} seats backlogs users =
+    ap₂ (λ (x : List Seat) (y : List Listed). record { setup = setup; joins = joins; last = last; seats = x; backlogs = os; users = y; bans = bans; topic = topic; touched = touched }) seats users
+    ∙ ap (λ (x : List Backlog). record { setup = setup; joins = joins; last = last; seats = t; backlogs = x; users = vs; bans = bans; topic = topic; touched = touched }) backlogs
 
-seats-carried : (setup : Configured) (c : ℕ) (effect : Effect) (f : Facts) → Sound f → ((d : ℕ) → Tidy (f.about d)) → Suits (own_of (f.about c)) effect
-    → delivered_all (change_at effect.change) (at_seat c (changed_seat effect.change) (map (seat_of f.about) f.opened)) (map (seat_share c effect) (map (seat_of f.about) f.opened))
-    ≡ map (seat_of (about_parts c effect f.about)) f.opened
-seats-carried setup c effect f sound tidy suits =
-    ap₂ (delivered_all (change_at effect.change)) (at-one c (changed_seat effect.change) f.about f.opened sound.open_once) (map-seats (seat_share c effect) (seat_of f.about) f.opened)
-    ∙ delivered-map (change_at effect.change) (seat_one c (changed_seat effect.change) f.about) (λ d. seat_share c effect (seat_of f.about d)) f.opened
-    ∙ seats-same _ (seat_of (about_parts c effect f.about)) f.opened
-    (λ d. delivers c effect d (f.about d) suits.routed (sound.taken d) (tidy d).lines (tidy d).bytes (λ is. subst (λ x. Suits (own_of (f.about x)) effect) (sym (eqb-true d c is)) suits))
+seats-carried : (c : ℕ) (effect : Effect) (f : Facts) → Sound f → Suits (own_of (f.about c)) effect
+    → map (seat_after_change_at (change_at effect.change)) (at_seat c (changed_seat effect.change) (map (seat_of f.about) f.opened)) ≡ map (seat_of (about_parts c effect f.about)) f.opened
+seats-carried c effect f sound suits =
+    ap (map (seat_after_change_at (change_at effect.change))) (at-one c (changed_seat effect.change) f.about f.opened sound.open_once)
+    ∙ map-seats (seat_after_change_at (change_at effect.change)) (seat_one c (changed_seat effect.change) f.about) f.opened
+    ∙ each-same _ (seat_of (about_parts c effect f.about)) f.opened
+    (λ d. seat-by (d == c) effect d (f.about d) (λ is. subst (λ x. Suits (own_of (f.about x)) effect) (sym (eqb-true d c is)) suits))
+
+backlogs-carried : (c : ℕ) (effect : Effect) (f : Facts) → Sound f → ((d : ℕ) → Tidy (f.about d)) → Suits (own_of (f.about c)) effect
+    → given_each (map (seat_share c effect) (map (seat_of f.about) f.opened)) (map (backlog_at f.about) f.opened) ≡ map (backlog_at (about_parts c effect f.about)) f.opened
+backlogs-carried c effect f sound tidy suits =
+    ap (λ ss. given_each ss (map (backlog_at f.about) f.opened)) (map-seats (seat_share c effect) (seat_of f.about) f.opened)
+    ∙ each-given (λ d. seat_share c effect (seat_of f.about d)) (backlog_at f.about) f.opened
+    ∙ each-same _ (backlog_at (about_parts c effect f.about)) f.opened
+    (λ d. ap (λ ls. given_backlog ls (backlog_at f.about d)) (share-same c d effect (f.about d) suits.routed)
+    ∙ backlog-by (d == c) effect (f.about d) (sound.taken d) (tidy d).lines (tidy d).bytes)
 
 pub carried-out : (setup : Configured) (c : ℕ) (effect : Effect) (f : Facts) → Sound f → Numbered setup f → ((d : ℕ) → Tidy (f.about d)) → has c f.opened ≡ true → Suits (own_of (f.about c)) effect
     → carried_out c effect (core_of setup f) ≡ core_of setup (happens c effect f)
 unfolding carried_out
 carried-out setup c effect f sound n tidy open_c suits =
-    same-core setup f.joins f.last (seats-carried setup c effect f sound tidy suits)
+    same-core setup f.joins f.last (seats-carried c effect f sound suits) (backlogs-carried c effect f sound tidy suits)
     (ap₂ (λ sid phase. users_after effect.change sid phase (map (user_of f.about) f.present))
     (in-open c (λ seat. seat.sender.sid) 0 f.about f.opened open_c) (in-open c (λ seat. seat.phase) phases.Gone f.about f.opened open_c)
     ∙ users-carried setup f c effect sound n open_c suits)
@@ -155,15 +166,17 @@ pub decided-is : (setup : Configured) (f : Facts) (c : ℕ) (line : PreparedLine
 decided-is setup f c line now effect sound n tidy open_c decided = decided-by setup f c line now effect (f.about c).stage refl sound n tidy open_c decided
 
 -- what the code makes of a hub, part by part
-pub carried-as : (core : CoreState) (c : ℕ) (effect : Effect) (i : ℕ) (seat now : Seat) (seats : List Seat) (users : List Listed) (bans : List (List ℕ × Ban)) (topic : List ℕ)
+pub carried-as : (core : CoreState) (c : ℕ) (effect : Effect) (i : ℕ) (seat now : Seat) (seats : List Seat) (backlogs : List Backlog) (users : List Listed) (bans : List (List ℕ × Ban)) (topic : List ℕ)
     → StandsFirst c core.seats i → seat ≡ get_or core.seats i seat → now ≡ changed_seat effect.change seat
-    → seats ≡ delivered_all (change_at effect.change) (slice_set core.seats i now) (map (seat_share c effect) core.seats)
+    → seats ≡ map (seat_after_change_at (change_at effect.change)) (slice_set core.seats i now)
+    → backlogs ≡ given_each (map (seat_share c effect) core.seats) core.backlogs
     → users ≡ users_after effect.change seat.sender.sid seat.phase core.users
     → bans ≡ bans_after effect.change core.bans → topic ≡ topic_after effect.change core.topic
-    → record core { seats = seats; users = users; bans = bans; topic = topic } ≡ carried_out c effect core
+    → record core { seats = seats; backlogs = backlogs; users = users; bans = bans; topic = topic } ≡ carried_out c effect core
 unfolding carried_out
-carried-as core c effect i seat now seats users bans topic at is_seat is_now is_seats is_users is_bans is_topic =
-    ap₂ (λ (b : List (List ℕ × Ban)) (t : List ℕ). record core { seats = seats; users = users; bans = b; topic = t }) is_bans is_topic
+carried-as core c effect i seat now seats backlogs users bans topic at is_seat is_now is_seats is_backlogs is_users is_bans is_topic =
+    ap₂ (λ (b : List (List ℕ × Ban)) (t : List ℕ). record core { seats = seats; backlogs = backlogs; users = users; bans = b; topic = t }) is_bans is_topic
     ∙ same-core core.setup core.joins core.last
-    (is_seats ∙ ap (λ (ss : List Seat). delivered_all (change_at effect.change) ss (map (seat_share c effect) core.seats)) (set-read c (changed_seat effect.change) core.seats i seat now at is_seat is_now))
+    (is_seats ∙ ap (map (seat_after_change_at (change_at effect.change))) (set-read c (changed_seat effect.change) core.seats i seat now at is_seat is_now))
+    is_backlogs
     (is_users ∙ ap₂ (λ sid phase. users_after effect.change sid phase core.users) (sym (sid-at c core.seats i seat at is_seat)) (sym (phase-at c core.seats i seat at is_seat)))

@@ -10,12 +10,10 @@ use Rattle.std.proofs.lemmas.List.{map-append}
 use Rattle.hub_rules.specs.declared.sender.SeatChange.{SeatChange}
 use Rattle.hub_core.specs.declared.seat.Seat.{Seat}
 use Rattle.hub_core.specs.Index.{AreIndexed, IsSetAt, keys, number_at}
-use Rattle.hub_core.specs.Leaving.{others_of, seat_told, told_all_if, told_if}
+use Rattle.hub_core.specs.Leaving.{others_of}
 use Rattle.hub_core.specs.Numbers.{numbers}
-use Rattle.hub_core.specs.Phases.{stage_in}
-use Rattle.hub_core.specs.Seats.{at_seat, given_seat, seat_after_change_at, seat_after_if, delivered_all}
+use Rattle.hub_core.specs.Seats.{at_seat, seat_after_change_at, seat_after_if}
 use Rattle.hub_core.proofs.Places.{StandsFirst}
-use Rattle.hub_rules.specs.Effects.{is_present}
 
 abbrev Keys : Type 0
 Keys = List (ℕ × ℕ)
@@ -43,16 +41,9 @@ key-after : (at : Option (ℕ × SeatChange)) (seat : Seat) → key (seat_after_
 key-after (Some (sid, change)) seat = key-if _ change seat
 key-after None seat = refl
 
-key-given : (share : List (List ℕ)) (seat : Seat) → key (given_seat share seat) ≡ key seat
-key-given [] seat = refl
-key-given (line ∷ lines) seat = refl
-
-pub keys-delivered : (at : Option (ℕ × SeatChange)) (seats : List Seat) (shares : List (List (List ℕ))) → keys (delivered_all at seats shares) ≡ keys seats
-unfolding delivered_all
-keys-delivered at [] shares = refl
-keys-delivered at (seat ∷ seats) [] = refl
-keys-delivered at (seat ∷ seats) (share ∷ shares) =
-    ap₂ (λ (k : ℕ × ℕ) (ks : Keys). k ∷ ks) (key-after at (given_seat share seat) ∙ key-given share seat) (keys-delivered at seats shares)
+pub keys-named : (at : Option (ℕ × SeatChange)) (seats : List Seat) → keys (map (seat_after_change_at at) seats) ≡ keys seats
+keys-named at [] = refl
+keys-named at (seat ∷ seats) = ap₂ (λ (k : ℕ × ℕ) (ks : Keys). k ∷ ks) (key-after at seat) (keys-named at seats)
 
 changed-one : (change : Seat → Seat) (seat : Seat) (seats rest : List Seat) (same : Bool) → key (change seat) ≡ key seat → keys rest ≡ keys seats
     → keys (cond same (change seat ∷ seats) (seat ∷ rest)) ≡ key seat ∷ keys seats
@@ -63,18 +54,6 @@ pub keys-changed : (c : ℕ) (change : Seat → Seat) → ((seat : Seat) → key
 unfolding at_seat
 keys-changed c change kept [] = refl
 keys-changed c change kept (seat ∷ seats) = changed-one change seat seats (at_seat c change seats) (seat.number == c) (kept seat) (keys-changed c change kept seats)
-
-key-told : (present : Bool) (sid : ℕ) (seat : Seat) → key (told_if present sid seat) ≡ key seat
-key-told true sid seat = refl
-key-told false sid seat = refl
-
-keys-map : (sid : ℕ) (seats : List Seat) → keys (map (seat_told sid) seats) ≡ keys seats
-keys-map sid [] = refl
-keys-map sid (seat ∷ seats) = ap₂ (λ (k : ℕ × ℕ) (ks : Keys). k ∷ ks) (key-told (is_present (stage_in seat.phase)) sid seat) (keys-map sid seats)
-
-pub keys-told : (was_present : Bool) (sid : ℕ) (seats : List Seat) → keys (told_all_if was_present sid seats) ≡ keys seats
-keys-told true sid seats = keys-map sid seats
-keys-told false sid seats = refl
 
 pub indexed-same : (index : Keys) (before after : List Seat) → keys after ≡ keys before → AreIndexed index (keys before) → AreIndexed index (keys after)
 indexed-same index before after same indexed = subst (λ ks. AreIndexed index ks) (sym same) indexed

@@ -1,14 +1,15 @@
+pub mod Beside
 pub mod Carried
 pub mod Concerned
-pub mod Delivering
-pub mod Ended
 pub mod Indexed
 pub mod Numbers
 pub mod Owed
 pub mod Places
 pub mod Reaching
+pub mod Rows
 pub mod Running
 pub mod Seating
+pub mod Settling
 pub mod Sharing
 pub mod Standing
 pub mod Tests

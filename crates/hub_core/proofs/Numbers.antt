@@ -1,5 +1,5 @@
 -- Seats in the order of their joins: what keeps the order, and what a search finds among them.
-use Rattle.std.proofs.Common.{◌≡◌, ◌∙◌, sym, ap, ap₂, refl, subst, ℕ, zero, suc, ◌+◌, ◌<◌, ◌≤◌, Bool, true, false, cond, not, ◌==◌, List, [], ◌∷◌, ◌++◌, length, map, get_or, arith, inl, inr, MatchResult, Option, Some, None, Result, Ok, Err}
+use Rattle.std.proofs.Common.{◌≡◌, ◌∙◌, sym, ap, ap₂, refl, subst, ℕ, zero, suc, ◌+◌, ◌<◌, ◌≤◌, Bool, true, false, cond, not, ◌==◌, List, [], ◌∷◌, ◌++◌, length, get_or, arith, inl, inr, MatchResult, Option, Some, None, Result, Ok, Err}
 use Rattle.std.specs.Prelude.{◌||◌, ◌≢◌, is_some, nat_lt, position}
 use Rattle.std.specs.List.{list_any, position_or_len}
 use Rattle.std.specs.List.Sorted.{IsSearchInRange, IsBinarySearchResult, IsNonDecreasingBy}
@@ -15,14 +15,14 @@ use Rattle.hub_core.specs.declared.seat.Seat.{Seat}
 use Rattle.hub_core.specs.Index.{keys}
 use Rattle.hub_core.specs.Leaving.{others_of}
 use Rattle.hub_core.specs.Numbers.{Above, Ordered, Rising, UpTo, numbers}
-use Rattle.hub_core.specs.Seats.{at_seat, changed_seat, new_seat, seat_share}
+use Rattle.hub_core.specs.Seats.{at_seat, changed_seat, new_seat}
 use Rattle.hub_core.specs.State.{IsPlace, carried_out}
 use Rattle.hub_core.specs.CoreState.{CoreState}
 use Rattle.hub_rules.specs.declared.effect.Effect.{Effect}
 use Rattle.hub_rules.specs.Senders.{new_sender}
 use Rattle.hub_rules.specs.Shares.{change_at}
 use Rattle.hub_core.proofs.Places.{StandsFirst, none_passes}
-use Rattle.hub_core.proofs.Indexed.{keys-changed, keys-delivered, numbers-kept}
+use Rattle.hub_core.proofs.Indexed.{keys-changed, keys-named, numbers-kept}
 use Rattle.hub_core.proofs.Tests.{false-lt, lt-true}
 use Rattle.hub_invariants.proofs.Sound.{or-true}
 
@@ -202,6 +202,6 @@ place-carried c place effect core is =
     by-number c (carried_out c effect core).seats
     ∙ ap (position (λ n. n == c))
     (numbers-kept core.seats (carried_out c effect core).seats
-    (keys-delivered (change_at effect.change) (at_seat c (changed_seat effect.change) core.seats) (map (seat_share c effect) core.seats)
+    (keys-named (change_at effect.change) (at_seat c (changed_seat effect.change) core.seats)
     ∙ keys-changed c (changed_seat effect.change) (λ seat. refl) core.seats))
     ∙ sym (by-number c core.seats) ∙ is

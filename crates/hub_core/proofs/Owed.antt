@@ -1,5 +1,5 @@
--- Shares of those that hear something, given seat by seat, are the shares of all.
-use Rattle.std.proofs.Common.{◌≡◌, ◌∙◌, sym, ap, ap₂, refl, subst, ℕ, zero, suc, ◌+◌, ◌<◌, ◌≤◌, Bool, true, false, List, [], ◌∷◌, ◌++◌, length, map, get_or, drop, set, arith}
+-- The shares of those that hear something.
+use Rattle.std.proofs.Common.{◌≡◌, ◌∙◌, sym, ap, ap₂, refl, subst, ℕ, zero, suc, ◌+◌, ◌<◌, ◌≤◌, Bool, true, false, List, [], ◌∷◌, ◌++◌, length, map, get_or, drop, arith}
 use Rattle.std.specs.Prelude.{◌==◌, ◌||◌, ◌≢◌, cond, IfSome, Option, Some, None}
 use Rattle.std.proofs.lemmas.Bool.{eqb-true}
 use Rattle.std.proofs.lemmas.List.{append-nil, append_assoc, at_drop_more, at_drop_all}
@@ -8,12 +8,11 @@ use Rattle.feature_route.specs.declared.hearers.Audience.{Audience}
 use Rattle.feature_route.specs.declared.hearers.Audience.TheVariants as audiences
 use Rattle.hub_core.specs.declared.seat.Phase.{Phase}
 use Rattle.hub_core.specs.declared.seat.Phase.TheVariants as phases
-use Rattle.hub_rules.specs.declared.sender.SeatChange.{SeatChange}
 use Rattle.hub_core.specs.declared.seat.Seat.{Seat}
 use Rattle.hub_core.specs.declared.share.Share.{Share}
-use Rattle.hub_core.specs.Owed.{AreQuietBut, IsMeant, IsOnlyFor, given_all, given_at, share_at, shares_from}
+use Rattle.hub_core.specs.Owed.{AreQuietBut, IsMeant, IsOnlyFor, share_at, shares_from}
 use Rattle.hub_core.specs.Phases.{phase_hears}
-use Rattle.hub_core.specs.Seats.{given_seat, seat_after_change_at, delivered_seat, delivered_all}
+use Rattle.hub_core.specs.Seats.{seat_after_change_at}
 use Rattle.hub_rules.specs.declared.effect.Effect.{Effect}
 use Rattle.hub_rules.specs.declared.effect.Hearers.TheVariants.{Those}
 
@@ -129,95 +128,8 @@ pub two-only : (one other : ℕ) → IsOnlyFor one other (audiences.Two other on
 unfolding holds_words
 two-only one other sid words first second = ap₂ ◌||◌ (apart other sid (other == sid) refl second) (apart one sid (one == sid) refl first)
 
--- ---- a share is given
-
-pub given-within : (i : ℕ) (lines : Lines) (seats : List Seat) (d : Seat) → i < length seats → set seats i (given_seat lines (get_or seats i d)) ≡ given_at i lines seats
-unfolding given_at
-given-within i lines [] d within = absurd (omega (arith, within))
-given-within zero lines (seat ∷ seats) d within = refl
-given-within (suc i) lines (seat ∷ seats) d within = ap (λ ss. seat ∷ ss) (given-within i lines seats d (omega (arith, within)))
-
-pub given-past : (i : ℕ) (lines : Lines) (seats : List Seat) → length seats ≤ i → given_at i lines seats ≡ seats
-unfolding given_at
-given-past i lines [] past = refl
-given-past zero lines (seat ∷ seats) past = absurd (omega (arith, past))
-given-past (suc i) lines (seat ∷ seats) past = ap (λ ss. seat ∷ ss) (given-past i lines seats (omega (arith, past)))
-
-first-given : (share : Share) (shares : List Share) (seats : List Seat) → given_all (share ∷ shares) seats ≡ given_all shares (given_at share.place share.lines seats)
-unfolding given_all
-first-given share shares seats = refl
-
-pub share-given : (old rest : List Share) (share : Share) (seats all : List Seat) (d now : Seat) → all ≡ given_all old seats → old ≡ share ∷ rest → share.place < length seats
-    → now ≡ given_seat share.lines (get_or seats share.place d) → all ≡ given_all rest (set seats share.place now)
-share-given old rest share seats all d now done is within is_now =
-    done ∙ ap (λ ss. given_all ss seats) is ∙ first-given share rest seats
-    ∙ ap (λ ss. given_all rest ss) (sym (ap (set seats share.place) is_now ∙ given-within share.place share.lines seats d within))
-
-pub share-past : (old rest : List Share) (share : Share) (seats all : List Seat) → all ≡ given_all old seats → old ≡ share ∷ rest → length seats ≤ share.place
-    → all ≡ given_all rest seats
-share-past old rest share seats all done is past =
-    done ∙ ap (λ ss. given_all ss seats) is ∙ first-given share rest seats ∙ ap (λ ss. given_all rest ss) (given-past share.place share.lines seats past)
-
-no-items : {A : Type 0} (xs : List A) → length xs ≡ 0 → xs ≡ []
-no-items [] e = refl
-no-items (x ∷ xs) e = absurd (omega (arith, e))
-
-none-given : (seats : List Seat) → given_all [] seats ≡ seats
-unfolding given_all
-none-given seats = refl
-
-pub shares-given : (old : List Share) (seats all : List Seat) → all ≡ given_all old seats → length old ≡ 0 → seats ≡ all
-shares-given old seats all done none = sym (done ∙ ap (λ ss. given_all ss seats) (no-items old none) ∙ none-given seats)
-
--- ---- all shares are given
-
-given-next : (place : ℕ) (lines : Lines) (seat : Seat) (seats : List Seat) → given_at (place + 1) lines (seat ∷ seats) ≡ seat ∷ given_at place lines seats
-unfolding given_at
-given-next place lines seat seats =
-    let next : place + 1 ≡ suc place = omega arith in ap (λ n. given_at n lines (seat ∷ seats)) next
-
-later-by : (place : ℕ) (owed : Seat → Lines) (lines : Lines) (xs : List Seat) (seat : Seat) (seats : List Seat)
-    → ((seat : Seat) (seats : List Seat) → given_all (shares_from (place + 1 + 1) owed xs) (seat ∷ seats) ≡ seat ∷ given_all (shares_from (place + 1) owed xs) seats)
-    → given_all (share_at (place + 1) lines ++ shares_from (place + 1 + 1) owed xs) (seat ∷ seats) ≡ seat ∷ given_all (share_at place lines ++ shares_from (place + 1) owed xs) seats
-unfolding given_all
-later-by place owed [] xs seat seats rest = rest seat seats
-later-by place owed (line ∷ lines) xs seat seats rest =
-    ap (given_all (shares_from (place + 1 + 1) owed xs)) (given-next place (line ∷ lines) seat seats) ∙ rest seat (given_at place (line ∷ lines) seats)
-
--- the shares of the seats behind the first leave it as it is
-later-given : (place : ℕ) (owed : Seat → Lines) (xs : List Seat) (seat : Seat) (seats : List Seat)
-    → given_all (shares_from (place + 1) owed xs) (seat ∷ seats) ≡ seat ∷ given_all (shares_from place owed xs) seats
-unfolding shares_from given_all
-later-given place owed [] seat seats = refl
-later-given place owed (x ∷ xs) seat seats = later-by place owed (owed x) xs seat seats (later-given (place + 1) owed xs)
-
-first-delivered : (at : Option (ℕ × SeatChange)) (owed : Seat → Lines) (lines : Lines) (xs : List Seat) (seat : Seat) (seats : List Seat)
-    → map (seat_after_change_at at) (given_all (shares_from 0 owed xs) seats) ≡ delivered_all at seats (map owed xs)
-    → map (seat_after_change_at at) (given_all (share_at 0 lines ++ shares_from 1 owed xs) (seat ∷ seats)) ≡ delivered_seat at seat lines ∷ delivered_all at seats (map owed xs)
-unfolding given_all given_at
-first-delivered at owed [] xs seat seats rest =
-    ap (map (seat_after_change_at at)) (later-given 0 owed xs seat seats) ∙ ap (λ (ss : List Seat). seat_after_change_at at seat ∷ ss) rest
-first-delivered at owed (line ∷ lines) xs seat seats rest =
-    ap (map (seat_after_change_at at)) (later-given 0 owed xs (given_seat (line ∷ lines) seat) seats)
-    ∙ ap (λ (ss : List Seat). seat_after_change_at at (given_seat (line ∷ lines) seat) ∷ ss) rest
-
--- shares of those that hear something are the shares of all
-pub delivered-given : (at : Option (ℕ × SeatChange)) (owed : Seat → Lines) (xs seats : List Seat) → length xs ≡ length seats
-    → map (seat_after_change_at at) (given_all (shares_from 0 owed xs) seats) ≡ delivered_all at seats (map owed xs)
-unfolding shares_from given_all delivered_all
-delivered-given at owed [] [] same = refl
-delivered-given at owed [] (seat ∷ seats) same = absurd (omega (arith, same))
-delivered-given at owed (x ∷ xs) [] same = absurd (omega (arith, same))
-delivered-given at owed (x ∷ xs) (seat ∷ seats) same = first-delivered at owed (owed x) xs seat seats (delivered-given at owed xs seats (omega (arith, same)))
-
 -- ---- where no operator changes a connection
 
 pub none-changed : (seats : List Seat) → map (seat_after_change_at None) seats ≡ seats
 none-changed [] = refl
 none-changed (seat ∷ seats) = ap (λ (ss : List Seat). seat ∷ ss) (none-changed seats)
-
--- what the code gives
-pub delivered-owed : (at : Option (ℕ × SeatChange)) (owed : Seat → Lines) (seats same old new : List Seat) (shares : List Share) → new ≡ map (seat_after_change_at at) (given_all shares old)
-    → shares ≡ shares_from 0 owed same → same ≡ seats → length seats ≡ length old → new ≡ delivered_all at old (map owed seats)
-delivered-owed at owed seats same old new shares is_new is_shares is_same len =
-    is_new ∙ ap (λ ss. map (seat_after_change_at at) (given_all ss old)) (is_shares ∙ ap (shares_from 0 owed) is_same) ∙ delivered-given at owed seats old len

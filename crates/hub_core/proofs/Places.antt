@@ -5,7 +5,7 @@ use Rattle.std.specs.List.{list_any, position_or_len}
 use Rattle.std.proofs.lemmas.Bool.{false≢true}
 use Rattle.std.proofs.lemmas.List.Quantifiers.{position-Some}
 use Rattle.hub_core.specs.declared.seat.Seat.{Seat}
-use Rattle.hub_core.specs.Seats.{at_seat, in_seat, new_seat, outbox_in, phase_in, sid_in}
+use Rattle.hub_core.specs.Seats.{at_seat, in_seat, new_seat, phase_in, sid_in}
 use Rattle.hub_rules.specs.Senders.{new_sender}
 use Rattle.hub_core.proofs.Tests.{lt-true}
 
@@ -87,9 +87,6 @@ pub set-read : (c : ℕ) (change : Seat → Seat) (seats : List Seat) (i : ℕ) 
 set-read c change seats i seat now at is_seat is_now = ap (set seats i) (is_now ∙ ap change is_seat) ∙ set-at_seat c change seats i seat at
 
 -- what is read off the seat that was found
-pub outbox-at : (c : ℕ) (seats : List Seat) (i : ℕ) (seat : Seat) → StandsFirst c seats i → seat ≡ get_or seats i seat → outbox_in c seats ≡ seat.outbox
-outbox-at c seats i seat at e = in_seat-at c (λ (s : Seat). s.outbox) _ seats i seat at ∙ sym (ap (λ (s : Seat). s.outbox) e)
-
 pub phase-at : (c : ℕ) (seats : List Seat) (i : ℕ) (seat : Seat) → StandsFirst c seats i → seat ≡ get_or seats i seat → phase_in c seats ≡ seat.phase
 phase-at c seats i seat at e = in_seat-at c (λ (s : Seat). s.phase) _ seats i seat at ∙ sym (ap (λ (s : Seat). s.phase) e)
 

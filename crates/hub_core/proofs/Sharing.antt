@@ -4,12 +4,13 @@ use Rattle.std.specs.Prelude.{◌==◌, cond}
 use Rattle.feature_route.specs.Matching.{feature_set}
 use Rattle.login_state.specs.declared.stage.Stage.{Stage}
 use Rattle.login_state.specs.declared.stage.Stage.TheVariants as stages
-use Rattle.outboxes.specs.Backlogs.{Backlog, fits, backlog_after as given_backlog, marked_lagging, size_of, with_lines}
+use Rattle.outboxes.specs.Backlogs.{Backlog, fits, backlog_after, marked_lagging, size_of, with_lines}
 use Rattle.hub_core.specs.declared.seat.Phase.{Phase}
 use Rattle.hub_core.specs.declared.seat.Phase.TheVariants as phases
 use Rattle.hub_core.specs.declared.seat.Seat.{Seat}
 use Rattle.hub_core.specs.Phases.{phase_after, phase_at, phase_hears, phase_of, stage_in}
-use Rattle.hub_core.specs.Seats.{backlog_of, changed_seat, given_seat, seat_after_change_at, seat_after_if, seat_share, seat_with, delivered_seat}
+use Rattle.hub_core.specs.Seats.{changed_seat, seat_after_change_at, seat_after_if, seat_share, seat_with}
+use Rattle.hub_core.specs.Waiting.{backlog_of, given_backlog}
 use Rattle.hub_rules.specs.declared.effect.Change.{Change}
 use Rattle.hub_rules.specs.declared.effect.Change.TheVariants.{Hub, Nothing, Sender}
 use Rattle.hub_rules.specs.declared.effect.Effect.{Effect}
@@ -67,8 +68,8 @@ given-by true fit a share is few = ap (λ b. record (backlog_of a) { lags = b })
 given-by false true a share is few = ap (λ (ls : List (List ℕ)). record (backlog_of a) { lines = ls }) (sym (waiting-more a share few))
 given-by false false a share is few = refl
 
-backlog-given : (a : About) (share : List (List ℕ)) → a.taken ≤ length a.owed → given_backlog (backlog_of a) share ≡ backlog_with a share
-unfolding given_backlog owed_with lags_with
+backlog-given : (a : About) (share : List (List ℕ)) → a.taken ≤ length a.owed → backlog_after (backlog_of a) share ≡ backlog_with a share
+unfolding backlog_after owed_with lags_with
 backlog-given a share few = given-by a.lags (fits (backlog_of a) share) a share refl few
 
 -- what waits is within the limits, so that it is as before where nothing is added
@@ -89,12 +90,9 @@ pub with-nothing : (a : About) → length (waiting a) ≤ max_lines → size_of 
 unfolding owed_with lags_with
 with-nothing a lines bytes = nothing-more (has_room a []) a (no-room a.lags (fits (backlog_of a) []) (fits-nothing a lines bytes))
 
--- a seat that is given a share changes in what waits alone
-gives : (a : About) (share : List (List ℕ)) → a.taken ≤ length a.owed → length (waiting a) ≤ max_lines → size_of (waiting a) ≤ max_bytes
-    → (seat : Seat) → seat.outbox ≡ backlog_of a → given_seat share seat ≡ record seat { outbox = backlog_with a share }
-gives a [] few lines bytes seat is = ap (λ (o : Backlog). record seat { outbox = o }) (is ∙ with-nothing a lines bytes)
-gives a (line ∷ share) few lines bytes seat is =
-    ap (λ (o : Backlog). record seat { outbox = o }) (ap (λ (o : Backlog). given_backlog o (line ∷ share)) is ∙ backlog-given a (line ∷ share) few)
+gives : (a : About) (share : List (List ℕ)) → a.taken ≤ length a.owed → length (waiting a) ≤ max_lines → size_of (waiting a) ≤ max_bytes → given_backlog share (backlog_of a) ≡ backlog_with a share
+gives a [] few lines bytes = with-nothing a lines bytes
+gives a (line ∷ share) few lines bytes = backlog-given a (line ∷ share) few
 
 -- ---- a change
 
@@ -189,28 +187,19 @@ changes-at None seat a b stage same here is =
     ap (λ (p : Phase). record seat { phase = p }) is
     ∙ ap (λ gone. record seat { phase = phase_at (cond gone stages.Gone stage) b }) (sym (and-false (is_present a.stage)))
 
--- ---- one seat
+-- ---- one connection
 
-abbrev pub seat_next : ℕ → Effect → ℕ → About → Seat
-seat_next c effect d a = delivered_seat (change_at effect.change) (cond (d == c) (changed_seat effect.change (seat_with d a)) (seat_with d a)) (seat_share c effect (seat_with d a))
-
-pub delivers-by : (is_caller : Bool) (effect : Effect) (d : ℕ) (a : About) → a.taken ≤ length a.owed → length (waiting a) ≤ max_lines → size_of (waiting a) ≤ max_bytes → (is_caller ≡ true → Suits (own_of a) effect)
-    → delivered_seat (change_at effect.change) (cond is_caller (changed_seat effect.change (seat_with d a)) (seat_with d a)) (owes is_caller effect a) ≡ seat_with d (affected_parts is_caller effect a)
-delivers-by true effect d a few lines bytes suits =
+pub seat-by : (is_caller : Bool) (effect : Effect) (d : ℕ) (a : About) → (is_caller ≡ true → Suits (own_of a) effect)
+    → seat_after_change_at (change_at effect.change) (cond is_caller (changed_seat effect.change (seat_with d a)) (seat_with d a)) ≡ seat_with d (affected_parts is_caller effect a)
+seat-by true effect d a suits =
     let seat : Seat = changed_seat effect.change (seat_with d a) in
     let after : About = affected_parts true effect a in
-    ap (seat_after_change_at (change_at effect.change)) (gives a (owes true effect a) few lines bytes seat refl)
-    ∙ changes-at (change_at effect.change) (record seat { outbox = backlog_with a (owes true effect a) }) a after (stage_after effect.change a.stage) refl
-    (here-self effect.change (record seat { outbox = backlog_with a (owes true effect a) }) a refl)
+    changes-at (change_at effect.change) seat a after (stage_after effect.change a.stage) refl (here-self effect.change seat a refl)
     (changed-phase effect.change a (suits refl).change ∙ kept-phase (stage_after effect.change a.stage) (known_after effect.change a) after refl refl refl)
-delivers-by false effect d a few lines bytes suits =
+seat-by false effect d a suits =
     let after : About = affected_parts false effect a in
-    ap (seat_after_change_at (change_at effect.change)) (gives a (owes false effect a) few lines bytes (seat_with d a) refl)
-    ∙ changes-at (change_at effect.change) (record (seat_with d a) { outbox = backlog_with a (owes false effect a) }) a after a.stage refl
-    (here-other (change_at effect.change) (record (seat_with d a) { outbox = backlog_with a (owes false effect a) }) a refl) (kept-phase a.stage a after refl refl refl)
+    changes-at (change_at effect.change) (seat_with d a) a after a.stage refl (here-other (change_at effect.change) (seat_with d a) a refl) (kept-phase a.stage a after refl refl refl)
 
-pub delivers : (c : ℕ) (effect : Effect) (d : ℕ) (a : About) → Routed effect.hearers → a.taken ≤ length a.owed → length (waiting a) ≤ max_lines → size_of (waiting a) ≤ max_bytes → ((d == c) ≡ true → Suits (own_of a) effect)
-    → seat_next c effect d a ≡ seat_with d (affected_parts (d == c) effect a)
-delivers c effect d a routed few lines bytes suits =
-    ap (delivered_seat (change_at effect.change) (cond (d == c) (changed_seat effect.change (seat_with d a)) (seat_with d a))) (share-same c d effect a routed)
-    ∙ delivers-by (d == c) effect d a few lines bytes suits
+pub backlog-by : (is_caller : Bool) (effect : Effect) (a : About) → a.taken ≤ length a.owed → length (waiting a) ≤ max_lines → size_of (waiting a) ≤ max_bytes
+    → given_backlog (owes is_caller effect a) (backlog_of a) ≡ backlog_of (affected_parts is_caller effect a)
+backlog-by is_caller effect a few lines bytes = gives a (owes is_caller effect a) few lines bytes

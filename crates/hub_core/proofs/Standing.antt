@@ -7,7 +7,7 @@ use Rattle.std.specs.List.{concat, list_any}
 use Rattle.std.proofs.lemmas.Bool.{false≢true, eqb-true, eq-eqb}
 use Rattle.std.proofs.lemmas.List.{map-append, length-map}
 use Rattle.adc_base32.specs.Turns.{next_free}
-use Rattle.outboxes.specs.Backlogs.{Backlog, empty_backlog, with_lines}
+use Rattle.outboxes.specs.Backlogs.{Backlog, with_lines}
 use Rattle.operator_acts.specs.declared.ban.Ban.{Ban}
 use Rattle.outboxes.specs.Quits.{quit_line}
 use Rattle.user_table.specs.Listed.{Listed}
@@ -23,10 +23,11 @@ use Rattle.hub_core.specs.declared.share.Touched.{Touched}
 use Rattle.hub_core.specs.declared.share.Touched.TheVariants.{Nobody}
 use Rattle.hub_core.specs.CoreState.{CoreState, noted}
 use Rattle.hub_core.specs.Decided.{Decided, sight_in}
-use Rattle.hub_core.specs.Leaving.{has_ended, left_core, seat_after_take, core_after_take, lines_in, others_of, seat_told, told_all_if, told_if}
+use Rattle.hub_core.specs.Leaving.{has_ended, left_core, core_after_take, lines_in, others_of, told_of}
 use Rattle.hub_core.specs.Moves.{LineMoves, Moves, StandsAt}
 use Rattle.hub_core.specs.Phases.{phase_at, stage_in}
-use Rattle.hub_core.specs.Seats.{backlog_of, at_seat, given_seat, in_seat, new_seat, outbox_in, phase_in, seat_of, seat_with, sid_in}
+use Rattle.hub_core.specs.Seats.{in_seat, new_seat, phase_in, seat_of, seat_with, sid_in}
+use Rattle.hub_core.specs.Waiting.{backlog_after_take, backlog_in, backlog_of, backlogs_but, ends_by, given_backlog, given_each, no_backlog}
 use Rattle.hub_core.specs.State.{HasSeat, IsSeated, Stands, carried_out, core_of}
 use Rattle.hub_rules.specs.declared.effect.Effect.{Effect}
 use Rattle.hub_rules.specs.declared.history.Call.{Call}
@@ -41,7 +42,7 @@ use Rattle.hub_rules.specs.Facts.{Facts, about_after, after, without_connection,
 use Rattle.hub_rules.specs.Identities.{listed_user}
 use Rattle.hub_rules.specs.Legal.{Legal, is_open, join_reply, reply, take_reply, verdict_of}
 use Rattle.hub_rules.specs.Senders.{new_sender}
-use Rattle.hub_rules.specs.Shares.{About, max_bytes, max_lines, owes, waiting}
+use Rattle.hub_rules.specs.Shares.{About, waiting}
 use Rattle.hub_rules.specs.Prepared.{prepared_line}
 use Rattle.hub_rules.specs.Sights.{PreparedLine}
 use Rattle.hub_invariants.proofs.Calls.{not-open, sound_of}
@@ -51,8 +52,8 @@ use Rattle.hub_invariants.proofs.Sound.{Sound, not-over, or-true}
 use Rattle.hub_invariants.proofs.Suits.{Suits}
 use Rattle.hub_invariants.proofs.Tidy.{Tidy, suits_of, tidy_of, waiting-given}
 use Rattle.hub_core.proofs.Carried.{carried-out, decided-is, same-core}
-use Rattle.hub_core.proofs.Seating.{at-one, in-open, map-seats, others-seats, others_of as numbers_but, seat_one, seated-open, seats-left, seats-same}
-use Rattle.hub_core.proofs.Sharing.{delivers-by, stage-kept}
+use Rattle.hub_core.proofs.Seating.{backlog-open, backlog_at, backlogs-left, each-given, each-same, in-open, map-seats, one-waits, others-same-by, others_of as numbers_but, seated-open, seats-left}
+use Rattle.hub_core.proofs.Sharing.{backlog-by, seat-by, stage-kept}
 use Rattle.hub_core.proofs.Tests.{false-le, true-le}
 use Rattle.hub_core.proofs.Users.{users-carried}
 
@@ -121,22 +122,15 @@ given-phase stages.Verify count a = refl
 given-phase stages.Normal count a = refl
 given-phase stages.Gone count a = refl
 
-takes : (count c : ℕ) (a : About) → seat_after_take count (seat_with c a) ≡ seat_with c (with_lines_taken count a)
-takes count c a =
-    ap (λ (ls : List (List ℕ)). record (seat_with c a) { outbox = with_lines (backlog_of a) ls }) (sym (waiting-given count a))
-    ∙ ap (λ p. record (seat_with c (with_lines_taken count a)) { phase = p }) (given-phase a.stage count a)
+-- a take changes no seat
+seat-taken : (count d : ℕ) (a : About) (same : Bool) → seat_with d a ≡ seat_with d (cond same (with_lines_taken count a) a)
+seat-taken count d a true = ap (λ p. record (seat_with d a) { phase = p }) (given-phase a.stage count a)
+seat-taken count d a false = refl
 
--- a change of one connection
-chosen-seat : (c d : ℕ) (change : Seat → Seat) (turn : About → About) (about : ℕ → About) (same : Bool) → ((a : About) → change (seat_with d a) ≡ seat_with d (turn a))
-    → cond same (change (seat_of about d)) (seat_of about d) ≡ seat_with d (cond same (turn (about d)) (about d))
-chosen-seat c d change turn about true each = each (about d)
-chosen-seat c d change turn about false each = refl
-
-one-changes : (c : ℕ) (change : Seat → Seat) (turn : About → About) (f : Facts) → Sound f → ((d : ℕ) (a : About) → change (seat_with d a) ≡ seat_with d (turn a))
-    → at_seat c change (map (seat_of f.about) f.opened) ≡ map (seat_of (with_one c turn f.about)) f.opened
-one-changes c change turn f sound each =
-    at-one c change f.about f.opened sound.open_once
-    ∙ seats-same (seat_one c change f.about) (seat_of (with_one c turn f.about)) f.opened (λ d. chosen-seat c d change turn f.about (d == c) (each d))
+-- it takes the first lines of one connection
+lines-taken : (count : ℕ) (a : About) (same : Bool) → cond same (backlog_after_take count (backlog_of a)) (backlog_of a) ≡ backlog_of (cond same (with_lines_taken count a) a)
+lines-taken count a true = ap (λ (ls : List (List ℕ)). with_lines (backlog_of a) ls) (sym (waiting-given count a))
+lines-taken count a false = refl
 
 user-one : (turn : About → About) (a : About) (same : Bool) → (turn a).sender.sid ≡ a.sender.sid → (turn a).fields ≡ a.fields
     → listed_user a.sender.sid a.fields ≡ listed_user (cond same (turn a) a).sender.sid (cond same (turn a) a).fields
@@ -152,9 +146,9 @@ users-one c turn f sid fields (d ∷ xs) =
 
 pub take-moves : (old new : CoreState) (c count lines : ℕ) (bytes : List ℕ) (over : Bool) (touched : Touched)
     → new ≡ noted touched (core_after_take c count old)
-    → bytes ≡ concat (take count (lines_in c old.seats))
-    → lines ≡ length (take count (lines_in c old.seats))
-    → over ≡ has_ended c count old.seats
+    → bytes ≡ concat (take count (lines_in c old))
+    → lines ≡ length (take count (lines_in c old))
+    → over ≡ has_ended c count old
     → Moves old (Take c count) (Took bytes lines over) new
 unfolding Legal Stands facts after reply
 take-moves old new c count lines bytes over touched is_new is_bytes is_lines is_ended setup hash h caller at may =
@@ -162,17 +156,20 @@ take-moves old new c count lines bytes over touched is_new is_bytes is_lines is_
     let sound : Sound f = sound_of setup hash h in
     let stands : noted Nobody new ≡ core_of setup (record f { about = with_one c (with_lines_taken count) f.about }) =
     ap (noted Nobody) is_new ∙ ap (core_after_take c count) at.stands
-    ∙ same-core setup f.joins f.last (one-changes c (seat_after_take count) (with_lines_taken count) f sound (λ d a. takes count d a))
+    ∙ same-core setup f.joins f.last
+    (each-same (seat_of f.about) (seat_of (with_one c (with_lines_taken count) f.about)) f.opened (λ d. seat-taken count d (f.about d) (d == c)))
+    (one-waits c (backlog_after_take count) f.about f.opened sound.open_once
+    ∙ each-same _ (backlog_at (with_one c (with_lines_taken count) f.about)) f.opened (λ d. lines-taken count (f.about d) (d == c)))
     (users-one c (with_lines_taken count) f (λ a. refl) (λ a. refl) f.present) in
-    let outbox : outbox_in c old.seats ≡ backlog_of (f.about c) =
-    ap (λ (s : CoreState). outbox_in c s.seats) at.stands ∙ in-open c (λ seat. seat.outbox) (empty_backlog max_lines max_bytes) f.about f.opened may.0 in
+    let backlog : backlog_in c old.seats old.backlogs ≡ backlog_of (f.about c) =
+    ap (λ (s : CoreState). backlog_in c s.seats s.backlogs) at.stands ∙ backlog-open c f.about f.opened may.0 in
     let stage : stage_in (phase_in c old.seats) ≡ (f.about c).stage =
     ap (λ (s : CoreState). stage_in (phase_in c s.seats)) at.stands ∙ ap stage_in (in-open c (λ seat. seat.phase) phases.Gone f.about f.opened may.0) ∙ stage-kept c (f.about c) in
     let ended : over ≡ (nat_le (length (waiting (f.about c))) count && (is_over (f.about c).stage || (f.about c).lags)) =
-    is_ended ∙ ap₂ (λ (o : Backlog) s. nat_le (length o.lines) count && (is_over s || o.lags)) outbox stage in
+    is_ended ∙ ap₂ (λ (o : Backlog) s. ends_by (is_over s) count o) backlog stage in
     let replied : Took bytes lines over ≡ take_reply count (f.about c) =
-    ap (λ b. Took b lines over) (is_bytes ∙ ap (λ (o : Backlog). concat (take count o.lines)) outbox)
-    ∙ ap (λ n. Took (concat (take count (waiting (f.about c)))) n over) (is_lines ∙ ap (λ (o : Backlog). length (take count o.lines)) outbox)
+    ap (λ b. Took b lines over) (is_bytes ∙ ap (λ (o : Backlog). concat (take count o.lines)) backlog)
+    ∙ ap (λ n. Took (concat (take count (waiting (f.about c)))) n over) (is_lines ∙ ap (λ (o : Backlog). length (take count o.lines)) backlog)
     ∙ ap (λ b. Took (concat (take count (waiting (f.about c)))) (length (take count (waiting (f.about c)))) b) ended in
     record { legal = (at.legal, may, replied); stands = stands }
 
@@ -181,38 +178,40 @@ take-moves old new c count lines bytes over touched is_new is_bytes is_lines is_
 abbrev leaves : About → Effect
 leaves a = departure a.stage a.sender.sid
 
-told-one : (here there : Bool) (sid : ℕ) (seat : Seat) → cond here (told_if there sid seat) seat ≡ given_seat (cond (there && true) (cond here (quit_line sid ∷ []) []) [] ++ []) seat
-told-one true true sid seat = refl
-told-one true false sid seat = refl
-told-one false true sid seat = refl
-told-one false false sid seat = refl
+-- who is told of a departure is owed its line
+told-share : (here there : Bool) (line : List ℕ) → cond (here && there) (line ∷ []) [] ≡ cond (there && true) (cond here (line ∷ []) []) [] ++ []
+told-share true true line = refl
+told-share true false line = refl
+told-share false true line = refl
+told-share false false line = refl
 
-abbrev told_seat : Bool → ℕ → Seat → Seat
-told_seat here sid seat = cond here (seat_told sid seat) seat
+left-seat : (c d : ℕ) (a b : About) → (d == c) ≡ false → seat_with d b ≡ seat_with d (affected_parts (d == c) (leaves a) b)
+left-seat c d a b other = seat-by false (leaves a) d b (λ is. absurd (false≢true is)) ∙ ap (λ same. seat_with d (affected_parts same (leaves a) b)) (sym other)
 
-left-seat : (c d : ℕ) (a b : About) → (d == c) ≡ false → b.taken ≤ length b.owed → Tidy b
-    → told_seat (is_present a.stage) a.sender.sid (seat_with d b) ≡ seat_with d (affected_parts (d == c) (leaves a) b)
-left-seat c d a b other few tidy =
-    let seat : Seat = given_seat (owes false (leaves a) b) (seat_with d b) in
-    ap (λ s. cond (is_present a.stage) (told_if (is_present s) a.sender.sid (seat_with d b)) (seat_with d b)) (stage-kept d b)
-    ∙ told-one (is_present a.stage) (is_present b.stage) a.sender.sid (seat_with d b)
-    ∙ delivers-by false (leaves a) d b few tidy.lines tidy.bytes (λ is. absurd (false≢true is))
-    ∙ ap (λ same. seat_with d (affected_parts same (leaves a) b)) (sym other)
+left-backlog : (c d : ℕ) (a b : About) → (d == c) ≡ false → b.taken ≤ length b.owed → Tidy b
+    → given_backlog (told_of (is_present a.stage) a.sender.sid (seat_with d b)) (backlog_of b) ≡ backlog_of (affected_parts (d == c) (leaves a) b)
+left-backlog c d a b other few tidy =
+    ap (λ ls. given_backlog ls (backlog_of b))
+    (ap (λ s. cond (is_present a.stage && is_present s) (quit_line a.sender.sid ∷ []) []) (stage-kept d b)
+    ∙ told-share (is_present a.stage) (is_present b.stage) (quit_line a.sender.sid))
+    ∙ backlog-by false (leaves a) b few tidy.lines tidy.bytes
+    ∙ ap (λ same. backlog_of (affected_parts same (leaves a) b)) (sym other)
 
-map-told : (here : Bool) (sid : ℕ) (seats : List Seat) → told_all_if here sid seats ≡ map (told_seat here sid) seats
-map-told true sid seats = refl
-map-told false sid [] = refl
-map-told false sid (seat ∷ seats) = ap (λ (ss : List Seat). seat ∷ ss) (map-told false sid seats)
+seats-gone : (c : ℕ) (f : Facts) → others_of c (map (seat_of f.about) f.opened) ≡ map (seat_of (about_parts c (leaves (f.about c)) f.about)) (numbers_but c f.opened)
+seats-gone c f =
+    seats-left c (seat_of f.about) f.opened (λ d. refl)
+    ∙ others-same-by c (seat_of f.about) (seat_of (about_parts c (leaves (f.about c)) f.about)) f.opened (λ d other. left-seat c d (f.about c) (f.about d) other)
 
-seats-gone : (c : ℕ) (f : Facts) → Sound f → ((d : ℕ) → Tidy (f.about d))
-    → told_all_if (is_present (f.about c).stage) (f.about c).sender.sid (others_of c (map (seat_of f.about) f.opened))
-    ≡ map (seat_of (about_parts c (leaves (f.about c)) f.about)) (numbers_but c f.opened)
-seats-gone c f sound tidy =
-    ap (told_all_if (is_present (f.about c).stage) (f.about c).sender.sid) (seats-left c (seat_of f.about) f.opened (λ d. refl))
-    ∙ map-told (is_present (f.about c).stage) (f.about c).sender.sid (map (seat_of f.about) (numbers_but c f.opened))
-    ∙ map-seats (told_seat (is_present (f.about c).stage) (f.about c).sender.sid) (seat_of f.about) (numbers_but c f.opened)
-    ∙ others-seats c (λ d. told_seat (is_present (f.about c).stage) (f.about c).sender.sid (seat_of f.about d)) (seat_of (about_parts c (leaves (f.about c)) f.about)) f.opened
-    (λ d other. left-seat c d (f.about c) (f.about d) other (sound.taken d) (tidy d))
+backlogs-gone : (c : ℕ) (f : Facts) → Sound f → ((d : ℕ) → Tidy (f.about d))
+    → given_each (map (told_of (is_present (f.about c).stage) (f.about c).sender.sid) (others_of c (map (seat_of f.about) f.opened))) (backlogs_but c (map (seat_of f.about) f.opened) (map (backlog_at f.about) f.opened))
+    ≡ map (backlog_at (about_parts c (leaves (f.about c)) f.about)) (numbers_but c f.opened)
+backlogs-gone c f sound tidy =
+    ap₂ (λ (ss : List Seat) (os : List Backlog). given_each (map (told_of (is_present (f.about c).stage) (f.about c).sender.sid) ss) os)
+    (seats-left c (seat_of f.about) f.opened (λ d. refl)) (backlogs-left c f.about (backlog_at f.about) f.opened sound.open_once)
+    ∙ ap (λ ss. given_each ss (map (backlog_at f.about) (numbers_but c f.opened))) (map-seats (told_of (is_present (f.about c).stage) (f.about c).sender.sid) (seat_of f.about) (numbers_but c f.opened))
+    ∙ each-given (λ d. told_of (is_present (f.about c).stage) (f.about c).sender.sid (seat_of f.about d)) (backlog_at f.about) (numbers_but c f.opened)
+    ∙ others-same-by c _ (backlog_at (about_parts c (leaves (f.about c)) f.about)) f.opened
+    (λ d other. left-backlog c d (f.about c) (f.about d) other (sound.taken d) (tidy d))
 
 suits-leaves : (a : About) → Suits (own_of a) (leaves a)
 suits-leaves a = record { change = tt; routed = tt }
@@ -225,7 +224,9 @@ left-stands setup c f sound n tidy open_c =
     let stage : stage_in (phase_in c (map (seat_of f.about) f.opened)) ≡ (f.about c).stage =
     ap stage_in (in-open c (λ seat. seat.phase) phases.Gone f.about f.opened open_c) ∙ stage-kept c (f.about c) in
     same-core setup f.joins f.last
-    (ap₂ (λ s i. told_all_if (is_present s) i (others_of c (map (seat_of f.about) f.opened))) stage sid ∙ seats-gone c f sound tidy)
+    (seats-gone c f)
+    (ap₂ (λ s i. given_each (map (told_of (is_present s) i) (others_of c (map (seat_of f.about) f.opened))) (backlogs_but c (map (seat_of f.about) f.opened) (map (backlog_at f.about) f.opened))) stage sid
+    ∙ backlogs-gone c f sound tidy)
     (ap (λ i. without_sid i (map (user_of f.about) f.present)) sid ∙ users-carried setup f c (leaves (f.about c)) sound n open_c (suits-leaves (f.about c)))
     ∙ ap (λ (g : Facts). core_of setup (without_connection c g)) (sym (happens-parts c (leaves (f.about c)) f))
 
@@ -279,7 +280,12 @@ sids_in seats = map (λ (seat : Seat). seat.sender.sid) seats
 -- a connection joined
 abbrev pub joined_core : ℕ → List ℕ → List ℕ → CoreState → CoreState
 joined_core sid peer challenge core =
-    record core { joins = core.joins + 1; last = sid; seats = core.seats ++ new_seat (core.joins + 1) (new_sender sid peer challenge) ∷ [] }
+    record core {
+      joins = core.joins + 1;
+      last = sid;
+      seats = core.seats ++ new_seat (core.joins + 1) (new_sender sid peer challenge) ∷ [];
+      backlogs = core.backlogs ++ no_backlog ∷ [];
+    }
 
 map-sids : (about : ℕ → About) (xs : List ℕ) → sids_in (map (seat_of about) xs) ≡ map (λ d. (about d).sender.sid) xs
 map-sids about [] = refl
@@ -308,6 +314,10 @@ joined-stands setup f caller peer challenge sound =
     (same-on (seat_of f.about) (seat_of now_about) f.opened (λ d there. ap (seat_with d) (sym (other-kept f sound mine d there))))
     ∙ ap (λ (s : Seat). map (seat_of now_about) f.opened ++ s ∷ []) (ap (seat_with (f.joins + 1)) (sym (ap (λ b. cond b mine (f.about (f.joins + 1))) (eq-eqb (f.joins + 1) (f.joins + 1) refl))))
     ∙ sym (map-append (seat_of now_about) f.opened ((f.joins + 1) ∷ [])))
+    (ap (λ (os : List Backlog). os ++ no_backlog ∷ [])
+    (same-on (backlog_at f.about) (backlog_at now_about) f.opened (λ d there. ap backlog_of (sym (other-kept f sound mine d there))))
+    ∙ ap (λ (o : Backlog). map (backlog_at now_about) f.opened ++ o ∷ []) (ap backlog_of (sym (ap (λ b. cond b mine (f.about (f.joins + 1))) (eq-eqb (f.joins + 1) (f.joins + 1) refl))))
+    ∙ sym (map-append (backlog_at now_about) f.opened ((f.joins + 1) ∷ [])))
     (same-on (user_of f.about) (user_of now_about) f.present
     (λ d there. ap (λ (a : About). listed_user a.sender.sid a.fields)
     (sym (other-kept f sound mine d (sound.are_open d (not-over (f.about d).stage (sym (sound.entered d) ∙ there)))))))
@@ -341,7 +351,7 @@ join-moves old new peer challenge now sid n is_n room left is_sid is_new =
 -- ---- looks
 
 pub open-stands : (setup : Configured) (hash : List ℕ → List ℕ)
-    → StandsAt setup hash [] (record { setup = setup; joins = 0; last = 0; seats = []; users = []; bans = []; topic = setup.topic; touched = Nobody })
+    → StandsAt setup hash [] (record { setup = setup; joins = 0; last = 0; seats = []; backlogs = []; users = []; bans = []; topic = setup.topic; touched = Nobody })
 unfolding Legal Stands facts
 open-stands setup hash = record { legal = tt; stands = refl }
 
@@ -359,7 +369,7 @@ sid-told core c sid e has_one setup hash h at =
     e ∙ ap (λ (s : CoreState). sid_in c s.seats) at.stands ∙ in-open c (λ seat. seat.sender.sid) 0 f.about f.opened (opened-at setup hash h core c at has_one)
 
 pub look-told : (core : CoreState) (c : ℕ) (look : Look) → look.stage ≡ stage_in (phase_in c core.seats) → look.present ≡ length core.users
-    → look.waiting ≡ length (lines_in c core.seats) → HasSeat c core.seats → LooksAt look c core
+    → look.waiting ≡ length (lines_in c core) → HasSeat c core.seats → LooksAt look c core
 unfolding Stands
 look-told core c look stage present waits has_one setup hash h at =
     let f : Facts = facts setup hash h in
@@ -369,8 +379,7 @@ look-told core c look stage present waits has_one setup hash h at =
     ∙ ap stage_in (in-open c (λ seat. seat.phase) phases.Gone f.about f.opened open_c) ∙ stage-kept c (f.about c))
     (present ∙ ap (λ (s : CoreState). length s.users) at.stands ∙ length-map f.present (user_of f.about))
     ∙ ap (λ n. record { stage = (f.about c).stage; present = length f.present; waiting = n })
-    (waits ∙ ap (λ (s : CoreState). length (lines_in c s.seats)) at.stands
-    ∙ ap (λ (o : Backlog). length o.lines) (in-open c (λ seat. seat.outbox) (empty_backlog max_lines max_bytes) f.about f.opened open_c))
+    (waits ∙ ap (λ (s : CoreState). length (lines_in c s)) at.stands ∙ ap (λ (o : Backlog). length o.lines) (backlog-open c f.about f.opened open_c))
 
 pub joins-told : (core : CoreState) (joins : ℕ) → joins ≡ core.joins → CountsJoins joins core
 unfolding Stands
@@ -386,10 +395,11 @@ unfolding Stands
 open-has-seat setup hash h core c at opened =
     ap (λ (s : CoreState). list_any (λ (seat : Seat). seat.number == c) s.seats) at.stands ∙ seated-open c (facts setup hash h).about (facts setup hash h).opened ∙ opened
 
-pub open-stands-as : (setup : Configured) (seats : List Seat) (users : List Listed) (bans : List (List ℕ × Ban)) (topic : List ℕ) → seats ≡ [] → users ≡ [] → bans ≡ [] → topic ≡ setup.topic
-    → (hash : List ℕ → List ℕ) → StandsAt setup hash [] (record { setup = setup; joins = 0; last = 0; seats = seats; users = users; bans = bans; topic = topic; touched = Nobody })
-open-stands-as setup seats users bans topic s u b t hash =
-    subst (λ (x : List Seat). StandsAt setup hash [] (record { setup = setup; joins = 0; last = 0; seats = x; users = users; bans = bans; topic = topic; touched = Nobody })) (sym s)
-    (subst (λ (x : List Listed). StandsAt setup hash [] (record { setup = setup; joins = 0; last = 0; seats = []; users = x; bans = bans; topic = topic; touched = Nobody })) (sym u)
-    (subst (λ (x : List (List ℕ × Ban)). StandsAt setup hash [] (record { setup = setup; joins = 0; last = 0; seats = []; users = []; bans = x; topic = topic; touched = Nobody })) (sym b)
-    (subst (λ (x : List ℕ). StandsAt setup hash [] (record { setup = setup; joins = 0; last = 0; seats = []; users = []; bans = []; topic = x; touched = Nobody })) (sym t) (open-stands setup hash))))
+pub open-stands-as : (setup : Configured) (seats : List Seat) (backlogs : List Backlog) (users : List Listed) (bans : List (List ℕ × Ban)) (topic : List ℕ) → seats ≡ [] → backlogs ≡ [] → users ≡ [] → bans ≡ [] → topic ≡ setup.topic
+    → (hash : List ℕ → List ℕ) → StandsAt setup hash [] (record { setup = setup; joins = 0; last = 0; seats = seats; backlogs = backlogs; users = users; bans = bans; topic = topic; touched = Nobody })
+open-stands-as setup seats backlogs users bans topic s w u b t hash =
+    subst (λ (x : List Seat). StandsAt setup hash [] (record { setup = setup; joins = 0; last = 0; seats = x; backlogs = backlogs; users = users; bans = bans; topic = topic; touched = Nobody })) (sym s)
+    (subst (λ (x : List Backlog). StandsAt setup hash [] (record { setup = setup; joins = 0; last = 0; seats = []; backlogs = x; users = users; bans = bans; topic = topic; touched = Nobody })) (sym w)
+    (subst (λ (x : List Listed). StandsAt setup hash [] (record { setup = setup; joins = 0; last = 0; seats = []; backlogs = []; users = x; bans = bans; topic = topic; touched = Nobody })) (sym u)
+    (subst (λ (x : List (List ℕ × Ban)). StandsAt setup hash [] (record { setup = setup; joins = 0; last = 0; seats = []; backlogs = []; users = []; bans = x; topic = topic; touched = Nobody })) (sym b)
+    (subst (λ (x : List ℕ). StandsAt setup hash [] (record { setup = setup; joins = 0; last = 0; seats = []; backlogs = []; users = []; bans = []; topic = x; touched = Nobody })) (sym t) (open-stands setup hash)))))

@@ -1,5 +1,6 @@
 -- A hub as contracts see it.
 use Rattle.std.specs.Prelude.{ℕ, List}
+use Rattle.outboxes.specs.Backlogs.{Backlog}
 use Rattle.operator_acts.specs.declared.ban.Ban.{Ban}
 use Rattle.user_table.specs.Listed.{Listed}
 use Rattle.hub_core.specs.declared.seat.Seat.{Seat}
@@ -14,6 +15,8 @@ pub record CoreState : Type 0 where
   pub last : ℕ
   -- what is kept of the connections that are open, in the order of their joins
   pub seats : List Seat
+  -- what waits for each of them
+  pub backlogs : List Backlog
   -- the users who are present, in order of entry
   pub users : List Listed
   pub bans : List (List ℕ × Ban)

@@ -6,6 +6,7 @@ use Rattle.hub_core.specs.CoreState.{CoreState}
 use Rattle.hub_core.specs.Index.{AreIndexed, keys}
 use Rattle.hub_core.specs.Numbers.{Ordered}
 use Rattle.hub_core.specs.Told.{AreTold}
+use Rattle.hub_core.specs.Waiting.{AreBeside, backlogs_of}
 use Rattle.hub_rules.specs.Configured.{most_users}
 
 abbrev pub core_view : Inside → CoreState
@@ -14,6 +15,7 @@ core_view c = record {
   joins = c.joins;
   last = c.last;
   seats = c.seats.items;
+  backlogs = backlogs_of c.backlogs.rows;
   users = c.commons.present.users;
   bans = c.commons.bans;
   topic = c.commons.topic;
@@ -21,8 +23,8 @@ core_view c = record {
 }
 
 -- no more connections are admitted than a hub may have, each identifier is one, and the seats stand in the order of their joins
--- and are found by their session identifiers; the lines that are kept are those of the users who are present
+-- and are found by their session identifiers; what waits stands beside them; the lines that are kept are those of the users who are present
 abbrev pub IsCore : Inside → Type 0
 IsCore c =
     ((arc_value c.setup).plain.max_users ≤ most_users) × (c.last < 1_048_576) × Ordered c.joins c.seats.items × AreIndexed c.index (keys c.seats.items)
-    × AreTold (arc_value c.setup) c.commons.present
+    × AreTold (arc_value c.setup) c.commons.present × AreBeside c.backlogs c.seats.items

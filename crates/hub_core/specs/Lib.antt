@@ -1,6 +1,7 @@
 pub mod CoreState
 pub mod CoreView
 pub mod Decided
+pub mod Deliveries
 pub mod Index
 pub mod Leaving
 pub mod Moves
@@ -13,3 +14,4 @@ pub mod Seats
 pub mod State
 pub mod Told
 pub mod Touching
+pub mod Waiting

@@ -1,11 +1,10 @@
 -- The shares of an effect: only those that hear something have one, kept with the place of its seat.
-use Rattle.std.specs.Prelude.{◌≡◌, ◌≢◌, ◌<◌, ℕ, zero, suc, ◌+◌, false, List, [], ◌∷◌, ◌++◌, get_or, length, if◌then◌else◌}
+use Rattle.std.specs.Prelude.{◌≡◌, ◌≢◌, ◌<◌, ℕ, ◌+◌, false, List, [], ◌∷◌, ◌++◌, get_or, length, if◌then◌else◌}
 use Rattle.feature_route.specs.Audiences.{holds_words}
 use Rattle.feature_route.specs.declared.hearers.Audience.{Audience}
 use Rattle.hub_core.specs.declared.seat.Seat.{Seat}
 use Rattle.hub_core.specs.declared.share.Share.{Share}
 use Rattle.hub_core.specs.Phases.{phase_hears}
-use Rattle.hub_core.specs.Seats.{given_seat}
 use Rattle.hub_rules.specs.declared.effect.Effect.{Effect}
 
 -- the share of the seat at a place, where it hears something
@@ -17,17 +16,6 @@ share_at place (line ∷ lines) = record { place = place; lines = line ∷ lines
 unfoldable pub shares_from : ℕ → (Seat → List (List ℕ)) → List Seat → List Share
 shares_from place owed [] = []
 shares_from place owed (seat ∷ seats) = share_at place (owed seat) ++ shares_from (place + 1) owed seats
-
--- the seat at a place hears lines
-unfoldable pub given_at : ℕ → List (List ℕ) → List Seat → List Seat
-given_at place lines [] = []
-given_at zero lines (seat ∷ seats) = given_seat lines seat ∷ seats
-given_at (suc place) lines (seat ∷ seats) = seat ∷ given_at place lines seats
-
--- each share goes to its seat
-unfoldable pub given_all : List Share → List Seat → List Seat
-given_all [] seats = seats
-given_all (share ∷ shares) seats = given_all shares (given_at share.place share.lines seats)
 
 -- no seat is owed anything but those at these two places
 abbrev pub AreQuietBut : ℕ → ℕ → (Seat → List (List ℕ)) → List Seat → Type 0

@@ -1,6 +1,5 @@
 -- The seats of the connections, before and after an effect.
 use Rattle.std.specs.Prelude.{ℕ, ◌==◌, ◌&&◌, Bool, true, false, List, [], ◌∷◌, ◌++◌, Option, Some, None, if◌then◌else◌}
-use Rattle.outboxes.specs.Backlogs.{Backlog, empty_backlog, backlog_after}
 use Rattle.hub_core.specs.declared.seat.Phase.{Phase}
 use Rattle.hub_core.specs.declared.seat.Phase.TheVariants as phases
 use Rattle.hub_core.specs.declared.seat.Seat.{Seat}
@@ -12,11 +11,7 @@ use Rattle.hub_rules.specs.declared.sender.Sender.{Sender}
 use Rattle.hub_rules.specs.Effects.{is_present}
 use Rattle.hub_invariants.specs.Afterwards.{sender_after}
 use Rattle.hub_rules.specs.Senders.{is_removal, notes_by}
-use Rattle.hub_rules.specs.Shares.{About, max_bytes, max_lines, waiting}
-
--- what waits for a connection
-abbrev pub backlog_of : About → Backlog
-backlog_of a = record { lines = waiting a; lags = a.lags; cap = max_lines; bytes = max_bytes }
+use Rattle.hub_rules.specs.Shares.{About}
 
 -- what is kept of a connection of which this is known
 abbrev pub seat_with : ℕ → About → Seat
@@ -24,7 +19,6 @@ seat_with c a = record {
   number = c;
   sender = a.sender;
   phase = phase_of a;
-  outbox = backlog_of a;
 }
 
 abbrev pub seat_of : (ℕ → About) → ℕ → Seat
@@ -36,7 +30,6 @@ new_seat number sender = record {
   number = number;
   sender = sender;
   phase = phases.Protocol;
-  outbox = empty_backlog max_lines max_bytes;
 }
 
 -- ---- shares
@@ -46,10 +39,7 @@ abbrev pub seat_share : ℕ → Effect → Seat → List (List ℕ)
 seat_share c effect seat =
     (if phase_hears seat.phase (seat.number == c) effect.hearers seat.sender.sid then effect.others else []) ++ (if seat.number == c then effect.own else [])
 
--- a connection that hears nothing is as before
-abbrev pub given_seat : List (List ℕ) → Seat → Seat
-given_seat [] seat = seat
-given_seat (line ∷ lines) seat = record seat { outbox = backlog_after seat.outbox (line ∷ lines) }
+-- ---- changes
 
 -- an operator changes the connection
 abbrev pub seat_after : SeatChange → Seat → Seat
@@ -66,16 +56,6 @@ seat_after_if false change seat = seat
 abbrev pub seat_after_change_at : Option (ℕ × SeatChange) → Seat → Seat
 seat_after_change_at (Some (sid, change)) seat = seat_after_if (is_present (stage_in seat.phase) && (seat.sender.sid == sid)) change seat
 seat_after_change_at None seat = seat
-
--- a share is given, and then the connection changes where it is the one
-abbrev pub delivered_seat : Option (ℕ × SeatChange) → Seat → List (List ℕ) → Seat
-delivered_seat at seat share = seat_after_change_at at (given_seat share seat)
-
--- each seat has its share
-unfoldable pub delivered_all : Option (ℕ × SeatChange) → List Seat → List (List (List ℕ)) → List Seat
-delivered_all at [] shares = []
-delivered_all at (seat ∷ seats) [] = seat ∷ seats
-delivered_all at (seat ∷ seats) (share ∷ shares) = delivered_seat at seat share ∷ delivered_all at seats shares
 
 -- ---- the connection that sent the line
 
@@ -100,6 +80,3 @@ sid_in c seats = in_seat c (λ seat. seat.sender.sid) 0 seats
 
 abbrev pub phase_in : ℕ → List Seat → Phase
 phase_in c seats = in_seat c (λ seat. seat.phase) phases.Gone seats
-
-abbrev pub outbox_in : ℕ → List Seat → Backlog
-outbox_in c seats = in_seat c (λ seat. seat.outbox) (empty_backlog max_lines max_bytes) seats

@@ -9,7 +9,8 @@ use Rattle.hub_core.specs.declared.seat.Seat.{Seat}
 use Rattle.hub_core.specs.declared.share.Touched.TheVariants.{Nobody}
 use Rattle.hub_core.specs.CoreState.{CoreState, noted}
 use Rattle.hub_core.specs.Phases.{users_awaited}
-use Rattle.hub_core.specs.Seats.{at_seat, changed_seat, phase_in, seat_of, seat_share, delivered_all, sid_in}
+use Rattle.hub_core.specs.Seats.{at_seat, changed_seat, phase_in, seat_after_change_at, seat_of, seat_share, sid_in}
+use Rattle.hub_core.specs.Waiting.{backlog_of, given_each}
 use Rattle.hub_rules.specs.declared.effect.Change.{Change}
 use Rattle.hub_rules.specs.declared.effect.Change.TheVariants.{Hub, Sender}
 use Rattle.hub_rules.specs.declared.effect.Effect.{Effect}
@@ -28,6 +29,7 @@ core_of setup f = record {
   joins = f.joins;
   last = f.last;
   seats = map (seat_of f.about) f.opened;
+  backlogs = map (λ c. backlog_of (f.about c)) f.opened;
   users = map (user_of f.about) f.present;
   bans = f.bans;
   topic = f.topic;
@@ -68,7 +70,8 @@ users_after change sid phase users = users
 
 unfoldable pub carried_out : ℕ → Effect → CoreState → CoreState
 carried_out c effect core = record core {
-  seats = delivered_all (change_at effect.change) (at_seat c (changed_seat effect.change) core.seats) (map (seat_share c effect) core.seats);
+  seats = map (seat_after_change_at (change_at effect.change)) (at_seat c (changed_seat effect.change) core.seats);
+  backlogs = given_each (map (seat_share c effect) core.seats) core.backlogs;
   users = users_after effect.change (sid_in c core.seats) (phase_in c core.seats) core.users;
   bans = bans_after effect.change core.bans;
   topic = topic_after effect.change core.topic;

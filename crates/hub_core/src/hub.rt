@@ -14,10 +14,11 @@ ghost use Rattle.hub_rules.specs.Legal.{verdict_of};
 
 use crate::change::Commons;
 use crate::connection::Connection;
+use crate::delivery::{deliver, plan, prepare, take_lines};
 use crate::look::Look;
 use crate::present::Present;
-use crate::seat::{Seat, add, decide_at, forget, has_seat, place, sids, take_lines, tell_if};
-use crate::share::{Touched, change_at, deliver, shares, touched_by_line, touched_by_quit};
+use crate::seat::{Seat, add, decide_at, has_seat, place, sids};
+use crate::share::{Touched, touched_by_line, touched_by_quit};
 use crate::sid_index::SidIndex;
 use crate::{JoinRefused, OpenRefused};
 use adc_base32::Sid;
@@ -25,7 +26,8 @@ use hub_decisions::Sight;
 use hub_rules::{Effect, LineRefused, Sender, Topic, Verdict};
 use hub_setup::{Prepared, Setup};
 use operator_acts::Bans;
-use outboxes::{Outbox, TakeRefused, Taken};
+use outboxes::{TakeRefused, Taken};
+use shared_log::Backlogs;
 use std::alloc::{AllocError, Global};
 use std::marker::Model;
 use std::sync::Arc;
@@ -37,6 +39,9 @@ const MAX_LINES: usize = 1_024;
 /// The number of bytes that they may have together.
 const MAX_BYTES: usize = 1_048_576;
 
+/// How many entries the log has room for at first: as many lines as may wait for a connection, and a departure of each.
+const LOG_PLACES: usize = 2_048;
+
 /// A hub for one thread. Its promises are about histories: after any list of calls, each answer and
 /// what it keeps are what the calls before demand. A call refused for want of memory changes nothing.
 pub struct Core {
@@ -44,6 +49,8 @@ pub struct Core {
     joins: u64,
     last: u32,
     seats: Vec<Seat>,
+    /// What waits for each of them, in the same order. Who is present is a member.
+    backlogs: Backlogs,
     /// Finds a seat by its session identifier, so that a line for one user is not held against each seat.
     index: SidIndex,
     commons: Commons,
@@ -58,12 +65,14 @@ impl Drop for Core {
             joins: _,
             last: _,
             seats,
+            backlogs,
             index,
             commons,
             touched: _,
         } = self;
         drop(commons);
         drop(index);
+        drop(backlogs);
         drop(seats);
         drop(setup);
     }
@@ -91,12 +100,14 @@ impl Core {
         ensures { IfOk result (λ core. (hash : List ℕ → List ℕ) → StandsAt (arc_value setup) hash [] core) }
     {
         let seats = Vec::with_capacity(alloc, setup.max_users() as usize)?;
+        let backlogs = Backlogs::new(alloc, LOG_PLACES, MAX_LINES, MAX_BYTES)?;
         let topic = Topic::new(alloc, setup.topic())?;
         Ok(Core {
             setup,
             joins: 0,
             last: 0,
             seats,
+            backlogs,
             index: SidIndex::new(alloc),
             commons: Commons {
                 present: Present::new(alloc),
@@ -143,11 +154,13 @@ impl Core {
         }
         let taken = sids(alloc, &self.seats)?;
         let sid = Sid::next_free(self.last, &taken);
-        let outbox = Outbox::new(alloc, MAX_LINES, MAX_BYTES)?;
         let number = self.joins + 1;
-        let sender = Sender::new(alloc, sid, peer, challenge);
-        let seat = Seat::new(number, sender, outbox);
-        add(&mut self.seats, &mut self.index, seat)?;
+        let seat = Seat::new(number, Sender::new(alloc, sid, peer, challenge));
+        self.backlogs.add(alloc)?;
+        if add(&mut self.seats, &mut self.index, seat).is_err() {
+            self.backlogs.remove(self.seats.len());
+            return Err(JoinRefused::Memory);
+        }
         self.joins = number;
         self.last = sid.number();
         Ok(Connection { number })
@@ -217,7 +230,9 @@ impl Core {
         ensures touched { OnOk result (TouchesNobody self.old (Take connection count) self.new) }
         ensures err { OnErr result ((self.new ≡ self.old) × (out.new.items ≡ out.old.items)) }
     {
-        let taken = take_lines(&mut self.seats, connection.number, count, out)?;
+        let place = place(&self.seats, connection.number);
+        let is_over = self.seats[place].phase.is_over();
+        let taken = take_lines(&mut self.backlogs, place, is_over, count, out)?;
         self.touched = Touched::Nobody;
         Ok(taken)
     }
@@ -235,11 +250,11 @@ impl Core {
         requires seated { IsSeated connection self.now }
         ensures { LooksAt result connection self.now }
     {
-        let seat = &self.seats[place(&self.seats, connection.number)];
+        let place = place(&self.seats, connection.number);
         Look {
-            stage: seat.phase.stage(),
+            stage: self.seats[place].phase.stage(),
             present: self.commons.present.users.totals().users,
-            waiting: seat.outbox.waiting(),
+            waiting: self.backlogs.waiting(place),
         }
     }
 
@@ -320,12 +335,10 @@ impl Core {
         requires { IsPlace number place self.old.seats }
         ensures { self.new ≡ left_core number self.old }
     {
-        let seat = &self.seats[place];
-        let sid = seat.sender.sid;
-        let was_present = seat.phase.is_present();
-        forget(&mut self.seats, number);
+        let sid = self.seats[place].sender.sid;
+        drop(self.seats.remove(place));
+        self.backlogs.quit(place, sid);
         self.index.remove(sid);
-        tell_if(&mut self.seats, was_present, sid);
         self.commons.present.remove(sid);
     }
 
@@ -341,12 +354,12 @@ impl Core {
         ensures ok { OnOk result (self.new ≡ carried_out number effect.entry self.old) }
         ensures err { OnErr result (self.new ≡ self.old) }
     {
-        let shares = shares(alloc, &self.seats, &self.index, number, place, &effect)?;
-        let named = change_at(&effect.change);
+        let delivery = plan(alloc, &self.seats, &self.index, number, place, &effect)?;
+        prepare(&mut self.backlogs, place, &delivery)?;
         let seat = &mut self.seats[place];
         self.commons
             .change(alloc, &self.setup, seat, effect.change)?;
-        deliver(&mut self.seats, shares, named);
+        deliver(&mut self.seats, &mut self.backlogs, place, delivery);
         Ok(())
     }
 }

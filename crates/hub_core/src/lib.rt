@@ -4,6 +4,7 @@
 mod calls;
 mod change;
 mod connection;
+mod delivery;
 mod hub;
 mod look;
 mod present;

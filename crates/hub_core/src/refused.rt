@@ -36,6 +36,12 @@ impl From<AllocError> for JoinRefused {
     }
 }
 
+impl From<OutboxRefused> for OpenRefused {
+    fn from(_: OutboxRefused) -> OpenRefused {
+        OpenRefused::Memory
+    }
+}
+
 impl From<OutboxRefused> for JoinRefused {
     ghost use Rattle.std.specs.Prelude.{◌≡◌};
     ghost use Rattle.hub_core.specs.declared.refused.JoinRefused.TheVariants.{Memory};

@@ -1,13 +1,11 @@
-ghost use Rattle.std.specs.Prelude.{◌≡◌, ◌∷◌, [], Some, IfOk, ◌≤◌, ◌==◌, ◌++◌, length, map, position, take, OnOk, OnErr};
+ghost use Rattle.std.specs.Prelude.{◌≡◌, ◌∷◌, [], Some, IfOk, ◌==◌, ◌++◌, map, position, OnOk, OnErr};
 ghost use Rattle.std.specs.Option.{unwrap_or, option_copied};
 ghost use Rattle.hub_core.specs.Decided.{expected_at, Decided, user_at};
 ghost use Rattle.hub_core.specs.Index.{IsSetAt};
-ghost use Rattle.hub_core.specs.Leaving.{seat_told, has_ended, seat_after_take, lines_in, others_of, told_all_if};
 ghost use Rattle.hub_core.specs.Phases.{stage_in};
-ghost use Rattle.hub_core.specs.Seats.{given_seat, new_seat, seat_after, seat_after_change_at, at_seat};
+ghost use Rattle.hub_core.specs.Seats.{new_seat, seat_after, seat_after_change_at};
 ghost use Rattle.hub_rules.specs.Effects.{is_over, is_present};
 ghost use Rattle.hub_rules.specs.Legal.{verdict_of};
-ghost use Rattle.std.specs.List.{concat};
 ghost use Rattle.hub_core.specs.declared.seat.Seat.{Seat};
 ghost use Rattle.hub_core.specs.Numbers.{Rising, numbers};
 ghost use Rattle.hub_core.specs.State.{has_seat, HasSeat, IsPlace};
@@ -19,7 +17,6 @@ use hub_decisions::{Own, Sight, decide};
 use hub_rules::{Effect, Entrant, SeatChange, Sender, Verdict};
 use hub_setup::Prepared;
 use login_state::Stage;
-use outboxes::{Batch, Outbox, TakeRefused, Taken};
 use std::alloc::{AllocError, Global};
 use user_table::{IndexedUsers, User, Users};
 
@@ -46,7 +43,6 @@ pub struct Seat {
     /// Its plain fields.
     pub(crate) sender: Sender,
     pub(crate) phase: Phase,
-    pub(crate) outbox: Outbox,
 }
 
 impl Phase {
@@ -106,15 +102,14 @@ impl Phase {
 }
 
 impl Seat {
-    /// Makes the seat of a connection that has just joined, with its outbox.
-    pub(crate) fn new(number: u64, sender: Sender, outbox: Outbox) -> Seat
-        ensures { result ≡ record (new_seat number sender) { outbox = outbox } }
+    /// Makes the seat of a connection that has just joined.
+    pub(crate) fn new(number: u64, sender: Sender) -> Seat
+        ensures { result ≡ new_seat number sender }
     {
         Seat {
             number,
             sender,
             phase: Phase::Protocol,
-            outbox,
         }
     }
 
@@ -123,15 +118,6 @@ impl Seat {
         ensures { result ≡ self.now.sender.sid }
     {
         self.sender.sid
-    }
-
-    /// Gives the connection lines. Of none nothing happens.
-    pub(crate) fn give(&mut self, lines: Batch)
-        ensures { self.new ≡ given_seat lines self.old }
-    {
-        if !lines.is_empty() {
-            self.outbox.give(lines);
-        }
     }
 
     /// Changes the connection where its user is present and has this session identifier.
@@ -150,15 +136,6 @@ impl Seat {
         self.sender.notes.change(change);
         if change.is_removal() {
             self.phase = Phase::Gone;
-        }
-    }
-
-    /// Tells the user that another left, where it is present.
-    pub(crate) fn give_quit(&mut self, sid: Sid)
-        ensures { self.new ≡ seat_told sid self.old }
-    {
-        if self.phase.is_present() {
-            self.outbox.give_quit(sid);
         }
     }
 }
@@ -245,30 +222,6 @@ pub(crate) fn add(seats: &mut Vec<Seat>, index: &mut SidIndex, seat: Seat) -> Re
     Ok(())
 }
 
-/// Removes a connection's seat.
-pub(crate) fn forget(seats: &mut Vec<Seat>, number: u64)
-    ensures { seats.new.items ≡ others_of number seats.old.items }
-{
-    seats.retain(|seat| seat.number != number);
-}
-
-/// Tells every user who is present that another left, where that one was present.
-pub(crate) fn tell_if(seats: &mut [Seat], was_present: bool, sid: Sid)
-    ensures { seats.new ≡ told_all_if was_present sid seats.old }
-{
-    if was_present {
-        tell(seats, sid);
-    }
-}
-
-fn tell(seats: &mut [Seat], sid: Sid)
-    ensures { seats.new ≡ map (seat_told sid) seats.old }
-{
-    for seat in seats.iter_mut() {
-        seat.give_quit(sid);
-    }
-}
-
 /// Gives the session identifiers that are taken.
 pub(crate) fn sids(alloc: Global, seats: &[Seat]) -> Result<Vec<Sid>, AllocError>
     ensures { IfOk result (λ sids. sids.items ≡ map (λ (seat : Seat). seat.sender.sid) seats.now) }
@@ -278,33 +231,4 @@ pub(crate) fn sids(alloc: Global, seats: &[Seat]) -> Result<Vec<Sid>, AllocError
         sids.push(seat.sender.sid)?;
     }
     Ok(sids)
-}
-
-/// Takes the first `count` lines that wait for a connection, or all if fewer wait.
-pub(crate) fn take_lines(
-    seats: &mut Vec<Seat>,
-    number: u64,
-    count: usize,
-    out: &mut Vec<u8>,
-) -> Result<Taken, TakeRefused>
-    requires seated { HasSeat number seats.old.items }
-    requires rising { Rising (numbers seats.old.items) }
-    requires some { 1 ≤ count }
-    requires few { count ≤ 256 }
-    ensures ok { OnOk result (seats.new.items ≡ at_seat number (seat_after_take count) seats.old.items) }
-    ensures bytes { OnOk result (out.new.items ≡ out.old.items ++ concat (take count (lines_in number seats.old.items))) }
-    ensures lines { IfOk result (λ taken. taken.lines ≡ length (take count (lines_in number seats.old.items))) }
-    ensures ended { IfOk result (λ taken. taken.ended ≡ has_ended number count seats.old.items) }
-    ensures err { OnErr result ((seats.new.items ≡ seats.old.items) × (out.new.items ≡ out.old.items)) }
-{
-    let place = place(seats, number);
-    let seat = &mut seats[place];
-    let taken = seat.outbox.take(count, out)?;
-    let nothing_left = seat.outbox.waiting() == 0;
-    let is_over = seat.phase.is_over();
-    let lags = seat.outbox.lagging();
-    Ok(Taken {
-        lines: taken.lines,
-        ended: nothing_left & (is_over | lags),
-    })
 }

@@ -1,9 +1,9 @@
 ghost use Rattle.std.specs.Prelude.{◌≡◌, ◌≢◌, ◌<◌, ◌≤◌, ◌++◌, [], ℕ, Some, true, get_or, length, map, if◌then◌else◌, IfNone, IfOk, IfSome, OnOk};
 ghost use Rattle.hub_core.specs.Index.{AreIndexed, keys};
 ghost use Rattle.hub_core.specs.Numbers.{Rising, numbers};
-ghost use Rattle.hub_core.specs.Owed.{AreQuietBut, IsMeant, IsOnlyFor, given_all, share_at, shares_from};
+ghost use Rattle.hub_core.specs.Owed.{AreQuietBut, IsMeant, IsOnlyFor, share_at, shares_from};
 ghost use Rattle.hub_core.specs.Phases.{is_among, phase_hears, stage_in};
-ghost use Rattle.hub_core.specs.Seats.{seat_after_change_at, seat_share};
+ghost use Rattle.hub_core.specs.Seats.{seat_share};
 ghost use Rattle.hub_core.specs.State.{IsPlace};
 ghost use Rattle.hub_core.specs.Touching.{NamesEffect, NamesHearers, NamesOthers, NamesOwed, falls, names};
 ghost use Rattle.hub_core.specs.declared.seat.Seat.{Seat};
@@ -174,6 +174,18 @@ fn push_owed(
     push_share(shares, place, lines)
 }
 
+/// Makes the share of the connection that sent the line, which has this seat.
+pub(crate) fn sender_share(
+    alloc: Global,
+    seat: &Seat,
+    effect: &Effect<'_>,
+) -> Result<Batch, AllocError>
+    ensures { IfOk result (λ share. share ≡ (if phase_hears seat.now.phase true effect.now.hearers seat.now.sender.sid then effect.now.others else []) ++ effect.now.own) }
+{
+    let hears = hears(&seat.phase, true, &effect.hearers, seat.sender.sid);
+    lines_owed(alloc, hears, effect)
+}
+
 /// Gives about how many shares there will be.
 fn expected_shares(seats: &[Seat], hearers: &Hearers<'_>) -> usize {
     match hearers {
@@ -222,37 +234,6 @@ fn is_among(is_caller: bool, hearers: &Hearers<'_>, sid: Sid, support: &FeatureS
     match hearers {
         Hearers::Others => !is_caller,
         Hearers::Those(audience) => audience.holds_set(sid, support),
-    }
-}
-
-/// Gives each share to its seat, and changes the connection of the user that an operator names. It takes no memory.
-pub(crate) fn deliver(seats: &mut [Seat], shares: Vec<Share>, at: Option<(Sid, SeatChange)>)
-    ensures { seats.new ≡ map (seat_after_change_at at) (given_all shares.items seats.old) }
-{
-    give(seats, shares);
-    match at {
-        None => {}
-        Some((sid, change)) => change_named(seats, sid, change),
-    }
-}
-
-fn give(seats: &mut [Seat], shares: Vec<Share>)
-    ensures { seats.new ≡ given_all shares.items seats.old }
-{
-    for share in shares {
-        if share.place < seats.len() {
-            seats[share.place].give(share.lines);
-        } else {
-            drop(share);
-        }
-    }
-}
-
-fn change_named(seats: &mut [Seat], sid: Sid, change: SeatChange)
-    ensures { seats.new ≡ map (seat_after_change_at (Some (sid, change))) seats.old }
-{
-    for seat in seats.iter_mut() {
-        seat.change_if_named(sid, change);
     }
 }
 

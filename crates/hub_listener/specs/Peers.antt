@@ -14,3 +14,7 @@ octets_of address = ipv4_octets (v4_ip address)
 abbrev pub IsAt : List ℕ → SocketAddr → Type 0
 IsAt octets (V4 address) = octets ≡ octets_of address
 IsAt octets (V6 address) = ⊥
+
+-- a call accepted this connection from an address with these octets
+abbrev pub IsNamed : {I S : Type 0} → (I → S → SocketAddr → I → Type 0) → S → List ℕ → Type 0
+IsNamed {I} accepts stream octets = (before after : I) × (address : SocketAddr) × accepts before stream address after × IsAt octets address

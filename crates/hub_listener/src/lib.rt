@@ -7,9 +7,11 @@ mod moments;
 mod opening;
 mod options;
 mod socket;
+mod ticks;
 
 pub use bind::Bind;
 pub use listener::{Listener, Listens};
 pub use moments::{Moments, moment};
-pub use opening::{say_start, warn_of_descriptors};
+pub use opening::{FewDescriptors, say_start, warn_of_descriptors};
 pub use socket::Socket;
+pub use ticks::Ticks;

@@ -1,18 +1,21 @@
-ghost use Rattle.std.specs.Prelude.{◌≡◌, false, IfOk};
+ghost use Rattle.std.specs.Prelude.{◌≡◌, true, false, IfOk};
 ghost use Rattle.futures.specs.Task.{IsArmed, Keeps};
-ghost use Rattle.futures.specs.Poll.{OnPending};
-ghost use Rattle.hub_listener.specs.Peers.{IsAt};
+ghost use Rattle.futures.specs.Poll.{IfReady, OnPending};
+ghost use Rattle.adc_sessions.specs.Arrivals.{arrival_of};
+ghost use Rattle.hub_listener.specs.Peers.{IsAt, IsNamed};
+ghost use Rattle.hub_listener.specs.Rests.{EndOfRest, IsFault, rests, socket_of, Rests, GoesOn};
 
 use crate::socket::Socket;
+use crate::ticks::Ticks;
 use adc_sessions::{Incoming, Peer};
 use connection_slots::{AcceptError, Wakers, accept_error_of};
 use futures::task::{Context, Poll};
-use hub_warnings::{Cause, Warnings};
+use hub_warnings::{Cause, WallClock, Warnings};
 use log::Log;
 use std::io;
 use std::net::SocketAddr;
 use std::sync::Wait;
-use std::time::{Clock, Duration, Instant};
+use std::time::{Duration, Instant};
 use tokio::net::{TcpListener, TcpStream};
 use tokio::time::Sleep;
 
@@ -27,8 +30,15 @@ pub trait Listens: Drop {
     /// The sockets that it accepts.
     type Socket: Socket;
 
+    ghost use Rattle.std.specs.Prelude.{⊤};
+    ghost use Rattle.std.specs.declared.net.socket_addr.SocketAddr.{SocketAddr};
+
+    /// The relation of two states: in the first a call accepted this connection from this address, and left the second.
+    ghost accepts: { Self → Self.Socket → SocketAddr → Self → Type 0 } = { λ _ _ _ _. ⊤ };
+
     /// Accepts the next connection, and says where it comes from.
     fn poll_accept(&mut self, cx: &mut Context<'_>) -> Poll<io::Result<(Self::Socket, SocketAddr)>>
+        ensures accepted { IfReady result (λ r. IfOk r (λ came. accepts self.old came.0 came.1 self.new)) }
         ensures registered { OnPending result (IsArmed cx.new) }
         ensures kept { Keeps cx.old cx.new };
 
@@ -74,7 +84,7 @@ impl<'a, R, L, I: Drop> Drop for Listener<'a, R, L, I> {
     }
 }
 
-impl<'a, R: Wait + Clock, L: Log, I: Listens> Listener<'a, R, L, I> {
+impl<'a, R: Wait + WallClock + Ticks, L: Log, I: Listens> Listener<'a, R, L, I> {
     /// Makes a listener of a socket. It uses this timer, whatever it is set to, and warns where memory was wanting.
     pub fn new(
         socket: I,
@@ -82,7 +92,10 @@ impl<'a, R: Wait + Clock, L: Log, I: Listens> Listener<'a, R, L, I> {
         rt: &'a R,
         warnings: &'a Warnings<L>,
         timer: Sleep,
-    ) -> Listener<'a, R, L, I> {
+    ) -> Listener<'a, R, L, I>
+        ensures awake { rests result ≡ false }
+        ensures socket { socket_of result ≡ socket }
+    {
         Listener {
             socket,
             wakers,
@@ -95,6 +108,10 @@ impl<'a, R: Wait + Clock, L: Log, I: Listens> Listener<'a, R, L, I> {
 
     /// Answers whether it does not rest, or has rested for long enough. Where it has not, the task is woken once it has.
     fn has_rested(&mut self, cx: &mut Context<'_>) -> bool
+        ensures awake { rests self.old ≡ false → result ≡ true }
+        ensures over { result ≡ true → rests self.new ≡ false }
+        ensures not_over { result ≡ false → rests self.new ≡ true }
+        ensures socket { socket_of self.new ≡ socket_of self.old }
         ensures registered { result ≡ false → IsArmed cx.new }
         ensures kept { Keeps cx.old cx.new }
     {
@@ -114,31 +131,53 @@ impl<'a, R: Wait + Clock, L: Log, I: Listens> Listener<'a, R, L, I> {
         }
     }
 
-    /// Begins to rest. Nothing where the time cannot be had.
-    fn rest(&mut self) -> Option<()> {
-        let now = Instant::now(self.rt).ok()?;
-        let until = now.checked_add(Duration::from_millis(REST))?;
+    /// Begins to rest, and answers whether the time can be had.
+    fn rest(&mut self) -> bool
+        ensures rests { Rests R.ticks self.old result self.new }
+        ensures socket { socket_of self.new ≡ socket_of self.old }
+    {
+        let Some(until) = end_of_rest(self.rt.instant()) else {
+            return false;
+        };
         self.wakers.rest();
         self.timer.reset(until);
         self.is_resting = true;
-        Some(())
+        true
+    }
+
+    /// Answers whether the socket may be asked again after this error.
+    fn goes_on(&mut self, error: &io::Error) -> bool
+        ensures does { (fault : _) × IsFault error.now fault × GoesOn R.ticks self.old fault result self.new }
+        ensures socket { socket_of self.new ≡ socket_of self.old }
+    {
+        self.goes_on_after(accept_error_of(error))
     }
 
     /// Answers whether the socket may be asked again after this fault.
-    fn goes_on(&mut self, error: &io::Error) -> bool {
-        match accept_error_of(error) {
+    fn goes_on_after(&mut self, fault: AcceptError) -> bool
+        ensures does { GoesOn R.ticks self.old fault result self.new }
+        ensures socket { socket_of self.new ≡ socket_of self.old }
+    {
+        match fault {
             AcceptError::Memory => {
                 self.warnings.warn(self.rt, None, Cause::Lost);
-                self.rest().is_some()
+                self.rest()
             }
-            AcceptError::Room => self.rest().is_some(),
+            AcceptError::Room => self.rest(),
             AcceptError::Gone => true,
             AcceptError::Listener => false,
         }
     }
 }
 
-impl<R: Wait + Clock, L: Log, I: Listens> Incoming for Listener<'_, R, L, I> {
+/// Gives the end of a rest that begins now. Nothing where the time cannot be had.
+fn end_of_rest(now: Option<Instant>) -> Option<Instant>
+    ensures { EndOfRest now result }
+{
+    now?.checked_add(Duration::from_millis(REST))
+}
+
+impl<R: Wait + WallClock + Ticks, L: Log, I: Listens> Incoming for Listener<'_, R, L, I> {
     type Stream = I::Socket;
 
     ghost use Rattle.std.specs.Prelude.{⊤};
@@ -146,7 +185,11 @@ impl<R: Wait + Clock, L: Log, I: Listens> Incoming for Listener<'_, R, L, I> {
     // The contract of a listening socket says nothing of who comes, so nothing is said of whom a listener brings.
     ghost brings = { λ _ _ _. ⊤ };
 
-    fn poll_incoming(&mut self, cx: &mut Context<'_>) -> Poll<io::Result<(I::Socket, Peer)>> {
+    fn poll_incoming(&mut self, cx: &mut Context<'_>) -> Poll<io::Result<(I::Socket, Peer)>>
+        ensures named { IfReady result (λ r. IfOk r (λ came. IsNamed I.accepts came.0 came.1.address)) }
+        ensures registered { OnPending result (IsArmed cx.new) }
+        ensures kept { Keeps cx.old cx.new }
+    {
         for attempt in 0..ATTEMPTS {
             if !self.has_rested(cx) {
                 return Poll::Pending;

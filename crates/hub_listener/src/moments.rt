@@ -1,4 +1,6 @@
-use std::time::Clock;
+ghost use Rattle.hub_warnings.specs.Clocks.{ReadsSeconds};
+
+use hub_warnings::{WallClock, seconds_since_1970};
 
 /// What tells the moments of calls, in seconds since 1970.
 pub trait Moments {
@@ -12,11 +14,9 @@ pub trait Moments {
         ensures told { tells self.now result };
 }
 
-impl<R: Clock> Moments for R {
-    ghost use Rattle.std.specs.Prelude.{⊤};
-
-    // The contract of a clock says nothing of what it gives, so nothing is said of the moments that it tells.
-    ghost tells = { λ _ _. ⊤ };
+impl<R: WallClock> Moments for R {
+    // The whole seconds of a reading.
+    ghost tells = { ReadsSeconds R.reads };
 
     fn moment_of_call(&self) -> u64 {
         moment(self)
@@ -25,9 +25,8 @@ impl<R: Clock> Moments for R {
 
 /// Gives the moment of a call, in seconds since 1970; 0 where the clock cannot be read. Settings are read with an opening
 /// on the same clock.
-pub fn moment<R: Clock>(rt: &R) -> u64 {
-    match rt.since_1970() {
-        Ok(time) => time.as_secs(),
-        Err(_) => 0,
-    }
+pub fn moment<R: WallClock>(rt: &R) -> u64
+    ensures { ReadsSeconds R.reads rt.now result }
+{
+    seconds_since_1970(rt)
 }

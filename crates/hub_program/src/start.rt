@@ -1,3 +1,11 @@
+ghost use Rattle.std.specs.Prelude.{◌≡◌, IfErr, MatchResult};
+ghost use Rattle.std.specs.Arc.{arc_value};
+ghost use Rattle.std.specs.Io.KnownBytes.{Keeps};
+ghost use Rattle.flushed_writes.specs.Parts.{AppendsFront};
+ghost use Rattle.hub_starts.specs.Endings.{status_by, message_by, KeepsFromStarting};
+ghost use Rattle.hub_starts.specs.Files.{AreRead};
+ghost use Rattle.hub_program.specs.Starting.{IsHash};
+
 use hub_server::{serve_for_journal, serve_on};
 use hub_settings::{HashName, Settings};
 use hub_starts::{StartFault, has_journal, seed_in, settings_in, tables_in};
@@ -20,17 +28,29 @@ where
     W: Write,
     E: Write + Send,
 {
-    match start(rt, path, output, errors) {
+    let served = start(rt, path, output, errors);
+    end(served, errors)
+}
+
+/// Gives the exit status of a server that served, and says what kept it from its start, if anything did.
+fn end<E: Write>(served: Result<u8, StartFault>, errors: &mut E) -> u8
+    ensures status { MatchResult served (λ status. result ≡ status) (λ fault. result ≡ status_by fault) }
+    ensures tells { MatchResult served (λ _. Keeps (E.contents errors.old) (E.contents errors.new))
+        (λ fault. AppendsFront (E.contents errors.old) (E.contents errors.new) (message_by fault)) }
+{
+    match served {
         Ok(status) => status,
         Err(fault) => fault.tell(errors),
     }
 }
 
+/// Reads the settings of this file and serves their hub.
 fn start<R, W, E>(rt: &R, path: &str, output: &mut W, errors: &mut E) -> Result<u8, StartFault>
 where
     R: Wait + Threads + Clock + Net + RandomSource + AllocGlobal + Files + Env + Sync,
     W: Write,
     E: Write + Send,
+    ensures { IfErr result KeepsFromStarting }
 {
     let settings = settings_in(rt, path)?;
     let served = serve_hashing(rt, &settings, path, output, errors);
@@ -50,6 +70,7 @@ where
     R: Wait + Threads + Clock + Net + RandomSource + AllocGlobal + Files + Env + Sync,
     W: Write,
     E: Write + Send,
+    ensures { IfErr result KeepsFromStarting }
 {
     let seed = seed_in(rt, settings.seed_file())?;
     match settings.hash() {
@@ -64,7 +85,7 @@ where
     }
 }
 
-/// Serves the hub of these settings, which stand in this file.
+/// Serves the hub of these settings, which stand in this file, with the hash that they name, and a seed that was read.
 fn serve<H, R, W, E>(
     rt: &R,
     settings: &Settings,
@@ -76,9 +97,11 @@ fn serve<H, R, W, E>(
 ) -> u8
 where
     H: SessionHash + Send + Sync + Drop,
-    R: Wait + Threads + Clock + Net + RandomSource + AllocGlobal + Env + Sync,
+    R: Wait + Threads + Clock + Net + RandomSource + AllocGlobal + Files + Env + Sync,
     W: Write,
     E: Write + Send,
+    requires hash { IsHash R.File.remaining settings.now.hash (H.digest_of (arc_value hash)) }
+    requires seed { AreRead R.File.remaining seed }
 {
     if has_journal(rt) {
         serve_for_journal(rt, settings, path, hash, seed, output, errors)

@@ -1,93 +1,80 @@
 //! Conversations with a hub, told as text and played line by line. Blank lines, and blanks around a line, say nothing;
 //! a line that is none of the following stops the test, as does each step that goes otherwise.
 //!
-//! First come settings: `with max_users 900`, `with interval 10` and `with opening 5` (seconds), `with registered_only`,
-//! `with name Hub`, `with topic TEXT`. Others are `with account op secret operator`, `with account reg secret`,
-//! `with menu Help 1 text TEXT`, `with menu Sep 2 separator`. Where they are refused, `no hub: Limit` is all that follows.
+//! A text has one conversation, or several, each behind a line `== NAME`. First come settings: `with max_users 900`,
+//! `with interval 10` and `with opening 5` (seconds), `with registered_only`, `with name Hub`, `with topic TEXT`. Others are
+//! `with account op secret operator`, `with account reg secret`, `with menu Help 1 text TEXT`, `with menu Sep 2 separator`. Where they are
+//! refused, `the hub is refused Limit` is all that follows.
 //!
-//! Then come steps. Connections have names; a name that is taken again means the last who took it. `#450` is the 450th
-//! who joined, but for those who `come and go`.
+//! Then come steps, of which `second_try::Deed` tells. A name that is taken again means the last who took it; `#450` is the 450th who
+//! joined, but for those who `come and go`. Beside them there are
 //!
-//!     ana joins                 the next connection joins, and is called ana
-//!     no join: Full             a connection asks to join, and is refused for this
-//!     ana enters                it joins, sends `HSUP ADBASE ADTIGR` and its login line; then all take what waits. The
-//!                               login lines of ana, bob, cy and op are in `login_line`; op sends its password too
-//!     ana enters: BINF ..       the same with this login line
-//!     ana: BMSG AAAB hi         it sends this line, which keeps it
-//!     ana is ended by: BMSG ..  it sends this line, which ends it
-//!     at 100 ana: BMSG ..       the same at a moment in seconds; else that is 0
-//!     ana hears: BMSG AAAB hi   it gets this line next, and more may come
-//!     ana hears last: ISTA ..   it gets this line alone, and nothing will follow
-//!     ana hears nothing         nothing waits for it, and more may come
-//!     ana hears no more         nothing waits for it, and nothing will
-//!     ana takes 3: BMSG ..      256 lines are asked for; it gets so many, each of which is this, and more may come
-//!     ana takes last 3: BMSG .. the same, and nothing will follow
-//!     ana takes 3               as with a line, but whichever they are; `ana takes last 3` likewise
 //!     all take                  all who are there take what waits for them, up to 256 lines each
-//!     ana quits                 it leaves
-//!     concerns ana              the last call concerned ana alone; or `nobody`, `all`, `bob and ana`
-//!     1000 come and go          so many join, each of whom leaves at once
 //!     for 2 to 9:               the steps up to the line `end` are played in rounds numbered 2 to 9
+//!     each:                     the conversation up to here is played for each row `LINE -> ANSWER` that follows: a line that is
+//!                               `<line>` or `<answer>` alone stands for these
 //!
-//! `spell` tells what may stand for bytes in a line. A line that is `<line>` or `<answer>` alone stands for what
-//! `play_each` was given.
+//! Who greets, and who enters, is followed by `all take`; and op sends its password, too.
 
 use crate::hub::{Heard, Hub};
-use crate::refusal::{holds, keep};
+use crate::refusal::{holds, keep, spell, unknown};
 use crate::settings::open;
-use crate::spelling::spell;
 use adc_base32::Sid;
 use hub_core::{Conn, JoinRefused, SetupRefused, Touched, Verdict};
-use std::alloc::{AllocGlobal, Global};
+use second_try::{Deed, GREETED, GREETS, Step, again, login_of};
+use std::alloc::{AllocError, AllocGlobal, Global};
 use std::fmt::Debug;
 use std::process::Abort;
 
-/// A conversation: its name, which is said where it goes otherwise than it is told, its text, and what `<line>` and
-/// `<answer>` stand for.
+/// Plays one conversation, with its text in the test.
+macro_rules! talk {
+    ($rt:ident, $text:expr) => {
+        crate::conversation::play(&$rt, $text)
+    };
+}
+
+pub(crate) use talk;
+
+/// A conversation: its text, and what `<line>` and `<answer>` stand for.
 #[derive(Clone, Copy)]
 struct Told<'t> {
-    name: &'t str,
     text: &'t str,
     line: &'t str,
     answer: &'t str,
 }
 
-/// Plays a conversation with a new hub.
-pub(crate) fn play(rt: &(impl Abort + AllocGlobal), name: &str, text: &str) {
-    play_with(
-        rt,
-        rt.alloc(),
-        Told {
-            name,
-            text,
-            line: "",
-            answer: "",
-        },
-    );
+/// Plays the conversations of a text, each with a new hub.
+pub(crate) fn play(rt: &(impl Abort + AllocGlobal), text: &str) {
+    for text in text.split("== ") {
+        if !text.trim().is_empty() {
+            play_rows(rt, rt.alloc(), text);
+        }
+    }
 }
 
-/// Plays a conversation with a new hub for each line, with what is answered to it.
-pub(crate) fn play_each(
-    rt: &(impl Abort + AllocGlobal),
-    name: &str,
-    text: &str,
-    rows: &[(&str, &str)],
-) {
-    for (line, answer) in rows {
-        play_with(
-            rt,
-            rt.alloc(),
-            Told {
-                name,
-                text,
-                line,
-                answer,
-            },
-        );
+fn play_rows(rt: &impl Abort, alloc: Global, text: &str) {
+    let (mut line, mut answer) = ("", "");
+    let Some((text, rows)) = text.split_once("each:") else {
+        return play_with(rt, alloc, Told { text, line, answer });
+    };
+    for row in rows.lines() {
+        let row = row.trim();
+        if !row.is_empty() {
+            (line, answer) = halves(rt, row);
+            play_with(rt, alloc, Told { text, line, answer });
+        }
+    }
+}
+
+fn halves<'t>(rt: &impl Abort, row: &'t str) -> (&'t str, &'t str) {
+    match row.split_once(" -> ") {
+        Some(halves) => halves,
+        None => unknown(rt, "row", row),
     }
 }
 
 fn play_with(rt: &impl Abort, alloc: Global, told: Told<'_>) {
+    let name = told.text.lines().next().unwrap_or("");
     match open(rt, alloc, told.text) {
         Ok(hub) => {
             let mut played = Played {
@@ -96,32 +83,33 @@ fn play_with(rt: &impl Abort, alloc: Global, told: Told<'_>) {
                 told,
                 joined: Vec::new(alloc),
                 place: Place {
-                    name: told.name,
+                    name,
                     number: 0,
                     text: "",
                 },
+                moment: 0,
                 round: 0,
             };
-            played.play(rt, told.text);
+            played.play(rt, name);
         }
-        Err(refused) => is_refused(rt, told.name, told.text, refused),
+        Err(refused) => is_refused(rt, name, told.text, refused),
     }
 }
 
 /// Tests that the only step is this refusal.
 fn is_refused(rt: &impl Abort, name: &str, text: &str, refused: SetupRefused) {
     match refused {
-        SetupRefused::Limit => is_only_step(rt, name, text, "no hub: Limit"),
-        SetupRefused::Name => is_only_step(rt, name, text, "no hub: Name"),
+        SetupRefused::Limit => is_only_step(rt, name, text, "the hub is refused Limit"),
+        SetupRefused::Name => is_only_step(rt, name, text, "the hub is refused Name"),
         _ => panic!(rt; "{name}: no hub: {refused:?}"),
     }
 }
 
 fn is_only_step(rt: &impl Abort, name: &str, text: &str, told: &str) {
     let mut is_told = false;
-    for line in text.lines() {
+    for (number, line) in text.lines().enumerate() {
         let line = line.trim();
-        if line.is_empty() || line.starts_with("with ") {
+        if number == 0 || line.is_empty() || line.starts_with("with ") {
             continue;
         }
         if line != told || is_told {
@@ -162,6 +150,7 @@ struct Played<'t> {
     told: Told<'t>,
     joined: Vec<Joined<'t>>,
     place: Place<'t>,
+    moment: u64,
     round: usize,
 }
 
@@ -172,13 +161,12 @@ struct Joined<'t> {
 }
 
 impl<'t> Played<'t> {
-    fn play(&mut self, rt: &impl Abort, text: &'t str) {
-        let name = self.told.name;
+    fn play(&mut self, rt: &impl Abort, name: &'t str) {
         let mut begun = false;
         let mut rounds = None;
-        for (number, line) in text.lines().enumerate() {
+        for (number, line) in self.told.text.lines().enumerate() {
             let text = line.trim();
-            if text.is_empty() || !begun && text.starts_with("with ") {
+            if number == 0 || text.is_empty() || !begun && text.starts_with("with ") {
                 continue;
             }
             begun = true;
@@ -241,72 +229,68 @@ impl<'t> Played<'t> {
     }
 
     fn step(&mut self, rt: &impl Abort) {
-        match self.place.text.split_once(": ") {
-            Some((head, line)) => {
-                let line = stands_for(line, self.told.line, self.told.answer);
-                let line = spell(rt, self.alloc, line, self.round);
-                self.exchange(rt, head, &line);
-            }
-            None => match self.place.text.strip_suffix(':') {
-                Some(head) => self.exchange(rt, head, b""),
-                None => self.happen(rt),
-            },
-        }
-    }
-
-    /// Plays a step with a line.
-    fn exchange(&mut self, rt: &impl Abort, head: &'t str, line: &[u8]) {
-        if let Some(told) = head.strip_prefix("at ") {
-            return self.says_at(rt, told, line);
-        }
-        let Some((who, verb)) = head.split_once(' ') else {
-            return self.says(rt, head, line, 0, Verdict::Kept);
-        };
-        match verb {
-            "is ended by" => self.says(rt, who, line, 0, Verdict::Ended),
-            "enters" => self.enters(rt, who, line),
-            "hears" => self.takes(rt, who, 1, 1, Some(line), false),
-            _ => self.gets(rt, who, verb, line),
-        }
-    }
-
-    /// Plays a step in which somebody gets a line.
-    fn gets(&mut self, rt: &impl Abort, who: &'t str, verb: &str, line: &[u8]) {
-        match verb {
-            "hears last" => self.takes(rt, who, 256, 1, Some(line), true),
-            "join" if who == "no" => self.refuses_to_join(rt, line),
-            _ => self.takes_told(rt, who, verb, Some(line)),
-        }
-    }
-
-    /// Plays a step without a line.
-    fn happen(&mut self, rt: &impl Abort) {
-        let Some((who, verb)) = self.place.text.split_once(' ') else {
+        let Some(step) = Step::read(self.place.text) else {
             self.unknown(rt)
         };
-        match verb {
-            "joins" => self.joins(rt, who),
-            "enters" => self.enters_as_usual(rt, who),
-            "quits" => self.quits(rt, who),
-            "come and go" => self.come_and_go(rt, who),
-            _ => self.is_told(rt, who, verb),
+        self.moment = step.moment;
+        let line = spell(rt, self.alloc, self.stands_for(step.line), self.round);
+        match step.deed {
+            Deed::IsConcerned => self.concerns(rt, step.who),
+            Deed::ComeAndGo => self.come_and_go(rt, step.who),
+            _ => {
+                for who in step.who.split(" and ") {
+                    self.does(rt, who, step.deed, &line);
+                }
+            }
+        }
+    }
+
+    /// Gives the line that a line of a conversation stands for.
+    fn stands_for(&self, line: &'t str) -> &'t str {
+        match line {
+            "<line>" => self.told.line,
+            "<answer>" => self.told.answer,
+            _ => line,
+        }
+    }
+
+    /// Plays a step of one who comes, speaks or goes.
+    fn does(&mut self, rt: &impl Abort, who: &'t str, deed: Deed, line: &[u8]) {
+        match deed {
+            Deed::Joins => self.joins(rt, who),
+            Deed::IsRefused => self.is_refused(rt, line),
+            Deed::Greets => self.greets(rt, who),
+            Deed::IsGreeted => self.is_greeted(rt, who, line),
+            Deed::Enters if line.is_empty() => self.enters_as_usual(rt, who),
+            Deed::Enters => self.enters(rt, who, line),
+            Deed::Says => self.says(rt, who, line, Verdict::Kept),
+            Deed::IsEndedBy => self.says(rt, who, line, Verdict::Ended),
+            Deed::Quits => self.quits(rt, who),
+            _ => self.gets(rt, who, deed, line),
+        }
+    }
+
+    /// Plays a step of one who gets lines, or none.
+    fn gets(&mut self, rt: &impl Abort, who: &str, deed: Deed, line: &[u8]) {
+        match deed {
+            Deed::Hears => self.takes(rt, who, 1, 1, Some(line), false),
+            Deed::HearsOnly => {
+                self.takes(rt, who, 1, 1, Some(line), false);
+                self.takes(rt, who, 256, 0, None, false);
+            }
+            Deed::HearsLast => self.takes(rt, who, 256, 1, Some(line), true),
+            Deed::HearsNothing => self.takes(rt, who, 256, 0, None, false),
+            Deed::HearsNoMore => self.takes(rt, who, 256, 0, None, true),
+            Deed::Takes if who == "all" => self.all_take(rt),
+            Deed::Takes => self.takes_told(rt, who, line, false),
+            Deed::TakesLast => self.takes_told(rt, who, line, true),
+            _ => self.unknown(rt),
         }
     }
 
     fn come_and_go(&mut self, rt: &impl Abort, told: &str) {
         let count = self.number(rt, told);
         self.hub.pass(rt, count);
-    }
-
-    /// Plays a step in which all take, or that tells what somebody gets, or whom the last call concerned.
-    fn is_told(&mut self, rt: &impl Abort, who: &'t str, verb: &'t str) {
-        match (who, verb) {
-            ("all", "take") => self.all_take(rt),
-            (_, "hears nothing") => self.takes(rt, who, 256, 0, None, false),
-            (_, "hears no more") => self.takes(rt, who, 256, 0, None, true),
-            ("concerns", whom) => self.concerns(rt, whom),
-            _ => self.takes_told(rt, who, verb, None),
-        }
     }
 
     fn unknown(&self, rt: &impl Abort) -> ! {
@@ -348,50 +332,56 @@ impl<'t> Played<'t> {
         }
     }
 
-    fn refuses_to_join(&mut self, rt: &impl Abort, why: &[u8]) {
+    fn is_refused(&mut self, rt: &impl Abort, why: &[u8]) {
         match self.hub.join(rt) {
             Err(JoinRefused::Full) if why == b"Full".as_slice() => {}
             answer => is_otherwise(rt, self.place, &answer),
         }
     }
 
+    fn greets(&mut self, rt: &impl Abort, who: &'t str) {
+        self.joins(rt, who);
+        self.says(rt, who, GREETS.as_bytes(), Verdict::Kept);
+        self.all_take(rt);
+    }
+
+    fn is_greeted(&mut self, rt: &impl Abort, who: &'t str, sid: &[u8]) {
+        self.joins(rt, who);
+        self.says(rt, who, GREETS.as_bytes(), Verdict::Kept);
+        for (place, line) in GREETED.into_iter().enumerate() {
+            let mut line = again!(rt; second_try::copy(self.alloc, line.as_bytes()));
+            if place == 1 {
+                again!(rt; second_try::append(&mut line, sid));
+            }
+            self.takes(rt, who, 1, 1, Some(&line), false);
+        }
+    }
+
     fn enters(&mut self, rt: &impl Abort, who: &'t str, login: &[u8]) {
         self.joins(rt, who);
-        self.says(rt, who, b"HSUP ADBASE ADTIGR", 0, Verdict::Kept);
-        self.says(rt, who, login, 0, Verdict::Kept);
+        self.says(rt, who, GREETS.as_bytes(), Verdict::Kept);
+        self.says(rt, who, login, Verdict::Kept);
         self.all_take(rt);
     }
 
     fn enters_as_usual(&mut self, rt: &impl Abort, who: &'t str) {
         let join = self.joined.len().saturating_add(1);
-        let login = match login_line(who) {
-            Some(login) => spell(rt, self.alloc, login, join),
-            None => self.unknown(rt),
+        let Some(words) = login_of(who) else {
+            self.unknown(rt)
         };
+        let login = again!(rt; login_line(self.alloc, words));
+        let login = spell(rt, self.alloc, &login, join);
         self.enters(rt, who, &login);
         if who == "op" {
             let password = spell(rt, self.alloc, "HPAS <secret>", 0);
-            self.says(rt, who, &password, 0, Verdict::Kept);
+            self.says(rt, who, &password, Verdict::Kept);
             self.all_take(rt);
         }
     }
 
-    /// Does what `100 ana` or `100 ana is ended by` says.
-    fn says_at(&mut self, rt: &impl Abort, told: &'t str, line: &[u8]) {
-        let Some((moment, head)) = told.split_once(' ') else {
-            self.unknown(rt)
-        };
-        let now = self.number(rt, moment) as u64;
-        match head.split_once(' ') {
-            None => self.says(rt, head, line, now, Verdict::Kept),
-            Some((who, "is ended by")) => self.says(rt, who, line, now, Verdict::Ended),
-            Some(_) => self.unknown(rt),
-        }
-    }
-
-    fn says(&mut self, rt: &impl Abort, who: &str, line: &[u8], now: u64, verdict: Verdict) {
+    fn says(&mut self, rt: &impl Abort, who: &str, line: &[u8], verdict: Verdict) {
         let connection = self.connection(rt, who);
-        let said = self.hub.line(rt, connection, line, now);
+        let said = self.hub.line(rt, connection, line, self.moment);
         if said != verdict {
             is_otherwise(rt, self.place, &said);
         }
@@ -405,14 +395,17 @@ impl<'t> Played<'t> {
         }
     }
 
-    /// Does what `takes 3` or `takes last 3` says.
-    fn takes_told(&mut self, rt: &impl Abort, who: &str, verb: &str, line: Option<&[u8]>) {
-        let Some(told) = verb.strip_prefix("takes ") else {
+    /// Takes as many lines as stand before this line, or are all of it.
+    fn takes_told(&mut self, rt: &impl Abort, who: &str, told: &[u8], ended: bool) {
+        let Ok(told) = std::str::from_utf8(told) else {
             self.unknown(rt)
         };
-        match told.strip_prefix("last ") {
-            Some(count) => self.takes(rt, who, 256, self.number(rt, count), line, true),
-            None => self.takes(rt, who, 256, self.number(rt, told), line, false),
+        match told.split_once(' ') {
+            Some((count, line)) => {
+                let count = self.number(rt, count);
+                self.takes(rt, who, 256, count, Some(line.as_bytes()), ended);
+            }
+            None => self.takes(rt, who, 256, self.number(rt, told), None, ended),
         }
     }
 
@@ -488,24 +481,9 @@ fn no_step(rt: &impl Abort, place: Place<'_>) -> ! {
     panic!(rt; "{name}: line {number}, {text}: no step")
 }
 
-/// Gives the line that a line of a conversation stands for.
-fn stands_for<'a>(told: &'a str, line: &'a str, answer: &'a str) -> &'a str {
-    match told {
-        "<line>" => line,
-        "<answer>" => answer,
-        _ => told,
-    }
-}
-
-/// Gives what the login lines have behind the SID, which is `n` here.
-fn login_line(who: &str) -> Option<&'static str> {
-    match who {
-        "ana" => Some("BINF A<n> ID<P0> PD<P0> NIana SS10 SF2 I40.0.0.0 SUTCP4,SEGA"),
-        "bob" => Some("BINF A<n> ID<P1> PD<P1> NIbob SS5 SF1 SUTCP4"),
-        "cy" => Some("BINF A<n> ID<P2> PD<P2> NIcy"),
-        "op" => Some("BINF A<n> ID<P0> PD<P0> NIop"),
-        _ => None,
-    }
+/// Gives a login line of these words, of the connection whose number is the round.
+fn login_line(alloc: Global, words: &str) -> Result<String, AllocError> {
+    format!(in alloc; "BINF A<n> {words}")
 }
 
 /// Answers whether bytes are a line and its line feed, so many times.

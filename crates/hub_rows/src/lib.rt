@@ -2,15 +2,15 @@
 #![tactic(auto)]
 
 #[cfg(test)]
+mod bans;
+#[cfg(test)]
+mod capacity;
+#[cfg(test)]
 mod chat;
 #[cfg(test)]
 mod concerned;
 #[cfg(test)]
 mod conversation;
-#[cfg(test)]
-mod crowds;
-#[cfg(test)]
-mod field_limits;
 #[cfg(test)]
 mod first_words;
 #[cfg(test)]
@@ -26,9 +26,9 @@ mod lock;
 #[cfg(test)]
 mod login;
 #[cfg(test)]
-mod many;
-#[cfg(test)]
 mod operators;
+#[cfg(test)]
+mod outbox;
 #[cfg(test)]
 mod passwords;
 #[cfg(test)]
@@ -43,8 +43,6 @@ mod searches;
 mod settings;
 #[cfg(test)]
 mod shared;
-#[cfg(test)]
-mod spelling;
 #[cfg(test)]
 mod stops;
 #[cfg(test)]

@@ -1,53 +1,31 @@
+// A list of calls on one hub: what `run_calls` answers.
 use crate::hub::shared_setup;
-use crate::refusal::{holds, keep};
-use crate::spelling::append;
+use crate::refusal::{append, holds, keep, spell, unknown};
 use hub_core::{Answer, Ask, Asked, Options, Prepared, Setup, Verdict, prepare, run_calls};
-use second_try::again;
+use second_try::{Deed, Step, again};
 use session_hash::First24;
 use std::alloc::Global;
 use std::process::Abort;
 use std::sync::Arc;
 
-/// The lines that the callers send.
-#[derive(Drop)]
-struct Lines {
-    support: Prepared,
-    ana: Prepared,
-    bob: Prepared,
-    hello: Prepared,
-}
-
-/// The deeds of a caller.
-#[derive(Clone, Copy)]
-enum Deed {
-    Joins,
-    Supports,
-    AnaLogsIn,
-    BobLogsIn,
-    Greets,
-    Leaves,
-    /// It takes so many lines.
-    Takes(usize),
-}
-
-/// The calls: who makes each, and what it does. The first speaks and leaves, the second takes what it heard.
-const CALLS: &[(u64, Deed)] = &[
-    (1, Deed::Joins),
-    (1, Deed::Supports),
-    (1, Deed::AnaLogsIn),
-    (2, Deed::Joins),
-    (2, Deed::Supports),
-    (2, Deed::BobLogsIn),
-    (1, Deed::Greets),
-    (1, Deed::Leaves),
-    (1, Deed::Greets),
-    (2, Deed::Takes(0)),
-    (2, Deed::Takes(1)),
-    (2, Deed::Takes(256)),
-];
+/// The calls. The first caller speaks and leaves, the second takes what it heard.
+const CALLS: &str = "\
+ana joins
+ana says HSUP ADBASE ADTIGR
+ana says BINF AAAB ID<P0> PD<P0> NIana
+bob joins
+bob says HSUP ADBASE ADTIGR
+bob says BINF AAAC ID<P1> PD<P1> NIbob
+ana says BMSG AAAB hello
+ana quits
+ana says BMSG AAAB hello
+bob takes 0
+bob takes 1
+bob takes 256
+";
 
 /// What is answered: for each call a line, and behind `took` how many lines it were.
-const ANSWERS: &[u8] = b"joined
+const ANSWERS: &str = r"joined
 kept
 kept
 joined
@@ -61,35 +39,76 @@ took 1
 ISUP ADBASE ADTIGR ADPING ADUCMD
 took 6
 ISID AAAC
-IINF CT32 NIHub VEadc-hub\\s1.0
-BINF AAAB IDAAAAAAAAAAAAAAAAAAAAAAAAAAAAAAAAAAAAAAA NIana
-BINF AAAC IDAAAAAAAAAAAAAAAAAAAAAAAAAAAAAAAAAAAAAAI NIbob
+IINF CT32 NIHub VEadc-hub\s1.0
+BINF AAAB ID<P0> NIana
+BINF AAAC ID<P1> NIbob
 BMSG AAAB hello
 IQUI AAAB
 ";
 
+/// A call: the number of its caller and connection, what it does, and its line, made ready.
+#[derive(Drop)]
+struct Call {
+    caller: u64,
+    deed: Deed,
+    count: usize,
+    line: Prepared,
+}
+
 #[test]
 fn a_list_of_calls_is_answered_in_turn(rt: HostRuntime) {
     let setup = shared_setup(&rt, rt.alloc(), &Options::named("Hub"));
-    let lines = prepare_lines(&rt, rt.alloc(), &setup);
-    let is_answered = is_answered(&rt, rt.alloc(), &setup, &lines)
-        || is_answered(&rt, rt.alloc(), &setup, &lines);
+    let mut calls = Vec::new(rt.alloc());
+    for text in CALLS.lines() {
+        keep(&rt, &mut calls, read_call(&rt, rt.alloc(), &setup, text));
+    }
+    let is_answered = is_answered(&rt, rt.alloc(), &setup, &calls)
+        || is_answered(&rt, rt.alloc(), &setup, &calls);
     holds(&rt, is_answered, "refused twice");
-    drop(lines);
+    drop(calls);
     drop(setup);
+}
+
+fn read_call(rt: &impl Abort, alloc: Global, setup: &Setup, text: &str) -> Call {
+    let Some(step) = Step::read(text) else {
+        unknown(rt, "call", text)
+    };
+    let bytes = spell(rt, alloc, step.line, 0);
+    Call {
+        caller: if step.who == "ana" { 1 } else { 2 },
+        deed: step.deed,
+        count: step.line.parse().unwrap_or(0),
+        line: again!(rt; prepare(alloc, setup, &First24, [0; 24], &bytes)),
+    }
+}
+
+fn asks<'a>(rt: &impl Abort, alloc: Global, calls: &'a [Call]) -> Vec<Asked<'a>> {
+    let mut asks = again!(rt; Vec::with_capacity(alloc, calls.len()));
+    for call in calls {
+        let caller = call.caller;
+        let ask = match call.deed {
+            Deed::Joins => Ask::Join([127, 0, 0, 1], [0; 24], 0),
+            Deed::Takes => Ask::Take(caller, call.count),
+            Deed::Quits => Ask::Quit(caller),
+            _ => Ask::Line(caller, &call.line, 0),
+        };
+        keep(rt, &mut asks, Asked { caller, ask });
+    }
+    asks
 }
 
 /// Makes the calls, and stops the test unless they are answered as they should be. Tells whether they were: not where memory was
 /// refused to one of them.
-fn is_answered(rt: &impl Abort, alloc: Global, setup: &Arc<Setup>, lines: &Lines) -> bool {
-    let calls = calls_of(rt, alloc, lines);
-    let Ok((core, answers)) = run_calls(alloc, again!(rt; setup.clone()), calls) else {
+fn is_answered(rt: &impl Abort, alloc: Global, setup: &Arc<Setup>, calls: &[Call]) -> bool {
+    let Ok((core, answers)) = run_calls(alloc, again!(rt; setup.clone()), asks(rt, alloc, calls))
+    else {
         return false;
     };
     let mut told = Vec::new(alloc);
     let is_plain = tell_all(rt, &mut told, &answers);
     if is_plain {
-        holds(rt, told.as_slice() == ANSWERS, "other answers");
+        let wanted = spell(rt, alloc, ANSWERS, 0);
+        holds(rt, told == wanted, "other answers");
         holds(rt, core.joins() == 2, "other joins");
         holds(rt, core.totals().users == 1, "other users");
     }
@@ -127,56 +146,4 @@ fn tell_taken(rt: &impl Abort, told: &mut Vec<u8>, bytes: &[u8], lines: u64) {
     keep(rt, told, b'0'.wrapping_add(digit));
     append(rt, told, b"\n");
     append(rt, told, bytes);
-}
-
-fn prepare_lines(rt: &impl Abort, alloc: Global, setup: &Setup) -> Lines {
-    Lines {
-        support: prepare_line(rt, alloc, setup, b"HSUP ADBASE ADTIGR"),
-        ana: prepare_line(
-            rt,
-            alloc,
-            setup,
-            b"BINF AAAB IDAAAAAAAAAAAAAAAAAAAAAAAAAAAAAAAAAAAAAAA PDAAAAAAAAAAAAAAAAAAAAAAAAAAAAAAAAAAAAAAA NIana",
-        ),
-        bob: prepare_line(
-            rt,
-            alloc,
-            setup,
-            b"BINF AAAC IDAAAAAAAAAAAAAAAAAAAAAAAAAAAAAAAAAAAAAAI PDAAAAAAAAAAAAAAAAAAAAAAAAAAAAAAAAAAAAAAI NIbob",
-        ),
-        hello: prepare_line(rt, alloc, setup, b"BMSG AAAB hello"),
-    }
-}
-
-fn prepare_line(rt: &impl Abort, alloc: Global, setup: &Setup, line: &[u8]) -> Prepared {
-    again!(rt; prepare(alloc, setup, &First24, [0; 24], line))
-}
-
-fn calls_of<'a>(rt: &impl Abort, alloc: Global, lines: &'a Lines) -> Vec<Asked<'a>> {
-    let mut calls = again!(rt; Vec::with_capacity(alloc, CALLS.len()));
-    for (caller, deed) in CALLS {
-        let ask = ask_of(lines, *caller, *deed);
-        keep(
-            rt,
-            &mut calls,
-            Asked {
-                caller: *caller,
-                ask,
-            },
-        );
-    }
-    calls
-}
-
-/// Gives the call of a deed, on the connection that has the caller's number.
-fn ask_of<'a>(lines: &'a Lines, caller: u64, deed: Deed) -> Ask<'a> {
-    match deed {
-        Deed::Joins => Ask::Join([127, 0, 0, 1], [0; 24], 0),
-        Deed::Supports => Ask::Line(caller, &lines.support, 0),
-        Deed::AnaLogsIn => Ask::Line(caller, &lines.ana, 0),
-        Deed::BobLogsIn => Ask::Line(caller, &lines.bob, 0),
-        Deed::Greets => Ask::Line(caller, &lines.hello, 0),
-        Deed::Leaves => Ask::Quit(caller),
-        Deed::Takes(count) => Ask::Take(caller, count),
-    }
 }

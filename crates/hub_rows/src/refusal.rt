@@ -1,3 +1,4 @@
+use std::alloc::Global;
 use std::process::Abort;
 
 /// Puts an item last, at the second try where memory is refused at the first.
@@ -15,4 +16,27 @@ pub(crate) fn unknown(rt: &impl Abort, kind: &str, what: &str) -> ! {
 /// Stops the test unless this is so. Comparisons stop a test by this call alone, since an assertion is dearer to prove.
 pub(crate) fn holds(rt: &impl Abort, is_so: bool, what: &str) {
     assert!(rt; is_so, "{what}");
+}
+
+/// Appends bytes, at the second try where memory is refused at the first.
+pub(crate) fn append(rt: &impl Abort, bytes: &mut Vec<u8>, more: &[u8]) {
+    if second_try::append(bytes, more).is_err() {
+        panic!(rt; "refused twice");
+    }
+}
+
+/// Gives the bytes that a text spells.
+pub(crate) fn spell(rt: &impl Abort, alloc: Global, text: &str, round: usize) -> Vec<u8> {
+    match second_try::spell(alloc, text, round) {
+        Some(bytes) => bytes,
+        None => unknown(rt, "spelling", text),
+    }
+}
+
+/// Gives the text that a text spells.
+pub(crate) fn spell_text(rt: &impl Abort, alloc: Global, text: &str) -> String {
+    match String::from_utf8(spell(rt, alloc, text, 0)) {
+        Ok(text) => text,
+        Err(_) => unknown(rt, "text", text),
+    }
 }

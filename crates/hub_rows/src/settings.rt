@@ -1,6 +1,5 @@
 use crate::hub::Hub;
-use crate::refusal::{keep, unknown};
-use crate::spelling::spell;
+use crate::refusal::{keep, spell_text, unknown};
 use hub_core::{Account, MenuEntry, MenuItem, Options, SetupRefused};
 use std::alloc::Global;
 use std::process::Abort;
@@ -69,24 +68,17 @@ fn options_of<'a>(
 /// Gives what stands behind `with` in the lines before the first step.
 fn setting_lines(rt: &impl Abort, alloc: Global, text: &str) -> Vec<String> {
     let mut lines = Vec::new(alloc);
-    for line in text.lines() {
+    for (number, line) in text.lines().enumerate() {
         let line = line.trim();
-        if line.is_empty() {
+        if number == 0 || line.is_empty() {
             continue;
         }
         match line.strip_prefix("with ") {
-            Some(told) => keep(rt, &mut lines, told_text(rt, alloc, told)),
+            Some(told) => keep(rt, &mut lines, spell_text(rt, alloc, told)),
             None => break,
         }
     }
     lines
-}
-
-fn told_text(rt: &impl Abort, alloc: Global, told: &str) -> String {
-    match String::from_utf8(spell(rt, alloc, told, 0)) {
-        Ok(told) => told,
-        Err(_) => unknown(rt, "text", told),
-    }
 }
 
 /// Sets what one line sets, the lists of accounts and of menu entries apart.

@@ -1,5 +1,5 @@
 -- The tasks that the program is asked for, and its endings.
-use Rattle.std.specs.Prelude.{◌≡◌, ℕ, List, [], ◌∷◌, codes, Option}
+use Rattle.std.specs.Prelude.{◌≡◌, ℕ, List, [], ◌∷◌, ◌++◌, codes, Option}
 use Rattle.std.specs.Io.KnownBytes.{Keeps}
 use Rattle.flushed_writes.specs.declared.failures.Failures.{Failures}
 use Rattle.hub_rules.specs.Configured.{Configured}
@@ -57,6 +57,16 @@ status_by (starts.Settings word) = 1
 status_by (starts.Key key) = 1
 status_by (starts.Ended ending) = status_of ending
 
+-- the line about a key of the settings, or a word for them
+abbrev pub key_message : List ℕ → List ℕ
+key_message key = codes "adc_hub: settings: " ++ (key ++ 10 ∷ [])
+
+-- what is said where no server was started
+abbrev pub message_by : StartFault → List ℕ
+message_by (starts.Settings word) = key_message word.now
+message_by (starts.Key key) = key_message key
+message_by (starts.Ended ending) = message_of ending
+
 -- the status is that of an ending that the words, the input and the output bear out
 abbrev pub Ends : ℕ → List (List ℕ) → Told → Told → Type 0
 Ends status words before after = (ending : Ending) × (status ≡ status_of ending) × EndsBy ending words before after
@@ -71,3 +81,14 @@ EndsOver status words remains reads before after holds writes old new =
 -- the message of that ending was written, or its front
 abbrev pub Tells : ℕ → Option (List ℕ) → Option (List ℕ) → Type 0
 Tells status before now = (ending : Ending) × (status ≡ status_of ending) × AppendsFront before now (message_of ending)
+
+-- a fault of the settings, of the tables, or want of memory
+abbrev pub KeepsFromStarting : StartFault → Type 0
+KeepsFromStarting (starts.Settings word) = Unit {0}
+KeepsFromStarting (starts.Key key) = Unit {0}
+KeepsFromStarting (starts.Ended endings.Tables) = Unit {0}
+KeepsFromStarting (starts.Ended endings.Memory) = Unit {0}
+KeepsFromStarting (starts.Ended endings.Served) = ⊥
+KeepsFromStarting (starts.Ended endings.Usage) = ⊥
+KeepsFromStarting (starts.Ended endings.Address) = ⊥
+KeepsFromStarting (starts.Ended endings.Transfer) = ⊥

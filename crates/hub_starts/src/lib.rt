@@ -2,11 +2,14 @@
 #![tactic(auto)]
 
 mod command_line;
+mod environment;
 mod fault;
 mod files;
 mod one_connection;
+mod reading;
 
 pub use command_line::settings_path;
+pub use environment::{Variables, has_journal};
 pub use fault::StartFault;
-pub use files::{has_journal, seed_in, settings_in, tables_in};
+pub use files::{seed_in, settings_in, tables_in};
 pub use one_connection::serve_stdin_if_asked;

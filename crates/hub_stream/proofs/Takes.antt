@@ -4,10 +4,10 @@ use Rattle.std.specs.Prelude.{Option}
 use Rattle.std.specs.List.{concat}
 use Rattle.std.specs.Io.KnownBytes.{Appends}
 use Rattle.std.proofs.KnownBytes.{Appends-trans}
-use Rattle.hub_core.specs.declared.seat.Seat.{Seat}
+use Rattle.outboxes.specs.Backlogs.{Backlog}
 use Rattle.hub_core.specs.CoreState.{CoreState}
 use Rattle.hub_core.specs.Moves.{Moves}
-use Rattle.hub_core.specs.Seats.{seat_of}
+use Rattle.hub_core.specs.Waiting.{backlog_of}
 use Rattle.hub_core.specs.State.{IsSeated, Stands}
 use Rattle.hub_rules.specs.declared.history.Call.TheVariants.{Take}
 use Rattle.hub_rules.specs.declared.history.Entry.{Entry}
@@ -120,30 +120,30 @@ module _ (old mid new : CoreState) (before now later : Option (List ℕ)) (conne
         },
       )
 
--- how many lines wait at the first seat
-abbrev pub first_waits : List Seat → ℕ
+-- how many lines wait for the first connection
+abbrev pub first_waits : List Backlog → ℕ
 first_waits [] = 0
-first_waits (seat ∷ seats) = length seat.outbox.lines
+first_waits (backlog ∷ backlogs) = length backlog.lines
 
 -- which are those that wait for the connection
-waits_is : (setup : Configured) (hash : List ℕ → List ℕ) (h : List Entry) (core : CoreState) → IsAlone setup hash h core → first_waits core.seats ≡ length (waiting (about_first setup hash h))
+waits_is : (setup : Configured) (hash : List ℕ → List ℕ) (h : List Entry) (core : CoreState) → IsAlone setup hash h core → first_waits core.backlogs ≡ length (waiting (about_first setup hash h))
 unfolding Stands
 waits_is setup hash h core alone =
-    ap (λ (c : CoreState). first_waits c.seats) alone.stands.stands
-    ∙ ap (λ opened. first_waits (map (seat_of (facts setup hash h).about) opened)) alone.opened
+    ap (λ (c : CoreState). first_waits c.backlogs) alone.stands.stands
+    ∙ ap (λ opened. first_waits (map (λ c. backlog_of ((facts setup hash h).about c)) opened)) alone.opened
 
 -- a take of some leaves fewer
 pub fewer_wait : (old new : CoreState) (holds : Option (List ℕ)) (connection count : ℕ) (bytes : List ℕ) (lines : ℕ) (ended : Bool)
     → connection ≡ first → SomeRuns old holds → Moves old (Take connection count) (Took bytes lines ended) new → 0 < lines
-    → first_waits new.seats < first_waits old.seats
+    → first_waits new.backlogs < first_waits old.backlogs
 fewer_wait old new holds connection count bytes lines ended is_first running moves some =
     let setup = running.0 in
     let hash = running.1 in
     let h = running.2.0.history in
     let alone = running.2.1.alone in
     let same : Moves old (Take first count) (Took bytes lines ended) new = subst (λ (c : ℕ). Moves old (Take c count) (Took bytes lines ended) new) is_first moves in
-    let before : first_waits old.seats ≡ length (waiting (about_first setup hash h)) = waits_is setup hash h old alone in
-    let now : first_waits new.seats ≡ length (waiting (about_first setup hash (took count bytes lines ended ∷ h))) =
+    let before : first_waits old.backlogs ≡ length (waiting (about_first setup hash h)) = waits_is setup hash h old alone in
+    let now : first_waits new.backlogs ≡ length (waiting (about_first setup hash (took count bytes lines ended ∷ h))) =
     waits_is setup hash (took count bytes lines ended ∷ h) new (take_alone setup hash h old new alone count bytes lines ended same) in
     let gone : length (waiting (about_first setup hash (took count bytes lines ended ∷ h))) + lines ≡ length (waiting (about_first setup hash h)) =
     take_waits setup hash h old new alone count bytes lines ended same in

@@ -1,1 +1,5 @@
+pub mod Clocks
+pub mod Logged
+pub mod Queued
 pub mod Texts
+pub mod Waiting

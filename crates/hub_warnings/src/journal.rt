@@ -1,6 +1,8 @@
 ghost use Rattle.std.specs.Prelude.{◌≡◌, true, false, [], Some, IfSome};
 ghost use Rattle.std.specs.Io.KnownBytes.{Appends};
+ghost use Rattle.log.specs.Record.{record_args};
 ghost use Rattle.hub_warnings.specs.Texts.{journal_line, priority_text};
+ghost use Rattle.hub_warnings.specs.Logged.{priority_if, level_of, runtime_of};
 
 use log::kv::Source;
 use log::span::Spans;
@@ -14,61 +16,74 @@ use std::sync::{Mutex, Wait};
 /// ended before the next.
 pub struct Journal<R: Wait, W> {
     rt: R,
-    has_priorities: bool,
     out: Mutex<Out<W>>,
 }
 
 impl<R: Wait + Drop, W: Drop> Drop for Journal<R, W> {
     fn drop(self) {
-        let Journal {
-            rt,
-            has_priorities: _,
-            out,
-        } = self;
+        let Journal { rt, out } = self;
         drop(rt);
         drop(out);
     }
 }
 
-// A writer, and that its last line stopped part way.
+// A writer, whether lines begin with their priority, and that the last line stopped part way.
 #[derive(Drop)]
 struct Out<W> {
     writer: W,
+    has_priorities: bool,
     is_torn: bool,
 }
 
 impl<R: Wait, W: Write> Journal<R, W> {
     /// Makes a journal over this writer, which the lock of `rt` guards.
-    pub fn new(rt: R, has_priorities: bool, writer: W) -> Journal<R, W> {
+    pub fn new(rt: R, has_priorities: bool, writer: W) -> Journal<R, W>
+        ensures { runtime_of result ≡ rt }
+    {
         Journal {
             rt,
-            has_priorities,
-            out: Mutex::new(Out {
-                writer,
-                is_torn: false,
-            }),
+            out: Mutex::new(Out::new(has_priorities, writer)),
         }
     }
 }
 
 impl<W: Write> Out<W> {
+    fn new(has_priorities: bool, writer: W) -> Out<W>
+        ensures writer { result.writer ≡ writer }
+        ensures priorities { result.has_priorities ≡ has_priorities }
+        ensures torn { result.is_torn ≡ false }
+    {
+        Out {
+            writer,
+            has_priorities,
+            is_torn: false,
+        }
+    }
+
     // A line that was written whole stands behind the end of the one that was torn.
-    fn line<D: Display>(&mut self, priority: &str, text: &D)
-        ensures whole { self.new.is_torn ≡ false → IfSome (D.output text.now) (λ words.
-            Appends (W.contents self.old.writer) (W.contents self.new.writer) (journal_line self.old.is_torn priority.now words)) }
+    fn line<D: Display, K, S>(&mut self, entry: &Record<'_, D, K, S>)
+        ensures whole { self.new.is_torn ≡ false → IfSome (D.output (record_args entry.now)) (λ words.
+            Appends (W.contents self.old.writer) (W.contents self.new.writer)
+            (journal_line self.old.is_torn (priority_if self.old.has_priorities (level_of entry.now)) words)) }
+        ensures priorities { self.new.has_priorities ≡ self.old.has_priorities }
     {
         if self.is_torn && self.writer.write_all(b"\n").is_err() {
             return;
         }
+        let priority = priority(self.has_priorities, entry.level());
+        let text = entry.args();
         self.is_torn = writeln!(self.writer, "{priority}{text}").is_err();
     }
 }
 
-/// Gives what stands before a line of this level for the journal: its priority as in syslog (RFC 5424, section 6.2.1).
+/// Gives what stands before a line of this level, where priorities are asked for: as in syslog (RFC 5424, section 6.2.1).
 #[tactic(auto, unfolding(crate::specs::Texts::priority_text))]
-fn priority(level: Level) -> &'static str
-    ensures { result.now ≡ priority_text level }
+pub(crate) fn priority(has_priorities: bool, level: Level) -> &'static str
+    ensures { result.now ≡ priority_if has_priorities level }
 {
+    if !has_priorities {
+        return "";
+    }
     match level {
         Level::Error => "<3>",
         Level::Warn => "<4>",
@@ -87,12 +102,7 @@ impl<R: Wait, W: Write> Log for Journal<R, W> {
     }
 
     fn log<D: Display, K: Source, S: Spans>(&self, record: &Record<'_, D, K, S>) {
-        let priority = if self.has_priorities {
-            priority(record.level())
-        } else {
-            ""
-        };
-        self.out.lock(&self.rt).line(priority, record.args());
+        self.out.lock(&self.rt).line(record);
     }
 
     fn flush(&self) {

@@ -3,15 +3,20 @@
 #![tactic(auto)]
 
 mod cause;
+mod clock;
 mod journal;
 mod lines;
 mod moment;
 mod queued;
+mod queued_line;
+mod said;
 mod warnings;
 
 pub use cause::Cause;
+pub use clock::{WallClock, seconds_since_1970};
 pub use journal::Journal;
 pub use lines::{Dropped, End, Start, Warning};
 pub use moment::Moment;
 pub use queued::{MOST_LINES, QueueEnd, QueueWriter, QueuedLines, queue};
+pub use said::{Said, say};
 pub use warnings::Warnings;

@@ -1,8 +1,10 @@
 ghost use Rattle.std.specs.Prelude.{◌≡◌, ◌*◌, ◌/◌, ◌%◌, ◌<◌, ◌≤◌, pos, Some};
 ghost use Rattle.jiff_core.specs.Date.{epoch_day};
 ghost use Rattle.jiff_core.specs.Time.{time_seconds};
+ghost use Rattle.hub_warnings.specs.Clocks.{IsMomentAt, IsToldBy};
 ghost use Rattle.hub_warnings.specs.Texts.{two_digits, date_text, time_text, moment_text};
 
+use crate::clock::{WallClock, seconds_since_1970};
 use jiff_core::civil::{Date, Time};
 use std::fmt;
 use std::fmt::{Display, Formatter};
@@ -32,12 +34,20 @@ impl Moment {
         ensures day { seconds / 86_400 < 2_932_897 → epoch_day result.date ≡ pos (seconds / 86_400) }
         ensures late { 2_932_897 ≤ seconds / 86_400 → epoch_day result.date ≡ pos 2_932_896 }
         ensures time { time_seconds result.time ≡ seconds % 86_400 }
+        ensures at { IsMomentAt seconds result }
     {
         let days = (seconds / DAY).min(LAST - 1) as u32;
         Moment {
             date: Date::from_days_since_min(days + FIRST),
             time: Time::from_second((seconds % DAY) as u32, 0),
         }
+    }
+
+    /// Returns the second that this clock tells; the first of 1970 where it cannot be read.
+    pub fn now<C: WallClock>(clock: &C) -> Moment
+        ensures { IsToldBy C.reads clock.now result }
+    {
+        Moment::from_seconds(seconds_since_1970(clock))
     }
 }
 

@@ -1,7 +1,17 @@
 //! A queue of lines to a writer that may wait for long, such as a terminal that is stopped.
+ghost use Rattle.std.specs.Prelude.{◌≡◌, ◌≢◌, ◌∷◌, [], length, take, true, false, Ok, IsOk, IsNone, IsTrue, ◌↔◌, IfOk, OnOk};
+ghost use Rattle.std.specs.Io.{WritesAtMost};
+ghost use Rattle.std.specs.Io.KnownBytes.{Appends};
+ghost use Rattle.hub_warnings.specs.Queued.{open_after, dropped_line, TellsDropped, AppendsAll, AppendsLine, is_line};
+ghost use Rattle.hub_warnings.specs.Waiting.{open_bytes, is_part_lost, Holds, is_for_journal};
+
+use crate::clock::WallClock;
+use crate::journal::priority;
 use crate::lines::Dropped;
 use crate::moment::Moment;
+use crate::queued_line::{Ended, Line, OpenLine};
 use crossbeam_channel::{Receiver, Sender, bounded};
+use log::Level;
 use std::alloc::{AllocError, Global};
 use std::io::{self, Write};
 use std::sync::atomic::{AtomicU64, Ordering};
@@ -20,17 +30,15 @@ const END: u64 = 900;
 pub struct QueueWriter<R: Wait + Drop> {
     rt: R,
     alloc: Global,
-    lines: Sender<Vec<u8>, Global>,
-    line: Vec<u8>,
-    // Memory was wanting for a part of the line.
-    is_lost: bool,
+    lines: Sender<Line, Global>,
+    line: OpenLine,
     dropped: Arc<AtomicU64, Global>,
 }
 
 /// The other end of the queue, for the thread that writes.
 #[derive(Drop)]
 pub struct QueuedLines {
-    lines: Receiver<Vec<u8>, Global>,
+    lines: Receiver<Line, Global>,
     dropped: Arc<AtomicU64, Global>,
     has_priorities: bool,
     // It is dropped with the rest, once the thread is done.
@@ -48,7 +56,11 @@ pub fn queue<R: Wait + Drop>(
     rt: R,
     alloc: Global,
     has_priorities: bool,
-) -> Result<(QueueWriter<R>, QueuedLines, QueueEnd), AllocError> {
+) -> Result<(QueueWriter<R>, QueuedLines, QueueEnd), AllocError>
+    ensures line { IfOk result (λ ends. open_bytes ends.0 ≡ []) }
+    ensures lost { IfOk result (λ ends. is_part_lost ends.0 ≡ false) }
+    ensures priorities { IfOk result (λ ends. is_for_journal ends.1 ≡ has_priorities) }
+{
     let (to, from) = bounded(alloc, MOST_LINES)?;
     let (done, end) = bounded(alloc, 1)?;
     let dropped = Arc::new(alloc, AtomicU64::new(0))?;
@@ -62,76 +74,126 @@ pub fn queue<R: Wait + Drop>(
         rt,
         alloc,
         lines: to,
-        line: Vec::new(alloc),
-        is_lost: false,
+        line: OpenLine::new(alloc),
         dropped,
     };
     Ok((writer, queued, QueueEnd { done: end }))
 }
 
 impl<R: Wait + Drop> QueueWriter<R> {
-    fn put(&mut self, byte: u8) {
-        if self.line.push(byte).is_err() {
-            self.is_lost = true;
-        }
-        if byte == b'\n' {
-            self.end_line();
+    /// Takes the next byte of what is written. A line that it ends goes into the queue.
+    fn put(&mut self, byte: u8)
+        ensures lost { is_part_lost self.old ≡ true → byte ≢ 10 → is_part_lost self.new ≡ true }
+        ensures bytes { Holds self.new (open_after (open_bytes self.old) (byte ∷ [])) }
+    {
+        if let Some(ended) = self.line.take(self.alloc, byte)
+            && !self.is_queued(ended)
+        {
+            self.dropped.fetch_add(1, Ordering::SeqCst);
         }
     }
 
-    /// Puts the line into the queue.
-    fn end_line(&mut self) {
-        let line = std::mem::replace(&mut self.line, Vec::new(self.alloc));
-        let is_lost = std::mem::replace(&mut self.is_lost, false);
-        if is_lost || self.lines.try_send(&self.rt, line).is_err() {
-            self.dropped.fetch_add(1, Ordering::SeqCst);
+    /// Puts a line into the queue, and answers whether it was whole and there was room.
+    fn is_queued(&self, ended: Ended) -> bool
+        ensures { ended ≡ Ended.Lost → result ≡ false }
+    {
+        match ended {
+            Ended::Whole(line) => self.lines.try_send(&self.rt, line).is_ok(),
+            Ended::Lost => false,
         }
     }
 }
 
 impl<R: Wait + Drop> Write for QueueWriter<R> {
-    fn write(&mut self, buf: &[u8]) -> io::Result<usize> {
+    fn write(&mut self, buf: &[u8]) -> io::Result<usize>
+        ensures all { result ≡ Ok (length buf.now) }
+        ensures bound { WritesAtMost result buf.now }
+        ensures line { Holds self.new (open_after (open_bytes self.old) buf.now) }
+    {
         for byte in buf {
             self.put(*byte);
         }
         Ok(buf.len())
     }
 
-    fn flush(&mut self) -> io::Result<()> {
+    fn flush(&mut self) -> io::Result<()>
+        ensures done { IsOk result }
+        ensures same { self.new ≡ self.old }
+    {
+        // Nothing is kept back.
         Ok(())
     }
 }
 
 impl QueuedLines {
-    /// Writes each line, until the other end is gone. Where lines were dropped, one says how many, once there is room again.
-    pub fn write<R: Wait + Clock, W: Write>(self, rt: &R, writer: &mut W) {
-        let mut since = 0usize;
+    /// Writes each line, until the other end is gone. Where lines were dropped, one says how many, once there is room again. Returns
+    /// the first error of a write, which changes nothing.
+    pub fn write<R: Wait + WallClock, W: Write>(self, rt: &R, writer: &mut W) -> Option<io::Error>
+        ensures { IsNone result → AppendsAll R.reads rt.now (is_for_journal self) (W.contents writer.old) (W.contents writer.new) }
+    {
+        let mut since = 0;
+        let mut fault = None;
         for line in self.lines.iter(rt) {
-            // That it cannot be written changes nothing.
-            let _ = writer.write_all(&line);
-            since = since.saturating_add(1);
-            if since >= MOST_LINES || self.lines.is_empty() {
-                since = 0;
-                self.tell_dropped(rt, writer);
-            }
+            let written = self.write_next(rt, writer, &line, &mut since);
+            fault = first_fault(fault, written);
         }
-        self.tell_dropped(rt, writer);
+        first_fault(fault, self.tell_dropped(rt, writer))
     }
 
-    fn tell_dropped<R: Clock, W: Write>(&self, rt: &R, writer: &mut W) {
-        let count = self.dropped.swap(0, Ordering::SeqCst);
-        if count == 0 {
-            return;
+    /// Writes a line, and how many were dropped if none waits or it is the 256th since then.
+    fn write_next<C: WallClock, W: Write>(
+        &self,
+        clock: &C,
+        writer: &mut W,
+        line: &Line,
+        since: &mut usize,
+    ) -> io::Result<()>
+        ensures written { OnOk result (AppendsLine (is_for_journal self.now) line.now.bytes.items (W.contents writer.old) (W.contents writer.new)) }
+        ensures whole { IsTrue (is_line line.now.bytes.items) }
+    {
+        let written = line.write(writer);
+        *since = since.saturating_add(1);
+        if *since < MOST_LINES && !self.lines.is_empty() {
+            return written;
         }
-        let seconds = match rt.since_1970() {
-            Ok(time) => time.as_secs(),
-            Err(_) => 0,
-        };
-        let moment = Moment::from_seconds(seconds);
-        let priority = if self.has_priorities { "<4>" } else { "" };
-        let dropped = Dropped { moment, count };
-        let _ = writeln!(writer, "{priority}{dropped}");
+        *since = 0;
+        let told = self.tell_dropped(clock, writer);
+        match written {
+            Ok(()) => told,
+            Err(error) => Err(error),
+        }
     }
+
+    /// Says how many lines were dropped since it last did.
+    fn tell_dropped<C: WallClock, W: Write>(&self, clock: &C, writer: &mut W) -> io::Result<()>
+        ensures { OnOk result (TellsDropped C.reads clock.now (is_for_journal self.now) (W.contents writer.old) (W.contents writer.new)) }
+    {
+        let count = self.dropped.swap(0, Ordering::SeqCst);
+        let moment = Moment::now(clock);
+        let dropped = Dropped { moment, count };
+        write_dropped(writer, self.has_priorities, dropped)
+    }
+}
+
+/// Gives the first error of two.
+fn first_fault(fault: Option<io::Error>, written: io::Result<()>) -> Option<io::Error>
+    ensures { IsNone result ↔ IsNone fault × IsOk written }
+{
+    match fault {
+        Some(error) => Some(error),
+        None => written.err(),
+    }
+}
+
+/// Writes a line about those that were dropped, where any was.
+fn write_dropped<W: Write>(writer: &mut W, has_priorities: bool, dropped: Dropped) -> io::Result<()>
+    ensures { OnOk result (Appends (W.contents writer.old) (W.contents writer.new) (dropped_line has_priorities dropped)) }
+{
+    if dropped.count == 0 {
+        return Ok(());
+    }
+    let priority = priority(has_priorities, Level::Warn);
+    writeln!(writer, "{priority}{dropped}")
 }
 
 impl QueueEnd {

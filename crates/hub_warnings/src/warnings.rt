@@ -1,9 +1,14 @@
+ghost use Rattle.std.specs.Prelude.{◌≡◌};
+ghost use Rattle.hub_warnings.specs.Clocks.{IsToldBy};
+ghost use Rattle.hub_warnings.specs.Logged.{said_level, said_line};
+
 use crate::cause::Cause;
+use crate::clock::WallClock;
 use crate::lines::Warning;
 use crate::moment::Moment;
-use log::{Log, warn};
+use crate::said::{Said, say};
+use log::{Level, Log};
 use std::net::SocketAddrV4;
-use std::time::Clock;
 
 /// The warnings of a server, which its threads share: each goes to the log. It asks for no memory.
 #[derive(Drop)]
@@ -14,23 +19,32 @@ pub struct Warnings<L> {
 
 impl<L> Warnings<L> {
     /// Makes the warnings that go to this log.
-    pub fn new(log: L) -> Warnings<L> {
+    pub fn new(log: L) -> Warnings<L>
+        ensures { result.log ≡ log }
+    {
         Warnings { log }
     }
 }
 
 impl<L: Log> Warnings<L> {
     /// Warns of this cause, and the peer where it is known.
-    pub fn warn<R: Clock>(&self, rt: &R, peer: Option<SocketAddrV4>, cause: Cause) {
-        let moment = Moment::from_seconds(seconds(rt));
-        warn!(self.log; "{}", Warning { moment, peer, cause });
-    }
-}
-
-/// Gives the seconds since 1970; 0 where the clock cannot be read.
-fn seconds<R: Clock>(rt: &R) -> u64 {
-    match rt.since_1970() {
-        Ok(time) => time.as_secs(),
-        Err(_) => 0,
+    pub fn warn<C: WallClock>(
+        &self,
+        clock: &C,
+        peer: Option<SocketAddrV4>,
+        cause: Cause,
+    ) -> Said<Warning>
+        ensures level { said_level result ≡ Level.Warn }
+        ensures moment { IsToldBy C.reads clock.now (said_line result).moment }
+        ensures peer { (said_line result).peer ≡ peer }
+        ensures cause { (said_line result).cause ≡ cause }
+    {
+        let moment = Moment::now(clock);
+        let warning = Warning {
+            moment,
+            peer,
+            cause,
+        };
+        say(&self.log, Level::Warn, warning)
     }
 }

@@ -1,5 +1,5 @@
 -- The bytes of lines, part by part.
-use Rattle.std.proofs.Common.{◌≡◌, ℕ, zero, suc, ◌+◌, ◌-◌, ◌<◌, min, List, [], ◌∷◌, ◌++◌, length, get_or, take, drop, map, ap, ◌∙◌, arith, append-nil}
+use Rattle.std.proofs.Common.{◌≡◌, ℕ, zero, suc, ◌+◌, ◌-◌, ◌<◌, ◌≤◌, min, List, [], ◌∷◌, ◌++◌, length, get_or, take, drop, map, ap, ◌∙◌, arith, append-nil}
 use Rattle.std.specs.List.{concat}
 use Rattle.std.proofs.lemmas.Grind.{common_steps, take_at_read}
 use Rattle.std.proofs.lemmas.List.{map-append}
@@ -26,3 +26,7 @@ drop-min xs n = grind (arith, common_steps)
 -- the last of a list, but for the first n
 pub drop-kept : {X : Type 0} (xs : List X) (n : ℕ) → drop (length xs - (length xs - min n (length xs))) xs ≡ drop n xs
 drop-kept xs n = ap (λ m. drop m xs) (omega arith) ∙ drop-min xs n
+
+-- the last of a list, but for the first n
+pub drop-less : {X : Type 0} (xs : List X) (n : ℕ) → n ≤ length xs → drop (length xs - (length xs - n)) xs ≡ drop n xs
+drop-less xs n within = ap (λ m. drop m xs) (omega (arith, within))

@@ -1,6 +1,9 @@
-ghost use Rattle.std.specs.Prelude.{◌≡◌, ◌↔◌, [], ◌∷◌, ◌++◌, length, map, take, IsTrue, IfErr, IfOk, OnOk, OnErr};
+ghost use Rattle.std.specs.Prelude.{◌≡◌, ◌<◌, ◌≤◌, ◌↔◌, [], ◌∷◌, ◌++◌, length, map, take, IsTrue, IfErr, IfNone, IfOk, IfSome, OnOk, OnErr};
+ghost use Rattle.outboxes.specs.Backlogs.{size_of};
+ghost use Rattle.std.specs.List.{concat};
 ghost use Rattle.outboxes.specs.Handles.{handles};
 
+use crate::outbox::size_within;
 use crate::refused::PushRefused;
 use bytes::Bytes;
 use std::alloc::{AllocError, Global};
@@ -132,6 +135,31 @@ impl Batch {
         self.lines.as_slice().is_empty()
     }
 
+    /// Counts its lines.
+    pub fn count(&self) -> usize
+        ensures { result ≡ length self.now }
+    {
+        self.lines.as_slice().len()
+    }
+
+    /// Counts the bytes of its lines, line feeds included, where these are no more than there is room for.
+    pub fn size_within(&self, room: usize) -> Option<usize>
+        ensures some { IfSome result (λ size. (size ≡ size_of self.now) × (size ≤ room)) }
+        ensures none { IfNone result (room < size_of self.now) }
+    {
+        size_within(self.lines.as_slice(), room)
+    }
+
+    /// Appends its lines.
+    ///
+    /// `AllocError` where memory runs out; `out` is then as before.
+    pub fn write(&self, out: &mut Vec<u8>) -> Result<(), AllocError>
+        ensures ok { OnOk result (out.new.items ≡ out.old.items ++ concat self.now) }
+        ensures err { OnErr result (out.new.items ≡ out.old.items) }
+    {
+        write_handles(self.lines.as_slice(), out)
+    }
+
     /// Gives its only line, or a list of its lines, where they are none or many.
     pub(crate) fn into_only_line(self) -> Result<Arc<Bytes>, Vec<Arc<Bytes>>>
         ensures one { IfOk result (λ line. self ≡ line.value ∷ []) }
@@ -144,6 +172,20 @@ impl Batch {
             Lines::Many(lines) => Err(Box::into_inner(lines)),
         }
     }
+}
+
+fn write_handles(lines: &[Arc<Bytes>], out: &mut Vec<u8>) -> Result<(), AllocError>
+    ensures ok { OnOk result (out.new.items ≡ out.old.items ++ concat (map (λ line. line.value) lines.now)) }
+    ensures err { OnErr result (out.new.items ≡ out.old.items) }
+{
+    let start = out.len();
+    for line in lines {
+        if out.extend_from_slice(line.as_slice()).is_err() {
+            out.truncate(start);
+            return Err(AllocError);
+        }
+    }
+    Ok(())
 }
 
 /// Makes a list of a handle of each of these lines, and then of each of those.

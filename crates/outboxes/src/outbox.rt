@@ -37,7 +37,7 @@ pub fn quit_line(sid: Sid) -> [u8; 10]
 }
 
 /// Counts the bytes that the lines have together, where these are no more than there is room for.
-fn size_within(lines: &[Arc<Bytes>], room: usize) -> Option<usize>
+pub(crate) fn size_within(lines: &[Arc<Bytes>], room: usize) -> Option<usize>
     ensures some { IfSome result (λ size. (size ≡ size_of (map (λ line. line.value) lines.now)) × (size ≤ room)) }
     ensures none { IfNone result (room < size_of (map (λ line. line.value) lines.now)) }
 {
@@ -240,18 +240,38 @@ impl Outbox {
         let start = out.len();
         let count = k.min(self.places.len());
         write_first(&self.places, count, out)?;
+        self.skip(count, out.len() - start);
+        Ok(Taken {
+            lines: count as u64,
+            ended: self.places.is_empty() && self.lags,
+        })
+    }
+
+    /// Appends the first `count` lines, at most as many as wait, and removes none.
+    ///
+    /// `AllocError` where memory runs out; `out` is then as before.
+    pub fn write(&self, count: usize, out: &mut Vec<u8>) -> Result<(), AllocError>
+        requires { count ≤ length self.now.lines }
+        ensures ok { OnOk result (out.new.items ≡ out.old.items ++ concat (take count self.now.lines)) }
+        ensures err { OnErr result (out.new.items ≡ out.old.items) }
+    {
+        write_first(&self.places, count, out)
+    }
+
+    /// Removes the first `count` lines, at most as many as wait, which have so many bytes together. It takes no memory.
+    pub fn skip(&mut self, count: usize, bytes: usize)
+        requires count { count ≤ length self.old.lines }
+        requires bytes { bytes ≡ size_of (take count self.old.lines) }
+        ensures { self.new ≡ with_lines self.old (drop count self.old.lines) }
+    {
         let left = self.places.len() - count;
-        self.bytes -= out.len() - start;
+        self.bytes -= bytes;
         if left == 0 {
             // So the next lines go to the places that were used last, which the processor has at hand.
             self.places.clear();
         } else {
             self.places.truncate_front(left);
         }
-        Ok(Taken {
-            lines: count as u64,
-            ended: left == 0 && self.lags,
-        })
     }
 
     /// Counts the lines that wait.
@@ -259,6 +279,21 @@ impl Outbox {
         ensures { result ≡ length self.now.lines }
     {
         self.places.len() as u64
+    }
+
+    /// Counts the bytes of the lines that wait.
+    pub fn bytes(&self) -> usize
+        ensures { result ≡ size_of self.now.lines }
+    {
+        self.bytes
+    }
+
+    /// Gives the most lines, and the most bytes, that may wait.
+    pub fn limits(&self) -> (usize, usize)
+        ensures lines { result.0 ≡ self.now.cap }
+        ensures bytes { result.1 ≡ self.now.bytes }
+    {
+        (self.places.capacity(), self.limit)
     }
 
     /// Tests whether a share has not fitted: then nothing goes in any more.

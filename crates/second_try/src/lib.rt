@@ -1,11 +1,20 @@
-//! The second try of a call that may be refused memory: tests make the call once more, and see that it changed nothing.
+//! What all test crates share: the grammar of conversations with its cast, and the second try of a call that may be refused memory, by which
+//! tests make the call once more, and see that it changed nothing.
 #![tactic(auto)]
 
+mod cast;
 mod growth;
 mod said;
+mod spelling;
+mod steps;
+mod transcript;
 
+pub use cast::{GREETED, GREETS, Machine, login_of};
 pub use growth::{append, copy, push};
 pub use said::tell;
+pub use spelling::spell;
+pub use steps::{Deed, Step};
+pub use transcript::{Transcript, transcript_of};
 
 /// Makes a call that a test needs beside those that it is about, once more where memory was refused.
 #[macro_export]

@@ -1,5 +1,6 @@
 // A client on a loopback socket. What goes wrong is an answer of these calls and never a panic in a thread: so memory may be
 // refused to a run, which is then made once more. A client asks for no memory.
+use second_try::{Deed, GREETED, GREETS};
 use std::io::{Read, Write};
 use std::net::{Net, OpenStream, Shutdown, SocketAddr, TcpStream};
 use std::time::Duration;
@@ -39,24 +40,34 @@ pub fn connect<R: Net>(rt: &R, address: SocketAddr) -> Option<Client<R::Stream>>
 }
 
 impl<S: Read + Write + OpenStream + Drop> Client<S> {
-    /// Does what this word says, with this line or header, and gives nothing where it does not come to pass. The page of
-    /// conversations tells the words.
-    pub fn does(&mut self, word: &str, line: &[u8]) -> Option<()> {
-        match word {
-            "says" => self.says(line),
-            "says-slowly" => self.says_slowly(line),
-            "hears" => self.hears(line),
-            "chats-long" => self.chats_long(line),
-            "whispers" => self.whispers(line),
-            "hears-whispers" => self.hears_whispers(line),
-            "floods" => self.floods(),
-            "hears-a-part" => self.hears_a_part(),
-            "hears-the-end" => self.hears_the_end(),
-            "waits-for-close" => self.waits_for_close(),
-            "leaves" => self.leaves(),
-            "breaks-off" => self.breaks_off(),
+    /// Plays a step of one who is connected, with this line, and gives nothing where it does not come to pass.
+    pub fn does(&mut self, deed: Deed, line: &[u8]) -> Option<()> {
+        match deed {
+            Deed::Connects => Some(()),
+            Deed::IsGreeted => self.is_greeted(line),
+            Deed::Says => self.says(line),
+            Deed::SaysSlowly => self.says_slowly(line),
+            Deed::Hears => self.hears(line),
+            Deed::ChatsLong => self.chats_long(line),
+            Deed::Whispers => self.whispers(line),
+            Deed::HearsWhispers => self.hears_whispers(line),
+            Deed::Floods => self.floods(),
+            Deed::HearsAPart => self.hears_a_part(),
+            Deed::HearsTheEnd => self.hears_the_end(),
+            Deed::WaitsForTheClose => self.waits_for_close(),
+            Deed::Leaves => self.leaves(),
+            Deed::BreaksOff => self.breaks_off(),
             _ => None,
         }
+    }
+
+    fn is_greeted(&mut self, sid: &[u8]) -> Option<()> {
+        let [support, identifier, hub] = GREETED;
+        self.says(GREETS.as_bytes())?;
+        self.hears(support.as_bytes())?;
+        self.reads(identifier.as_bytes())?;
+        self.hears(sid)?;
+        self.hears(hub.as_bytes())
     }
 
     fn says(&mut self, line: &[u8]) -> Option<()> {
@@ -95,6 +106,7 @@ impl<S: Read + Write + OpenStream + Drop> Client<S> {
 
     fn says_long(&mut self, header: &[u8]) -> Option<()> {
         self.stream.write_all(header).ok()?;
+        self.stream.write_all(b" ").ok()?;
         for _piece in 0..LONG / PIECE {
             self.stream.write_all(&[b'x'; PIECE]).ok()?;
         }
@@ -103,6 +115,7 @@ impl<S: Read + Write + OpenStream + Drop> Client<S> {
 
     fn hears_long(&mut self, header: &[u8]) -> Option<()> {
         self.reads(header)?;
+        self.reads(b" ")?;
         for _piece in 0..LONG / PIECE {
             self.reads(&[b'x'; PIECE])?;
         }
@@ -112,6 +125,7 @@ impl<S: Read + Write + OpenStream + Drop> Client<S> {
     fn whispers(&mut self, header: &[u8]) -> Option<()> {
         for _line in 0..WHISPERS {
             self.stream.write_all(header).ok()?;
+            self.stream.write_all(b" ").ok()?;
             self.stream.write_all(&[b'x'; WHISPER]).ok()?;
             self.stream.write_all(b"\n").ok()?;
         }
@@ -121,6 +135,7 @@ impl<S: Read + Write + OpenStream + Drop> Client<S> {
     fn hears_whispers(&mut self, header: &[u8]) -> Option<()> {
         for _line in 0..WHISPERS {
             self.reads(header)?;
+            self.reads(b" ")?;
             self.reads(&[b'x'; WHISPER])?;
             self.reads(b"\n")?;
         }

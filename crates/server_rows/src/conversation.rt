@@ -1,27 +1,9 @@
-// Conversations of clients as text, a step a line. Ana is the first to connect, in most scenes, and Bob is another client.
-//
-//     ana connects              a client connects
-//     ana says LINE             it sends this, with a line feed
-//     ana says-slowly LINE      the same, each byte by itself
-//     ana hears LINE            it reads this line, with its line feed, and nothing behind it
-//     ana chats-long HEADER     it says long lines under this header, so many that who does not read them is shut out, and
-//                               hears each
-//     ana whispers HEADER       it says many lines of 2,000 letters under this header
-//     bob hears-whispers HEADER it reads these
-//     ana floods                it sends 65,537 bytes `x`, or as many as are taken
-//     bob hears-a-part          it reads to the end, and something comes before, but not all that was said in long lines
-//     bob hears-the-end         it reads to the end, and nothing more comes
-//     ana waits-for-close       it waits until the server closes, however it does
-//     ana leaves                it says that it is done, and waits until the server is, too
-//     bob breaks-off            it breaks off, once there is something that it has not read: so the other side is told that it
-//                               was lost
-//     a digest begins           a digest begins, which does not end yet
-//     the digest may end        it may end
-//     a second passes           nobody does anything for a little longer than a second
+// Conversations of clients as text, a step a line, of which `second_try::Deed` tells. Ana is the first to connect, in most scenes, and Bob is
+// another client.
 use crate::client::{Client, connect};
 use crate::gate::GateHash;
-use std::io::{Read, Write};
-use std::net::{Net, OpenStream, SocketAddr};
+use second_try::{Deed, Machine, Step, again};
+use std::net::{Net, SocketAddr};
 use std::time::{Clock, Duration};
 
 /// The number of milliseconds that pass where a second passes.
@@ -34,24 +16,28 @@ struct Clients<S> {
     bob: Option<Client<S>>,
 }
 
-/// Plays these parts, one after the other. Nothing where a client does not hear what it should.
+/// Plays a conversation. Nothing where a client does not hear what it should.
 pub fn plays<R: Clock + Net>(
     rt: &R,
     address: SocketAddr,
     gate: &GateHash,
-    parts: &[&str],
+    text: &str,
 ) -> Option<()> {
     let mut clients = Clients {
         ana: None,
         bob: None,
     };
-    for part in parts {
-        for line in part.lines() {
-            let (who, deed) = line.split_once(' ')?;
+    for line in text.lines() {
+        let line = line.trim();
+        if line.is_empty() {
+            continue;
+        }
+        let step = Step::read(line)?;
+        for who in step.who.split(" and ") {
             match who {
-                "ana" => goes_on(rt, address, &mut clients.ana, deed)?,
-                "bob" => goes_on(rt, address, &mut clients.bob, deed)?,
-                _ => happens(rt, gate, line)?,
+                "ana" => goes_on(rt, address, &mut clients.ana, step)?,
+                "bob" => goes_on(rt, address, &mut clients.bob, step)?,
+                _ => happens(rt, gate, step.deed)?,
             }
         }
     }
@@ -59,19 +45,14 @@ pub fn plays<R: Clock + Net>(
 }
 
 /// A digest begins, or may end, or a second passes.
-fn happens<R: Clock>(rt: &R, gate: &GateHash, line: &str) -> Option<()> {
-    match line {
-        "a second passes" => {
-            rt.sleep(Duration::from_millis(SECOND));
-            Some(())
-        }
-        "a digest begins" => gate.begins(),
-        "the digest may end" => {
-            gate.open();
-            Some(())
-        }
-        _ => None,
+fn happens<R: Clock>(rt: &R, gate: &GateHash, deed: Deed) -> Option<()> {
+    match deed {
+        Deed::SecondPasses => rt.sleep(Duration::from_millis(SECOND)),
+        Deed::DigestBegins => gate.begins()?,
+        Deed::DigestMayEnd => gate.open(),
+        _ => return None,
     }
+    Some(())
 }
 
 /// A client connects, or goes on.
@@ -79,23 +60,25 @@ fn goes_on<R: Net>(
     rt: &R,
     address: SocketAddr,
     client: &mut Option<Client<R::Stream>>,
-    deed: &str,
+    step: Step<'_>,
 ) -> Option<()> {
-    if deed == "connects" {
+    if matches!(step.deed, Deed::Connects | Deed::IsGreeted) {
         *client = Some(connect(rt, address)?);
-        return Some(());
     }
-    does(client, deed)
-}
-
-fn does<S: Read + Write + OpenStream + Drop>(
-    client: &mut Option<Client<S>>,
-    deed: &str,
-) -> Option<()> {
-    let (word, line) = deed.split_once(' ').unwrap_or((deed, ""));
-    client.as_mut()?.does(word, line.as_bytes())?;
-    if word == "leaves" || word == "breaks-off" {
+    client.as_mut()?.does(step.deed, step.line.as_bytes())?;
+    if matches!(step.deed, Deed::Leaves | Deed::BreaksOff) {
         *client = None;
     }
     Some(())
+}
+
+/// Gives the conversation of these parts, whose words are spelled.
+pub(crate) fn spelled<R: Machine>(rt: &R, parts: &[&str]) -> String {
+    let mut text = Vec::new(rt.alloc());
+    for part in parts {
+        let spelled = second_try::spell(rt.alloc(), part, 0).expect(rt, part);
+        again!(rt; text.extend_from_slice(&spelled));
+        again!(rt; text.push(b'\n'));
+    }
+    String::from_utf8(text).expect(rt, "UTF-8")
 }

@@ -4,18 +4,14 @@ mod wire;
 
 use crate::in_memory::desk::{Desk, Gone};
 use crate::in_memory::wire::{Client, Cue, Lobby};
+use crate::machine::ServerMachine;
 use crate::run::settings;
 use crate::warnings::shape;
 use hub_server::serve_at;
-use second_try::again;
+use second_try::{Transcript, again, transcript_of};
 use session_hash::First24;
-use std::alloc::{AllocError, AllocGlobal, Global};
-use std::net::Net;
-use std::process::Abort;
-use std::random::RandomSource;
-use std::sync::{Arc, Wait};
-use std::thread::Threads;
-use std::time::Clock;
+use std::alloc::AllocError;
+use std::sync::Arc;
 
 const SETTINGS: &str = "hash = \"first24\"\nthreads = 4\nstop_after = 6\nmax_users = 8\n";
 
@@ -24,12 +20,33 @@ const ANA: usize = 0;
 
 const BOB: usize = 1;
 
-/// The number of bytes without a line feed that are too many.
+/// The place of one who sends too long a line, and the number of bytes without a line feed that are too many.
+const EVE: usize = 2;
+
 const TOO_MANY: usize = 65_537;
 
-const ANA_SAYS: &[u8] = b"HSUP ADBASE ADTIGR\n\
-BINF AAAB IDAAAAAAAAAAAAAAAAAAAAAAAAAAAAAAAAAAAAAAA PDAAAAAAAAAAAAAAAAAAAAAAAAAAAAAAAAAAAAAAA NIana I40.0.0.0\n\
-BMSG AAAB hi\n";
+/// The clients in the order in which they come: two who chat; one who sends too long a line; one who cannot agree on a hash; one who closes at
+/// once; and one who closes once it is greeted.
+const NAMES: [&str; 6] = ["ana", "bob", "eve", "dan", "fay", "gil"];
+
+/// What each says and hears. The first comes from 127.0.0.2, the second from 127.0.0.3, and so on; each who chats is shown with its own address.
+const TALK: &str = r"
+ana is greeted AAAB
+ana says BINF AAAB ID<P0> PD<P0> NIana I40.0.0.0
+bob is greeted AAAC
+bob says BINF AAAC ID<P1> PD<P1> NIbob I40.0.0.0
+ana and bob hear BINF AAAB ID<P0> NIana I4127.0.0.2
+ana and bob hear BINF AAAC ID<P1> NIbob I4127.0.0.3
+ana says BMSG AAAB hi
+ana and bob hear BMSG AAAB hi
+bob says BMSG AAAC hello
+ana and bob hear BMSG AAAC hello
+bob hears IQUI AAAB
+eve is greeted AAAD
+dan says HSUP ADBASE
+dan hears ISTA 247 No\scommon\shash
+gil is greeted AAAG
+";
 
 /// Ana waits for Bob, says something, and leaves once he has answered.
 const ANA_CUES: &[Cue] = &[
@@ -39,10 +56,6 @@ const ANA_CUES: &[Cue] = &[
     Cue::Sent(b"BMSG AAAC ", BOB),
 ];
 
-const BOB_SAYS: &[u8] = b"HSUP ADBASE ADTIGR\n\
-BINF AAAC IDAAAAAAAAAAAAAAAAAAAAAAAAAAAAAAAAAAAAAAI PDAAAAAAAAAAAAAAAAAAAAAAAAAAAAAAAAAAAAAAI NIbob I40.0.0.0\n\
-BMSG AAAC hello\n";
-
 /// Bob comes once Ana is there, answers her, and leaves after her.
 const BOB_CUES: &[Cue] = &[
     Cue::Entered(ANA),
@@ -51,23 +64,8 @@ const BOB_CUES: &[Cue] = &[
     Cue::Gone(ANA),
 ];
 
-/// What each is sent: the two who chat; one who sends too long a line; one who cannot agree on a hash; one who closes at once;
-/// and one who closes once it is greeted. The first comes from 127.0.0.2, the second from 127.0.0.3, and so on; each who chats is
-/// shown with its own address.
-const WANTED: [&[u8]; 6] = [
-    b"ISUP ADBASE ADTIGR ADPING ADUCMD\nISID AAAB\nIINF CT32 NIHub VEadc-hub\\s1.0\n\
-BINF AAAB IDAAAAAAAAAAAAAAAAAAAAAAAAAAAAAAAAAAAAAAA NIana I4127.0.0.2\n\
-BINF AAAC IDAAAAAAAAAAAAAAAAAAAAAAAAAAAAAAAAAAAAAAI NIbob I4127.0.0.3\n\
-BMSG AAAB hi\nBMSG AAAC hello\n",
-    b"ISUP ADBASE ADTIGR ADPING ADUCMD\nISID AAAC\nIINF CT32 NIHub VEadc-hub\\s1.0\n\
-BINF AAAB IDAAAAAAAAAAAAAAAAAAAAAAAAAAAAAAAAAAAAAAA NIana I4127.0.0.2\n\
-BINF AAAC IDAAAAAAAAAAAAAAAAAAAAAAAAAAAAAAAAAAAAAAI NIbob I4127.0.0.3\n\
-BMSG AAAB hi\nBMSG AAAC hello\nIQUI AAAB\n",
-    b"ISUP ADBASE ADTIGR ADPING ADUCMD\nISID AAAD\nIINF CT32 NIHub VEadc-hub\\s1.0\n",
-    b"ISTA 247 No\\scommon\\shash\n",
-    b"",
-    b"ISUP ADBASE ADTIGR ADPING ADUCMD\nISID AAAG\nIINF CT32 NIHub VEadc-hub\\s1.0\n",
-];
+/// The others wait for nobody.
+const NO_CUES: &[Cue] = &[];
 
 /// What the server says, and what it warns of, times apart.
 const SAID: &[u8] = b"listening 127.0.0.1:4111\njoins 6 present 0\n";
@@ -91,46 +89,37 @@ impl Served {
     }
 }
 
-/// Gives what one says who sends too long a line.
-fn too_long(alloc: Global) -> Result<Vec<u8>, AllocError> {
-    let mut says = Vec::with_capacity(alloc, 2 * TOO_MANY)?;
-    says.extend_from_slice(b"HSUP ADBASE ADTIGR\n")?;
-    for _byte in 0..TOO_MANY {
-        says.push(b'x')?;
+/// Gives what each says and hears.
+fn talk<R: ServerMachine>(rt: &R) -> Vec<Transcript> {
+    let mut all = Vec::new(rt.alloc());
+    for name in NAMES {
+        let mut one = transcript_of(rt.alloc(), TALK, name).expect(rt, name);
+        if all.len() == EVE {
+            again!(rt; one.said.reserve(TOO_MANY));
+            for _byte in 0..TOO_MANY {
+                again!(rt; one.said.push(b'x'));
+            }
+        }
+        assert!(rt; second_try::push(&mut all, one).is_ok());
     }
-    Ok(says)
+    all
 }
 
-/// Gives a client that waits for nobody.
-fn alone(says: &[u8]) -> Client<'_> {
-    Client {
-        says,
-        cues: &[],
-        enters: b"BINF ",
+/// Serves these clients.
+fn serve<R: ServerMachine>(rt: &R, talk: &[Transcript]) -> Result<Served, AllocError> {
+    let mut clients = Vec::with_capacity(rt.alloc(), talk.len())?;
+    for (place, one) in talk.iter().enumerate() {
+        let (cues, enters) = match place {
+            ANA => (ANA_CUES, b"BINF AAAB ".as_slice()),
+            BOB => (BOB_CUES, b"BINF AAAC ".as_slice()),
+            _ => (NO_CUES, b"BINF ".as_slice()),
+        };
+        clients.push(Client {
+            says: &one.said,
+            cues,
+            enters,
+        })?;
     }
-}
-
-/// Serves the clients, one of whom says this, which is too long.
-fn serve<R>(rt: &R, too_long: &[u8]) -> Result<Served, AllocError>
-where
-    R: Wait + Threads + Clock + Net + RandomSource + AllocGlobal + Sync,
-{
-    let clients = [
-        Client {
-            says: ANA_SAYS,
-            cues: ANA_CUES,
-            enters: b"BINF AAAB ",
-        },
-        Client {
-            says: BOB_SAYS,
-            cues: BOB_CUES,
-            enters: b"BINF AAAC ",
-        },
-        alone(too_long),
-        alone(b"HSUP ADBASE\n"),
-        alone(b""),
-        alone(b"HSUP ADBASE ADTIGR\n"),
-    ];
     let settings = settings(rt.alloc(), SETTINGS)?;
     let hash = Arc::new(rt.alloc(), First24)?;
     let mut output = Vec::with_capacity(rt.alloc(), 1_024)?;
@@ -154,33 +143,25 @@ where
     })
 }
 
-/// Serves the clients, and once more where memory was refused.
-fn serves<R>(rt: &R, too_long: &[u8]) -> Served
-where
-    R: Wait + Threads + Clock + Net + RandomSource + AllocGlobal + Abort + Sync,
-{
-    if let Ok(served) = serve(rt, too_long)
-        && !served.met_memory()
-    {
-        return served;
-    }
-    match serve(rt, too_long) {
-        Ok(served) => served,
-        Err(_) => panic!(rt; "refused twice"),
+/// Serves these clients, and once more where memory was refused.
+fn serves<R: ServerMachine>(rt: &R, talk: &[Transcript]) -> Served {
+    match serve(rt, talk) {
+        Ok(served) if !served.met_memory() => served,
+        _ => again!(rt; serve(rt, talk)),
     }
 }
 
 #[test]
 fn each_is_written_what_the_rules_owe_it(rt: HostRuntime) {
-    let too_long = again!(&rt; too_long(rt.alloc()));
-    let served = serves(&rt, &too_long);
+    let talk = talk(&rt);
+    let served = serves(&rt, &talk);
     assert!(&rt; served.status == 0, "{}", served.status);
     assert!(&rt; served.output.as_slice() == SAID);
     let shape = again!(&rt; shape(rt.alloc(), &served.errors));
     assert!(&rt; shape.as_slice() == WARNED);
-    assert!(&rt; served.gone.len() == WANTED.len());
+    assert!(&rt; served.gone.len() == talk.len());
     for gone in served.gone.iter() {
-        let wanted = WANTED.get(gone.place).copied().unwrap_or(b"nobody");
-        assert!(&rt; gone.sent.as_slice() == wanted, "{}", gone.place);
+        let wanted = talk.get(gone.place).expect(&rt, "a client");
+        assert!(&rt; gone.sent == wanted.heard, "{}", gone.place);
     }
 }

@@ -18,6 +18,8 @@ mod lingering;
 #[cfg(test)]
 mod listening;
 #[cfg(test)]
+mod machine;
+#[cfg(test)]
 mod over_memory;
 #[cfg(test)]
 mod program;

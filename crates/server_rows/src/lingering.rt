@@ -1,17 +1,16 @@
 // Sockets that linger: for how long, which one is cut off where too many do, and that the ticker waits for them.
 use crate::histories::clock::StillClock;
+use crate::machine::ServerMachine;
 use connection_slots::{Lingering, Shared, Ticker};
 use futures::task::{Context, Poll};
 use futures::test::MockTask;
 use second_try::again;
 use std::alloc::{AllocError, AllocGlobal};
 use std::io;
-use std::net::Net;
-use std::process::Abort;
 use std::random::RandomSource;
 use std::sync::Wait;
 use std::sync::atomic::{AtomicU64, Ordering};
-use std::time::{Clock, Duration};
+use std::time::Duration;
 use tokio::io::{AsyncRead, AsyncWrite};
 use tokio::runtime::Runtime;
 use tokio::time::Sleep;
@@ -118,10 +117,7 @@ fn the_oldest_of_too_many_is_cut_off(rt: HostRuntime) {
 }
 
 /// Answers whether the ticker of a server that serves nobody any more is over, so many seconds after a socket began to linger.
-fn is_over_after<R: Wait + Clock + Net + RandomSource + AllocGlobal>(
-    rt: &R,
-    seconds: u64,
-) -> Result<bool, AllocError> {
+fn is_over_after<R: ServerMachine>(rt: &R, seconds: u64) -> Result<bool, AllocError> {
     let clock = StillClock::<R>::new();
     let closed = AtomicU64::new(0);
     let runtime = Runtime::with_worker_threads(rt, 1).map_err(|_| AllocError)?;

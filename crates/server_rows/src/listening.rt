@@ -1,18 +1,15 @@
 // Servers that cannot be had, or not for long.
 
+use crate::machine::ServerMachine;
+use crate::program::asking::Output;
 use crate::run::settings;
 use hub_listener::Bind;
 use hub_server::serve_at;
 use session_hash::First24;
-use std::alloc::AllocGlobal;
-use std::io::{self, Write};
-use std::net::{Ipv4Addr, Net, OpenListener, SocketAddr, SocketAddrV4, TcpListener, TcpStream};
+use std::io;
+use std::net::{Ipv4Addr, Net, SocketAddr, SocketAddrV4, TcpListener, TcpStream};
 use std::os::fd::OwnedFd;
-use std::process::Abort;
-use std::random::RandomSource;
-use std::sync::{Arc, Wait};
-use std::thread::Threads;
-use std::time::Clock;
+use std::sync::Arc;
 use tokio::reactor::Handle;
 
 /// A socket that is connected already, so that it accepts nobody.
@@ -42,27 +39,6 @@ enum Trouble {
     Connected,
 }
 
-/// Standard output, which can fail.
-#[derive(Drop)]
-struct Output {
-    got: Vec<u8>,
-    is_broken: bool,
-}
-
-impl Write for Output {
-    fn write(&mut self, buf: &[u8]) -> io::Result<usize> {
-        if self.is_broken {
-            return Err(io::ErrorKind::BrokenPipe.into());
-        }
-        self.got.extend_from_slice(buf)?;
-        Ok(buf.len())
-    }
-
-    fn flush(&mut self) -> io::Result<()> {
-        Ok(())
-    }
-}
-
 /// The end of a server, and what it said.
 #[derive(Drop)]
 struct Ended {
@@ -72,20 +48,14 @@ struct Ended {
 }
 
 /// Runs a server at this address.
-fn at<R, A: Bind>(rt: &R, address: A, is_broken: bool) -> io::Result<Ended>
-where
-    R: Wait
-        + Threads
-        + Clock
-        + Net<Stream = TcpStream, Listener = TcpListener>
-        + RandomSource
-        + AllocGlobal
-        + Sync,
-{
+fn at<R: ServerMachine + Net<Stream = TcpStream, Listener = TcpListener>, A: Bind>(
+    rt: &R,
+    address: A,
+    is_broken: bool,
+) -> io::Result<Ended> {
     let settings = settings(rt.alloc(), "hash = \"first24\"\nmax_users = 4\n")?;
     let hash = Arc::new(rt.alloc(), First24)?;
-    let got = Vec::with_capacity(rt.alloc(), 64)?;
-    let mut output = Output { got, is_broken };
+    let mut output = Output::new(rt.alloc(), is_broken)?;
     let mut errors = Vec::with_capacity(rt.alloc(), 64)?;
     let status = serve_at(
         rt,
@@ -104,16 +74,10 @@ where
 }
 
 /// Runs a server in this trouble.
-fn in_trouble<R>(rt: &R, trouble: Trouble) -> io::Result<Ended>
-where
-    R: Wait
-        + Threads
-        + Clock
-        + Net<Stream = TcpStream, Listener = TcpListener>
-        + RandomSource
-        + AllocGlobal
-        + Sync,
-{
+fn in_trouble<R: ServerMachine + Net<Stream = TcpStream, Listener = TcpListener>>(
+    rt: &R,
+    trouble: Trouble,
+) -> io::Result<Ended> {
     let here = TcpListener::bind(rt, "127.0.0.1:0")?;
     let local = here.local_addr()?;
     let any = SocketAddrV4::new(Ipv4Addr::LOCALHOST, 0);
@@ -135,17 +99,13 @@ where
 }
 
 /// Stops the test unless a server in this trouble ends like this, once more where memory was refused.
-fn ends<R>(rt: &R, trouble: Trouble, status: u8, output: &[u8], errors: &[u8])
-where
-    R: Wait
-        + Threads
-        + Clock
-        + Net<Stream = TcpStream, Listener = TcpListener>
-        + RandomSource
-        + AllocGlobal
-        + Abort
-        + Sync,
-{
+fn ends<R: ServerMachine + Net<Stream = TcpStream, Listener = TcpListener>>(
+    rt: &R,
+    trouble: Trouble,
+    status: u8,
+    output: &[u8],
+    errors: &[u8],
+) {
     for _ in 0..2 {
         if let Ok(ended) = in_trouble(rt, trouble)
             && ended.status != 4

@@ -8,11 +8,11 @@ use futures::test::MockTask;
 use hub_core::{Options, Setup};
 use hub_server::{Connection, OfHub, Server};
 use hub_shared::{Host, Hub};
+use second_try::{again, transcript_of};
 use session_hash::First24;
-use std::alloc::AllocGlobal;
+use std::alloc::{AllocError, AllocGlobal};
 use std::io;
 use std::marker::Brand;
-use std::process::Abort;
 use std::random::RandomSource;
 use std::sync::{Arc, Wait};
 use std::time::Clock;
@@ -131,27 +131,11 @@ fn attempt<R: Wait + Clock + RandomSource + AllocGlobal>(
 
 #[test]
 fn a_session_over_memory_is_answered(rt: HostRuntime) {
-    let rows: [(&[u8], &[u8], End); 2] = [
-        (
-            b"HSUP ADBASE ADTIGR\n",
-            b"ISUP ADBASE ADTIGR ADPING ADUCMD\nISID AAAB\nIINF CT32 NIHub VEadc-hub\\s1.0\n",
-            End::Closed,
-        ),
-        (
-            b"HSUP ADBASE\n",
-            b"ISTA 247 No\\scommon\\shash\n",
-            End::Ended,
-        ),
-    ];
-    for (input, wanted, end) in rows {
-        let ran = match attempt(&rt, input) {
-            Some(ran) => ran,
-            None => match attempt(&rt, input) {
-                Some(ran) => ran,
-                None => panic!(&rt; "refused twice"),
-            },
-        };
+    let shut_out = "ana says HSUP ADBASE\nana hears ISTA 247 No\\scommon\\shash";
+    for (text, end) in [("ana is greeted AAAB", End::Closed), (shut_out, End::Ended)] {
+        let ana = transcript_of(rt.alloc(), text, "ana").expect(&rt, text);
+        let ran = again!(&rt; attempt(&rt, &ana.said).ok_or(AllocError));
         assert!(&rt; ran.0 == end, "{:?}", ran.0);
-        assert!(&rt; ran.1.as_slice() == wanted);
+        assert!(&rt; ran.1 == ana.heard);
     }
 }

@@ -1,4 +1,4 @@
-mod asking;
+pub(crate) mod asking;
 mod starting;
 
 use crate::program::asking::{Broken, asks};

@@ -1,4 +1,5 @@
 // Tests of what a listener does where no connection can be accepted.
+use crate::machine::ServerMachine;
 use adc_sessions::Incoming;
 use connection_slots::Wakers;
 use futures::task::{Context, Poll};
@@ -7,13 +8,9 @@ use hub_listener::{Listener, Listens};
 use hub_warnings::Warnings;
 use log::sink::Discard;
 use log::{Level, Logged};
-use std::alloc::AllocGlobal;
 use std::io;
-use std::net::{Ipv4Addr, Net, SocketAddr, SocketAddrV4};
-use std::process::Abort;
-use std::random::RandomSource;
-use std::sync::Wait;
-use std::time::{Clock, Duration};
+use std::net::{Ipv4Addr, SocketAddr, SocketAddrV4};
+use std::time::Duration;
 use tokio::net::TcpStream;
 use tokio::runtime::Runtime;
 
@@ -49,10 +46,7 @@ enum Did {
     Rested,
 }
 
-fn try_listener<R: Wait + Clock + Net + RandomSource + AllocGlobal>(
-    rt: &R,
-    number: i32,
-) -> Option<Did> {
+fn try_listener<R: ServerMachine>(rt: &R, number: i32) -> Option<Did> {
     let runtime = Runtime::with_worker_threads(rt, 1).ok()?;
     let timer = runtime.handle().time().sleep(rt, Duration::ZERO).ok()?;
     let wakers = Wakers::new(rt.alloc(), 1).ok()?;
@@ -73,10 +67,7 @@ fn try_listener<R: Wait + Clock + Net + RandomSource + AllocGlobal>(
 }
 
 /// Stops the test unless a listener does this whose socket fails with that number.
-fn does<R>(rt: &R, number: i32, did: Did)
-where
-    R: Wait + Clock + Net + RandomSource + AllocGlobal + Abort,
-{
+fn does<R: ServerMachine>(rt: &R, number: i32, did: Did) {
     for _ in 0..2 {
         if let Some(done) = try_listener(rt, number) {
             assert!(rt; done == did, "{number}");

@@ -2,16 +2,15 @@
 use crate::conversation::plays;
 use crate::flaky::Flaky;
 use crate::gate::GateHash;
+use crate::machine::ServerMachine;
 use futures::spin::lock;
 use hub_server::{serve_at, serve_for_journal, serve_on};
 use hub_settings::{Settings, read_settings};
-use std::alloc::{AllocError, AllocGlobal, Global};
+use std::alloc::{AllocError, Global};
 use std::io::{self, Write};
 use std::net::{Net, SocketAddr, SocketAddrV4, TcpListener, TcpStream};
-use std::process::Abort;
-use std::random::RandomSource;
-use std::sync::{Arc, Mutex, Wait};
-use std::thread::{Threads, join};
+use std::sync::{Arc, Mutex};
+use std::thread::join;
 use std::time::{Clock, Duration};
 
 /// The number of times that a thread looks for what another does, a millisecond or more apart.
@@ -126,14 +125,14 @@ impl Heard {
         }
     }
 
-    /// Plays these parts, once the server listens. Answers whether the clients do all of this, and whether the server waited for
+    /// Plays a conversation, once the server listens. Answers whether the clients do all of this, and whether the server waited for
     /// others after them.
-    fn sees<R: Clock + Net>(&self, rt: &R, gate: &GateHash, parts: &[&str]) -> (bool, bool) {
+    fn sees<R: Clock + Net>(&self, rt: &R, gate: &GateHash, text: &str) -> (bool, bool) {
         self.begin();
         let Some(address) = self.waits_for_address(rt) else {
             return (false, false);
         };
-        let went_well = plays(rt, address, gate, parts).is_some();
+        let went_well = plays(rt, address, gate, text).is_some();
         gate.open();
         let waited = went_well && !self.ends_with_them(rt);
         if !went_well || waited {
@@ -209,23 +208,14 @@ pub enum Way {
     Journal,
 }
 
-/// Serves while the clients play these parts.
-fn attempt<R>(
+/// Serves while the clients play this conversation.
+fn attempt<R: ServerMachine + Net<Stream = TcpStream, Listener = TcpListener>>(
     rt: &R,
     text: &str,
     way: Way,
     hash: &Arc<GateHash>,
-    parts: &[&str],
-) -> Result<Ran, AllocError>
-where
-    R: Wait
-        + Threads
-        + Clock
-        + Net<Stream = TcpStream, Listener = TcpListener>
-        + RandomSource
-        + AllocGlobal
-        + Sync,
-{
+    talk: &str,
+) -> Result<Ran, AllocError> {
     let settings = settings(rt.alloc(), text)?;
     let heard = Heard::new(rt.alloc())?;
     let served = hash.clone()?;
@@ -234,7 +224,7 @@ where
         let (settings, heard, gate, errors) = (&settings, &heard, &**hash, &mut errors);
         join(
             rt,
-            move || heard.sees(rt, gate, parts),
+            move || heard.sees(rt, gate, talk),
             move || {
                 let mut output = Told { rt, heard };
                 let status = match way {
@@ -268,24 +258,20 @@ where
     })
 }
 
-/// Serves while the clients play these parts, and once more where memory was refused.
-pub fn runs<R>(rt: &R, text: &str, way: Way, hash: &Arc<GateHash>, parts: &[&str]) -> Ran
-where
-    R: Wait
-        + Threads
-        + Clock
-        + Net<Stream = TcpStream, Listener = TcpListener>
-        + RandomSource
-        + AllocGlobal
-        + Abort
-        + Sync,
-{
-    if let Ok(ran) = attempt(rt, text, way, hash, parts)
+/// Serves while the clients play this conversation, and once more where memory was refused.
+pub fn runs<R: ServerMachine + Net<Stream = TcpStream, Listener = TcpListener>>(
+    rt: &R,
+    text: &str,
+    way: Way,
+    hash: &Arc<GateHash>,
+    talk: &str,
+) -> Ran {
+    if let Ok(ran) = attempt(rt, text, way, hash, talk)
         && !ran.met_memory()
     {
         return ran;
     }
-    match attempt(rt, text, way, hash, parts) {
+    match attempt(rt, text, way, hash, talk) {
         Ok(ran) => ran,
         Err(_) => panic!(rt; "refused twice"),
     }

@@ -1,51 +1,32 @@
 // Scenes that clients see of a server on loopback sockets.
 mod bans;
 
+use crate::conversation::spelled;
 use crate::gate::GateHash;
+use crate::machine::ServerMachine;
 use crate::run::{Ran, Way, runs};
 use crate::warnings::shape;
 use connection_slots::descriptor_limit;
 use second_try::again;
-use std::alloc::AllocGlobal;
 use std::net::{Net, TcpListener, TcpStream};
-use std::process::Abort;
-use std::random::RandomSource;
-use std::sync::{Arc, Wait};
-use std::thread::Threads;
-use std::time::Clock;
+use std::sync::Arc;
 
 /// Ana connects, is greeted and logs in.
 const ANA_ENTERS: &str = "\
-ana connects
-ana says HSUP ADBASE ADTIGR
-ana hears ISUP ADBASE ADTIGR ADPING ADUCMD
-ana hears ISID AAAB
-ana hears IINF CT32 NIHub VEadc-hub\\s1.0
-ana says BINF AAAB IDAAAAAAAAAAAAAAAAAAAAAAAAAAAAAAAAAAAAAAA PDAAAAAAAAAAAAAAAAAAAAAAAAAAAAAAAAAAAAAAA NIana SS10 SF2 I40.0.0.0 SUTCP4,SEGA
-ana hears BINF AAAB IDAAAAAAAAAAAAAAAAAAAAAAAAAAAAAAAAAAAAAAA NIana SS10 SF2 I4127.0.0.1 SUTCP4,SEGA
+ana is greeted AAAB
+ana says BINF AAAB ID<P0> PD<P0> NIana SS10 SF2 I40.0.0.0 SUTCP4,SEGA
+ana hears BINF AAAB ID<P0> NIana SS10 SF2 I4127.0.0.1 SUTCP4,SEGA
 ";
 
 /// Bob does so then, and Ana, who has sent nothing since, hears of it.
 const BOB_ENTERS: &str = "\
-bob connects
-bob says HSUP ADBASE ADTIGR
-bob hears ISUP ADBASE ADTIGR ADPING ADUCMD
-bob hears ISID AAAC
-bob hears IINF CT32 NIHub VEadc-hub\\s1.0
-bob says BINF AAAC IDAAAAAAAAAAAAAAAAAAAAAAAAAAAAAAAAAAAAAAI PDAAAAAAAAAAAAAAAAAAAAAAAAAAAAAAAAAAAAAAI NIbob SS5 SF1 SUTCP4
-bob hears BINF AAAB IDAAAAAAAAAAAAAAAAAAAAAAAAAAAAAAAAAAAAAAA NIana SS10 SF2 I4127.0.0.1 SUTCP4,SEGA
-bob hears BINF AAAC IDAAAAAAAAAAAAAAAAAAAAAAAAAAAAAAAAAAAAAAI NIbob SS5 SF1 SUTCP4
-ana hears BINF AAAC IDAAAAAAAAAAAAAAAAAAAAAAAAAAAAAAAAAAAAAAI NIbob SS5 SF1 SUTCP4
+bob is greeted AAAC
+bob says BINF AAAC ID<P1> PD<P1> NIbob SS5 SF1 SUTCP4
+bob hears BINF AAAB ID<P0> NIana SS10 SF2 I4127.0.0.1 SUTCP4,SEGA
+bob and ana hear BINF AAAC ID<P1> NIbob SS5 SF1 SUTCP4
 ";
 
-const BOTH_LEAVE: &str = "\
-ana leaves
-bob leaves
-";
-
-const ANA_LEAVES: &str = "\
-ana leaves
-";
+const BOTH_LEAVE: &str = "ana and bob leave";
 
 /// Ana chats, whatever Bob does.
 const ANA_CHATS: &str = "\
@@ -63,30 +44,21 @@ const TWO_JOINED: &[u8] = b"\njoins 2 present 0\n";
 const ONE_JOINED: &[u8] = b"\njoins 1 present 0\n";
 
 /// Makes the hash, whose gate is open or is not.
-fn gate(rt: &(impl AllocGlobal + Abort), is_open: bool) -> Arc<GateHash> {
-    match Arc::new(rt.alloc(), GateHash::new(is_open)) {
-        Ok(gate) => gate,
-        Err(refused) => match Arc::new(rt.alloc(), refused.value) {
-            Ok(gate) => gate,
-            Err(_) => panic!(rt; "refused twice"),
-        },
-    }
+fn gate<R: ServerMachine>(rt: &R, is_open: bool) -> Arc<GateHash> {
+    again!(rt; Arc::new(rt.alloc(), GateHash::new(is_open)))
 }
 
 /// Runs a server of these settings, while the clients play these parts. Stops the test where they did not hear what they
 /// should, or it does not end well and as it is to.
-fn ran<R>(rt: &R, text: &str, way: Way, gate: &Arc<GateHash>, parts: &[&str], said: &[u8]) -> Ran
-where
-    R: Wait
-        + Threads
-        + Clock
-        + Net<Stream = TcpStream, Listener = TcpListener>
-        + RandomSource
-        + AllocGlobal
-        + Abort
-        + Sync,
-{
-    let ran = runs(rt, text, way, gate, parts);
+fn ran<R: ServerMachine + Net<Stream = TcpStream, Listener = TcpListener>>(
+    rt: &R,
+    text: &str,
+    way: Way,
+    gate: &Arc<GateHash>,
+    parts: &[&str],
+    said: &[u8],
+) -> Ran {
+    let ran = runs(rt, text, way, gate, &spelled(rt, parts));
     assert!(rt; ran.went_well && !ran.waited);
     assert!(rt; ran.status == 0, "{}", ran.status);
     assert!(rt; ran.output.starts_with(b"listening 127.0.0.1:") && ran.output.ends_with(said));
@@ -94,133 +66,106 @@ where
 }
 
 /// Runs a server that warns of nobody, and stops the test as [`ran`] does.
-fn serves<R>(rt: &R, text: &str, parts: &[&str], said: &[u8])
-where
-    R: Wait
-        + Threads
-        + Clock
-        + Net<Stream = TcpStream, Listener = TcpListener>
-        + RandomSource
-        + AllocGlobal
-        + Abort
-        + Sync,
-{
+fn serves<R: ServerMachine + Net<Stream = TcpStream, Listener = TcpListener>>(
+    rt: &R,
+    text: &str,
+    parts: &[&str],
+    said: &[u8],
+) {
     let ran = ran(rt, text, Way::AsSet, &gate(rt, true), parts, said);
     assert!(rt; ran.errors.is_empty());
 }
 
 /// Runs a server that says this on standard error, times and ports apart, and stops the test as [`ran`] does.
-fn warns<R>(rt: &R, text: &str, way: Way, parts: &[&str], said: &[u8], errors: &[u8])
-where
-    R: Wait
-        + Threads
-        + Clock
-        + Net<Stream = TcpStream, Listener = TcpListener>
-        + RandomSource
-        + AllocGlobal
-        + Abort
-        + Sync,
-{
+fn warns<R: ServerMachine + Net<Stream = TcpStream, Listener = TcpListener>>(
+    rt: &R,
+    text: &str,
+    way: Way,
+    parts: &[&str],
+    said: &[u8],
+    errors: &[u8],
+) {
     let ran = ran(rt, text, way, &gate(rt, true), parts, said);
     let shape = again!(rt; shape(rt.alloc(), &ran.errors));
     assert!(rt; shape.as_slice() == errors);
 }
 
+/// Plays a scene that a server of these settings, which warns of nobody, ends by saying this.
+macro_rules! scene {
+    ($rt:ident, $settings:expr, $said:expr, [$($part:expr),+]) => {
+        serves(&$rt, $settings, &[$($part),+], $said)
+    };
+}
+
 /// A user says something, and both read it.
-const CHAT: &str = "\
-ana says BMSG AAAB hi
-ana hears BMSG AAAB hi
-bob hears BMSG AAAB hi
-";
-
-const BROADCAST: &str = "\
-bob says BMSG AAAC hi
-ana hears BMSG AAAC hi
-bob hears BMSG AAAC hi
-";
-
-const UPDATE: &str = "\
-ana says BINF AAAB DEhi
-bob hears BINF AAAB DEhi
-";
-
-const WHISPER: &str = "\
-ana says DMSG AAAB AAAC yo
-bob hears DMSG AAAB AAAC yo
-bob says EMSG AAAC AAAB yes
-ana hears EMSG AAAC AAAB yes
-bob hears EMSG AAAC AAAB yes
-";
+const CHATS: [&str; 5] = [
+    "",
+    "ana says BMSG AAAB hi
+    ana and bob hear BMSG AAAB hi",
+    "bob says BMSG AAAC hi
+    ana and bob hear BMSG AAAC hi",
+    "ana says BINF AAAB DEhi
+    bob hears BINF AAAB DEhi",
+    "ana says DMSG AAAB AAAC yo
+    bob hears DMSG AAAB AAAC yo
+    bob says EMSG AAAC AAAB yes
+    ana and bob hear EMSG AAAC AAAB yes",
+];
 
 #[test]
 fn what_happens_wakes_an_idle_session(rt: HostRuntime) {
-    for what in ["", CHAT, BROADCAST, UPDATE, WHISPER] {
-        let parts = [ANA_ENTERS, BOB_ENTERS, what, BOTH_LEAVE];
-        serves(&rt, TWO, &parts, TWO_JOINED);
+    for chat in CHATS {
+        scene! { rt, TWO, TWO_JOINED, [ANA_ENTERS, BOB_ENTERS, chat, BOTH_LEAVE] }
     }
 }
 
-/// A fatal denial, of which the one who is denied hears before the connection is closed.
-const LIE: &str = "\
-ana says BMSG AAAC hi
-ana hears ISTA 240 Wrong\\sSID
-ana hears-the-end
-";
-
-const BOB_HEARS_AND_LEAVES: &str = "\
-bob hears IQUI AAAB
-bob leaves
-";
+/// Ana leaves, or is denied for good, and hears of that before the connection is closed.
+const ENDS: [&str; 2] = [
+    "ana leaves",
+    r"ana says BMSG AAAC hi
+    ana hears ISTA 240 Wrong\sSID
+    ana hears the end",
+];
 
 #[test]
 fn an_end_wakes_an_idle_session(rt: HostRuntime) {
-    for what in [ANA_LEAVES, LIE] {
-        let parts = [ANA_ENTERS, BOB_ENTERS, what, BOB_HEARS_AND_LEAVES];
-        serves(&rt, TWO, &parts, TWO_JOINED);
+    for end in ENDS {
+        scene! { rt, TWO, TWO_JOINED, [ANA_ENTERS, BOB_ENTERS, end, "
+            bob hears IQUI AAAB
+            bob leaves
+        "] }
     }
 }
 
-/// Once he reads, what he hears ends before what was said.
-const DEAF: &str = "\
-ana chats-long BMSG AAAB\x20
-bob hears-a-part
-ana hears IQUI AAAC
-";
-
 #[test]
 fn one_who_never_reads_holds_up_nobody(rt: HostRuntime) {
-    let parts = [ANA_ENTERS, BOB_ENTERS, DEAF, ANA_CHATS, ANA_LEAVES];
-    serves(&rt, TWO, &parts, TWO_JOINED);
+    // Once he reads, what he hears ends before what was said.
+    scene! { rt, TWO, TWO_JOINED, [ANA_ENTERS, BOB_ENTERS, r"
+        ana chats long BMSG AAAB
+        bob hears a part
+        ana hears IQUI AAAC
+        ana says BMSG AAAB still\shere
+        ana hears BMSG AAAB still\shere
+        ana leaves
+    "] }
 }
-
-const BOB_GREETS_SLOWLY: &str = "\
-bob connects
-bob says-slowly HSUP ADBASE ADTIGR
-";
-
-const BOB_ENTERS_SLOWLY: &str = "\
-bob hears ISUP ADBASE ADTIGR ADPING ADUCMD
-bob hears ISID AAAC
-bob hears IINF CT32 NIHub VEadc-hub\\s1.0
-bob says-slowly BINF AAAC IDAAAAAAAAAAAAAAAAAAAAAAAAAAAAAAAAAAAAAAI PDAAAAAAAAAAAAAAAAAAAAAAAAAAAAAAAAAAAAAAI NIbob SS5 SF1 SUTCP4
-bob hears BINF AAAB IDAAAAAAAAAAAAAAAAAAAAAAAAAAAAAAAAAAAAAAA NIana SS10 SF2 I4127.0.0.1 SUTCP4,SEGA
-bob hears BINF AAAC IDAAAAAAAAAAAAAAAAAAAAAAAAAAAAAAAAAAAAAAI NIbob SS5 SF1 SUTCP4
-ana hears BINF AAAC IDAAAAAAAAAAAAAAAAAAAAAAAAAAAAAAAAAAAAAAI NIbob SS5 SF1 SUTCP4
-bob says-slowly BMSG AAAC hi
-ana hears BMSG AAAC hi
-";
 
 #[test]
 fn one_who_sends_byte_by_byte_holds_up_nobody(rt: HostRuntime) {
-    let parts = [
-        ANA_ENTERS,
-        BOB_GREETS_SLOWLY,
-        ANA_CHATS,
-        BOB_ENTERS_SLOWLY,
-        ANA_CHATS,
-        BOTH_LEAVE,
-    ];
-    serves(&rt, TWO, &parts, TWO_JOINED);
+    scene! { rt, TWO, TWO_JOINED, [ANA_ENTERS, r"
+        bob connects
+        bob says slowly HSUP ADBASE ADTIGR
+        ana says BMSG AAAB still\shere
+        ana hears BMSG AAAB still\shere
+        bob hears ISUP ADBASE ADTIGR ADPING ADUCMD
+        bob hears ISID AAAC
+        bob hears IINF CT32 NIHub VEadc-hub\s1.0
+        bob says slowly BINF AAAC ID<P1> PD<P1> NIbob SS5 SF1 SUTCP4
+        bob hears BINF AAAB ID<P0> NIana SS10 SF2 I4127.0.0.1 SUTCP4,SEGA
+        bob and ana hear BINF AAAC ID<P1> NIbob SS5 SF1 SUTCP4
+        bob says slowly BMSG AAAC hi
+        ana hears BMSG AAAC hi
+    ", ANA_CHATS, BOTH_LEAVE] }
 }
 
 const WITH_OPERATOR: &str =
@@ -231,61 +176,45 @@ const WITH_OPERATOR: &str =
 /// 32 bytes 1, in base32. OpenSSL 3 prints these bytes: `head -c 24 /dev/zero | openssl enc -chacha20 -K 01..01 -iv 00..00`. Her
 /// answer is the password and the challenge behind it, of which the stand-in for a hash takes 24 bytes, in base32.
 const OPERATOR_AND_BOB_ENTER: &str = "\
-ana connects
-ana says HSUP ADBASE ADTIGR
-ana hears ISUP ADBASE ADTIGR ADPING ADUCMD
-ana hears ISID AAAB
-ana hears IINF CT32 NIHub VEadc-hub\\s1.0
-ana says BINF AAAB IDAAAAAAAAAAAAAAAAAAAAAAAAAAAAAAAAAAAAAAA PDAAAAAAAAAAAAAAAAAAAAAAAAAAAAAAAAAAAAAAA NIop
+ana is greeted AAAB
+ana says BINF AAAB ID<P0> PD<P0> NIop
 ana hears IGPA AI7TOIB2ER3MIJLGUYOMKXB4VB25XNGMIHAN5NY
 ana says HPAS ONSXGYLNMUBD6NZAHISHNRBFM2TBZRK4HSUHLWY
-ana hears BINF AAAB IDAAAAAAAAAAAAAAAAAAAAAAAAAAAAAAAAAAAAAAA NIop CT4
-bob connects
-bob says HSUP ADBASE ADTIGR
-bob hears ISUP ADBASE ADTIGR ADPING ADUCMD
-bob hears ISID AAAC
-bob hears IINF CT32 NIHub VEadc-hub\\s1.0
-bob says BINF AAAC IDAAAAAAAAAAAAAAAAAAAAAAAAAAAAAAAAAAAAAAI PDAAAAAAAAAAAAAAAAAAAAAAAAAAAAAAAAAAAAAAI NIbob SS5 SF1 SUTCP4
-bob hears BINF AAAB IDAAAAAAAAAAAAAAAAAAAAAAAAAAAAAAAAAAAAAAA NIop CT4
-bob hears BINF AAAC IDAAAAAAAAAAAAAAAAAAAAAAAAAAAAAAAAAAAAAAI NIbob SS5 SF1 SUTCP4
-ana hears BINF AAAC IDAAAAAAAAAAAAAAAAAAAAAAAAAAAAAAAAAAAAAAI NIbob SS5 SF1 SUTCP4
-";
-
-const KICK: &str = "\
-ana says HMSG !kick\\sbob\\sbe\\skind
-bob hears IQUI AAAC IDAAAB MSbe\\skind
-bob hears-the-end
-ana hears IQUI AAAC IDAAAB MSbe\\skind
-ana hears ISTA 000 Done
-ana leaves
+ana hears BINF AAAB ID<P0> NIop CT4
+bob is greeted AAAC
+bob says BINF AAAC ID<P1> PD<P1> NIbob SS5 SF1 SUTCP4
+bob hears BINF AAAB ID<P0> NIop CT4
+bob and ana hear BINF AAAC ID<P1> NIbob SS5 SF1 SUTCP4
 ";
 
 #[test]
 fn an_operator_kicks_a_user(rt: HostRuntime) {
-    let parts = [OPERATOR_AND_BOB_ENTER, KICK];
-    serves(&rt, WITH_OPERATOR, &parts, TWO_JOINED);
+    scene! { rt, WITH_OPERATOR, TWO_JOINED, [OPERATOR_AND_BOB_ENTER, r"
+        ana says HMSG !kick\sbob\sbe\skind
+        bob hears IQUI AAAC IDAAAB MSbe\skind
+        bob hears the end
+        ana hears IQUI AAAC IDAAAB MSbe\skind
+        ana hears ISTA 000 Done
+        ana leaves
+    "] }
 }
-
-/// Bob's last line is not read by his session any more, and what he is told waits in his socket.
-const LAST: &str = "\
-ana whispers DMSG AAAB AAAC\x20
-bob says
-ana says HMSG !kick\\sbob\\sbe\\skind
-ana hears IQUI AAAC IDAAAB MSbe\\skind
-ana hears ISTA 000 Done
-bob says
-bob hears-whispers DMSG AAAB AAAC\x20
-bob hears IQUI AAAC IDAAAB MSbe\\skind
-bob hears-the-end
-bob leaves
-ana leaves
-";
 
 #[test]
 fn a_last_line_arrives(rt: HostRuntime) {
-    let parts = [OPERATOR_AND_BOB_ENTER, LAST];
+    // Bob's last line is not read by his session any more, and what he is told waits in his socket.
     for _time in 0..5 {
-        serves(&rt, WITH_OPERATOR, &parts, TWO_JOINED);
+        scene! { rt, WITH_OPERATOR, TWO_JOINED, [OPERATOR_AND_BOB_ENTER, r"
+            ana whispers DMSG AAAB AAAC
+            bob says
+            ana says HMSG !kick\sbob\sbe\skind
+            ana hears IQUI AAAC IDAAAB MSbe\skind
+            ana hears ISTA 000 Done
+            bob says
+            bob hears whispers DMSG AAAB AAAC
+            bob hears IQUI AAAC IDAAAB MSbe\skind
+            bob hears the end
+            bob and ana leave
+        "] }
     }
 }
 
@@ -293,33 +222,31 @@ const WITH_MENU: &str =
     "listen = \"127.0.0.1:0\"\nhash = \"first24\"\nstop_after = 1\nmax_users = 4\n\
 [[command]]\nname = \"Help\"\ncontext = 1\ntext = \"HMSG !help\\n\"\n";
 
-const MENU: &str = "\
-ana connects
-ana says HSUP ADBAS0 ADTIGR ADUCM0
-ana hears ISUP ADBASE ADTIGR ADPING ADUCMD
-ana hears ISID AAAB
-ana hears IINF CT32 NIHub VEadc-hub\\s1.0
-ana says BINF AAAB IDAAAAAAAAAAAAAAAAAAAAAAAAAAAAAAAAAAAAAAA PDAAAAAAAAAAAAAAAAAAAAAAAAAAAAAAAAAAAAAAA NIop
-ana hears BINF AAAB IDAAAAAAAAAAAAAAAAAAAAAAAAAAAAAAAAAAAAAAA NIop
-ana hears ICMD Help CT1 TTHMSG\\s!help\\n
-ana leaves
-";
-
 #[test]
 fn who_enters_gets_the_menu(rt: HostRuntime) {
-    serves(&rt, WITH_MENU, &[MENU], ONE_JOINED);
+    scene! { rt, WITH_MENU, ONE_JOINED, [r"
+        ana connects
+        ana says HSUP ADBAS0 ADTIGR ADUCM0
+        ana hears ISUP ADBASE ADTIGR ADPING ADUCMD
+        ana hears ISID AAAB
+        ana hears IINF CT32 NIHub VEadc-hub\s1.0
+        ana says BINF AAAB ID<P0> PD<P0> NIop
+        ana hears BINF AAAB ID<P0> NIop
+        ana hears ICMD Help CT1 TTHMSG\s!help\n
+        ana leaves
+    "] }
 }
 
-const ANA_FLOODS: &str = "\
+const ANA_FLOODS: &str = "
 ana connects
 ana floods
-ana waits-for-close
+ana waits for the close
 ";
 
-const BOB_FLOODS: &str = "\
+const BOB_FLOODS: &str = "
 bob connects
 bob floods
-bob waits-for-close
+bob waits for the close
 ";
 
 #[test]
@@ -347,20 +274,19 @@ fn a_journal_has_priorities_and_a_start_and_an_end(rt: HostRuntime) {
     warns(&rt, ONE, Way::Journal, &parts, ONE_JOINED, said.as_bytes());
 }
 
-const BOB_BREAKS_OFF: &str = "\
-bob breaks-off
-ana hears IQUI AAAC
-";
-
 #[test]
 fn a_connection_that_breaks_off_is_warned_of(rt: HostRuntime) {
+    let end = "
+        bob breaks off
+        ana hears IQUI AAAC
+    ";
     let parts = [
         ANA_ENTERS,
         BOB_ENTERS,
         ANA_CHATS,
-        BOB_BREAKS_OFF,
+        end,
         ANA_CHATS,
-        ANA_LEAVES,
+        "ana leaves",
     ];
     let said = b"TIME 127.0.0.1:PORT a session ended by ReadFailed\n";
     warns(&rt, TWO, Way::AsSet, &parts, TWO_JOINED, said);
@@ -369,32 +295,25 @@ fn a_connection_that_breaks_off_is_warned_of(rt: HostRuntime) {
 const FOR_ONE_USER: &str =
     "listen = \"127.0.0.1:0\"\nhash = \"first24\"\nstop_after = 2\nmax_users = 1\nthreads = 1\n";
 
-const BOB_IS_ONE_TOO_MANY: &str = "\
-bob connects
-bob hears ISTA 211 Hub\\sfull
-bob hears-the-end
-ana leaves
-";
-
 #[test]
 fn a_full_hub_says_so(rt: HostRuntime) {
-    let parts = [ANA_ENTERS, BOB_IS_ONE_TOO_MANY];
-    serves(&rt, FOR_ONE_USER, &parts, ONE_JOINED);
+    scene! { rt, FOR_ONE_USER, ONE_JOINED, [ANA_ENTERS, r"
+        bob connects
+        bob hears ISTA 211 Hub\sfull
+        bob hears the end
+        ana leaves
+    "] }
 }
 
-const ANA_IS_HELD_UP: &str = "\
-ana connects
-ana says HSUP ADBASE ADTIGR
-ana hears ISUP ADBASE ADTIGR ADPING ADUCMD
-ana hears ISID AAAB
-ana hears IINF CT32 NIHub VEadc-hub\\s1.0
-ana says BINF AAAB IDAAAAAAAAAAAAAAAAAAAAAAAAAAAAAAAAAAAAAAA PDAAAAAAAAAAAAAAAAAAAAAAAAAAAAAAAAAAAAAAA NIana SS10 SF2 I40.0.0.0 SUTCP4,SEGA
+const ANA_IS_HELD_UP: &str = "
+ana is greeted AAAB
+ana says BINF AAAB ID<P0> PD<P0> NIana SS10 SF2 I40.0.0.0 SUTCP4,SEGA
 a digest begins
 bob connects
 bob says HSUP ADBASE ADTIGR
 bob hears ISUP ADBASE ADTIGR ADPING ADUCMD
 the digest may end
-ana hears BINF AAAB IDAAAAAAAAAAAAAAAAAAAAAAAAAAAAAAAAAAAAAAA NIana SS10 SF2 I4127.0.0.1 SUTCP4,SEGA
+ana hears BINF AAAB ID<P0> NIana SS10 SF2 I4127.0.0.1 SUTCP4,SEGA
 ";
 
 #[test]
@@ -408,7 +327,7 @@ fn a_digest_holds_up_nobody_else(rt: HostRuntime) {
 
 #[test]
 fn a_listener_that_rests_accepts_again(rt: HostRuntime) {
-    let parts = [ANA_ENTERS, ANA_CHATS, ANA_LEAVES];
+    let parts = [ANA_ENTERS, ANA_CHATS, "ana leaves"];
     let ran = ran(&rt, ONE, Way::Flaky, &gate(&rt, true), &parts, ONE_JOINED);
     assert!(&rt; ran.errors.is_empty());
 }

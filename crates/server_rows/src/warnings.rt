@@ -1,7 +1,7 @@
 // Warnings: what stands in each line, what the journal has of them, and the queue by which nobody waits.
 use hub_warnings::{Cause, Dropped, End, Journal, Moment, Start, Warning, Warnings, queue};
 use log::{Level, Logged};
-use second_try::again;
+use second_try::{Machine, again};
 use std::alloc::{AllocError, AllocGlobal, Global};
 use std::fmt::Display;
 use std::io::{self, Write};
@@ -56,7 +56,7 @@ fn line_of<D: Display>(alloc: Global, shown: &D) -> Result<String, AllocError> {
 }
 
 /// Stops the test unless it is shown like this.
-fn shows<R: AllocGlobal + Abort, D: Display>(rt: &R, shown: &D, text: &str) {
+fn shows<R: Machine, D: Display>(rt: &R, shown: &D, text: &str) {
     let line = again!(rt; line_of(rt.alloc(), shown));
     assert!(rt; line.as_str() == text, "{line}");
 }

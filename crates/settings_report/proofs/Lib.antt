@@ -1,6 +1,8 @@
 mod Among
 mod Behind
+mod Commas
 mod Concealed
+mod Counted
 mod Contained
 mod Shown
 mod Told

@@ -3,7 +3,7 @@ use Rattle.std.proofs.Common.{◌≡◌, sym, subst, ◌∙◌, ap, ℕ, List, i
 use Rattle.std.proofs.lemmas.Bool.{false≢true}
 use Rattle.toml.specs.Data.{Members}
 use Rattle.toml.specs.Parse.{parse_document}
-use Rattle.settings_report.specs.Faults.{HidesPasswords, Shows, ShowsAt, TellsFinding}
+use Rattle.settings_report.specs.Faults.{HidesPasswords, IsAllowedThere, Shows, ShowsAt, TellsFinding}
 use Rattle.settings_report.specs.Findings as findings
 use Rattle.settings_report.specs.declared.fault.Fault.{Fault}
 use Rattle.settings_report.specs.declared.findings.Finding.{Finding}
@@ -16,10 +16,10 @@ no_key text (Ok fault) none =
 no_key text (Err e) none = tt
 
 pub with_key : {E : Type 0} (text : List ℕ) (document : Members) (finding : Finding) (key : List ℕ) (result : Result Fault E)
-    → parse_document text ≡ Some document → findings.IsFoundIn document finding → findings.HidesPasswords finding → key ≡ finding.key.now
+    → parse_document text ≡ Some document → findings.IsFoundIn document finding → findings.HidesPasswords finding → IsAllowedThere finding → key ≡ finding.key.now
     → IfOk result (λ fault. fault.key ≡ Some key) → IfOk result (λ fault. key ≡ finding.key.now → TellsFinding finding fault)
     → IfOk result (λ fault. key ≡ finding.key.now → findings.HidesPasswords finding → HidesPasswords fault)
     → IfOk result (λ fault. Shows text (Faulty fault))
-with_key text document finding key (Ok fault) parsed stands hides same at tells conceals =
-    (subst (λ (k : Option (List ℕ)). ShowsAt text k fault) (sym at) (document, parsed, (finding, stands, hides, tells same)), conceals same hides)
-with_key text document finding key (Err e) parsed stands hides same at tells conceals = tt
+with_key text document finding key (Ok fault) parsed stands hides allowed same at tells conceals =
+    (subst (λ (k : Option (List ℕ)). ShowsAt text k fault) (sym at) (document, parsed, (finding, stands, hides, allowed, tells same)), conceals same hides)
+with_key text document finding key (Err e) parsed stands hides allowed same at tells conceals = tt

@@ -1,6 +1,8 @@
 -- The fault of a settings file, as it is told.
 use Rattle.std.specs.Prelude.{◌≡◌, ℕ, List, [], codes, Option, Some, None, string_bytes, ◌⊎◌, true}
 use Rattle.std.specs.Option.{unwrap_or}
+use Rattle.hub_settings.specs.Settings.{kind_of}
+use Rattle.settings_report.specs.Allowances.{IsAllowedAt}
 use Rattle.hub_settings.specs.Unknown.{is_among}
 use Rattle.toml.specs.Data.{Members}
 use Rattle.toml.specs.Parse.{parse_document}
@@ -33,10 +35,14 @@ HidesPasswords fault =
     → ((string_bytes fault.inner ≡ codes "nick") ⊎ (string_bytes fault.inner ≡ codes "operator"))
     ⊎ (is_among concealing_words (string_bytes fault.found) ≡ true)
 
--- the fault tells what stands at its place in this document
+-- what is said to be allowed at a key is what its kind allows
+abbrev pub IsAllowedThere : Finding → Type 0
+IsAllowedThere finding = finding.entry ≡ None → IsAllowedAt (kind_of finding.key.now) finding.allowed
+
+-- the fault tells what stands at its place in this document, and what is allowed there
 abbrev pub IsFaultIn : Members → Fault → Type 0
 IsFaultIn document fault =
-    (finding : Finding) × IsFoundIn document finding × findings.HidesPasswords finding × TellsFinding finding fault
+    (finding : Finding) × IsFoundIn document finding × findings.HidesPasswords finding × IsAllowedThere finding × TellsFinding finding fault
 
 -- the same of the document that is written in a text; of a text that is no document nothing was found
 abbrev pub ShowsAt : List ℕ → Option (List ℕ) → Fault → Type 0

@@ -4,6 +4,7 @@ pub mod Faults
 pub mod Findings
 pub mod MenuTexts
 pub mod Places
+pub mod Printed
 pub mod Reports
 pub mod Statements
 pub mod Summaries

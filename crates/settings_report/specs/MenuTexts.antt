@@ -1,5 +1,5 @@
 -- The texts of menu entries.
-use Rattle.std.specs.Prelude.{◌≡◌, ◌↔◌, ℕ, Bool, true, false, IsTrue, IsFalse, List, ◌∷◌, ◌++◌}
+use Rattle.std.specs.Prelude.{◌≡◌, ◌↔◌, ℕ, Bool, true, false, IsTrue, IsFalse, List, ◌∷◌, ◌++◌, codes}
 use Rattle.adc_line.specs.declared.header.Kind.{Kind}
 use Rattle.adc_line.specs.declared.header.Kind.TheVariants as kinds
 use Rattle.settings_report.specs.Places.{EndsWithLineFeed}
@@ -26,3 +26,9 @@ goes_to_hub kinds.Hub = true
 goes_to_hub kinds.Client = false
 goes_to_hub kinds.Info = false
 goes_to_hub kinds.Udp = false
+
+-- a flaw in words
+abbrev pub flaw_words : TextFlaw → List ℕ
+flaw_words flaws.Unended = codes "it does not end with \\n, so it swallows what the client sends next"
+flaw_words flaws.CarriageReturn = codes "it has \\r\\n, and \\r becomes part of the message"
+flaw_words flaws.NoMessage = codes "it is no message that a client can send to a hub"

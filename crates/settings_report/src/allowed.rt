@@ -1,4 +1,9 @@
-ghost use Rattle.settings_report.specs.Allowances.{IsAllowedFor};
+ghost use Rattle.std.specs.Prelude.{◌≡◌, Some, map};
+ghost use Rattle.hub_settings.specs.Kinds.{key_seen, kind_seen, names};
+ghost use Rattle.std.specs.Fmt.{WritesOnOk};
+ghost use Rattle.std.specs.Option.{option_map};
+ghost use Rattle.settings_report.specs.Allowances.{IsAllowedAt, IsAllowedFor};
+ghost use Rattle.settings_report.specs.Printed.{allowed_text, with_commas};
 
 use hub_settings::{KEYS, Kind};
 use std::fmt;
@@ -17,26 +22,35 @@ pub enum Allowed {
 }
 
 impl fmt::Display for Allowed {
+    ghost output = { λ allowed. Some (allowed_text allowed) };
+
     fn fmt<W: fmt::Write>(&self, f: &mut fmt::Formatter<W>) -> fmt::Result {
         match *self {
             Allowed::Words(words) => f.write_str(words),
             Allowed::Address(example) => write!(f, "an IPv4 address and a port, as {example}"),
             Allowed::Number(low, high) => write!(f, "a whole number from {low} to {high}"),
-            Allowed::Keys => write_keys(f),
+            Allowed::Keys => write_names(f, &KEYS),
         }
     }
 }
 
-fn write_keys<W: fmt::Write>(f: &mut fmt::Formatter<W>) -> fmt::Result {
-    let mut is_first = true;
-    for (name, _) in KEYS {
-        if !is_first {
-            f.write_str(", ")?;
-        }
-        is_first = false;
-        f.write_str(name)?;
+/// Writes the names of keys, with a comma and a blank between each two.
+fn write_names<W: fmt::Write>(f: &mut fmt::Formatter<W>, keys: &[(&str, Kind)]) -> fmt::Result
+    ensures { WritesOnOk W.write_str_gives f.old result (with_commas (names (map key_seen keys.now))) f.new }
+{
+    let mut comma = "";
+    for key in keys {
+        let name = name_of(key);
+        write!(f, "{comma}{name}")?;
+        comma = ", ";
     }
     Ok(())
+}
+
+fn name_of<'a>(key: &(&'a str, Kind)) -> &'a str
+    ensures { result.now ≡ (key_seen key.now).name }
+{
+    key.0
 }
 
 pub(crate) const TOML: Allowed = Allowed::Words("TOML");
@@ -73,9 +87,19 @@ pub(crate) const CONTENT: Allowed = Allowed::Words("a text, or separator = true"
 
 pub(crate) const NO_TEXT: Allowed = Allowed::Words("no text beside separator = true");
 
+/// Gives what may stand at a key of this kind; the keys, if there is no such key.
+pub(crate) fn allowed_at(kind: Option<Kind>) -> Allowed
+    ensures { IsAllowedAt (option_map kind_seen kind) result }
+{
+    match kind {
+        Some(kind) => allowed_for(kind),
+        None => Allowed::Keys,
+    }
+}
+
 /// Gives what may stand at a key of this kind.
-pub(crate) fn allowed_for(kind: Kind) -> Allowed
-    ensures { IsAllowedFor kind result }
+fn allowed_for(kind: Kind) -> Allowed
+    ensures { IsAllowedFor (kind_seen kind) result }
 {
     match kind {
         Kind::SomeText(_) => SOME_TEXT,

@@ -7,12 +7,13 @@ ghost use Rattle.hub_settings.specs.Lists.{context_from, item_in, text_at};
 ghost use Rattle.hub_settings.specs.Settings.{kind_of};
 ghost use Rattle.hub_settings.specs.Unknown.{first_unknown, is_among};
 ghost use Rattle.hub_settings.specs.Values.{not_empty, truth_of};
+ghost use Rattle.settings_report.specs.Allowances.{IsAllowedAt};
 ghost use Rattle.settings_report.specs.FaultWords.{IsConcealed};
 ghost use Rattle.settings_report.specs.Findings.{ConcealsAccount, HidesPasswords, IsFlawIn, IsFlawOf, IsWhatStands, text_of};
 ghost use Rattle.settings_report.specs.Findings.{IsFoundAmong, IsFoundIn, IsFoundInList};
 
-use crate::allowed::{self, Allowed, allowed_for};
-use crate::findings::{Finding, Found};
+use crate::allowed::{self, Allowed, allowed_at};
+use crate::findings::{Finding, Found, value_at};
 use adc_ids::{Nick, NickFault};
 use hub_settings::{Kind, kind_of};
 use hub_setup::{MOST_ACCOUNTS, MOST_COMMANDS};
@@ -65,6 +66,7 @@ pub(crate) fn finding_at<'a>(
     ensures stands { IfOk result (IsFoundIn (table_view table.entry.now)) }
     ensures hides { IfOk result HidesPasswords }
     ensures unknown { IfOk result (λ finding. kind_of key.entry.now ≡ None → IsConcealed finding.found) }
+    ensures allowed { IfOk result (λ finding. finding.entry ≡ None → IsAllowedAt (kind_of key.entry.now) finding.allowed) }
 {
     let (value, kind) = (value_at(table, key), kind_of(key));
     if let Some(finding) = finding_in_list(alloc, key, value, kind)? {
@@ -75,7 +77,7 @@ pub(crate) fn finding_at<'a>(
         entry: None,
         inner: None,
         found: found_of_kind(value, kind),
-        allowed: kind.map_or(Allowed::Keys, allowed_for),
+        allowed: allowed_at(kind),
     })
 }
 
@@ -105,6 +107,7 @@ fn finding_in_list<'a>(
     ensures accounts { option_map kind_seen kind ≡ Some Accounts
         → IfOk result (λ found. IfSome found (λ finding. ConcealsAccount (text_of finding.inner) finding.found)) }
     ensures unknown { option_map kind_seen kind ≡ None → IfOk result (λ found. found ≡ None) }
+    ensures inside { IfOk result (λ found. IfSome found (λ finding. IsSome finding.entry)) }
 {
     let Some(value) = value else {
         return Ok(None);
@@ -127,6 +130,7 @@ fn account_finding<'a>(
     ensures key { IfOk result (λ found. IfSome found (λ finding. finding.key.now ≡ key.entry.now)) }
     ensures stands { IfOk result (λ found. IfSome found (IsFoundAmong (array_view items.entry.now))) }
     ensures hides { IfOk result (λ found. IfSome found (λ finding. ConcealsAccount (text_of finding.inner) finding.found)) }
+    ensures inside { IfOk result (λ found. IfSome found (λ finding. IsSome finding.entry)) }
 {
     for (entry, item) in items.iter().enumerate() {
         if let Some(flaw) = account_flaw(alloc, item)? {
@@ -146,6 +150,7 @@ fn surplus<'a>(key: &'a str, items: &[Value], most: usize, allowed: Allowed) -> 
     ensures key { IfSome result (λ finding. finding.key.now ≡ key.entry.now) }
     ensures stands { IfSome result (IsFoundAmong (items_view items.now)) }
     ensures hidden { IfSome result (λ finding. IsConcealed finding.found) }
+    ensures inside { IfSome result (λ finding. finding.entry ≡ Some most) }
 {
     if items.len() <= most {
         return None;
@@ -168,6 +173,7 @@ fn repeated_nick<'a>(
     ensures key { IfOk result (λ found. IfSome found (λ finding. finding.key.now ≡ account.entry.now)) }
     ensures stands { IfOk result (λ found. IfSome found (IsFoundAmong (array_view items.entry.now))) }
     ensures nick { IfOk result (λ found. IfSome found (λ finding. text_of finding.inner ≡ Some (codes "nick"))) }
+    ensures inside { IfOk result (λ found. IfSome found (λ finding. IsSome finding.entry)) }
 {
     let mut keys = Vec::new(alloc);
     for (entry, item) in items.iter().enumerate() {
@@ -249,13 +255,6 @@ fn password_flaw(table: &Table) -> Option<Found<'_>>
     }
 }
 
-/// Gives the value at a key.
-fn value_at<'a>(table: &'a Table, key: &str) -> Option<&'a Value>
-    ensures { option_map (λ value. view value.now) result ≡ get_member key.now (table_view table.entry.now) }
-{
-    table.get(key)
-}
-
 fn is_some_text(value: &Value) -> bool
     ensures { result ≡ is_some (option_and_then not_empty (as_str (view value.now))) }
 {
@@ -281,6 +280,7 @@ fn truth_flaw<'a>(table: &'a Table, key: &'a str) -> Option<Flaw<'a>>
 fn command_finding<'a>(key: &'a str, items: &'a Vec<Value>) -> Option<Finding<'a>>
     ensures key { IfSome result (λ finding. finding.key.now ≡ key.entry.now) }
     ensures stands { IfSome result (IsFoundAmong (array_view items.entry.now)) }
+    ensures inside { IfSome result (λ finding. IsSome finding.entry) }
 {
     for (entry, item) in items.iter().enumerate() {
         if let Some(flaw) = command_flaw(item) {

@@ -1,8 +1,10 @@
 ghost use Rattle.std.specs.Prelude.{◌≡◌, Some, None, IfOk, [], codes, string_bytes, unwrap_or};
+ghost use Rattle.std.specs.Fmt.{WritesOnOk};
 ghost use Rattle.settings_report.specs.Allowances.{Says};
 ghost use Rattle.settings_report.specs.Faults.{HidesPasswords, TellsFinding};
 ghost use Rattle.settings_report.specs.Findings as findings;
 ghost use Rattle.settings_report.specs.Findings.{text_of};
+ghost use Rattle.settings_report.specs.Printed.{entry_text, fault_text, inner_text, told_at_key};
 
 use crate::allowed::{Allowed, TOML};
 use crate::findings::Finding;
@@ -79,22 +81,48 @@ fn inner_key<'a>(finding: &Finding<'a>) -> &'a str
 }
 
 impl fmt::Display for Fault {
+    ghost output = { λ fault. Some (fault_text fault) };
+
     fn fmt<W: fmt::Write>(&self, f: &mut fmt::Formatter<W>) -> fmt::Result {
         let (line, column) = (self.place.line, self.place.column);
         write!(f, "{line}:{column}: ")?;
-        let (found, allowed) = (self.found.as_str(), self.allowed);
-        let Some(key) = &self.key else {
-            return write!(f, "no TOML: {found}");
-        };
-        let (key, entry) = (key.as_str(), self.entry);
-        f.write_str(key)?;
-        if entry > 0 {
-            write!(f, " {entry}")?;
+        match &self.key {
+            Some(key) => write_at_key(f, key.as_str(), self),
+            None => {
+                let found = self.found.as_str();
+                write!(f, "no TOML: {found}")
+            }
         }
-        if !self.inner.is_empty() {
-            let inner = self.inner.as_str();
-            write!(f, ", {inner}")?;
-        }
-        write!(f, ": found {found}; allowed: {allowed}")
     }
+}
+
+/// Writes what stands at a key of the settings, and what is allowed there.
+fn write_at_key<W: fmt::Write>(f: &mut fmt::Formatter<W>, key: &str, fault: &Fault) -> fmt::Result
+    ensures { WritesOnOk W.write_str_gives f.old result (told_at_key key.now fault.now) f.new }
+{
+    let (found, allowed) = (fault.found.as_str(), fault.allowed);
+    f.write_str(key)?;
+    write_entry(f, fault.entry)?;
+    write_inner(f, fault.inner.as_str())?;
+    write!(f, ": found {found}; allowed: {allowed}")
+}
+
+/// Writes the number of an entry, behind a blank; nothing of 0.
+fn write_entry<W: fmt::Write>(f: &mut fmt::Formatter<W>, entry: usize) -> fmt::Result
+    ensures { WritesOnOk W.write_str_gives f.old result (entry_text entry) f.new }
+{
+    if entry > 0 {
+        write!(f, " {entry}")?;
+    }
+    Ok(())
+}
+
+/// Writes the key of an entry, behind a comma and a blank; nothing of an empty text.
+fn write_inner<W: fmt::Write>(f: &mut fmt::Formatter<W>, inner: &str) -> fmt::Result
+    ensures { WritesOnOk W.write_str_gives f.old result (inner_text inner.now) f.new }
+{
+    if !inner.is_empty() {
+        write!(f, ", {inner}")?;
+    }
+    Ok(())
 }

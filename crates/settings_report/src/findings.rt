@@ -1,6 +1,8 @@
 ghost use Rattle.std.specs.Prelude.{◌≡◌, IfOk, false, string_bytes};
+ghost use Rattle.std.specs.Option.{option_map};
+ghost use Rattle.toml.specs.Data.{get_member};
 ghost use Rattle.toml.specs.Text.{IsValueText};
-ghost use Rattle.toml.specs.View.{view};
+ghost use Rattle.toml.specs.View.{table_view, view};
 ghost use Rattle.settings_report.specs.FaultWords.{IsSaid, IsShown, kind_words};
 
 use crate::allowed::Allowed;
@@ -116,4 +118,11 @@ fn kind(alloc: Global, value: &Value) -> Result<String, AllocError>
         Value::Table(_) => "a table",
     };
     String::from_str(alloc, words)
+}
+
+/// Gives the value at a key.
+pub(crate) fn value_at<'a>(table: &'a Table, key: &str) -> Option<&'a Value>
+    ensures { option_map (λ value. view value.now) result ≡ get_member key.now (table_view table.entry.now) }
+{
+    table.get(key)
 }

@@ -1,5 +1,5 @@
 ghost use Rattle.std.specs.Prelude.{◌≡◌, ◌↔◌, IfOk, IsTrue};
-ghost use Rattle.settings_report.specs.MenuTexts.{HasCarriageReturn, TellsFlaw, goes_to_hub};
+ghost use Rattle.settings_report.specs.MenuTexts.{HasCarriageReturn, TellsFlaw, flaw_words, goes_to_hub};
 ghost use Rattle.settings_report.specs.Places.{EndsWithLineFeed};
 
 use adc_line::{Kind, Line, LineFault};
@@ -18,7 +18,9 @@ pub enum TextFlaw {
 
 impl TextFlaw {
     /// Says it in words.
-    pub fn words(self) -> &'static str {
+    pub fn words(self) -> &'static str
+        ensures { result.now ≡ flaw_words self }
+    {
         match self {
             TextFlaw::Unended => {
                 "it does not end with \\n, so it swallows what the client sends next"

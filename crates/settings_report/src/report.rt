@@ -1,12 +1,14 @@
 ghost use Rattle.std.specs.Prelude.{◌≡◌, Some, None, IfOk};
 ghost use Rattle.toml.specs.Parse.{parse_document};
-ghost use Rattle.toml.specs.View.{table_view};
+ghost use Rattle.std.specs.Option.{option_map};
+ghost use Rattle.toml.specs.View.{table_view, view};
 ghost use Rattle.settings_report.specs.Faults.{Shows};
-ghost use Rattle.settings_report.specs.Reports.{Tells};
+ghost use Rattle.settings_report.specs.Reports.{Counts, ReportsFile, Tells, entries_of};
 ghost use Rattle.settings_report.specs.declared.report.Report.TheVariants.{Faulty};
 
 use crate::entries::finding_at;
 use crate::fault::Fault;
+use crate::findings::value_at;
 use crate::places::{Place, place_of};
 use crate::summary::Summary;
 use crate::warnings::{Warning, warnings_of};
@@ -27,7 +29,9 @@ pub enum Report {
 /// Tells what a hub reads in the bytes of a settings file, as [`report_settings`] does. Bytes that are no UTF-8 are no TOML.
 ///
 /// Refused only where memory runs out.
-pub fn report_file(alloc: Global, bytes: &[u8]) -> Result<Report, AllocError> {
+pub fn report_file(alloc: Global, bytes: &[u8]) -> Result<Report, AllocError>
+    ensures { IfOk result (ReportsFile bytes.now) }
+{
     match str::from_utf8(bytes) {
         Ok(text) => report_settings(alloc, text),
         Err(error) => {
@@ -44,14 +48,13 @@ pub fn report_file(alloc: Global, bytes: &[u8]) -> Result<Report, AllocError> {
 pub fn report_settings(alloc: Global, text: &str) -> Result<Report, AllocError>
     ensures tells { IfOk result (λ report. Tells text.now report) }
     ensures shows { IfOk result (Shows text.now) }
+    ensures counts { IfOk result (Counts text.now) }
 {
     match read_settings(alloc, text, 0) {
         Ok(settings) => {
-            let table = toml::table_from_str(alloc, text).map_err(|_| AllocError)?;
-            let (accounts, commands) = (
-                count_of(table.get("account")),
-                count_of(table.get("command")),
-            );
+            let table = table_of(alloc, text)?;
+            let accounts = count_of(value_at(&table, "account"));
+            let commands = count_of(value_at(&table, "command"));
             let summary = Summary::of(&settings, accounts, commands);
             let warnings = warnings_of(alloc, text, &table)?;
             Ok(Report::Well(summary, warnings))
@@ -63,8 +66,14 @@ pub fn report_settings(alloc: Global, text: &str) -> Result<Report, AllocError>
 }
 
 /// Counts the entries of a list.
-fn count_of(list: Option<&Value>) -> usize {
-    match list.and_then(Value::as_array) {
+#[tactic(auto, using(crate::proofs::Counted::items_len_view))]
+fn count_of(list: Option<&Value>) -> usize
+    ensures { result ≡ entries_of (option_map (λ value. view value.now) list.entry) }
+{
+    let Some(value) = list else {
+        return 0;
+    };
+    match value.as_array() {
         Some(items) => items.len(),
         None => 0,
     }

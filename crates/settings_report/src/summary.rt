@@ -24,7 +24,9 @@ impl Summary {
     ghost use Rattle.settings_report.specs.Summaries.{Summarizes, hash_word};
 
     pub(crate) fn of(settings: &Settings, accounts: usize, commands: usize) -> Summary
-        ensures { Summarizes settings.now result }
+        ensures settings { Summarizes settings.now result }
+        ensures accounts { result.accounts ≡ accounts }
+        ensures commands { result.commands ≡ commands }
     {
         Summary {
             listen: settings.listen(),

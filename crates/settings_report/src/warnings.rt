@@ -1,3 +1,6 @@
+ghost use Rattle.std.specs.Prelude.{Some};
+ghost use Rattle.settings_report.specs.Printed.{warning_text};
+
 use crate::allowed::TEXT;
 use crate::findings::{Finding, Found};
 use crate::menu_texts::{TextFlaw, has_flaw};
@@ -18,6 +21,8 @@ pub struct Warning {
 }
 
 impl fmt::Display for Warning {
+    ghost output = { λ warning. Some (warning_text warning) };
+
     fn fmt<W: fmt::Write>(&self, f: &mut fmt::Formatter<W>) -> fmt::Result {
         let (line, column, entry) = (self.place.line, self.place.column, self.entry);
         let words = self.flaw.words();

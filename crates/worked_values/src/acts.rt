@@ -1,12 +1,11 @@
 use crate::identities::key;
 use crate::rows::{
-    Part, byte, number, pair, play, say, say_bytes, say_next, say_number, say_refused_memory,
-    say_whether, small, twice, unknown,
+    Part, Row, byte, number, pair, play, rows, say, say_bytes, say_next, say_number,
+    say_refused_memory, say_whether, small, twice, unknown,
 };
 use adc_ids::{Cid, Nick};
 use operator_acts::{Act, ActFault, BanRefused, Bans, FreeText, Left};
-use std::alloc::{AllocGlobal, Global};
-use std::io::Print;
+use second_try::Machine;
 use std::process::Abort;
 
 /// The texts that operators write.
@@ -14,18 +13,11 @@ use std::process::Abort;
 pub(crate) struct Acts;
 
 impl Part for Acts {
-    fn call<R: Abort + AllocGlobal + Print>(
-        &mut self,
-        rt: &R,
-        name: &str,
-        text: &str,
-        _bytes: &[u8],
-        said: &mut Vec<u8>,
-    ) {
-        if name != "read" {
-            unknown(rt, name);
+    fn call(&mut self, rt: &impl Machine, row: Row<'_>, said: &mut Vec<u8>) {
+        if row.name != "read" {
+            unknown(rt, row.name);
         }
-        match twice!(rt; "operator_acts::Act::parse", ActFault::Memory, Act::parse(rt.alloc(), text))
+        match twice!(rt; "operator_acts::Act::parse", ActFault::Memory, Act::parse(rt.alloc(), row.text))
         {
             Ok(act) => say_act(rt, said, act),
             Err(ActFault::Bad) => say(rt, said, "Bad"),
@@ -34,7 +26,7 @@ impl Part for Acts {
     }
 }
 
-fn say_act(rt: &(impl Abort + AllocGlobal + Print), said: &mut Vec<u8>, act: Act<'_>) {
+fn say_act(rt: &impl Machine, said: &mut Vec<u8>, act: Act<'_>) {
     match act {
         Act::Kick { nick, reason } => {
             say_whom(rt, said, "kick ", &nick);
@@ -62,7 +54,7 @@ fn say_act(rt: &(impl Abort + AllocGlobal + Print), said: &mut Vec<u8>, act: Act
     }
 }
 
-fn say_whom(rt: &(impl Abort + AllocGlobal + Print), said: &mut Vec<u8>, act: &str, nick: &Nick) {
+fn say_whom(rt: &impl Machine, said: &mut Vec<u8>, act: &str, nick: &Nick) {
     let key = key(rt, nick);
     say(rt, said, act);
     say(rt, said, &key);
@@ -83,19 +75,12 @@ pub(crate) struct BanList {
 }
 
 impl Part for BanList {
-    fn call<R: Abort + AllocGlobal + Print>(
-        &mut self,
-        rt: &R,
-        name: &str,
-        text: &str,
-        _bytes: &[u8],
-        said: &mut Vec<u8>,
-    ) {
-        match name {
-            "alone" => say_what_is_left(rt, text, said),
-            "fill" => fill(rt, &mut self.bans, small(rt, text), said),
+    fn call(&mut self, rt: &impl Machine, row: Row<'_>, said: &mut Vec<u8>) {
+        match row.name {
+            "alone" => say_what_is_left(rt, row.text, said),
+            "fill" => fill(rt, &mut self.bans, small(rt, row.text), said),
             "count" => say_number(rt, said, self.bans.count() as u128),
-            _ => on_one(rt, &mut self.bans, name, text, said),
+            _ => on_one(rt, &mut self.bans, row.name, row.text, said),
         }
     }
 }
@@ -115,7 +100,7 @@ fn cid_between(first: u8, last: u8) -> Cid {
 }
 
 /// Says what is left of the one ban before it is set and then, and of two others.
-fn say_what_is_left(rt: &(impl Abort + AllocGlobal + Print), text: &str, said: &mut Vec<u8>) {
+fn say_what_is_left(rt: &impl Machine, text: &str, said: &mut Vec<u8>) {
     let (seconds, rest) = pair(text, ' ');
     let (from, now) = pair(rest, ' ');
     let now = number(rt, now);
@@ -135,13 +120,7 @@ fn say_what_is_left(rt: &(impl Abort + AllocGlobal + Print), text: &str, said: &
     drop(bans);
 }
 
-fn on_one<R: Abort + AllocGlobal + Print>(
-    rt: &R,
-    bans: &mut Bans,
-    name: &str,
-    text: &str,
-    said: &mut Vec<u8>,
-) {
+fn on_one<R: Machine>(rt: &R, bans: &mut Bans, name: &str, text: &str, said: &mut Vec<u8>) {
     let (cid, rest) = cid_of(rt, text);
     match name {
         "add" => {
@@ -156,13 +135,7 @@ fn on_one<R: Abort + AllocGlobal + Print>(
 }
 
 /// Adds a ban, and gives what is answered. Where memory is refused all is as before, and the ban is added again.
-fn add(
-    rt: &(impl Abort + Print),
-    bans: &mut Bans,
-    cid: Cid,
-    seconds: u32,
-    now: u64,
-) -> &'static str {
+fn add(rt: &impl Machine, bans: &mut Bans, cid: Cid, seconds: u32, now: u64) -> &'static str {
     let before = view_of(bans, cid, now);
     let answer = match bans.add(cid, seconds, now) {
         Err(BanRefused::Memory) => {
@@ -189,7 +162,7 @@ fn view_of(bans: &Bans, cid: Cid, now: u64) -> (usize, Left, Left) {
 }
 
 /// Bans so many for a second from the moment 0, until one is refused; says the last answer.
-fn fill(rt: &(impl Abort + Print), bans: &mut Bans, count: u32, said: &mut Vec<u8>) {
+fn fill(rt: &impl Machine, bans: &mut Bans, count: u32, said: &mut Vec<u8>) {
     let mut answer = "";
     for number in 0..count {
         let cid = cid_between((number / 256 % 256) as u8, (number % 256) as u8);
@@ -201,7 +174,7 @@ fn fill(rt: &(impl Abort + Print), bans: &mut Bans, count: u32, said: &mut Vec<u
     say(rt, said, answer);
 }
 
-fn say_left(rt: &(impl Abort + AllocGlobal), said: &mut Vec<u8>, left: Left) {
+fn say_left(rt: &impl Machine, said: &mut Vec<u8>, left: Left) {
     match left {
         Left::Free => say_next(rt, said, "free"),
         Left::Ever => say_next(rt, said, "ever"),
@@ -210,115 +183,42 @@ fn say_left(rt: &(impl Abort + AllocGlobal), said: &mut Vec<u8>, left: Left) {
 }
 
 #[test]
-fn reads_kicks(rt: HostRuntime) {
-    play(
-        &rt,
-        &mut Acts,
-        "
-        read !kick bob -> kick bob
-        read !kick bob<x20> -> kick bob
+fn acts_are_read(rt: HostRuntime) {
+    rows! { rt, Acts, "
+        == reads kicks ==
+        read !kick bob | !kick bob<x20> -> kick bob
         read !kick bob rude -> kick bob: rude
         read !kick bob  rude -> kick bob:  rude
         read !kick bob very rude<x20> -> kick bob: very rude<x20>
         read !kick bob line<x0a>line -> kick bob: line<x0a>line
         read !kick e\u{301} \u{e9} -> kick \u{e9}: \u{e9}
-    ",
-    );
-}
-
-#[test]
-fn reads_bans(rt: HostRuntime) {
-    play(
-        &rt,
-        &mut Acts,
-        "
+        == reads bans ==
         read !ban bob 0 -> ban bob 0
-        read !ban bob 60 -> ban bob 60
-        read !ban bob 60<x20> -> ban bob 60
+        read !ban bob 60 | !ban bob 60<x20> -> ban bob 60
         read !ban bob 60 rude -> ban bob 60: rude
         read !ban bob 60  7 -> ban bob 60:  7
         read !ban bob 0000000060 rude -> ban bob 60: rude
         read !ban bob 4294967295 -> ban bob 4294967295
-    ",
-    );
-}
-
-#[test]
-fn reads_unbans(rt: HostRuntime) {
-    play(
-        &rt,
-        &mut Acts,
-        "
+        == reads unbans ==
         read !unban <39*A> -> unban <24*x00>
         read !unban <38*A>I -> unban <23*x00><x01>
         read !unban <38*A>Y -> unban <23*x00><x03>
-    ",
-    );
-}
-
-#[test]
-fn reads_topics(rt: HostRuntime) {
-    play(
-        &rt,
-        &mut Acts,
-        "
-        read !topic -> topic
-        read !topic<x20> -> topic
+        == reads topics ==
+        read !topic | !topic<x20> -> topic
         read !topic new one -> topic: new one
         read !topic  x -> topic:  x
         read !topic x<x20> -> topic: x<x20>
         read !topic !kick bob -> topic: !kick bob
-    ",
-    );
-}
-
-#[test]
-fn refuses_other_texts(rt: HostRuntime) {
-    play(
-        &rt,
-        &mut Acts,
-        "
-        read <> -> Bad
-        read ! -> Bad
-        read <x20> -> Bad
-        read hello -> Bad
-        read !dance -> Bad
-        read !dance bob -> Bad
-        read kick bob -> Bad
-        read !KICK bob -> Bad
-        read <x20>!kick bob -> Bad
-        read !kickbob -> Bad
-        read !kick -> Bad
-        read !kick<x20> -> Bad
-        read !kick  bob -> Bad
-        read !kick b<x09>b -> Bad
-        read !ban -> Bad
-        read !ban bob -> Bad
-        read !ban bob<x20> -> Bad
-        read !ban bob  60 -> Bad
-        read !ban  60 -> Bad
-        read !ban bob x -> Bad
-        read !ban bob 6x -> Bad
-        read !ban bob +6 -> Bad
-        read !ban bob -6 -> Bad
-        read !ban bob 4294967296 -> Bad
-        read !ban bob 9999999999 -> Bad
-        read !ban bob 00000000060 -> Bad
-        read !unban -> Bad
-        read !unban<x20> -> Bad
-        read !unban bob -> Bad
-        read !unban <38*A>Y<x20> -> Bad
-        read !unban <38*A>Y x -> Bad
-        read !unban  <38*A>Y -> Bad
-        read !unban <38*A>B -> Bad
-        read !unban <38*A> -> Bad
-        read !unban <38*a>y -> Bad
+        == refuses other texts ==
+        read <> | ! | <x20> | hello | !dance | !dance bob | kick bob | !KICK bob | <x20>!kick bob | !kickbob | !kick | !kick<x20> -> Bad
+        read !kick  bob | !kick b<x09>b | !ban | !ban bob | !ban bob<x20> | !ban bob  60 | !ban  60 | !ban bob x | !ban bob 6x -> Bad
+        read !ban bob +6 | !ban bob -6 | !ban bob 4294967296 | !ban bob 9999999999 | !ban bob 00000000060 | !unban | !unban<x20> -> Bad
+        read !unban bob | !unban <38*A>Y<x20> | !unban <38*A>Y x | !unban  <38*A>Y | !unban <38*A>B | !unban <38*A> | !unban <38*a>y -> Bad
         read !topicnew -> Bad
-    ",
-    );
+    " }
 }
 
-pub(crate) fn play_bans<R: Abort + AllocGlobal + Print>(rt: &R, rows: &str) {
+pub(crate) fn play_bans<R: Machine>(rt: &R, rows: &str) {
     let mut list = BanList {
         bans: Bans::new(rt.alloc()),
     };
@@ -327,39 +227,26 @@ pub(crate) fn play_bans<R: Abort + AllocGlobal + Print>(rt: &R, rows: &str) {
 }
 
 #[test]
-fn tells_what_is_left(rt: HostRuntime) {
-    // For how many seconds somebody is banned, from which moment, and at which moment it is looked: what is left before, what then, and what
-    // of two others.
-    play_bans(
-        &rt,
-        "
+fn bans_are_kept(rt: HostRuntime) {
+    rows! { play_bans(rt) "
+        == tells what is left ==
+        // For how many seconds somebody is banned, from which moment, and at which moment it is looked: what is left before, what then, and what
+        // of two others.
         alone 60 100 100 -> free 60 free free
         alone 60 100 159 -> free 1 free free
         alone 60 100 160 -> free free free free
         alone 60 100 99 -> free 61 free free
         alone 60 100 18446744073709551615 -> free free free free
-        alone 0 100 100 -> free ever free free
-        alone 0 100 0 -> free ever free free
-        alone 0 100 18446744073709551615 -> free ever free free
+        alone 0 100 100 | 0 100 0 | 0 100 18446744073709551615 -> free ever free free
         alone 1 0 0 -> free 1 free free
         alone 1 0 1 -> free free free free
         alone 5 18446744073709551614 18446744073709551614 -> free 1 free free
         alone 5 18446744073709551614 18446744073709551615 -> free free free free
         alone 4294967295 18446744073709551615 0 -> free 18446744073709551615 free free
         alone 4294967295 0 0 -> free 4294967295 free free
-    ",
-    );
-}
-
-#[test]
-fn keeps_the_last_act_on_each(rt: HostRuntime) {
-    play_bans(
-        &rt,
-        "
+        == keeps the last act on each ==
         remove 1 1 -> no
-        add 1 1 60 100 -> ok
-        add 0 2 0 100 -> ok
-        add 1 1 5 10 -> ok
+        add 1 1 60 100 | 0 2 0 100 | 1 1 5 10 -> ok
         count -> 2
         left 1 1 12 -> 3
         left 1 1 100 -> free
@@ -368,16 +255,13 @@ fn keeps_the_last_act_on_each(rt: HostRuntime) {
         left 1 1 12 -> free
         left 0 2 12 -> ever
         count -> 1
-    ",
-    );
+    " }
 }
 
 #[test]
 fn holds_no_more_than_1024(rt: HostRuntime) {
     // Each of the first has run out, and counts.
-    play_bans(
-        &rt,
-        "
+    rows! { play_bans(rt) "
         fill 1024 -> ok
         left 3 255 100 -> free
         count -> 1024
@@ -389,6 +273,5 @@ fn holds_no_more_than_1024(rt: HostRuntime) {
         remove 3 255 -> yes
         add 4 0 1 100 -> ok
         left 4 0 100 -> 1
-    ",
-    );
+    " }
 }

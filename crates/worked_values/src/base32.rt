@@ -1,7 +1,9 @@
-use crate::rows::{Part, number, pair, play, say, say_bytes, say_number, small, twice, unknown};
+use crate::rows::{
+    Part, Row, number, pair, rows, say, say_bytes, say_number, small, twice, unknown,
+};
 use adc_base32::{B32, Sid, decode, decode24, encode, encode24};
-use std::alloc::{AllocGlobal, Global};
-use std::io::Print;
+use second_try::Machine;
+use std::alloc::Global;
 use std::process::Abort;
 
 /// Identifiers and bytes in base32.
@@ -9,23 +11,16 @@ use std::process::Abort;
 pub(crate) struct Base32;
 
 impl Part for Base32 {
-    fn call<R: Abort + AllocGlobal + Print>(
-        &mut self,
-        rt: &R,
-        name: &str,
-        text: &str,
-        bytes: &[u8],
-        said: &mut Vec<u8>,
-    ) {
-        match name {
-            "sid" => say_sid(rt, said, Sid::from_u32(small(rt, text))),
-            "number" => say_sid_number(rt, said, Sid::parse(bytes)),
-            "next" => next(rt, text, said),
-            "encode" => say_encoding(rt, bytes, said),
-            "decode" => say_decoding(rt, text, said),
-            "encode24" => encoded24(rt, bytes, said),
-            "decode24" => decoded24(rt, bytes, said),
-            _ => unknown(rt, name),
+    fn call(&mut self, rt: &impl Machine, row: Row<'_>, said: &mut Vec<u8>) {
+        match row.name {
+            "sid" => say_sid(rt, said, Sid::from_u32(small(rt, row.text))),
+            "number" => say_sid_number(rt, said, Sid::parse(row.bytes)),
+            "next" => next(rt, row.text, said),
+            "encode" => say_encoding(rt, row.bytes, said),
+            "decode" => say_decoding(rt, row.text, said),
+            "encode24" => encoded24(rt, row.bytes, said),
+            "decode24" => decoded24(rt, row.bytes, said),
+            _ => unknown(rt, row.name),
         }
     }
 }
@@ -37,7 +32,7 @@ fn say_sid(rt: &impl Abort, said: &mut Vec<u8>, sid: Option<Sid>) {
     }
 }
 
-fn say_sid_number(rt: &(impl Abort + AllocGlobal), said: &mut Vec<u8>, sid: Option<Sid>) {
+fn say_sid_number(rt: &impl Machine, said: &mut Vec<u8>, sid: Option<Sid>) {
     match sid {
         Some(sid) => say_number(rt, said, sid.number() as u128),
         None => say(rt, said, "none"),
@@ -45,7 +40,7 @@ fn say_sid_number(rt: &(impl Abort + AllocGlobal), said: &mut Vec<u8>, sid: Opti
 }
 
 /// Says the next identifier after a number where those from a number up to another are taken.
-fn next(rt: &(impl Abort + AllocGlobal), text: &str, said: &mut Vec<u8>) {
+fn next(rt: &impl Machine, text: &str, said: &mut Vec<u8>) {
     let (last, range) = pair(text, ' ');
     let (from, to) = pair(range, ' ');
     let last = small(rt, last);
@@ -68,14 +63,14 @@ fn sids_between(rt: &impl Abort, alloc: Global, from: u32, to: u32) -> Vec<Sid> 
     taken
 }
 
-fn say_encoding(rt: &(impl Abort + AllocGlobal + Print), bytes: &[u8], said: &mut Vec<u8>) {
+fn say_encoding(rt: &impl Machine, bytes: &[u8], said: &mut Vec<u8>) {
     match twice!(rt; "adc_base32::encode", B32::Memory, encode(rt.alloc(), bytes)) {
         Ok(text) => say(rt, said, &text),
         Err(fault) => say_fault(rt, said, fault),
     }
 }
 
-fn say_decoding(rt: &(impl Abort + AllocGlobal + Print), text: &str, said: &mut Vec<u8>) {
+fn say_decoding(rt: &impl Machine, text: &str, said: &mut Vec<u8>) {
     let (count, digits) = pair(text, ' ');
     let (count, digits) = (number(rt, count) as usize, digits.as_bytes());
     match twice!(rt; "adc_base32::decode", B32::Memory, decode(rt.alloc(), digits, count)) {
@@ -112,12 +107,10 @@ fn say_fault(rt: &impl Abort, said: &mut Vec<u8>, fault: B32) {
 }
 
 #[test]
-fn spells_identifiers(rt: HostRuntime) {
-    // The first, one past a digit, and the last.
-    play(
-        &rt,
-        &mut Base32,
-        "
+fn identifiers_and_bytes_are_spelled(rt: HostRuntime) {
+    rows! { rt, Base32, "
+        == spells identifiers ==
+        // The first, one past a digit, and the last.
         sid 0 -> AAAA
         sid 1 -> AAAB
         sid 33 -> AABB
@@ -127,35 +120,10 @@ fn spells_identifiers(rt: HostRuntime) {
         number AAAB -> 1
         number AABB -> 33
         number 7777 -> 1048575
-    ",
-    );
-}
-
-#[test]
-fn refuses_what_is_no_identifier(rt: HostRuntime) {
-    play(
-        &rt,
-        &mut Base32,
-        "
-        number <> -> none
-        number AAA -> none
-        number AAAAA -> none
-        number aaab -> none
-        number AA1A -> none
-        number AA8A -> none
-        number AAA= -> none
-        number AAA<x20> -> none
-    ",
-    );
-}
-
-#[test]
-fn spells_bytes(rt: HostRuntime) {
-    // The test vectors of RFC 4648, section 10, without padding; a password; the highest bits.
-    play(
-        &rt,
-        &mut Base32,
-        "
+        == refuses what is no identifier ==
+        number <> | AAA | AAAAA | aaab | AA1A | AA8A | AAA= | AAA<x20> -> none
+        == spells bytes ==
+        // The test vectors of RFC 4648, section 10, without padding; a password; the highest bits.
         encode <> -> <>
         encode f -> MY
         encode fo -> MZXQ
@@ -174,72 +142,25 @@ fn spells_bytes(rt: HostRuntime) {
         decode 6 MZXW6YTBOI -> foobar
         decode 5 ONSWG4TF -> secre
         decode 6 7777777774 -> <6*xff>
-    ",
-    );
-}
-
-#[test]
-fn names_the_first_fault(rt: HostRuntime) {
-    play(
-        &rt,
-        &mut Base32,
-        "
-        decode 1 AAA -> Length
-        decode 0 A -> Length
-        decode 1 <> -> Length
-        decode 2 11 -> Length
-        decode 18446744073709551615 AA -> Length
-        decode 1 A1 -> Digit
-        decode 1 a1 -> Digit
-        decode 1 1B -> Digit
-        decode 1 A= -> Digit
-        decode 1 AB -> LowBits
-        decode 2 AAAB -> LowBits
-        decode 3 AAAAB -> LowBits
-        decode 4 AAAAAAB -> LowBits
-    ",
-    );
-}
-
-#[test]
-fn reads_24_bytes(rt: HostRuntime) {
-    play(
-        &rt,
-        &mut Base32,
-        "
+        == names the first fault ==
+        decode 1 AAA | 0 A | 1 <> | 2 11 | 18446744073709551615 AA -> Length
+        decode 1 A1 | 1 a1 | 1 1B | 1 A= -> Digit
+        decode 1 AB | 2 AAAB | 3 AAAAB | 4 AAAAAAB -> LowBits
+        == reads 24 bytes ==
         decode24 <39*A> -> <24*x00>
         decode24 <38*A>Y -> <23*x00><x03>
         decode24 <39*7> -> LowBits
         decode24 <38*7>Y -> <24*xff>
         decode24 <38*A>B -> LowBits
         decode24 <37*A>1B -> Digit
-        decode24 <38*A> -> Length
-        decode24 <> -> Length
-    ",
-    );
-}
-
-#[test]
-fn spells_24_bytes(rt: HostRuntime) {
-    play(
-        &rt,
-        &mut Base32,
-        "
+        decode24 <38*A> | <> -> Length
+        == spells 24 bytes ==
         encode24 <24*x00> -> <39*A>
         encode24 <23*x00><x03> -> <38*A>Y
         encode24 <24*xff> -> <38*7>Y
         encode24 <4*foobar> -> MZXW6YTBOJTG633CMFZGM33PMJQXEZTPN5RGC4Q
-    ",
-    );
-}
-
-#[test]
-fn gives_the_next_identifier(rt: HostRuntime) {
-    // Taken are the numbers from the second up to the third, and identifier 0.
-    play(
-        &rt,
-        &mut Base32,
-        "
+        == gives the next identifier ==
+        // Taken are the numbers from the second up to the third, and identifier 0.
         next 0 1 1 -> 1
         next 33 1 1 -> 34
         next 1048575 1 2 -> 2
@@ -250,8 +171,6 @@ fn gives_the_next_identifier(rt: HostRuntime) {
         next 0 2 901 -> 1
         next 500 501 1401 -> 1401
         next 0 1 2051 -> 2051
-        next 1048000 1047000 1048576 -> 1
-        next 0 0 0 -> 1
-    ",
-    );
+        next 1048000 1047000 1048576 | 0 0 0 -> 1
+    " }
 }

@@ -1,13 +1,12 @@
 use crate::rows::{
-    Part, byte, pair, play, say, say_bytes, say_number, say_refused_memory, say_whether, twice,
-    unknown,
+    Part, Row, byte, pair, play, rows, say, say_bytes, say_number, say_refused_memory, say_whether,
+    twice, unknown,
 };
 use inf_fields::{
     FieldName, Fields, InfFault, Update, dotted_decimal, is_bad_number, merging_laws, shared_amount,
 };
-use second_try::again;
-use std::alloc::{AllocError, AllocGlobal, Global};
-use std::io::Print;
+use second_try::{Machine, again};
+use std::alloc::{AllocError, Global};
 use std::process::Abort;
 
 /// The words that a user says, and the fields that are known of the user.
@@ -17,20 +16,13 @@ pub(crate) struct User {
 }
 
 impl Part for User {
-    fn call<R: Abort + AllocGlobal + Print>(
-        &mut self,
-        rt: &R,
-        name: &str,
-        text: &str,
-        bytes: &[u8],
-        said: &mut Vec<u8>,
-    ) {
-        match name {
-            "merge" => merge(rt, &mut self.fields, text, said),
-            "fits" => say_whether(rt, said, fits(rt, &self.fields, text)),
+    fn call(&mut self, rt: &impl Machine, row: Row<'_>, said: &mut Vec<u8>) {
+        match row.name {
+            "merge" => merge(rt, &mut self.fields, row.text, said),
+            "fits" => say_whether(rt, said, fits(rt, &self.fields, row.text)),
             "print" => say_fields(rt, said, &self.fields),
-            "get" => say_value(rt, said, self.fields.get(field(rt, text))),
-            _ => say_of_words(rt, name, text, bytes, said),
+            "get" => say_value(rt, said, self.fields.get(field(rt, row.text))),
+            _ => say_of_words(rt, row.name, row.text, row.bytes, said),
         }
     }
 }
@@ -38,13 +30,7 @@ impl Part for User {
 // Each of these calls knows few words: a body that tells many apart is dear to prove.
 
 /// Makes a call that needs no user.
-fn say_of_words<R: Abort + AllocGlobal + Print>(
-    rt: &R,
-    name: &str,
-    text: &str,
-    bytes: &[u8],
-    said: &mut Vec<u8>,
-) {
+fn say_of_words<R: Machine>(rt: &R, name: &str, text: &str, bytes: &[u8], said: &mut Vec<u8>) {
     match name {
         "name" => say_name(rt, said, bytes),
         "known" => say_bytes(rt, said, &field(rt, text).bytes()),
@@ -55,12 +41,7 @@ fn say_of_words<R: Abort + AllocGlobal + Print>(
 }
 
 /// Makes a call on the update that a line says.
-fn say_of_update<R: Abort + AllocGlobal + Print>(
-    rt: &R,
-    name: &str,
-    line: &str,
-    said: &mut Vec<u8>,
-) {
+fn say_of_update<R: Machine>(rt: &R, name: &str, line: &str, said: &mut Vec<u8>) {
     match name {
         "read" => say_read(rt, line, said),
         "pass" => passed_on(rt, [127, 0, 0, 1], line, said),
@@ -70,7 +51,7 @@ fn say_of_update<R: Abort + AllocGlobal + Print>(
 }
 
 /// Says what an update tells of its numbers, or of a field.
-fn say_told(rt: &(impl Abort + AllocGlobal + Print), name: &str, line: &str, said: &mut Vec<u8>) {
+fn say_told(rt: &impl Machine, name: &str, line: &str, said: &mut Vec<u8>) {
     let update = update(rt, line);
     match name {
         "bad_share_size" => say_bad(rt, said, update.get(FieldName::share_size())),
@@ -85,25 +66,21 @@ fn say_bad(rt: &impl Abort, said: &mut Vec<u8>, value: Option<&str>) {
     say_whether(rt, said, is_bad_number(value.unwrap_or("")));
 }
 
-fn fits(rt: &(impl Abort + AllocGlobal + Print), fields: &Fields, line: &str) -> bool {
+fn fits(rt: &impl Machine, fields: &Fields, line: &str) -> bool {
     let update = update(rt, line);
     let fits = fields.fits(&update);
     drop(update);
     fits
 }
 
-pub(crate) fn say_fields(
-    rt: &(impl Abort + AllocGlobal + Print),
-    said: &mut Vec<u8>,
-    fields: &Fields,
-) {
+pub(crate) fn say_fields(rt: &impl Machine, said: &mut Vec<u8>, fields: &Fields) {
     let text = print_fields(rt, fields);
     say(rt, said, &text);
     drop(text);
 }
 
 /// Reads the update that the words of a line say; a line without letters has no words.
-fn read(rt: &(impl Abort + AllocGlobal + Print), line: &str) -> Result<Update, InfFault> {
+fn read(rt: &impl Machine, line: &str) -> Result<Update, InfFault> {
     if line.is_empty() {
         return read_words(rt, &[]);
     }
@@ -117,7 +94,7 @@ fn words_of<'a>(alloc: Global, line: &'a str) -> Result<Vec<&'a str>, AllocError
     line.split(' ').collect(alloc)
 }
 
-fn read_words(rt: &(impl Abort + AllocGlobal + Print), words: &[&str]) -> Result<Update, InfFault> {
+fn read_words(rt: &impl Machine, words: &[&str]) -> Result<Update, InfFault> {
     twice!(rt; "inf_fields::Update::read", InfFault::Memory, read_once(rt.alloc(), words))
 }
 
@@ -136,7 +113,7 @@ fn clean_once(alloc: Global, update: &Update, peer: [u8; 4]) -> Result<Update, I
 }
 
 /// Reads an update that is one.
-pub(crate) fn update(rt: &(impl Abort + AllocGlobal + Print), line: &str) -> Update {
+pub(crate) fn update(rt: &impl Machine, line: &str) -> Update {
     match read(rt, line) {
         Ok(update) => update,
         Err(fault) => unknown(rt, fault_name(fault)),
@@ -151,7 +128,7 @@ fn fault_name(fault: InfFault) -> &'static str {
     }
 }
 
-fn say_read(rt: &(impl Abort + AllocGlobal + Print), line: &str, said: &mut Vec<u8>) {
+fn say_read(rt: &impl Machine, line: &str, said: &mut Vec<u8>) {
     match read(rt, line) {
         Ok(update) => {
             say_update(rt, said, &update);
@@ -161,14 +138,14 @@ fn say_read(rt: &(impl Abort + AllocGlobal + Print), line: &str, said: &mut Vec<
     }
 }
 
-fn say_update(rt: &(impl Abort + AllocGlobal + Print), said: &mut Vec<u8>, update: &Update) {
+fn say_update(rt: &impl Machine, said: &mut Vec<u8>, update: &Update) {
     let text = print_update(rt, update);
     assert!(rt; update.is_empty() == text.is_empty(), "print");
     say(rt, said, &text);
     drop(text);
 }
 
-fn print_update(rt: &(impl Abort + AllocGlobal + Print), update: &Update) -> String {
+fn print_update(rt: &impl Machine, update: &Update) -> String {
     match twice!(rt; "inf_fields::Update::print", InfFault::Memory, print_once(rt.alloc(), update))
     {
         Ok(text) => text,
@@ -177,7 +154,7 @@ fn print_update(rt: &(impl Abort + AllocGlobal + Print), update: &Update) -> Str
 }
 
 /// Makes an update as it is passed on from an address.
-fn clean_from(rt: &(impl Abort + AllocGlobal + Print), update: &Update, peer: [u8; 4]) -> Update {
+fn clean_from(rt: &impl Machine, update: &Update, peer: [u8; 4]) -> Update {
     match twice!(rt; "inf_fields::Update::clean", InfFault::Memory, clean_once(rt.alloc(), update, peer))
     {
         Ok(update) => update,
@@ -185,26 +162,21 @@ fn clean_from(rt: &(impl Abort + AllocGlobal + Print), update: &Update, peer: [u
     }
 }
 
-fn passed_on(
-    rt: &(impl Abort + AllocGlobal + Print),
-    peer: [u8; 4],
-    line: &str,
-    said: &mut Vec<u8>,
-) {
+fn passed_on(rt: &impl Machine, peer: [u8; 4], line: &str, said: &mut Vec<u8>) {
     let update = clean_update(rt, line, peer);
     say_update(rt, said, &update);
     drop(update);
 }
 
 /// Makes the update that a line says, as it is passed on from an address.
-fn clean_update(rt: &(impl Abort + AllocGlobal + Print), line: &str, peer: [u8; 4]) -> Update {
+fn clean_update(rt: &impl Machine, line: &str, peer: [u8; 4]) -> Update {
     let update = update(rt, line);
     let clean = clean_from(rt, &update, peer);
     drop(update);
     clean
 }
 
-pub(crate) fn print_fields(rt: &(impl Abort + AllocGlobal + Print), fields: &Fields) -> String {
+pub(crate) fn print_fields(rt: &impl Machine, fields: &Fields) -> String {
     match twice!(rt; "inf_fields::Fields::print", InfFault::Memory, fields.print(rt.alloc())) {
         Ok(text) => text,
         Err(_) => unknown(rt, "print"),
@@ -249,7 +221,7 @@ fn say_field(rt: &impl Abort, said: &mut Vec<u8>, name: Option<FieldName>) {
     }
 }
 
-fn say_spelling(rt: &(impl Abort + AllocGlobal + Print), text: &str, said: &mut Vec<u8>) {
+fn say_spelling(rt: &impl Machine, text: &str, said: &mut Vec<u8>) {
     let peer = address(rt, text);
     match twice!(rt; "inf_fields::dotted_decimal", AllocError, dotted_decimal(rt.alloc(), peer)) {
         Ok(text) => say(rt, said, &text),
@@ -269,7 +241,7 @@ fn address(rt: &impl Abort, text: &str) -> [u8; 4] {
     address
 }
 
-fn say_amount(rt: &(impl Abort + AllocGlobal), said: &mut Vec<u8>, amount: Option<u64>) {
+fn say_amount(rt: &impl Machine, said: &mut Vec<u8>, amount: Option<u64>) {
     match amount {
         Some(amount) => say_number(rt, said, amount as u128),
         None => say(rt, said, "none"),
@@ -277,12 +249,7 @@ fn say_amount(rt: &(impl Abort + AllocGlobal), said: &mut Vec<u8>, amount: Optio
 }
 
 /// Merges a line, cleaned for 127.0.0.1, and tells what is known then. Where it is refused all is as before.
-fn merge(
-    rt: &(impl Abort + AllocGlobal + Print),
-    fields: &mut Fields,
-    line: &str,
-    said: &mut Vec<u8>,
-) {
+fn merge(rt: &impl Machine, fields: &mut Fields, line: &str, said: &mut Vec<u8>) {
     let update = clean_update(rt, line, [127, 0, 0, 1]);
     let before = print_fields(rt, fields);
     let fits = fields.fits(&update);
@@ -304,7 +271,7 @@ fn merge(
 
 /// Merges an update, once more where memory was refused: the fields are as before then.
 fn merge_twice(
-    rt: &(impl Abort + AllocGlobal + Print),
+    rt: &impl Machine,
     fields: &mut Fields,
     update: &Update,
     before: &str,
@@ -323,7 +290,7 @@ fn merge_once(fields: &mut Fields, update: &Update) -> Result<(), InfFault> {
     fields.merge(update)
 }
 
-fn is_printed(rt: &(impl Abort + AllocGlobal + Print), fields: &Fields, before: &str) -> bool {
+fn is_printed(rt: &impl Machine, fields: &Fields, before: &str) -> bool {
     let text = print_fields(rt, fields);
     let same = text.as_str() == before;
     drop(text);
@@ -331,7 +298,7 @@ fn is_printed(rt: &(impl Abort + AllocGlobal + Print), fields: &Fields, before: 
 }
 
 /// Gives what is known of a user who said a line.
-pub(crate) fn fields_of_line(rt: &(impl Abort + AllocGlobal + Print), line: &str) -> Fields {
+pub(crate) fn fields_of_line(rt: &impl Machine, line: &str) -> Fields {
     let update = update(rt, line);
     let mut fields = Fields::new(rt.alloc());
     again!(rt; merge_once(&mut fields, &update));
@@ -339,7 +306,7 @@ pub(crate) fn fields_of_line(rt: &(impl Abort + AllocGlobal + Print), line: &str
     fields
 }
 
-pub(crate) fn play_user<R: Abort + AllocGlobal + Print>(rt: &R, rows: &str) {
+pub(crate) fn play_user<R: Machine>(rt: &R, rows: &str) {
     let mut user = User {
         fields: Fields::new(rt.alloc()),
     };
@@ -348,10 +315,9 @@ pub(crate) fn play_user<R: Abort + AllocGlobal + Print>(rt: &R, rows: &str) {
 }
 
 #[test]
-fn fills_the_address_in_and_keeps_the_private_identifier(rt: HostRuntime) {
-    play_user(
-        &rt,
-        r"
+fn what_users_say_is_read(rt: HostRuntime) {
+    rows! { play_user(rt) r"
+        == fills the address in and keeps the private identifier ==
         pass IDAAA PDAAA NIana SS10 SF2 I40.0.0.0 SUTCP4,SEGA -> <x20>IDAAA NIana SS10 SF2 I4127.0.0.1 SUTCP4,SEGA
         pass IDAAA PDAAA NIana SL3 SS0 SF0 HN1 HR0 HO0 VEx\s1 US65536 I40.0.0.0 SUSEGA,ADC0,TCP4,UDP4 U41412 -> <x20>IDAAA NIana SL3 SS0 SF0 HN1 HR0 HO0 VEx\s1 US65536 I4127.0.0.1 SUSEGA,ADC0,TCP4,UDP4 U41412
         pass SU -> <x20>SU
@@ -360,41 +326,17 @@ fn fills_the_address_in_and_keeps_the_private_identifier(rt: HostRuntime) {
         pass I4 -> <x20>I4
         pass I40.0.0.00 DE0.0.0.0 -> <x20>I40.0.0.00 DE0.0.0.0
         pass PDAAA -> <>
-    ",
-    );
-}
-
-#[test]
-fn keeps_the_first_place_and_the_last_value(rt: HostRuntime) {
-    play_user(
-        &rt,
-        r"
+        == keeps the first place and the last value ==
         read NIa SS1 NIb -> <x20>NIb SS1
         read SU SUTCP4 SU -> <x20>SU
         read X0 A1b X0c A1 Z9 -> <x20>X0c A1 Z9
         read DE<xc3><xa9>\s<xf0><x9f><x98><x80> -> <x20>DE<xc3><xa9>\s<xf0><x9f><x98><x80>
-    ",
-    );
-}
-
-#[test]
-fn tells_what_was_said(rt: HostRuntime) {
-    play_user(
-        &rt,
-        "
+        == tells what was said ==
         nick NIana SU SS5 NIanna -> is anna
         support NIana SU SS5 NIanna -> is <>
         share_size NIana SU SS5 NIanna -> is 5
         shared_files NIana SU SS5 NIanna -> none
-    ",
-    );
-}
-
-#[test]
-fn tells_bad_numbers(rt: HostRuntime) {
-    play_user(
-        &rt,
-        "
+        == tells bad numbers ==
         bad_share_size NIana SS5 SF18446744073709551615 -> no
         bad_shared_files NIana SS5 SF18446744073709551615 -> no
         bad_share_size NIana SS SF -> no
@@ -407,8 +349,51 @@ fn tells_bad_numbers(rt: HostRuntime) {
         bad_shared_files SS5 SF18446744073709551616 -> yes
         bad_share_size SF-1 SSx -> yes
         bad_shared_files SF-1 SSx -> yes
-    ",
-    );
+        == refuses words without names ==
+        read NIana<x20> | NIana N | NIana nI | NIana Ni | NIana 1I | NIana N- | NIana <xc3><xa9> | NIana N<xc3><xa9>x -> BadName
+        read NIana ni\s -> BadName
+        == takes forty names ==
+        read A0 A1 A2 A3 A4 A5 A6 A7 A8 A9 B0 B1 B2 B3 B4 B5 B6 B7 B8 B9 C0 C1 C2 C3 C4 C5 C6 C7 C8 C9 D0 D1 D2 D3 D4 D5 D6 D7 D8 D9 -> <x20>A0 A1 A2 A3 A4 A5 A6 A7 A8 A9 B0 B1 B2 B3 B4 B5 B6 B7 B8 B9 C0 C1 C2 C3 C4 C5 C6 C7 C8 C9 D0 D1 D2 D3 D4 D5 D6 D7 D8 D9
+        read A0 A1 A2 A3 A4 A5 A6 A7 A8 A9 B0 B1 B2 B3 B4 B5 B6 B7 B8 B9 C0 C1 C2 C3 C4 C5 C6 C7 C8 C9 D0 D1 D2 D3 D4 D5 D6 D7 D8 D9 A0x D9 -> <x20>A0x A1 A2 A3 A4 A5 A6 A7 A8 A9 B0 B1 B2 B3 B4 B5 B6 B7 B8 B9 C0 C1 C2 C3 C4 C5 C6 C7 C8 C9 D0 D1 D2 D3 D4 D5 D6 D7 D8 D9
+        read A0 A1 A2 A3 A4 A5 A6 A7 A8 A9 B0 B1 B2 B3 B4 B5 B6 B7 B8 B9 C0 C1 C2 C3 C4 C5 C6 C7 C8 C9 D0 D1 D2 D3 D4 D5 D6 D7 D8 D9 A0x E0 -> TooMany
+        read A0 A1 A2 A3 A4 A5 A6 A7 A8 A9 B0 B1 B2 B3 B4 B5 B6 B7 B8 B9 C0 C1 C2 C3 C4 C5 C6 C7 C8 C9 D0 D1 D2 D3 D4 D5 D6 D7 D8 D9 E0 e0 -> BadName
+    " }
+}
+
+#[test]
+fn what_users_say_is_kept(rt: HostRuntime) {
+    rows! { play_user(rt) r"
+        == merges what ana says ==
+        merge IDAAA PDAAA NIana SS10 SF2 I40.0.0.0 SUTCP4,SEGA -> <x20>IDAAA NIana SS10 SF2 I4127.0.0.1 SUTCP4,SEGA
+        merge DEhi NIanna -> <x20>IDAAA NIanna SS10 SF2 I4127.0.0.1 SUTCP4,SEGA DEhi
+        merge SF EM -> <x20>IDAAA NIanna SS10 I4127.0.0.1 SUTCP4,SEGA DEhi
+        merge SF7 | PDAAA CT4 -> <x20>IDAAA NIanna SS10 I4127.0.0.1 SUTCP4,SEGA DEhi SF7
+        get id -> is AAA
+        get nick -> is anna
+        get address -> is 127.0.0.1
+        get private_id -> none
+        == forgets what bob takes back ==
+        merge IDIII PDIII NIbob SS5 SF1 SUTCP4 -> <x20>IDIII NIbob SS5 SF1 SUTCP4
+        merge SU -> <x20>IDIII NIbob SS5 SF1
+        get support -> none
+        == holds forty fields ==
+        merge ID1 NI1 SS1 SF1 I41 SU1 -> <x20>ID1 NI1 SS1 SF1 I41 SU1
+        merge X01 X11 X21 X31 X41 X51 X61 X71 X81 X91 XA1 XB1 XC1 XD1 XE1 XF1 XG1 XH1 XI1 XJ1 XK1 XL1 XM1 XN1 XO1 XP1 XQ1 XR1 XS1 XT1 XU1 XV1 XW1 XX1 -> <x20>ID1 NI1 SS1 SF1 I41 SU1 X01 X11 X21 X31 X41 X51 X61 X71 X81 X91 XA1 XB1 XC1 XD1 XE1 XF1 XG1 XH1 XI1 XJ1 XK1 XL1 XM1 XN1 XO1 XP1 XQ1 XR1 XS1 XT1 XU1 XV1 XW1 XX1
+        fits XY1 NI2 -> no
+        fits XY1 NI ZZ | XX2 -> yes
+        merge XY1 -> TooMany
+        print -> <x20>ID1 NI1 SS1 SF1 I41 SU1 X01 X11 X21 X31 X41 X51 X61 X71 X81 X91 XA1 XB1 XC1 XD1 XE1 XF1 XG1 XH1 XI1 XJ1 XK1 XL1 XM1 XN1 XO1 XP1 XQ1 XR1 XS1 XT1 XU1 XV1 XW1 XX1
+        == spells addresses ==
+        dotted 127 0 0 1 -> 127.0.0.1
+        dotted 0 0 0 0 -> 0.0.0.0
+        dotted 255 10 9 100 -> 255.10.9.100
+        == reads amounts ==
+        amount 0 -> 0
+        amount 10 | 00000000000000000010 -> 10
+        amount 000000000000000000010 -> none
+        amount 18446744073709551615 -> 18446744073709551615
+        amount 18446744073709551616 | 99999999999999999999 | <> | x | 5x | +5 | -5 | 5\s -> none
+    " }
 }
 
 #[test]
@@ -417,130 +402,13 @@ fn needs_no_words(rt: HostRuntime) {
 }
 
 #[test]
-fn refuses_words_without_names(rt: HostRuntime) {
-    play_user(
-        &rt,
-        r"
-        read NIana<x20> -> BadName
-        read NIana N -> BadName
-        read NIana nI -> BadName
-        read NIana Ni -> BadName
-        read NIana 1I -> BadName
-        read NIana N- -> BadName
-        read NIana <xc3><xa9> -> BadName
-        read NIana N<xc3><xa9>x -> BadName
-        read NIana ni\s -> BadName
-    ",
-    );
-}
-
-#[test]
-fn takes_forty_names(rt: HostRuntime) {
-    play_user(
-        &rt,
-        "
-        read A0 A1 A2 A3 A4 A5 A6 A7 A8 A9 B0 B1 B2 B3 B4 B5 B6 B7 B8 B9 C0 C1 C2 C3 C4 C5 C6 C7 C8 C9 D0 D1 D2 D3 D4 D5 D6 D7 D8 D9 -> <x20>A0 A1 A2 A3 A4 A5 A6 A7 A8 A9 B0 B1 B2 B3 B4 B5 B6 B7 B8 B9 C0 C1 C2 C3 C4 C5 C6 C7 C8 C9 D0 D1 D2 D3 D4 D5 D6 D7 D8 D9
-        read A0 A1 A2 A3 A4 A5 A6 A7 A8 A9 B0 B1 B2 B3 B4 B5 B6 B7 B8 B9 C0 C1 C2 C3 C4 C5 C6 C7 C8 C9 D0 D1 D2 D3 D4 D5 D6 D7 D8 D9 A0x D9 -> <x20>A0x A1 A2 A3 A4 A5 A6 A7 A8 A9 B0 B1 B2 B3 B4 B5 B6 B7 B8 B9 C0 C1 C2 C3 C4 C5 C6 C7 C8 C9 D0 D1 D2 D3 D4 D5 D6 D7 D8 D9
-        read A0 A1 A2 A3 A4 A5 A6 A7 A8 A9 B0 B1 B2 B3 B4 B5 B6 B7 B8 B9 C0 C1 C2 C3 C4 C5 C6 C7 C8 C9 D0 D1 D2 D3 D4 D5 D6 D7 D8 D9 A0x E0 -> TooMany
-        read A0 A1 A2 A3 A4 A5 A6 A7 A8 A9 B0 B1 B2 B3 B4 B5 B6 B7 B8 B9 C0 C1 C2 C3 C4 C5 C6 C7 C8 C9 D0 D1 D2 D3 D4 D5 D6 D7 D8 D9 E0 e0 -> BadName
-    ",
-    );
-}
-
-#[test]
-fn merges_what_ana_says(rt: HostRuntime) {
-    play_user(
-        &rt,
-        "
-        merge IDAAA PDAAA NIana SS10 SF2 I40.0.0.0 SUTCP4,SEGA -> <x20>IDAAA NIana SS10 SF2 I4127.0.0.1 SUTCP4,SEGA
-        merge DEhi NIanna -> <x20>IDAAA NIanna SS10 SF2 I4127.0.0.1 SUTCP4,SEGA DEhi
-        merge SF EM -> <x20>IDAAA NIanna SS10 I4127.0.0.1 SUTCP4,SEGA DEhi
-        merge SF7 -> <x20>IDAAA NIanna SS10 I4127.0.0.1 SUTCP4,SEGA DEhi SF7
-        merge PDAAA CT4 -> <x20>IDAAA NIanna SS10 I4127.0.0.1 SUTCP4,SEGA DEhi SF7
-        get id -> is AAA
-        get nick -> is anna
-        get address -> is 127.0.0.1
-        get private_id -> none
-    ",
-    );
-}
-
-#[test]
-fn forgets_what_bob_takes_back(rt: HostRuntime) {
-    play_user(
-        &rt,
-        "
-        merge IDIII PDIII NIbob SS5 SF1 SUTCP4 -> <x20>IDIII NIbob SS5 SF1 SUTCP4
-        merge SU -> <x20>IDIII NIbob SS5 SF1
-        get support -> none
-    ",
-    );
-}
-
-#[test]
-fn holds_forty_fields(rt: HostRuntime) {
-    play_user(
-        &rt,
-        "
-        merge ID1 NI1 SS1 SF1 I41 SU1 -> <x20>ID1 NI1 SS1 SF1 I41 SU1
-        merge X01 X11 X21 X31 X41 X51 X61 X71 X81 X91 XA1 XB1 XC1 XD1 XE1 XF1 XG1 XH1 XI1 XJ1 XK1 XL1 XM1 XN1 XO1 XP1 XQ1 XR1 XS1 XT1 XU1 XV1 XW1 XX1 -> <x20>ID1 NI1 SS1 SF1 I41 SU1 X01 X11 X21 X31 X41 X51 X61 X71 X81 X91 XA1 XB1 XC1 XD1 XE1 XF1 XG1 XH1 XI1 XJ1 XK1 XL1 XM1 XN1 XO1 XP1 XQ1 XR1 XS1 XT1 XU1 XV1 XW1 XX1
-        fits XY1 NI2 -> no
-        fits XY1 NI ZZ -> yes
-        fits XX2 -> yes
-        merge XY1 -> TooMany
-        print -> <x20>ID1 NI1 SS1 SF1 I41 SU1 X01 X11 X21 X31 X41 X51 X61 X71 X81 X91 XA1 XB1 XC1 XD1 XE1 XF1 XG1 XH1 XI1 XJ1 XK1 XL1 XM1 XN1 XO1 XP1 XQ1 XR1 XS1 XT1 XU1 XV1 XW1 XX1
-    ",
-    );
-}
-
-#[test]
-fn spells_addresses(rt: HostRuntime) {
-    play_user(
-        &rt,
-        "
-        dotted 127 0 0 1 -> 127.0.0.1
-        dotted 0 0 0 0 -> 0.0.0.0
-        dotted 255 10 9 100 -> 255.10.9.100
-    ",
-    );
-}
-
-#[test]
-fn reads_amounts(rt: HostRuntime) {
-    play_user(
-        &rt,
-        r"
-        amount 0 -> 0
-        amount 10 -> 10
-        amount 00000000000000000010 -> 10
-        amount 000000000000000000010 -> none
-        amount 18446744073709551615 -> 18446744073709551615
-        amount 18446744073709551616 -> none
-        amount 99999999999999999999 -> none
-        amount <> -> none
-        amount x -> none
-        amount 5x -> none
-        amount +5 -> none
-        amount -5 -> none
-        amount 5\s -> none
-    ",
-    );
-}
-
-#[test]
 fn knows_names(rt: HostRuntime) {
-    play_user(
-        &rt,
-        "
+    rows! { play_user(rt) "
         name ID -> ID
         name I4 -> I4
         name ZZ -> ZZ
-        name id -> none
-        name Id -> none
-        name 4I -> none
-        name I<x20> -> none
+        name id | Id | 4I | I<x20> -> none
         known share_size -> SS
-    ",
-    );
+    " }
     merging_laws();
 }

@@ -1,40 +1,29 @@
-use crate::rows::{Part, number, play, say, say_bytes, twice, unknown};
+use crate::rows::{Part, Row, number, rows, say, say_bytes, twice, unknown};
+use second_try::Machine;
 use session_hash::{First24, SessionHash, TableTiger, TablesFault};
-use std::alloc::{AllocGlobal, Global};
-use std::io::Print;
-use std::process::Abort;
+use std::alloc::AllocGlobal;
 
 /// The hashes of sessions.
 #[derive(Drop)]
 pub(crate) struct Hashes;
 
 impl Part for Hashes {
-    fn call<R: Abort + AllocGlobal + Print>(
-        &mut self,
-        rt: &R,
-        name: &str,
-        text: &str,
-        bytes: &[u8],
-        said: &mut Vec<u8>,
-    ) {
-        match name {
-            "first24" => say_bytes(rt, said, &First24.digest(bytes)),
-            "tables" => match tables(rt, number(rt, text) as usize) {
+    fn call(&mut self, rt: &impl Machine, row: Row<'_>, said: &mut Vec<u8>) {
+        match row.name {
+            "first24" => say_bytes(rt, said, &First24.digest(row.bytes)),
+            "tables" => match tables(rt, number(rt, row.text) as usize) {
                 Ok(_) => say(rt, said, "ok"),
                 Err(TablesFault::Length) => say(rt, said, "Length"),
                 Err(TablesFault::Memory) => say(rt, said, "Memory"),
             },
             "equal" => equal(rt, said),
-            _ => unknown(rt, name),
+            _ => unknown(rt, row.name),
         }
     }
 }
 
 /// Makes the hash whose tables are so many bytes 0.
-fn tables(
-    rt: &(impl Abort + AllocGlobal + Print),
-    length: usize,
-) -> Result<TableTiger, TablesFault> {
+fn tables(rt: &impl Machine, length: usize) -> Result<TableTiger, TablesFault> {
     let zeros = [0; 8193];
     let Some(zeros) = zeros.get(..length) else {
         return Err(TablesFault::Memory);
@@ -43,7 +32,7 @@ fn tables(
 }
 
 /// Says whether the same tables give the same digest.
-fn equal(rt: &(impl Abort + AllocGlobal + Print), said: &mut Vec<u8>) {
+fn equal(rt: &impl Machine, said: &mut Vec<u8>) {
     let (Ok(one), Ok(other)) = (tables(rt, 8192), tables(rt, 8192)) else {
         unknown(rt, "tables")
     };
@@ -59,28 +48,14 @@ fn equal(rt: &(impl Abort + AllocGlobal + Print), said: &mut Vec<u8>) {
 }
 
 #[test]
-fn first_bytes_and_zeros(rt: HostRuntime) {
-    play(
-        &rt,
-        &mut Hashes,
-        "
+fn hashes_are_made(rt: HostRuntime) {
+    rows! { rt, Hashes, "
+        == first bytes and zeros ==
         first24 <> -> <24*x00>
         first24 abc -> abc<21*x00>
-        first24 ABCDEFGHIJKLMNOPQRSTUVWX -> ABCDEFGHIJKLMNOPQRSTUVWX
-        first24 ABCDEFGHIJKLMNOPQRSTUVWXYZ -> ABCDEFGHIJKLMNOPQRSTUVWX
-    ",
-    );
-}
-
-#[test]
-fn tables_have_8192_bytes(rt: HostRuntime) {
-    play(
-        &rt,
-        &mut Hashes,
-        "
-        tables 8191 -> Length
-        tables 8193 -> Length
+        first24 ABCDEFGHIJKLMNOPQRSTUVWX | ABCDEFGHIJKLMNOPQRSTUVWXYZ -> ABCDEFGHIJKLMNOPQRSTUVWX
+        == tables have 8192 bytes ==
+        tables 8191 | 8193 -> Length
         tables 8192 -> ok
-    ",
-    );
+    " }
 }

@@ -1,8 +1,7 @@
-use crate::rows::{Part, pair, play, say, say_bytes, say_whether, twice, unknown};
+use crate::rows::{Part, Row, pair, rows, say, say_bytes, say_whether, twice, unknown};
 use adc_ids::{Cid, Nick, NickFault, Pid};
-use second_try::again;
-use std::alloc::{AllocError, AllocGlobal, Global};
-use std::io::Print;
+use second_try::Machine;
+use std::alloc::AllocError;
 use std::process::Abort;
 
 /// Identifiers of clients, and nicks.
@@ -10,24 +9,17 @@ use std::process::Abort;
 pub(crate) struct Identities;
 
 impl Part for Identities {
-    fn call<R: Abort + AllocGlobal + Print>(
-        &mut self,
-        rt: &R,
-        name: &str,
-        text: &str,
-        bytes: &[u8],
-        said: &mut Vec<u8>,
-    ) {
-        match name {
-            "identifier" => identifier(rt, bytes, said),
-            "nick" => say_nick(rt, text, said),
-            "alike" => alike(rt, text, said),
-            _ => unknown(rt, name),
+    fn call(&mut self, rt: &impl Machine, row: Row<'_>, said: &mut Vec<u8>) {
+        match row.name {
+            "identifier" => identifier(rt, row.bytes, said),
+            "nick" => say_nick(rt, row.text, said),
+            "alike" => alike(rt, row.text, said),
+            _ => unknown(rt, row.name),
         }
     }
 }
 
-fn say_nick(rt: &(impl Abort + AllocGlobal + Print), text: &str, said: &mut Vec<u8>) {
+fn say_nick(rt: &impl Machine, text: &str, said: &mut Vec<u8>) {
     match parse_nick(rt, text) {
         Ok(nick) => say_key(rt, said, nick),
         Err(NickFault::Invalid) => say(rt, said, "Invalid"),
@@ -35,7 +27,7 @@ fn say_nick(rt: &(impl Abort + AllocGlobal + Print), text: &str, said: &mut Vec<
     }
 }
 
-fn say_key(rt: &(impl Abort + AllocGlobal + Print), said: &mut Vec<u8>, nick: Nick) {
+fn say_key(rt: &impl Machine, said: &mut Vec<u8>, nick: Nick) {
     let key = key(rt, &nick);
     say(rt, said, &key);
     drop(key);
@@ -68,19 +60,19 @@ fn is_text_of(bytes: [u8; 24], text: &[u8]) -> bool {
     cid.text().as_slice() == text && Cid::parse(text) == Some(cid)
 }
 
-fn parse_nick(rt: &(impl Abort + AllocGlobal + Print), text: &str) -> Result<Nick, NickFault> {
+fn parse_nick(rt: &impl Machine, text: &str) -> Result<Nick, NickFault> {
     twice!(rt; "adc_ids::Nick::parse", NickFault::Memory, Nick::parse(rt.alloc(), text))
 }
 
 /// Reads a nick that is one.
-pub(crate) fn nick(rt: &(impl Abort + AllocGlobal + Print), text: &str) -> Nick {
+pub(crate) fn nick(rt: &impl Machine, text: &str) -> Nick {
     match parse_nick(rt, text) {
         Ok(nick) => nick,
         Err(_) => unknown(rt, text),
     }
 }
 
-pub(crate) fn key(rt: &(impl Abort + AllocGlobal + Print), nick: &Nick) -> String {
+pub(crate) fn key(rt: &impl Machine, nick: &Nick) -> String {
     match twice!(rt; "adc_ids::Nick::key", AllocError, nick.key(rt.alloc())) {
         Ok(key) => key,
         Err(_) => unknown(rt, "key"),
@@ -88,7 +80,7 @@ pub(crate) fn key(rt: &(impl Abort + AllocGlobal + Print), nick: &Nick) -> Strin
 }
 
 /// Says whether two nicks have one key.
-fn alike(rt: &(impl Abort + AllocGlobal + Print), text: &str, said: &mut Vec<u8>) {
+fn alike(rt: &impl Machine, text: &str, said: &mut Vec<u8>) {
     let (one, other) = pair(text, ' ');
     let (one, other) = (key_of(rt, one), key_of(rt, other));
     say_whether(rt, said, one.as_str() == other.as_str());
@@ -96,7 +88,7 @@ fn alike(rt: &(impl Abort + AllocGlobal + Print), text: &str, said: &mut Vec<u8>
     drop(other);
 }
 
-pub(crate) fn key_of(rt: &(impl Abort + AllocGlobal + Print), text: &str) -> String {
+pub(crate) fn key_of(rt: &impl Machine, text: &str) -> String {
     let nick = nick(rt, text);
     let key = key(rt, &nick);
     drop(nick);
@@ -104,56 +96,25 @@ pub(crate) fn key_of(rt: &(impl Abort + AllocGlobal + Print), text: &str) -> Str
 }
 
 #[test]
-fn reads_identifiers(rt: HostRuntime) {
-    play(
-        &rt,
-        &mut Identities,
-        "
+fn identifiers_and_nicks_are_read(rt: HostRuntime) {
+    rows! { rt, Identities, "
+        == reads identifiers ==
         identifier <39*A> -> <24*x00>
         identifier <38*A>Y -> <23*x00><x03>
         identifier MZXW6YTBOJTG633CMFZGM33PMJQXEZTPN5RGC4Q -> <4*foobar>
-        identifier <> -> none
-        identifier <38*A> -> none
-        identifier <38*A>B -> none
-        identifier <38*A>a -> none
-        identifier <40*A> -> none
-    ",
-    );
-}
-
-#[test]
-fn takes_nicks(rt: HostRuntime) {
-    play(
-        &rt,
-        &mut Identities,
-        "
+        identifier <> | <38*A> | <38*A>B | <38*A>a | <40*A> -> none
+        == takes nicks ==
         nick a -> a
         nick ! -> !
         nick ana -> ana
         nick \u{e9} -> \u{e9}
         nick a\u{a0}b -> a\u{a0}b
-        nick <> -> Invalid
-        nick <x20> -> Invalid
-        nick a b -> Invalid
-        nick ana<x20> -> Invalid
-        nick a<x0a>b -> Invalid
-        nick <x00> -> Invalid
+        nick <> | <x20> | a b | ana<x20> | a<x0a>b | <x00> -> Invalid
         nick <64*\u{1F600}> -> <64*\u{1F600}>
         nick <65*\u{1F600}> -> Invalid
-    ",
-    );
-}
-
-#[test]
-fn compares_nicks_by_their_key(rt: HostRuntime) {
-    play(
-        &rt,
-        &mut Identities,
-        "
+        == compares nicks by their key ==
         alike \u{e9} e\u{301} -> yes
-        alike \u{e9} e -> no
-        alike Ana ana -> no
+        alike \u{e9} e | Ana ana -> no
         alike \u{212b} \u{c5} -> yes
-    ",
-    );
+    " }
 }

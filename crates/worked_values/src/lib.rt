@@ -16,6 +16,8 @@ mod lines;
 #[cfg(test)]
 mod logins;
 #[cfg(test)]
+mod logs;
+#[cfg(test)]
 mod queues;
 #[cfg(test)]
 mod refused;

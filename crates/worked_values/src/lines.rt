@@ -1,13 +1,12 @@
 use crate::rows::{
-    Part, number, pair, play, say, say_bytes, say_refused_memory, say_whether, twice, unknown,
+    Part, Row, rows, say, say_bytes, say_refused_memory, say_whether, twice, unknown,
 };
 use adc_line::{
     FrameFault, Framer, Kind, Line, LineFault, Next, UnescapeFault, escape, is_feature_name,
     is_feature_word, unescape,
 };
-use second_try::again;
+use second_try::{Machine, again};
 use std::alloc::{AllocError, AllocGlobal};
-use std::io::Print;
 use std::process::Abort;
 
 /// Lines and their words.
@@ -15,34 +14,27 @@ use std::process::Abort;
 pub(crate) struct Lines;
 
 impl Part for Lines {
-    fn call<R: Abort + AllocGlobal + Print>(
-        &mut self,
-        rt: &R,
-        name: &str,
-        text: &str,
-        bytes: &[u8],
-        said: &mut Vec<u8>,
-    ) {
-        match name {
-            "read" => match parse_line(rt, bytes) {
-                Ok(line) => say_line(rt, said, &line, text),
+    fn call(&mut self, rt: &impl Machine, row: Row<'_>, said: &mut Vec<u8>) {
+        match row.name {
+            "read" => match parse_line(rt, row.bytes) {
+                Ok(line) => say_line(rt, said, &line, row.text),
                 Err(fault) => say(rt, said, fault_name(fault)),
             },
-            "escape" => say_escape(rt, text, said),
-            "unescape" => say_unescape(rt, text, said),
-            "name" => say_whether(rt, said, is_feature_name(bytes)),
-            "word" => say_whether(rt, said, is_feature_word(bytes)),
-            _ => unknown(rt, name),
+            "escape" => say_escape(rt, row.text, said),
+            "unescape" => say_unescape(rt, row.text, said),
+            "name" => say_whether(rt, said, is_feature_name(row.bytes)),
+            "word" => say_whether(rt, said, is_feature_word(row.bytes)),
+            _ => unknown(rt, row.name),
         }
     }
 }
 
-fn parse_line(rt: &(impl Abort + AllocGlobal + Print), bytes: &[u8]) -> Result<Line, LineFault> {
+fn parse_line(rt: &impl Machine, bytes: &[u8]) -> Result<Line, LineFault> {
     twice!(rt; "adc_line::Line::parse", LineFault::Memory, Line::parse(rt.alloc(), bytes))
 }
 
 /// Reads a line that is one.
-pub(crate) fn line(rt: &(impl Abort + AllocGlobal + Print), bytes: &[u8]) -> Line {
+pub(crate) fn line(rt: &impl Machine, bytes: &[u8]) -> Line {
     match parse_line(rt, bytes) {
         Ok(line) => line,
         Err(fault) => unknown(rt, fault_name(fault)),
@@ -95,14 +87,14 @@ fn kind_name(kind: Kind) -> &'static str {
     }
 }
 
-fn say_escape(rt: &(impl Abort + AllocGlobal + Print), text: &str, said: &mut Vec<u8>) {
+fn say_escape(rt: &impl Machine, text: &str, said: &mut Vec<u8>) {
     match twice!(rt; "adc_line::escape", AllocError, escape(rt.alloc(), text)) {
         Ok(word) => say(rt, said, &word),
         Err(_) => say(rt, said, "Memory"),
     }
 }
 
-fn say_unescape(rt: &(impl Abort + AllocGlobal + Print), word: &str, said: &mut Vec<u8>) {
+fn say_unescape(rt: &impl Machine, word: &str, said: &mut Vec<u8>) {
     match twice!(rt; "adc_line::unescape", UnescapeFault::Memory, unescape(rt.alloc(), word)) {
         Ok(text) => say(rt, said, &text),
         Err(UnescapeFault::Escape) => say(rt, said, "Escape"),
@@ -118,25 +110,18 @@ pub(crate) struct Frames {
 }
 
 impl Part for Frames {
-    fn call<R: Abort + AllocGlobal + Print>(
-        &mut self,
-        rt: &R,
-        name: &str,
-        _text: &str,
-        bytes: &[u8],
-        said: &mut Vec<u8>,
-    ) {
-        match name {
-            "feed" => self.feed(rt, bytes),
+    fn call(&mut self, rt: &impl Machine, row: Row<'_>, said: &mut Vec<u8>) {
+        match row.name {
+            "feed" => self.feed(rt, row.bytes),
             "next" => self.next(rt, said),
-            "pieces" => self.pieces(rt, bytes, said),
-            _ => unknown(rt, name),
+            "pieces" => self.pieces(rt, row.bytes, said),
+            _ => unknown(rt, row.name),
         }
     }
 }
 
 impl Frames {
-    fn feed(&mut self, rt: &(impl Abort + Print), piece: &[u8]) {
+    fn feed(&mut self, rt: &impl Machine, piece: &[u8]) {
         let answer = match self.framer.feed(piece) {
             Err(FrameFault::Memory) => {
                 say_refused_memory(rt, "adc_line::Framer::feed", true);
@@ -147,7 +132,7 @@ impl Frames {
         assert!(rt; answer.is_ok(), "not fed");
     }
 
-    fn next(&mut self, rt: &(impl Abort + Print), said: &mut Vec<u8>) {
+    fn next(&mut self, rt: &impl Machine, said: &mut Vec<u8>) {
         let before = again!(rt; self.line.clone());
         let answer = match self.framer.next(&mut self.line) {
             Err(FrameFault::Memory) => {
@@ -170,12 +155,7 @@ impl Frames {
     }
 
     /// Feeds pieces of each of some sizes of the stream, and takes all lines after each piece.
-    fn pieces(
-        &mut self,
-        rt: &(impl Abort + AllocGlobal + Print),
-        stream: &[u8],
-        said: &mut Vec<u8>,
-    ) {
+    fn pieces(&mut self, rt: &impl Machine, stream: &[u8], said: &mut Vec<u8>) {
         for size in [1, 2, 7, 19, 20, 64] {
             let mut frames = new_frames(rt);
             for piece in stream.chunks(size) {
@@ -186,7 +166,7 @@ impl Frames {
         }
     }
 
-    fn lines(&mut self, rt: &(impl Abort + AllocGlobal + Print), said: &mut Vec<u8>) {
+    fn lines(&mut self, rt: &impl Machine, said: &mut Vec<u8>) {
         for _ in 0..4 {
             let mut next = Vec::new(rt.alloc());
             self.next(rt, &mut next);
@@ -207,55 +187,18 @@ pub(crate) fn new_frames(rt: &impl AllocGlobal) -> Frames {
 }
 
 #[test]
-fn names_the_first_fault(rt: HostRuntime) {
-    play(
-        &rt,
-        &mut Lines,
-        r"
-        read <> -> Header
-        read <x20> -> Header
-        read <x20><x20> -> Header
-        read BMSG -> Header
-        read BMSG AAA -> Header
-        read bMSG AAAB hi -> Header
-        read BMSG aaab hi -> Header
-        read BMSGX AAAB hi -> Header
-        read B1SG AAAB hi -> Header
-        read AMSG AAAB hi -> Header
-        read BMSG  AAAB hi -> Header
-        read UMSG -> Header
-        read UMSG AB1 hi -> Header
-        read FSCH AAAB ANx -> Header
-        read FSCH AAAB +TCP ANx -> Header
-        read FSCH AAAB TCP4 ANx -> Header
-        read FSCH AAAB +tcp4 ANx -> Header
-        read FSCH AAAB +TCP4- ANx -> Header
-        read FSCH AAAB -> Header
-        read DMSG AAAB -> Header
-        read DMSG AAAB hi -> Header
-        read BMSG AAAB<x20> -> Parameter
-        read BMSG AAAB  hi -> Parameter
-        read BMSG AAAB h<x0a>i -> Parameter
-        read HSUP  ADBASE -> Parameter
-        read BMSG AAAB a\xb<x20> -> Parameter
-        read EMSG AAAB AAAC \ -> Escape
-        read BMSG AAAB a\xb -> Escape
-        read BMSG AAAB \\\ -> Escape
-        read BMSG AAAB <xff> -> NotUtf8
-        read <xff> -> NotUtf8
-        read BMSG AAAB <xc3> -> NotUtf8
+fn lines_are_read(rt: HostRuntime) {
+    rows! { rt, Lines, r"
+        == names the first fault ==
+        read <> | <x20> | <x20><x20> | BMSG | BMSG AAA | bMSG AAAB hi | BMSG aaab hi | BMSGX AAAB hi | B1SG AAAB hi | AMSG AAAB hi -> Header
+        read BMSG  AAAB hi | UMSG | UMSG AB1 hi | FSCH AAAB ANx | FSCH AAAB +TCP ANx | FSCH AAAB TCP4 ANx | FSCH AAAB +tcp4 ANx -> Header
+        read FSCH AAAB +TCP4- ANx | FSCH AAAB | DMSG AAAB | DMSG AAAB hi -> Header
+        read BMSG AAAB<x20> | BMSG AAAB  hi | BMSG AAAB h<x0a>i | HSUP  ADBASE | BMSG AAAB a\xb<x20> -> Parameter
+        read EMSG AAAB AAAC \ | BMSG AAAB a\xb | BMSG AAAB \\\ -> Escape
+        read BMSG AAAB <xff> | <xff> | BMSG AAAB <xc3> -> NotUtf8
         read BMSG AAAB <65527*a> -> TooLong
         read BMSG AAAB <65526*a> -> Broadcast MSG AAAB - -;<65526*a>
-    ",
-    );
-}
-
-#[test]
-fn reads_each_type(rt: HostRuntime) {
-    play(
-        &rt,
-        &mut Lines,
-        r"
+        == reads each type ==
         read BMSG AAAB -> Broadcast MSG AAAB - -
         read BMSG AAAB hi\sthere <xc3><xa9> PM<x0d> -> Broadcast MSG AAAB - -;hi\sthere;<xc3><xa9>;PM<x0d>
         read BM1G AAAB x -> Broadcast M1G AAAB - -;x
@@ -266,16 +209,7 @@ fn reads_each_type(rt: HostRuntime) {
         read HSUP ADBASE ADTIGR -> Hub SUP - - -;ADBASE;ADTIGR
         read ISID AAAB -> Info SID - - -;AAAB
         read UMSG ABC hi -> Udp MSG - - -;hi
-    ",
-    );
-}
-
-#[test]
-fn escapes_and_back(rt: HostRuntime) {
-    play(
-        &rt,
-        &mut Lines,
-        r"
+        == escapes and back ==
         escape <> -> <>
         escape hi -> hi
         escape adc-hub 1.0 -> adc-hub\s1.0
@@ -292,73 +226,28 @@ fn escapes_and_back(rt: HostRuntime) {
         unescape \s\n\\ -> <x20><x0a>\
         unescape \\s -> \s
         unescape <xc3><xa9>\s<xf0><x9f><x98><x80> -> <xc3><xa9> <xf0><x9f><x98><x80>
-        unescape \ -> Escape
-        unescape a\x -> Escape
-        unescape \S -> Escape
-        unescape a b -> Escape
-        unescape a<x0a>b -> Escape
-        unescape \\\ -> Escape
-    ",
-    );
+        unescape \ | a\x | \S | a b | a<x0a>b | \\\ -> Escape
+        == knows the names of features ==
+        name TCP4 | NAT0 | A000 | ZZZZ -> yes
+        name <> | TCP | TCP4X | tcp4 | 0TCP | TCP- | +TCP4 -> no
+        word +TCP4 | -NAT0 | +TCP4-NAT0 | +SEGA-SEGA -> yes
+        word <> | TCP4 | +tcp4 | +TCP | +TCP4- | +TCP4,NAT0 -> no
+    " }
 }
 
 #[test]
-fn frames_however_cut(rt: HostRuntime) {
-    play(
-        &rt,
-        &mut new_frames(&rt),
-        "
+fn streams_are_framed(rt: HostRuntime) {
+    rows! { rt, new_frames(&rt), "
+        == frames however cut ==
         pieces HSUP ADBASE ADTIGR<x0a><x0a>BMSG AAAB hi<x0a>rest -> <6*line HSUP ADBASE ADTIGR, line , line BMSG AAAB hi, ; >
-    ",
-    );
-}
-
-#[test]
-fn frames_no_line_that_is_too_long(rt: HostRuntime) {
-    play(
-        &rt,
-        &mut new_frames(&rt),
-        "
+        == frames no line that is too long ==
         feed BMSG AAAB <65526*a> -> <>
         next -> more
         feed <x0a> -> <>
         next -> line BMSG AAAB <65526*a>
-        feed BMSG AAAB <65526*a> -> <>
-        feed a -> <>
+        feed BMSG AAAB <65526*a> | a -> <>
         next -> too long
         feed <x0a>HSUP<x0a> -> <>
         next -> too long
-    ",
-    );
-}
-
-#[test]
-fn knows_the_names_of_features(rt: HostRuntime) {
-    play(
-        &rt,
-        &mut Lines,
-        "
-        name TCP4 -> yes
-        name NAT0 -> yes
-        name A000 -> yes
-        name ZZZZ -> yes
-        name <> -> no
-        name TCP -> no
-        name TCP4X -> no
-        name tcp4 -> no
-        name 0TCP -> no
-        name TCP- -> no
-        name +TCP4 -> no
-        word +TCP4 -> yes
-        word -NAT0 -> yes
-        word +TCP4-NAT0 -> yes
-        word +SEGA-SEGA -> yes
-        word <> -> no
-        word TCP4 -> no
-        word +tcp4 -> no
-        word +TCP -> no
-        word +TCP4- -> no
-        word +TCP4,NAT0 -> no
-    ",
-    );
+    " }
 }

@@ -2,15 +2,15 @@ mod asks;
 pub(crate) mod denials;
 pub(crate) mod supports;
 
-use crate::rows::{Part, play, say, say_bytes, say_next, twenty_four, twice, unknown};
+use crate::rows::{Part, Row, rows, say, say_bytes, say_next, twenty_four, twice, unknown};
 use adc_line::Kind;
 use login_state::{Check, Deny, Request, Stage, check_pass};
-use std::alloc::{AllocError, AllocGlobal};
-use std::io::Print;
+use second_try::Machine;
+use std::alloc::AllocError;
 use std::process::Abort;
 
 /// Says how a check ends: the line of the denial, if any.
-fn say_check(rt: &(impl Abort + AllocGlobal + Print), said: &mut Vec<u8>, check: Check) {
+fn say_check(rt: &impl Machine, said: &mut Vec<u8>, check: Check) {
     match check {
         Check::Go => say(rt, said, "Go"),
         Check::Deny(deny) => say_denial(rt, said, deny),
@@ -18,7 +18,7 @@ fn say_check(rt: &(impl Abort + AllocGlobal + Print), said: &mut Vec<u8>, check:
 }
 
 /// Says the line of a denial without its line feed. It is fatal where the first digit of its code is 2.
-fn say_denial(rt: &(impl Abort + AllocGlobal + Print), said: &mut Vec<u8>, deny: Deny) {
+fn say_denial(rt: &impl Machine, said: &mut Vec<u8>, deny: Deny) {
     let Ok(line) = twice!(rt; "login_state::Deny::line", AllocError, deny.line(rt.alloc())) else {
         unknown(rt, "line")
     };
@@ -35,23 +35,16 @@ fn say_denial(rt: &(impl Abort + AllocGlobal + Print), said: &mut Vec<u8>, deny:
 struct Stages;
 
 impl Part for Stages {
-    fn call<R: Abort + AllocGlobal + Print>(
-        &mut self,
-        rt: &R,
-        name: &str,
-        text: &str,
-        bytes: &[u8],
-        said: &mut Vec<u8>,
-    ) {
-        match name {
-            "pass" => pass(rt, bytes, said),
-            _ => say_requests(rt, stage(rt, name), text, said),
+    fn call(&mut self, rt: &impl Machine, row: Row<'_>, said: &mut Vec<u8>) {
+        match row.name {
+            "pass" => pass(rt, row.bytes, said),
+            _ => say_requests(rt, stage(rt, row.name), row.text, said),
         }
     }
 }
 
 /// Compares a digest with that of the password `secret`; an empty one is none.
-fn pass(rt: &(impl Abort + AllocGlobal + Print), bytes: &[u8], said: &mut Vec<u8>) {
+fn pass(rt: &impl Machine, bytes: &[u8], said: &mut Vec<u8>) {
     let digest = b"secret\0\0\0\0\0\0\0\0\0\0\0\0\0\0\0\0\0\0";
     say_check(rt, said, check_pass(digest, twenty_four(bytes)));
 }
@@ -89,12 +82,7 @@ fn command(rt: &impl Abort, word: &str) -> [u8; 3] {
 }
 
 /// Says of each of some heads of lines, as `BMSG`, what it asks for at a stage, or with which code it is denied.
-fn say_requests(
-    rt: &(impl Abort + AllocGlobal + Print),
-    stage: Stage,
-    heads: &str,
-    said: &mut Vec<u8>,
-) {
+fn say_requests(rt: &impl Machine, stage: Stage, heads: &str, said: &mut Vec<u8>) {
     for head in heads.split(' ') {
         let (Some(letter), Some(word)) = (head.get(..1), head.get(1..)) else {
             unknown(rt, head)
@@ -125,24 +113,12 @@ fn request_name(request: Request) -> &'static str {
 }
 
 #[test]
-fn lets_in_with_the_password(rt: HostRuntime) {
-    play(
-        &rt,
-        &mut Stages,
-        r"
+fn stages_ask(rt: HostRuntime) {
+    rows! { rt, Stages, r"
+        == lets in with the password ==
         pass secret<18*x00> -> Go
-        pass <24*x00> -> ISTA 223 Invalid\spassword
-        pass <> -> ISTA 223 Invalid\spassword
-    ",
-    );
-}
-
-#[test]
-fn asks_by_stage(rt: HostRuntime) {
-    play(
-        &rt,
-        &mut Stages,
-        "
+        pass <24*x00> | <> -> ISTA 223 Invalid\spassword
+        == asks by stage ==
         Protocol HSUP HSTA HPAS HINF HMSG HQUI -> Greeting Nothing 144 144 144 144
         Protocol BINF BMSG BSUP DMSG EMSG FSCH CSUP ISUP UMSG -> 144 144 144 144 144 144 140 140 140
         Identify HSUP HSTA HPAS HINF HMSG HQUI -> 144 Nothing 144 144 144 144
@@ -153,22 +129,12 @@ fn asks_by_stage(rt: HostRuntime) {
         Normal BINF BMSG BSUP DMSG EMSG FSCH CSUP ISUP UMSG -> Update Message 140 Message Message Search 140 140 140
         Gone HSUP HSTA HPAS HINF HMSG HQUI -> 144 144 144 144 144 144
         Gone BINF BMSG BSUP DMSG EMSG FSCH CSUP ISUP UMSG -> 144 144 144 144 144 144 140 140 140
-    ",
-    );
-}
-
-#[test]
-fn knows_commands_that_clients_may_not_send(rt: HostRuntime) {
-    play(
-        &rt,
-        &mut Stages,
-        "
+        == knows commands that clients may not send ==
         Normal BSUP BSID BQUI BGPA BPAS BCMD BMSG BSCH BSTA BXYZ BINF -> 140 140 140 140 140 140 Message Search Message Message Update
         Normal DSUP DSID DQUI DGPA DPAS DCMD DMSG DSCH DSTA DXYZ DINF -> 140 140 140 140 140 140 Message Search Message Message 140
         Normal ESUP ESID EQUI EGPA EPAS ECMD EMSG ESCH ESTA EXYZ EINF -> 140 140 140 140 140 140 Message Search Message Message 140
         Normal FSUP FSID FQUI FGPA FPAS FCMD FMSG FSCH FSTA FXYZ FINF -> 140 140 140 140 140 140 Message Search Message Message 140
         Normal HINF HSID HQUI HGPA HCMD HSUP HPAS HMSG HSTA HSCH HXYZ -> 140 140 140 140 140 Support 144 Act Nothing Nothing Nothing
         Normal CSID ISID USID -> 140 140 140
-    ",
-    );
+    " }
 }

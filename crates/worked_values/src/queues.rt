@@ -1,16 +1,14 @@
 ghost use Rattle.std.specs.Prelude.{◌≤◌};
 
 use crate::rows::{
-    Part, number, pair, play, say, say_bytes, say_number, say_refused_memory, small, twice, unknown,
+    Part, Row, number, pair, play, rows, say, say_bytes, say_number, say_refused_memory, small,
+    twice, unknown,
 };
 use adc_base32::Sid;
 use bytes::Bytes;
-use outboxes::{
-    Batch, Outbox, OutboxRefused, PLACE_BYTES, PushRefused, TakeRefused, Taken, quit_line,
-};
-use second_try::again;
-use std::alloc::{AllocError, AllocGlobal, Global};
-use std::io::Print;
+use outboxes::{Batch, Outbox, OutboxRefused, PLACE_BYTES, TakeRefused, Taken, quit_line};
+use second_try::{Machine, again};
+use std::alloc::{AllocError, Global};
 use std::mem::size_of;
 use std::process::Abort;
 
@@ -22,30 +20,25 @@ pub(crate) struct Queue {
 }
 
 impl Part for Queue {
-    fn call<R: Abort + AllocGlobal + Print>(
-        &mut self,
-        rt: &R,
-        name: &str,
-        text: &str,
-        _bytes: &[u8],
-        said: &mut Vec<u8>,
-    ) {
-        match name {
-            "room" => self.outbox = room(rt, text),
-            "shares" => self.outbox.give(batch(rt, text)),
-            "shares_again" => self.outbox.give(copy_of(rt, &batch(rt, text))),
-            "quits" => self.outbox.give_quit(sid(rt, small(rt, text))),
-            "fill" => self.fill(rt, text),
-            "takes" => return self.takes(rt, number(rt, text) as usize, said),
+    fn call(&mut self, rt: &impl Machine, row: Row<'_>, said: &mut Vec<u8>) {
+        match row.name {
+            "room" => self.outbox = room(rt, row.text),
+            "shares" => self.outbox.give(batch(rt, row.text)),
+            "shares_again" => self.outbox.give(copy_of(rt, &batch(rt, row.text))),
+            "quits" => self.outbox.give_quit(sid(rt, small(rt, row.text))),
+            "fill" => self.fill(rt, row.text),
+            "shows" => return self.shows(rt, number(rt, row.text) as usize, said),
+            "writes" => return writes(rt, &batch(rt, row.text), said),
+            "takes" => return self.takes(rt, number(rt, row.text) as usize, said),
             "drains" => return self.drains(rt, said),
-            "line" => return say_bytes(rt, said, &quit_line(sid(rt, small(rt, text)))),
-            _ => unknown(rt, name),
+            "line" => return say_bytes(rt, said, &quit_line(sid(rt, small(rt, row.text)))),
+            _ => unknown(rt, row.name),
         }
         self.say_waiting(rt, said);
     }
 }
 
-fn sid(rt: &impl Abort, number: u32) -> Sid {
+pub(crate) fn sid(rt: &impl Abort, number: u32) -> Sid {
     match Sid::from_u32(number) {
         Some(sid) => sid,
         None => unknown(rt, "sid"),
@@ -53,12 +46,12 @@ fn sid(rt: &impl Abort, number: u32) -> Sid {
 }
 
 /// Makes an outbox for so many lines and bytes.
-fn room(rt: &(impl Abort + AllocGlobal + Print), text: &str) -> Outbox {
+fn room(rt: &impl Machine, text: &str) -> Outbox {
     let (cap, bytes) = pair(text, ' ');
     outbox(rt, number(rt, cap) as usize, number(rt, bytes) as usize)
 }
 
-pub(crate) fn outbox(rt: &(impl Abort + AllocGlobal + Print), cap: usize, bytes: usize) -> Outbox {
+pub(crate) fn outbox(rt: &impl Machine, cap: usize, bytes: usize) -> Outbox {
     match twice!(rt; "outboxes::Outbox::new", OutboxRefused::Memory, Outbox::new(rt.alloc(), cap, bytes))
     {
         Ok(outbox) => outbox,
@@ -67,7 +60,7 @@ pub(crate) fn outbox(rt: &(impl Abort + AllocGlobal + Print), cap: usize, bytes:
 }
 
 /// Makes a batch of lines, each with its line feed, between `;`.
-fn batch(rt: &(impl Abort + AllocGlobal + Print), lines: &str) -> Batch {
+pub(crate) fn batch(rt: &impl Machine, lines: &str) -> Batch {
     let mut batch = Batch::new(rt.alloc());
     for line in lines.split(';') {
         if !line.is_empty() {
@@ -77,14 +70,14 @@ fn batch(rt: &(impl Abort + AllocGlobal + Print), lines: &str) -> Batch {
     batch
 }
 
-fn line_bytes(rt: &(impl Abort + AllocGlobal), line: &str) -> Bytes {
+fn line_bytes(rt: &impl Machine, line: &str) -> Bytes {
     let mut text = Vec::new(rt.alloc());
     say(rt, &mut text, line);
     say(rt, &mut text, "\n");
     again!(rt; Bytes::copy_from_slice(rt.alloc(), &text))
 }
 
-fn push(rt: &(impl Abort + Print), batch: &mut Batch, line: &Bytes) {
+fn push(rt: &impl Machine, batch: &mut Batch, line: &Bytes) {
     let was_empty = batch.is_empty();
     let first = again!(rt; line.clone());
     if batch.push(first).is_err() {
@@ -95,7 +88,7 @@ fn push(rt: &(impl Abort + Print), batch: &mut Batch, line: &Bytes) {
 }
 
 /// Makes a batch of the same lines, by way of another.
-fn copy_of(rt: &(impl Abort + AllocGlobal + Print), batch: &Batch) -> Batch {
+fn copy_of(rt: &impl Machine, batch: &Batch) -> Batch {
     let shared = shared(rt, batch);
     let mut copy = Batch::new(rt.alloc());
     if copy.push_all(&shared).is_err() {
@@ -105,7 +98,7 @@ fn copy_of(rt: &(impl Abort + AllocGlobal + Print), batch: &Batch) -> Batch {
     copy
 }
 
-fn shared(rt: &(impl Abort + AllocGlobal + Print), batch: &Batch) -> Batch {
+fn shared(rt: &impl Machine, batch: &Batch) -> Batch {
     match twice!(rt; "outboxes::Batch::share", AllocError, batch.share()) {
         Ok(shared) => shared,
         Err(_) => unknown(rt, "shares_again"),
@@ -113,27 +106,33 @@ fn shared(rt: &(impl Abort + AllocGlobal + Print), batch: &Batch) -> Batch {
 }
 
 impl Queue {
-    fn say_waiting(&self, rt: &(impl Abort + AllocGlobal), said: &mut Vec<u8>) {
+    fn say_waiting(&self, rt: &impl Machine, said: &mut Vec<u8>) {
         say_number(rt, said, self.outbox.waiting() as u128);
         if self.outbox.lagging() {
             say(rt, said, " lagging");
         }
     }
 
+    /// Says the first lines, as many as are asked for, or all.
+    fn shows(&self, rt: &impl Machine, count: usize, said: &mut Vec<u8>) {
+        let count = count.min(self.outbox.waiting() as usize);
+        let mut shown = Vec::new(rt.alloc());
+        if self.outbox.write(count, &mut shown).is_err() {
+            say_refused_memory(rt, "outboxes::Outbox::write", shown.is_empty());
+            assert!(rt; self.outbox.write(count, &mut shown).is_ok(), "not written");
+        }
+        say_bytes(rt, said, &shown);
+    }
+
     /// Takes so many lines, and says how many they were, and behind that all that was taken so far.
-    fn takes(&mut self, rt: &(impl Abort + AllocGlobal + Print), count: usize, said: &mut Vec<u8>) {
+    fn takes(&mut self, rt: &impl Machine, count: usize, said: &mut Vec<u8>) {
         let ended = self.take(rt, count, said);
         say(rt, said, if ended { " last;" } else { ";" });
         say_bytes(rt, said, &self.taken);
     }
 
     /// Takes, and tells how many lines it were; whether none will follow.
-    fn take(
-        &mut self,
-        rt: &(impl Abort + AllocGlobal + Print),
-        count: usize,
-        said: &mut Vec<u8>,
-    ) -> bool {
+    fn take(&mut self, rt: &impl Machine, count: usize, said: &mut Vec<u8>) -> bool {
         if count < 1 || count > 256 {
             unknown(rt, "takes");
         }
@@ -143,7 +142,7 @@ impl Queue {
     }
 
     /// Takes lines. Where memory is refused all is as before, and it takes again.
-    fn take_some(&mut self, rt: &(impl Abort + Print), count: usize) -> Taken
+    fn take_some(&mut self, rt: &impl Machine, count: usize) -> Taken
         requires some { 1 ≤ count }
         requires few { count ≤ 256 }
     {
@@ -171,7 +170,7 @@ impl Queue {
     }
 
     /// Gives a line of so many bytes, letters and a line feed, so many times, to an outbox for 1,024 lines of 1,048,576 bytes.
-    fn fill(&mut self, rt: &(impl Abort + AllocGlobal + Print), text: &str) {
+    fn fill(&mut self, rt: &impl Machine, text: &str) {
         let (length, times) = pair(text, ' ');
         let line = again!(rt; letters(rt.alloc(), number(rt, length) as usize));
         self.outbox = outbox(rt, 1024, 1_048_576);
@@ -183,7 +182,7 @@ impl Queue {
     }
 
     /// Takes four times as much as it may; how many lines, and how many bytes in all.
-    fn drains(&mut self, rt: &(impl Abort + AllocGlobal + Print), said: &mut Vec<u8>) {
+    fn drains(&mut self, rt: &impl Machine, said: &mut Vec<u8>) {
         self.taken.clear();
         for _ in 0..4 {
             if self.take(rt, 256, said) {
@@ -195,6 +194,16 @@ impl Queue {
     }
 }
 
+/// Says the lines of a batch.
+fn writes(rt: &impl Machine, batch: &Batch, said: &mut Vec<u8>) {
+    let mut written = Vec::new(rt.alloc());
+    if batch.write(&mut written).is_err() {
+        say_refused_memory(rt, "outboxes::Batch::write", written.is_empty());
+        assert!(rt; batch.write(&mut written).is_ok(), "not written");
+    }
+    say_bytes(rt, said, &written);
+}
+
 fn letters(alloc: Global, length: usize) -> Result<Bytes, AllocError> {
     let mut line = Vec::new(alloc);
     line.resize(length.saturating_sub(1), b'a')?;
@@ -202,7 +211,7 @@ fn letters(alloc: Global, length: usize) -> Result<Bytes, AllocError> {
     Ok(Bytes::from_vec(line)?)
 }
 
-pub(crate) fn play_queue<R: Abort + AllocGlobal + Print>(rt: &R, rows: &str) {
+pub(crate) fn play_queue<R: Machine>(rt: &R, rows: &str) {
     let outbox = outbox(rt, 1, 1);
     let mut queue = Queue {
         outbox,
@@ -212,27 +221,16 @@ pub(crate) fn play_queue<R: Abort + AllocGlobal + Print>(rt: &R, rows: &str) {
 }
 
 #[test]
-fn adds_a_share_whole_or_not_at_all(rt: HostRuntime) {
-    play_queue(
-        &rt,
-        "
+fn lines_wait_and_are_taken(rt: HostRuntime) {
+    rows! { play_queue(rt) "
+        == adds a share whole or not at all ==
         room 2 1000 -> 0
         shares BMSG AAAB a -> 1
-        shares BMSG AAAB b;BMSG AAAB c -> 1 lagging
-        shares BMSG AAAB d -> 1 lagging
-        shares <> -> 1 lagging
+        shares BMSG AAAB b;BMSG AAAB c | BMSG AAAB d | <> -> 1 lagging
         quits 1 -> 1 lagging
         takes 1 -> 1 last;BMSG AAAB a<x0a>
         shares <> -> 0 lagging
-    ",
-    );
-}
-
-#[test]
-fn writes_quits_as_lines(rt: HostRuntime) {
-    play_queue(
-        &rt,
-        "
+        == writes quits as lines ==
         line 1 -> IQUI AAAB<x0a>
         room 4 1000 -> 0
         quits 1 -> 1
@@ -242,49 +240,37 @@ fn writes_quits_as_lines(rt: HostRuntime) {
         takes 2 -> 2;IQUI AAAB<x0a>IQUI AAAC<x0a>BMSG AAAB hi<x0a>
         takes 256 -> 1;IQUI AAAB<x0a>IQUI AAAC<x0a>BMSG AAAB hi<x0a>ISTA 000 Done<x0a>
         takes 256 -> 0;IQUI AAAB<x0a>IQUI AAAC<x0a>BMSG AAAB hi<x0a>ISTA 000 Done<x0a>
-    ",
-    );
-}
-
-#[test]
-fn counts_ten_bytes_for_a_quit(rt: HostRuntime) {
-    // A row has how many lines and bytes may wait, and how many of three quits do.
-    play_queue(
-        &rt,
-        "
+        == shows lines and keeps them ==
+        room 4 1000 -> 0
+        shares BMSG AAAB a;BMSG AAAB b -> 2
+        quits 1 -> 3
+        shows 2 -> BMSG AAAB a<x0a>BMSG AAAB b<x0a>
+        shows 256 -> BMSG AAAB a<x0a>BMSG AAAB b<x0a>IQUI AAAB<x0a>
+        takes 1 -> 1;BMSG AAAB a<x0a>
+        shows 1 -> BMSG AAAB b<x0a>
+        writes BMSG AAAB a;BMSG AAAB b -> BMSG AAAB a<x0a>BMSG AAAB b<x0a>
+        == counts ten bytes for a quit ==
+        // A row has how many lines and bytes may wait, and how many of three quits do.
         room 2 10 -> 0
         quits 1 -> 1
-        quits 1 -> 1 lagging
-        quits 1 -> 1 lagging
+        quits 1 | 1 -> 1 lagging
         room 2 9 -> 0
-        quits 1 -> 0 lagging
-        quits 1 -> 0 lagging
-        quits 1 -> 0 lagging
+        quits 1 | 1 | 1 -> 0 lagging
         room 2 19 -> 0
         quits 1 -> 1
-        quits 1 -> 1 lagging
-        quits 1 -> 1 lagging
+        quits 1 | 1 -> 1 lagging
         room 2 20 -> 0
         quits 1 -> 1
         quits 1 -> 2
         quits 1 -> 2 lagging
         room 1 20 -> 0
         quits 1 -> 1
-        quits 1 -> 1 lagging
-        quits 1 -> 1 lagging
+        quits 1 | 1 -> 1 lagging
         room 3 30 -> 0
         quits 1 -> 1
         quits 1 -> 2
         quits 1 -> 3
-    ",
-    );
-}
-
-#[test]
-fn has_room_again_after_a_take(rt: HostRuntime) {
-    play_queue(
-        &rt,
-        "
+        == has room again after a take ==
         room 2 24 -> 0
         shares BMSG AAAB a;BMSG AAAB b -> 2
         takes 2 -> 2;BMSG AAAB a<x0a>BMSG AAAB b<x0a>
@@ -296,16 +282,13 @@ fn has_room_again_after_a_take(rt: HostRuntime) {
         takes 2 -> 2;BMSG AAAB a<x0a>BMSG AAAB b<x0a>BMSG AAAB a<x0a>BMSG AAAB b<x0a>BMSG AAAB a<x0a>BMSG AAAB b<x0a>BMSG AAAB a<x0a>BMSG AAAB b<x0a>
         shares BMSG AAAB a;BMSG AAAB b -> 2
         takes 2 -> 2;BMSG AAAB a<x0a>BMSG AAAB b<x0a>BMSG AAAB a<x0a>BMSG AAAB b<x0a>BMSG AAAB a<x0a>BMSG AAAB b<x0a>BMSG AAAB a<x0a>BMSG AAAB b<x0a>BMSG AAAB a<x0a>BMSG AAAB b<x0a>
-    ",
-    );
+    " }
 }
 
 #[test]
 fn holds_a_mebibyte_or_1024_lines(rt: HostRuntime) {
     // The bytes of each line with its line feed, and how many are given; how many wait. Then how many come with each take, and their bytes.
-    play_queue(
-        &rt,
-        "
+    rows! { play_queue(rt) "
         fill 65537 16 -> 15 lagging
         drains -> 15 last 0 last 0 last 0 last; 983055
         fill 65536 16 -> 16
@@ -318,8 +301,7 @@ fn holds_a_mebibyte_or_1024_lines(rt: HostRuntime) {
         drains -> 256 256 256 256; 12288
         fill 12 1025 -> 1024 lagging
         drains -> 256 256 256 256 last; 12288
-    ",
-    );
+    " }
 }
 
 #[test]

@@ -2,6 +2,7 @@
 mod acts;
 mod fields;
 mod lines;
+mod logs;
 mod queues;
 mod setup;
 mod texts;

@@ -1,37 +1,29 @@
 use crate::lines::line;
-use crate::rows::{Part, pair, play, say, say_next, say_number, say_whether, twice, unknown};
+use crate::rows::{Part, Row, pair, rows, say, say_next, say_number, say_whether, twice, unknown};
 use adc_base32::Sid;
 use feature_route::{Audience, FeatureSet, Want, audience};
-use std::alloc::{AllocError, AllocGlobal};
-use std::io::Print;
-use std::process::Abort;
+use second_try::Machine;
+use std::alloc::AllocError;
 
 /// The users for whom a line is.
 #[derive(Drop)]
 pub(crate) struct Routing;
 
 impl Part for Routing {
-    fn call<R: Abort + AllocGlobal + Print>(
-        &mut self,
-        rt: &R,
-        name: &str,
-        text: &str,
-        bytes: &[u8],
-        said: &mut Vec<u8>,
-    ) {
-        match name {
-            "want" => say_whether(rt, said, Want::parse(text).is_some()),
-            "match" => say_match(rt, text, said),
-            "present" => hearers(rt, bytes, true, "TCP4", said),
-            "absent" => hearers(rt, bytes, false, "TCP4", said),
-            "bare" => hearers(rt, bytes, false, "", said),
-            "named" => say_audience(rt, bytes, said),
-            _ => unknown(rt, name),
+    fn call(&mut self, rt: &impl Machine, row: Row<'_>, said: &mut Vec<u8>) {
+        match row.name {
+            "want" => say_whether(rt, said, Want::parse(row.text).is_some()),
+            "match" => say_match(rt, row.text, said),
+            "present" => hearers(rt, row.bytes, true, "TCP4", said),
+            "absent" => hearers(rt, row.bytes, false, "TCP4", said),
+            "bare" => hearers(rt, row.bytes, false, "", said),
+            "named" => say_audience(rt, row.bytes, said),
+            _ => unknown(rt, row.name),
         }
     }
 }
 
-fn set(rt: &(impl Abort + AllocGlobal + Print), su: &str) -> FeatureSet {
+fn set(rt: &impl Machine, su: &str) -> FeatureSet {
     match twice!(rt; "feature_route::FeatureSet::read", AllocError, FeatureSet::read(rt.alloc(), su))
     {
         Ok(set) => set,
@@ -40,7 +32,7 @@ fn set(rt: &(impl Abort + AllocGlobal + Print), su: &str) -> FeatureSet {
 }
 
 /// Says whether a feature word matches who supports these features; by their names and by their set the same.
-fn say_match(rt: &(impl Abort + AllocGlobal + Print), text: &str, said: &mut Vec<u8>) {
+fn say_match(rt: &impl Machine, text: &str, said: &mut Vec<u8>) {
     let (word, su) = pair(text, ' ');
     let Some(want) = Want::parse(word) else {
         unknown(rt, word)
@@ -56,7 +48,7 @@ fn say_match(rt: &(impl Abort + AllocGlobal + Print), text: &str, said: &mut Vec
 /// Says who of three users hears a line: ana (AAAB) with TCP4 and SEGA, bob (AAAC) with these features, and cy (AAAD) with
 /// none.
 fn hearers(
-    rt: &(impl Abort + AllocGlobal + Print),
+    rt: &impl Machine,
     bytes: &[u8],
     target_present: bool,
     features_of_bob: &str,
@@ -87,7 +79,7 @@ fn hearers(
 }
 
 /// Says for whom a line is by name, where its target is present.
-fn say_audience(rt: &(impl Abort + AllocGlobal + Print), bytes: &[u8], said: &mut Vec<u8>) {
+fn say_audience(rt: &impl Machine, bytes: &[u8], said: &mut Vec<u8>) {
     match audience(&line(rt, bytes), true) {
         Audience::One(sid) => say_number(rt, said, sid.number() as u128),
         Audience::Two(one, two) => {
@@ -99,73 +91,27 @@ fn say_audience(rt: &(impl Abort + AllocGlobal + Print), bytes: &[u8], said: &mu
 }
 
 #[test]
-fn takes_feature_words(rt: HostRuntime) {
-    play(
-        &rt,
-        &mut Routing,
-        "
-        want +TCP4 -> yes
-        want -TCP4 -> yes
-        want +TCP4-NAT0 -> yes
-        want +TCP4-SEGA+ADC0 -> yes
-        want +A000 -> yes
-        want +TCP -> no
-        want +TCP45 -> no
-        want TCP4 -> no
-        want +tcp4 -> no
-        want +4TCP -> no
-        want *TCP4 -> no
-        want +TCP4<x20> -> no
-        want ++TCP4 -> no
-        want + -> no
-        want <> -> no
-    ",
-    );
-}
-
-#[test]
-fn matches_users_by_their_features(rt: HostRuntime) {
-    play(
-        &rt,
-        &mut Routing,
-        "
+fn lines_find_their_hearers(rt: HostRuntime) {
+    rows! { rt, Routing, "
+        == takes feature words ==
+        want +TCP4 | -TCP4 | +TCP4-NAT0 | +TCP4-SEGA+ADC0 | +A000 -> yes
+        want +TCP | +TCP45 | TCP4 | +tcp4 | +4TCP | *TCP4 | +TCP4<x20> | ++TCP4 | + | <> -> no
+        == matches users by their features ==
         match +TCP4-SEGA TCP4,SEGA -> no
         match +TCP4-SEGA TCP4 -> yes
         match +TCP4-SEGA <> -> no
-        match +TCP4 TCP4,SEGA -> yes
-        match +TCP4 SEGA,TCP4 -> yes
+        match +TCP4 TCP4,SEGA | +TCP4 SEGA,TCP4 -> yes
         match +TCP4 <> -> no
         match +TCP4+SEGA TCP4,SEGA -> yes
-        match +TCP4+SEGA TCP4 -> no
-        match +TCP4+SEGA SEGA -> no
-        match -TCP4 TCP4,SEGA -> no
-        match -TCP4 SEGA -> yes
-        match -TCP4 <> -> yes
-        match +SEGA-SEGA TCP4,SEGA -> no
-        match +SEGA-SEGA TCP4 -> no
-        match +TCP4+TCP4 TCP4 -> yes
-        match -NAT0+UDP4 SEGA,ADC0,TCP4,UDP4 -> yes
+        match +TCP4+SEGA TCP4 | +TCP4+SEGA SEGA | -TCP4 TCP4,SEGA -> no
+        match -TCP4 SEGA | -TCP4 <> -> yes
+        match +SEGA-SEGA TCP4,SEGA | +SEGA-SEGA TCP4 -> no
+        match +TCP4+TCP4 TCP4 | -NAT0+UDP4 SEGA,ADC0,TCP4,UDP4 -> yes
         match -NAT0+UDP4 SEGA,ADC0,NAT0,UDP4 -> no
-        match +TCP4 TCP4,TCP4,TCP4 -> yes
-        match +SEGA TCP4,,SEGA -> yes
-        match -SEGA TCP4,,SEGA, -> no
-        match +TCP4 tcp4 -> no
-        match +TCP4 TCP4<x20> -> no
-        match +TCP4 TCP -> no
-        match +TCP4 TCP45 -> no
-        match +TCP4 XTCP4,TCP4X -> no
-        match +TCP4 , -> no
+        match +TCP4 TCP4,TCP4,TCP4 | +SEGA TCP4,,SEGA -> yes
+        match -SEGA TCP4,,SEGA, | +TCP4 tcp4 | +TCP4 TCP4<x20> | +TCP4 TCP | +TCP4 TCP45 | +TCP4 XTCP4,TCP4X | +TCP4 , -> no
         match -TCP4 \u{e9}\u{e9},TCP\u{e9} -> yes
-    ",
-    );
-}
-
-#[test]
-fn sends_lines_to_their_audience(rt: HostRuntime) {
-    play(
-        &rt,
-        &mut Routing,
-        "
+        == sends lines to their audience ==
         absent BMSG AAAB hi -> ana bob cy
         present DMSG AAAB AAAC yo -> bob
         absent DMSG AAAB 7777 hi -> nobody
@@ -178,23 +124,10 @@ fn sends_lines_to_their_audience(rt: HostRuntime) {
         absent FSCH AAAB +TCP4+SEGA ANx TO3 -> ana
         absent FSCH AAAB -TCP4 ANx TO4 -> cy
         absent FMSG AAAB +SEGA-SEGA x -> nobody
-        present CMSG hi -> nobody
-        present HMSG hi -> nobody
-        present IMSG hi -> nobody
-        present UMSG ABC hi -> nobody
+        present CMSG hi | HMSG hi | IMSG hi | UMSG ABC hi -> nobody
         bare FSCH AAAB +TCP4 ANx TO5 -> ana
-    ",
-    );
-}
-
-#[test]
-fn names_each_hearer_once(rt: HostRuntime) {
-    play(
-        &rt,
-        &mut Routing,
-        "
+        == names each hearer once ==
         named EMSG AAAB AAAB hi -> 1
         named EMSG AAAB AAAC hi -> 2 1
-    ",
-    );
+    " }
 }

@@ -1,57 +1,89 @@
-//! Rows that are told as text: a call, ` -> ` and what it answers. Blank lines, and blanks around a row, say nothing. A row whose answer is
+//! Rows that are told as text: a call, ` -> ` and what it answers. Blank lines, blanks around a row, and lines that begin with `//` say
+//! nothing. A row whose answer is
 //! another stops the test.
 //!
-//! A call is a name and what it is given, of which what stands between `<` and `>` is spelt. There `x0a` is a byte by its
-//! number in two hexadecimal digits, `24*x00` and `64*a` are so many of it, and nothing is no byte. Answers are spelt
-//! likewise.
+//! A call is a name and what it is given; calls that are answered alike may stand in one row, with ` | ` between what they are given.
+//! What is given and what is answered are spelled as in conversations: `second_try::spell` tells how.
 
-use second_try::{again, tell};
-use std::alloc::{AllocError, AllocGlobal, Global};
-use std::io::Print;
+use second_try::{Machine, again, tell};
+use std::alloc::{AllocError, Global};
 use std::process::Abort;
+
+/// A call of a row: its name, and what it is given as bytes, and as text where it is UTF-8, else "".
+#[derive(Clone, Copy)]
+pub(crate) struct Row<'a> {
+    pub(crate) name: &'a str,
+    pub(crate) text: &'a str,
+    pub(crate) bytes: &'a [u8],
+}
 
 /// A part of the rows: what a row calls.
 pub(crate) trait Part {
-    /// Makes the call with this name and writes what it answers. What it is given comes as bytes, and as text where it is UTF-8, else "".
-    fn call<R: Abort + AllocGlobal + Print>(
-        &mut self,
-        rt: &R,
-        name: &str,
-        text: &str,
-        bytes: &[u8],
-        said: &mut Vec<u8>,
-    );
+    /// Makes a call and writes what it answers.
+    fn call(&mut self, rt: &impl Machine, row: Row<'_>, said: &mut Vec<u8>);
+}
+
+/// Makes the calls of rows that stand in a test: `rows! { rt, Part, ".." }` on a new part, `rows! { play_it(rt) ".." }` by a function. Behind each
+/// line `== NAME ==` they begin anew.
+macro_rules! rows {
+    ($rt:ident, $part:expr, $rows:expr) => {
+        for rows in $rows.split("== ") {
+            crate::rows::play(&$rt, &mut $part, crate::rows::behind_name(rows));
+        }
+    };
+    ($play:ident($rt:ident) $rows:expr) => {
+        for rows in $rows.split("== ") {
+            $play(&$rt, crate::rows::behind_name(rows));
+        }
+    };
+}
+
+pub(crate) use rows;
+
+/// Gives the rows behind a name, where one stands before them.
+pub(crate) fn behind_name(rows: &str) -> &str {
+    match rows.split_once(" ==\n") {
+        Some((_, rows)) => rows,
+        None => rows,
+    }
 }
 
 /// Makes the calls of the rows, one after another.
-pub(crate) fn play<R: Abort + AllocGlobal + Print, P: Part>(rt: &R, part: &mut P, rows: &str) {
+pub(crate) fn play<R: Machine, P: Part>(rt: &R, part: &mut P, rows: &str) {
     for row in rows.lines() {
         let row = row.trim();
-        if !row.is_empty() {
+        if !row.is_empty() && !row.starts_with("//") {
             play_row(rt, part, row);
         }
     }
 }
 
-fn play_row<R: Abort + AllocGlobal + Print, P: Part>(rt: &R, part: &mut P, row: &str) {
-    let Some((call, answer)) = row.split_once(" -> ") else {
+fn play_row<R: Machine, P: Part>(rt: &R, part: &mut P, row: &str) {
+    let Some((calls, answer)) = row.split_once(" -> ") else {
         unknown(rt, row)
     };
-    let said = answer_to(rt, part, call);
     let wanted = spell(rt, rt.alloc(), answer);
-    if said != wanted {
-        is_another(rt, row, &said);
+    let (name, all) = pair(calls, ' ');
+    for given in all.split(" | ") {
+        let said = answer_to(rt, part, name, given);
+        if said != wanted {
+            is_another(rt, row, &said);
+        }
+        drop(said);
     }
     drop(wanted);
-    drop(said);
 }
 
-/// Makes the call of a row, and gives what it answers.
-fn answer_to<R: Abort + AllocGlobal + Print, P: Part>(rt: &R, part: &mut P, call: &str) -> Vec<u8> {
-    let (name, given) = pair(call, ' ');
+/// Makes a call, and gives what it answers.
+fn answer_to<R: Machine, P: Part>(rt: &R, part: &mut P, name: &str, given: &str) -> Vec<u8> {
     let bytes = spell(rt, rt.alloc(), given);
     let mut said = Vec::new(rt.alloc());
-    part.call(rt, name, text_of(&bytes), &bytes, &mut said);
+    let row = Row {
+        name,
+        text: text_of(&bytes),
+        bytes: &bytes,
+    };
+    part.call(rt, row, &mut said);
     drop(bytes);
     said
 }
@@ -77,40 +109,10 @@ pub(crate) fn pair(text: &str, at: char) -> (&str, &str) {
 
 /// Gives the bytes that a text spells.
 fn spell(rt: &impl Abort, alloc: Global, text: &str) -> Vec<u8> {
-    let mut bytes = Vec::new(alloc);
-    let mut is_front = true;
-    for piece in text.split('<') {
-        if is_front {
-            say_bytes(rt, &mut bytes, piece.as_bytes());
-            is_front = false;
-            continue;
-        }
-        let (word, rest) = pair(piece, '>');
-        spell_word(rt, &mut bytes, word);
-        say_bytes(rt, &mut bytes, rest.as_bytes());
+    match second_try::spell(alloc, text, 0) {
+        Some(bytes) => bytes,
+        None => unknown(rt, text),
     }
-    bytes
-}
-
-fn spell_word(rt: &impl Abort, bytes: &mut Vec<u8>, word: &str) {
-    let (count, what) = match word.split_once('*') {
-        Some((count, what)) => (number(rt, count), what),
-        None => (1, word),
-    };
-    for _ in 0..count {
-        spell_once(rt, bytes, what);
-    }
-}
-
-fn spell_once(rt: &impl Abort, bytes: &mut Vec<u8>, what: &str) {
-    match hex_byte(what) {
-        Some(byte) => say_bytes(rt, bytes, &[byte]),
-        None => say_bytes(rt, bytes, what.as_bytes()),
-    }
-}
-
-fn hex_byte(what: &str) -> Option<u8> {
-    u8::from_str_radix(what.strip_prefix('x')?, 16).ok()
 }
 
 pub(crate) fn unknown(rt: &impl Abort, what: &str) -> ! {
@@ -168,7 +170,7 @@ pub(crate) fn say_next(rt: &impl Abort, said: &mut Vec<u8>, text: &str) {
     say(rt, said, text);
 }
 
-pub(crate) fn say_number(rt: &(impl Abort + AllocGlobal), said: &mut Vec<u8>, number: u128) {
+pub(crate) fn say_number(rt: &impl Machine, said: &mut Vec<u8>, number: u128) {
     let digits = again!(rt; decimal(rt.alloc(), number));
     say_next(rt, said, &digits);
     drop(digits);
@@ -179,7 +181,7 @@ fn decimal(alloc: Global, number: u128) -> Result<String, AllocError> {
 }
 
 /// Tells that a call was refused memory, and stops the test where that changed something.
-pub(crate) fn say_refused_memory(rt: &(impl Abort + Print), call: &str, is_unchanged: bool) {
+pub(crate) fn say_refused_memory(rt: &impl Machine, call: &str, is_unchanged: bool) {
     assert!(rt; tell(rt, call), "not written");
     assert!(rt; is_unchanged, "{call}: a refusal changed something");
 }

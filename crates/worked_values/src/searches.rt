@@ -1,8 +1,6 @@
-use crate::rows::{Part, number, pair, play, say_whether};
+use crate::rows::{Part, Row, number, pair, rows, say_whether};
 use search_pass::may_search;
-use std::alloc::AllocGlobal;
-use std::io::Print;
-use std::process::Abort;
+use second_try::Machine;
 
 /// The rows of whether a user may search: each has the moment of the last search, the present moment and the interval, all
 /// in seconds.
@@ -10,18 +8,11 @@ use std::process::Abort;
 struct Searches;
 
 impl Part for Searches {
-    fn call<R: Abort + AllocGlobal + Print>(
-        &mut self,
-        rt: &R,
-        name: &str,
-        text: &str,
-        _bytes: &[u8],
-        said: &mut Vec<u8>,
-    ) {
-        let (now, interval) = pair(text, ' ');
-        let last = match name {
+    fn call(&mut self, rt: &impl Machine, row: Row<'_>, said: &mut Vec<u8>) {
+        let (now, interval) = pair(row.text, ' ');
+        let last = match row.name {
             "never" => None,
-            _ => Some(number(rt, name)),
+            _ => Some(number(rt, row.name)),
         };
         say_whether(
             rt,
@@ -33,10 +24,7 @@ impl Part for Searches {
 
 #[test]
 fn keeps_searches_apart(rt: HostRuntime) {
-    play(
-        &rt,
-        &mut Searches,
-        "
+    rows! { rt, Searches, "
         never 0 10 -> yes
         5 14 10 -> no
         5 15 10 -> yes
@@ -46,6 +34,5 @@ fn keeps_searches_apart(rt: HostRuntime) {
         18446744073709551614 18446744073709551615 1 -> yes
         18446744073709551615 0 18446744073709551615 -> no
         0 18446744073709551615 18446744073709551615 -> yes
-    ",
-    );
+    " }
 }

@@ -1,8 +1,9 @@
-use crate::rows::{Part, pair, play, say, say_number, say_whether, small, twice, unknown};
+use crate::rows::{
+    Part, Row, pair, play, rows, say, say_number, say_whether, small, twice, unknown,
+};
 use hub_settings::{HashName, Settings, SettingsFault, read_settings};
-use second_try::again;
-use std::alloc::{AllocError, AllocGlobal, Global};
-use std::io::Print;
+use second_try::{Machine, again};
+use std::alloc::{AllocError, Global};
 use std::net::{Ipv4Addr, SocketAddrV4};
 use std::process::Abort;
 
@@ -13,25 +14,18 @@ pub(crate) struct File {
 }
 
 impl Part for File {
-    fn call<R: Abort + AllocGlobal + Print>(
-        &mut self,
-        rt: &R,
-        name: &str,
-        text: &str,
-        _bytes: &[u8],
-        said: &mut Vec<u8>,
-    ) {
-        match name {
-            "read" => self.read(rt, text, said),
-            "list" => self.list(rt, text, said),
-            "hub" => self.say_hub(rt, text, said),
-            _ => self.say_program(rt, name, said),
+    fn call(&mut self, rt: &impl Machine, row: Row<'_>, said: &mut Vec<u8>) {
+        match row.name {
+            "read" => self.read(rt, row.text, said),
+            "list" => self.list(rt, row.text, said),
+            "hub" => self.say_hub(rt, row.text, said),
+            _ => self.say_program(rt, row.name, said),
         }
     }
 }
 
 /// Reads a text, in which `;` stands for the end of a line.
-fn read(rt: &(impl Abort + AllocGlobal + Print), text: &str) -> Result<Settings, SettingsFault> {
+fn read(rt: &impl Machine, text: &str) -> Result<Settings, SettingsFault> {
     let mut lines = again!(rt; String::with_capacity(rt.alloc(), text.len()));
     let mut is_first = true;
     for line in text.split(';') {
@@ -45,7 +39,7 @@ fn read(rt: &(impl Abort + AllocGlobal + Print), text: &str) -> Result<Settings,
 }
 
 impl File {
-    fn read(&mut self, rt: &(impl Abort + AllocGlobal + Print), text: &str, said: &mut Vec<u8>) {
+    fn read(&mut self, rt: &impl Machine, text: &str, said: &mut Vec<u8>) {
         match read(rt, text) {
             Ok(settings) => {
                 self.settings = settings;
@@ -61,14 +55,14 @@ impl File {
     }
 
     /// Reads so many accounts or commands, which have numbers for names.
-    fn list(&mut self, rt: &(impl Abort + AllocGlobal + Print), text: &str, said: &mut Vec<u8>) {
+    fn list(&mut self, rt: &impl Machine, text: &str, said: &mut Vec<u8>) {
         let (count, what) = pair(text, ' ');
         let count = small(rt, count);
         let text = again!(rt; write_entries(rt.alloc(), count, what));
         self.read(rt, &text, said);
     }
 
-    fn say_hub(&self, rt: &(impl Abort + AllocGlobal), text: &str, said: &mut Vec<u8>) {
+    fn say_hub(&self, rt: &impl Machine, text: &str, said: &mut Vec<u8>) {
         let setup = self.settings.setup();
         match pair(text, ' ') {
             ("name", _) => say(rt, said, setup.name()),
@@ -85,7 +79,7 @@ impl File {
         }
     }
 
-    fn say_program(&self, rt: &(impl Abort + AllocGlobal), name: &str, said: &mut Vec<u8>) {
+    fn say_program(&self, rt: &impl Machine, name: &str, said: &mut Vec<u8>) {
         match name {
             "listen" => say_address(rt, said, self.settings.listen()),
             "hash" => match self.settings.hash() {
@@ -124,7 +118,7 @@ fn write_entries(alloc: Global, count: u32, what: &str) -> Result<String, AllocE
     Ok(text)
 }
 
-pub(crate) fn play_file<R: Abort + AllocGlobal + Print>(rt: &R, rows: &str) {
+pub(crate) fn play_file<R: Machine>(rt: &R, rows: &str) {
     let Ok(settings) = read(rt, "") else {
         unknown(rt, "an empty text")
     };
@@ -133,9 +127,7 @@ pub(crate) fn play_file<R: Abort + AllocGlobal + Print>(rt: &R, rows: &str) {
 
 #[test]
 fn an_empty_text_gives_the_defaults(rt: HostRuntime) {
-    play_file(
-        &rt,
-        "
+    rows! { play_file(rt) r#"
         read <> -> ok
         listen -> 127.0.0.1:4111
         hash -> Tiger
@@ -149,15 +141,76 @@ fn an_empty_text_gives_the_defaults(rt: HostRuntime) {
         hub search_interval -> 0
         hub registered_only -> no
         hub opening -> 7
-    ",
-    );
+    "# }
+}
+
+#[test]
+fn a_text_that_is_no_toml(rt: HostRuntime) {
+    rows! { play_file(rt) r#"
+        read a = <> | name | name = "a";name = "b" -> Text
+    "# }
+}
+
+#[test]
+fn each_fault_is_named_by_its_key(rt: HostRuntime) {
+    rows! { play_file(rt) r#"
+        read name = "" | name = 1 -> key name
+        read topic = [] -> key topic
+        read listen = "127.0.0.1" | listen = "localhost:4111" | listen = "127.0.0.1:65536" | listen = "256.0.0.1:4111" -> key listen
+        read listen = "[::1]:4111" | listen = 4111 -> key listen
+        read hash = "md5" | hash = "Tiger" | hash = true -> key hash
+        read tables = 1 -> key tables
+        read registered_only = "yes" | registered_only = 1 -> key registered_only
+        read search_interval = -1 | search_interval = 4294967296 | search_interval = "10" -> key search_interval
+        read max_users = 0 | max_users = 901 | max_users = 1.0 -> key max_users
+        read threads = 0 | threads = 65 -> key threads
+        read stop_after = -1 | stop_after = 65537 -> key stop_after
+        read seed_file = 1 -> key seed_file
+        read nam = "x" -> key nam
+        read b = 1;a = 1;B = 1 -> key B
+        read max_users = 901;threads = 65;name = "" -> key name
+        read stop_after = -1;hash = 1;a = 1 -> key hash
+        read a = 1;seed_file = 1 -> key seed_file
+    "# }
+}
+
+#[test]
+fn each_fault_of_a_list_is_named_by_its_key(rt: HostRuntime) {
+    rows! { play_file(rt) r#"
+        read account = 1 | account = [1] | [account];nick = "a";password = "p" | [[account]];nick = "a" | [[account]];password = "p" -> key account
+        read [[account]];nick = "a";password = "" | [[account]];nick = "";password = "p" | [[account]];nick = "a b";password = "p" -> key account
+        read [[account]];nick = "a";password = 1 | [[account]];nick = "a";password = "p";operator = 1 -> key account
+        read [[account]];nick = "a";password = "p";class = 1 -> key account
+        read [[account]];nick = "op";password = "p";[[account]];nick = "op";password = "q" -> key account
+        read command = "x" | command = ["x"] | [[command]];context = 1;text = "t" | [[command]];name = "";context = 1;text = "t" -> key command
+        read [[command]];name = "n";text = "t" | [[command]];name = "n";context = 0;text = "t" -> key command
+        read [[command]];name = "n";context = 16;text = "t" | [[command]];name = "n";context = 1 -> key command
+        read [[command]];name = "n";context = 1;separator = false | [[command]];name = "n";context = 1;text = "t";separator = true -> key command
+        read [[command]];name = "n";context = 1;text = 1 | [[command]];name = "n";context = 1;text = "t";key = 1 -> key command
+        read command = 1;[[account]];nick = "a b";password = "p" -> key account
+        read a = 1;command = 1 -> key command
+    "# }
+}
+
+#[test]
+fn accounts_have_a_limit(rt: HostRuntime) {
+    rows! { play_file(rt) r#"
+        list 32 accounts -> ok
+        list 33 accounts -> key account
+    "# }
+}
+
+#[test]
+fn commands_have_a_limit(rt: HostRuntime) {
+    rows! { play_file(rt) r#"
+        list 64 commands -> ok
+        list 65 commands -> key command
+    "# }
 }
 
 #[test]
 fn every_key_is_read(rt: HostRuntime) {
-    play_file(
-        &rt,
-        r#"
+    rows! { play_file(rt) r#"
         read name = "My hub";topic = "All";listen = "0.0.0.0:65535";hash = "first24";tables = "t";registered_only = true;search_interval = 4294967295;max_users = 900;threads = 64;stop_after = 65536;seed_file = "s";[[account]];nick = "op";password = "secret";operator = true;[[account]];nick = "reg";password = "x";[[command]];name = "Help";context = 15;text = "HMSG !help";separator = false;[[command]];name = "Sep";context = 2;separator = true -> ok
         listen -> 0.0.0.0:65535
         hash -> First24
@@ -169,118 +222,7 @@ fn every_key_is_read(rt: HostRuntime) {
         hub topic -> All
         hub max_users -> 900
         hub search_interval -> 4294967295
-        hub registered_only -> yes
-        hub operator op -> yes
+        hub registered_only | operator op -> yes
         hub operator reg -> no
-    "#,
-    );
-}
-
-#[test]
-fn a_text_that_is_no_toml(rt: HostRuntime) {
-    play_file(
-        &rt,
-        r#"
-        read a = <> -> Text
-        read name -> Text
-        read name = "a";name = "b" -> Text
-    "#,
-    );
-}
-
-#[test]
-fn each_fault_is_named_by_its_key(rt: HostRuntime) {
-    play_file(
-        &rt,
-        r#"
-        read name = "" -> key name
-        read name = 1 -> key name
-        read topic = [] -> key topic
-        read listen = "127.0.0.1" -> key listen
-        read listen = "localhost:4111" -> key listen
-        read listen = "127.0.0.1:65536" -> key listen
-        read listen = "256.0.0.1:4111" -> key listen
-        read listen = "[::1]:4111" -> key listen
-        read listen = 4111 -> key listen
-        read hash = "md5" -> key hash
-        read hash = "Tiger" -> key hash
-        read hash = true -> key hash
-        read tables = 1 -> key tables
-        read registered_only = "yes" -> key registered_only
-        read registered_only = 1 -> key registered_only
-        read search_interval = -1 -> key search_interval
-        read search_interval = 4294967296 -> key search_interval
-        read search_interval = "10" -> key search_interval
-        read max_users = 0 -> key max_users
-        read max_users = 901 -> key max_users
-        read max_users = 1.0 -> key max_users
-        read threads = 0 -> key threads
-        read threads = 65 -> key threads
-        read stop_after = -1 -> key stop_after
-        read stop_after = 65537 -> key stop_after
-        read seed_file = 1 -> key seed_file
-        read nam = "x" -> key nam
-        read b = 1;a = 1;B = 1 -> key B
-        read max_users = 901;threads = 65;name = "" -> key name
-        read stop_after = -1;hash = 1;a = 1 -> key hash
-        read a = 1;seed_file = 1 -> key seed_file
-    "#,
-    );
-}
-
-#[test]
-fn each_fault_of_a_list_is_named_by_its_key(rt: HostRuntime) {
-    play_file(
-        &rt,
-        r#"
-        read account = 1 -> key account
-        read account = [1] -> key account
-        read [account];nick = "a";password = "p" -> key account
-        read [[account]];nick = "a" -> key account
-        read [[account]];password = "p" -> key account
-        read [[account]];nick = "a";password = "" -> key account
-        read [[account]];nick = "";password = "p" -> key account
-        read [[account]];nick = "a b";password = "p" -> key account
-        read [[account]];nick = "a";password = 1 -> key account
-        read [[account]];nick = "a";password = "p";operator = 1 -> key account
-        read [[account]];nick = "a";password = "p";class = 1 -> key account
-        read [[account]];nick = "op";password = "p";[[account]];nick = "op";password = "q" -> key account
-        read command = "x" -> key command
-        read command = ["x"] -> key command
-        read [[command]];context = 1;text = "t" -> key command
-        read [[command]];name = "";context = 1;text = "t" -> key command
-        read [[command]];name = "n";text = "t" -> key command
-        read [[command]];name = "n";context = 0;text = "t" -> key command
-        read [[command]];name = "n";context = 16;text = "t" -> key command
-        read [[command]];name = "n";context = 1 -> key command
-        read [[command]];name = "n";context = 1;separator = false -> key command
-        read [[command]];name = "n";context = 1;text = "t";separator = true -> key command
-        read [[command]];name = "n";context = 1;text = 1 -> key command
-        read [[command]];name = "n";context = 1;text = "t";key = 1 -> key command
-        read command = 1;[[account]];nick = "a b";password = "p" -> key account
-        read a = 1;command = 1 -> key command
-    "#,
-    );
-}
-
-#[test]
-fn accounts_have_a_limit(rt: HostRuntime) {
-    play_file(
-        &rt,
-        "
-        list 32 accounts -> ok
-        list 33 accounts -> key account
-    ",
-    );
-}
-
-#[test]
-fn commands_have_a_limit(rt: HostRuntime) {
-    play_file(
-        &rt,
-        "
-        list 64 commands -> ok
-        list 65 commands -> key command
-    ",
-    );
+    "# }
 }

@@ -8,8 +8,8 @@ use hub_setup::{
     Account, Accounts, ListRefused, Menu, MenuEntry, MenuItem, Options, PlainOptions, Setup,
     SetupRefused,
 };
-use std::alloc::{AllocError, AllocGlobal};
-use std::io::Print;
+use second_try::Machine;
+use std::alloc::AllocError;
 use std::process::Abort;
 
 /// Gives the options of a hub of this name, with no accounts and no menu, for one connection.
@@ -36,15 +36,12 @@ fn entry<'a>(name: &'a str, context: u8, item: MenuItem<'a>) -> MenuEntry<'a> {
     }
 }
 
-fn set_up(
-    rt: &(impl Abort + AllocGlobal + Print),
-    options: &Options<'_>,
-) -> Result<Setup, SetupRefused> {
+fn set_up(rt: &impl Machine, options: &Options<'_>) -> Result<Setup, SetupRefused> {
     twice!(rt; "hub_setup::Setup::new", SetupRefused::Memory, Setup::new(rt.alloc(), options))
 }
 
 /// Makes a setup of options that have no fault.
-fn setup(rt: &(impl Abort + AllocGlobal + Print), options: &Options<'_>) -> Setup {
+fn setup(rt: &impl Machine, options: &Options<'_>) -> Setup {
     match set_up(rt, options) {
         Ok(setup) => setup,
         Err(_) => unknown(rt, "options"),
@@ -52,11 +49,7 @@ fn setup(rt: &(impl Abort + AllocGlobal + Print), options: &Options<'_>) -> Setu
 }
 
 /// Makes a setup of lists that have no fault.
-fn of_lists(
-    rt: &(impl Abort + AllocGlobal + Print),
-    accounts: &[Account<'_>],
-    commands: &[MenuEntry<'_>],
-) -> Setup {
+fn of_lists(rt: &impl Machine, accounts: &[Account<'_>], commands: &[MenuEntry<'_>]) -> Setup {
     let options = Options::named("Hub");
     match twice!(rt; "hub_setup::Setup::with_lists", AllocError,
         Setup::with_lists(rt.alloc(), &options, accounts_of(rt, accounts), menu_of(rt, commands)))
@@ -66,7 +59,7 @@ fn of_lists(
     }
 }
 
-fn accounts_of(rt: &(impl Abort + AllocGlobal + Print), accounts: &[Account<'_>]) -> Accounts {
+fn accounts_of(rt: &impl Machine, accounts: &[Account<'_>]) -> Accounts {
     match twice!(rt; "hub_setup::Accounts::new", ListRefused::Memory, Accounts::new(rt.alloc(), accounts))
     {
         Ok(accounts) => accounts,
@@ -74,7 +67,7 @@ fn accounts_of(rt: &(impl Abort + AllocGlobal + Print), accounts: &[Account<'_>]
     }
 }
 
-fn menu_of(rt: &(impl Abort + AllocGlobal + Print), commands: &[MenuEntry<'_>]) -> Menu {
+fn menu_of(rt: &impl Machine, commands: &[MenuEntry<'_>]) -> Menu {
     match twice!(rt; "hub_setup::Menu::new", ListRefused::Memory, Menu::new(rt.alloc(), commands)) {
         Ok(menu) => menu,
         Err(_) => unknown(rt, "menu"),

@@ -7,13 +7,13 @@ use self::samples::{number_of, say_totals, say_user, say_users, sid, user};
 use crate::fields::update;
 use crate::identities::nick;
 use crate::rows::{
-    Part, byte, number, pair, play, say, say_bytes, say_number, say_refused_memory, say_whether,
-    small, unknown,
+    Part, Row, byte, number, pair, play, rows, say, say_bytes, say_number, say_refused_memory,
+    say_whether, small, unknown,
 };
 use adc_ids::{Cid, Nick};
 use plain_users::PlainUsers;
+use second_try::Machine;
 use std::alloc::AllocGlobal;
-use std::io::Print;
 use std::process::Abort;
 use user_table::{IndexedUsers, TableRefused, User, Users, takes_update};
 
@@ -24,43 +24,33 @@ pub(crate) struct UserTable<U: Users> {
 }
 
 impl<U: Users> Part for UserTable<U> {
-    fn call<R: Abort + AllocGlobal + Print>(
-        &mut self,
-        rt: &R,
-        name: &str,
-        text: &str,
-        _bytes: &[u8],
-        said: &mut Vec<u8>,
-    ) {
-        match name {
-            "enters" => self.enters(rt, text, said),
-            "says" => self.says(rt, text, "", said),
-            "renames" => self.renames(rt, text, said),
-            "leaves" => self.leaves(rt, small(rt, text), said),
-            _ => self.tells(rt, name, text, said),
+    fn call(&mut self, rt: &impl Machine, row: Row<'_>, said: &mut Vec<u8>) {
+        match row.name {
+            "enters" => self.enters(rt, row.text, said),
+            "says" => self.says(rt, row.text, "", said),
+            "renames" => self.renames(rt, row.text, said),
+            "leaves" => self.leaves(rt, small(rt, row.text), said),
+            _ => self.tells(rt, row.name, row.text, said),
         }
     }
 }
 
 /// Makes the user that the numbers of a session identifier and of a client identifier, a nick and a line describe.
-fn entering(rt: &(impl Abort + AllocGlobal + Print), text: &str) -> User {
+fn entering(rt: &impl Machine, text: &str) -> User {
     let (number, rest) = pair(text, ' ');
     let (cid, rest) = pair(rest, ' ');
     let (name, line) = pair(rest, ' ');
     user(rt, small(rt, number), byte(rt, cid), name, line)
 }
 
-fn say_entering(rt: &(impl Abort + AllocGlobal + Print), text: &str, said: &mut Vec<u8>) {
+fn say_entering(rt: &impl Machine, text: &str, said: &mut Vec<u8>) {
     let user = entering(rt, text);
     say_user(rt, said, &user);
     drop(user);
 }
 
 /// Reads a nick, unless the text is empty.
-pub(crate) fn nick_unless_empty(
-    rt: &(impl Abort + AllocGlobal + Print),
-    text: &str,
-) -> Option<Nick> {
+pub(crate) fn nick_unless_empty(rt: &impl Machine, text: &str) -> Option<Nick> {
     if text.is_empty() {
         return None;
     }
@@ -80,7 +70,7 @@ fn say_answer(rt: &impl Abort, said: &mut Vec<u8>, refused: Option<TableRefused>
     );
 }
 
-fn say_found(rt: &(impl Abort + AllocGlobal), said: &mut Vec<u8>, user: Option<&User>) {
+fn say_found(rt: &impl Machine, said: &mut Vec<u8>, user: Option<&User>) {
     match number_of(user) {
         Some(number) => say_number(rt, said, number as u128),
         None => say(rt, said, "nobody"),
@@ -89,13 +79,7 @@ fn say_found(rt: &(impl Abort + AllocGlobal), said: &mut Vec<u8>, user: Option<&
 
 impl<U: Users> UserTable<U> {
     /// Makes a call that changes nothing.
-    fn tells<R: Abort + AllocGlobal + Print>(
-        &self,
-        rt: &R,
-        name: &str,
-        text: &str,
-        said: &mut Vec<u8>,
-    ) {
+    fn tells<R: Machine>(&self, rt: &R, name: &str, text: &str, said: &mut Vec<u8>) {
         match name {
             "takes" => self.takes(rt, text, said),
             "order" => self.order(rt, said),
@@ -107,7 +91,7 @@ impl<U: Users> UserTable<U> {
     }
 
     /// Enters a user. Each refusal changes nothing, and one for memory is not repeated.
-    fn enters(&mut self, rt: &(impl Abort + AllocGlobal + Print), text: &str, said: &mut Vec<u8>) {
+    fn enters(&mut self, rt: &impl Machine, text: &str, said: &mut Vec<u8>) {
         let before = say_users(rt, &self.users);
         let user = entering(rt, text);
         let answer = match self.inserts(rt, user) {
@@ -129,7 +113,7 @@ impl<U: Users> UserTable<U> {
     /// Says an answer. Each refusal changes nothing.
     fn answers(
         &self,
-        rt: &(impl Abort + AllocGlobal + Print),
+        rt: &impl Machine,
         answer: Option<TableRefused>,
         before: &[u8],
         said: &mut Vec<u8>,
@@ -142,7 +126,7 @@ impl<U: Users> UserTable<U> {
     }
 
     /// Answers whether this is said of the users.
-    fn is_said(&self, rt: &(impl Abort + AllocGlobal + Print), before: &[u8]) -> bool {
+    fn is_said(&self, rt: &impl Machine, before: &[u8]) -> bool {
         let text = say_users(rt, &self.users);
         let same = text.as_slice() == before;
         drop(text);
@@ -173,7 +157,7 @@ impl<U: Users> UserTable<U> {
         }
     }
 
-    fn all(&self, rt: &(impl Abort + AllocGlobal + Print), said: &mut Vec<u8>) {
+    fn all(&self, rt: &impl Machine, said: &mut Vec<u8>) {
         let text = say_users(rt, &self.users);
         say_bytes(rt, said, &text);
         drop(text);
@@ -181,13 +165,7 @@ impl<U: Users> UserTable<U> {
 
     /// Says a line for the user with a number, who gets a nick unless that is empty. Each refusal changes nothing, and one
     /// for memory is not repeated.
-    fn says(
-        &mut self,
-        rt: &(impl Abort + AllocGlobal + Print),
-        text: &str,
-        name: &str,
-        said: &mut Vec<u8>,
-    ) {
+    fn says(&mut self, rt: &impl Machine, text: &str, name: &str, said: &mut Vec<u8>) {
         let before = say_users(rt, &self.users);
         let holder = self.holder(name);
         let answer = match self.merges(rt, text, name) {
@@ -207,12 +185,7 @@ impl<U: Users> UserTable<U> {
         number_of(self.users.by_nick(name))
     }
 
-    fn merges(
-        &mut self,
-        rt: &(impl Abort + AllocGlobal + Print),
-        text: &str,
-        name: &str,
-    ) -> Option<TableRefused> {
+    fn merges(&mut self, rt: &impl Machine, text: &str, name: &str) -> Option<TableRefused> {
         let (number, line) = pair(text, ' ');
         let (sid, update) = (sid(rt, small(rt, number)), update(rt, line));
         if !takes_update(&self.users, sid, &update) {
@@ -225,18 +198,18 @@ impl<U: Users> UserTable<U> {
     }
 
     /// Says for a user the line behind a nick, which the user gets.
-    fn renames(&mut self, rt: &(impl Abort + AllocGlobal + Print), text: &str, said: &mut Vec<u8>) {
+    fn renames(&mut self, rt: &impl Machine, text: &str, said: &mut Vec<u8>) {
         let (name, rest) = pair(text, ' ');
         self.says(rt, rest, name, said);
     }
 
-    fn leaves(&mut self, rt: &(impl Abort + AllocGlobal), number: u32, said: &mut Vec<u8>) {
+    fn leaves(&mut self, rt: &impl Machine, number: u32, said: &mut Vec<u8>) {
         let left = self.users.remove(sid(rt, number));
         say_found(rt, said, left.as_ref());
         drop(left);
     }
 
-    fn takes(&self, rt: &(impl Abort + AllocGlobal + Print), text: &str, said: &mut Vec<u8>) {
+    fn takes(&self, rt: &impl Machine, text: &str, said: &mut Vec<u8>) {
         let (number, line) = pair(text, ' ');
         let (sid, update) = (sid(rt, small(rt, number)), update(rt, line));
         say_whether(rt, said, takes_update(&self.users, sid, &update));
@@ -244,7 +217,7 @@ impl<U: Users> UserTable<U> {
     }
 
     /// Says the numbers of the users in order of entry.
-    fn order(&self, rt: &(impl Abort + AllocGlobal), said: &mut Vec<u8>) {
+    fn order(&self, rt: &impl Machine, said: &mut Vec<u8>) {
         for place in 0..=self.users.totals().users {
             match number_of(self.users.at(place as usize)) {
                 Some(number) => say_number(rt, said, number as u128),
@@ -253,7 +226,7 @@ impl<U: Users> UserTable<U> {
         }
     }
 
-    fn looks(&self, rt: &(impl Abort + AllocGlobal), name: &str, text: &str, said: &mut Vec<u8>) {
+    fn looks(&self, rt: &impl Machine, name: &str, text: &str, said: &mut Vec<u8>) {
         let found = match name {
             "sid" => self.users.by_sid(sid(rt, small(rt, text))),
             "cid" => self.users.by_cid(Cid::from_bytes([byte(rt, text); 24])),
@@ -266,22 +239,16 @@ impl<U: Users> UserTable<U> {
 }
 
 /// Makes the calls on both tables, in which ana is with SID 1, bob with 2 and eva with 3.
-pub(crate) fn play_users<R: Abort + AllocGlobal + Print>(rt: &R, rows: &str) {
+pub(crate) fn play_users<R: Machine>(rt: &R, rows: &str) {
     play_three::<PlainUsers>(rt, rows);
     play_three::<IndexedUsers>(rt, rows);
 }
 
-fn play_three<U: Users>(rt: &(impl Abort + AllocGlobal + Print), rows: &str) {
+fn play_three<U: Users>(rt: &impl Machine, rows: &str) {
     let mut users: UserTable<U> = table(rt);
-    play(
-        rt,
-        &mut users,
-        "
-        enters 1 1 ana NIana SS100 SF2 -> ok
-        enters 2 2 bob NIbob SS20 SFx -> ok
-        enters 3 3 eva NIeva SF3 -> ok
-    ",
-    );
+    rows! { rt, users, "
+        enters 1 1 ana NIana SS100 SF2 | 2 2 bob NIbob SS20 SFx | 3 3 eva NIeva SF3 -> ok
+    " }
     play(rt, &mut users, rows);
 }
 
@@ -292,13 +259,13 @@ pub(crate) fn table<U: Users>(rt: &impl AllocGlobal) -> UserTable<U> {
 }
 
 /// Makes the calls on both tables, in which there is nobody.
-pub(crate) fn play_nobody<R: Abort + AllocGlobal + Print>(rt: &R, rows: &str) {
+pub(crate) fn play_nobody<R: Machine>(rt: &R, rows: &str) {
     play_table::<PlainUsers>(rt, rows);
     play_table::<IndexedUsers>(rt, rows);
 }
 
 /// Makes the calls on a table in which there is nobody.
-pub(crate) fn play_table<U: Users>(rt: &(impl Abort + AllocGlobal + Print), rows: &str) {
+pub(crate) fn play_table<U: Users>(rt: &impl Machine, rows: &str) {
     let mut users: UserTable<U> = table(rt);
     play(rt, &mut users, rows);
 }
@@ -318,9 +285,7 @@ fn reads_a_user(rt: HostRuntime) {
 
 #[test]
 fn finds_users(rt: HostRuntime) {
-    play_users(
-        &rt,
-        "
+    rows! { play_users(rt) "
         sid 1 -> 1
         cid 1 -> 1
         nick ana -> 1
@@ -333,29 +298,22 @@ fn finds_users(rt: HostRuntime) {
         sid 4 -> nobody
         cid 4 -> nobody
         nick Ana -> nobody
-    ",
-    );
+    " }
 }
 
 #[test]
 fn refuses_a_nick_before_a_client_identifier(rt: HostRuntime) {
-    play_users(
-        &rt,
-        "
-        enters 4 1 ana SS1 -> NickTaken
-        enters 4 9 bob SS1 -> NickTaken
+    rows! { play_users(rt) "
+        enters 4 1 ana SS1 | 4 9 bob SS1 -> NickTaken
         enters 4 3 dan SS1 -> CidTaken
         enters 4 9 dan SS1 -> ok
         order -> 1 2 3 4 end
-    ",
-    );
+    " }
 }
 
 #[test]
 fn closes_up_where_a_user_leaves(rt: HostRuntime) {
-    play_users(
-        &rt,
-        "
+    rows! { play_users(rt) "
         leaves 2 -> 2
         leaves 2 -> nobody
         order -> 1 3 end
@@ -364,37 +322,12 @@ fn closes_up_where_a_user_leaves(rt: HostRuntime) {
         totals -> 2 100 5
         enters 2 2 bob NIbob -> ok
         order -> 1 3 2 end
-    ",
-    );
-}
-
-#[test]
-fn sums_what_is_shared(rt: HostRuntime) {
-    play_nobody(
-        &rt,
-        "
-        enters 1 1 dan SS18446744073709551615 -> ok
-        enters 2 2 leo SS18446744073709551615 -> ok
-        totals -> 2 36893488147419103230 0
-    ",
-    );
-    // 120 and 5, and twice 2^64 - 1
-    play_users(
-        &rt,
-        "
-        totals -> 3 120 5
-        enters 4 4 dan SS18446744073709551615 SF18446744073709551615 -> ok
-        enters 5 5 leo SS18446744073709551615 SF18446744073709551615 -> ok
-        totals -> 5 36893488147419103350 36893488147419103235
-    ",
-    );
+    " }
 }
 
 #[test]
 fn renames_a_user_in_place(rt: HostRuntime) {
-    play_users(
-        &rt,
-        "
+    rows! { play_users(rt) "
         renames rob 2 NIrob SS21 -> ok
         renames eva 1 NIeva SS1 -> NickTaken
         renames eva 3 NIeva SS4 -> ok
@@ -404,17 +337,27 @@ fn renames_a_user_in_place(rt: HostRuntime) {
         nick rob -> 2
         nick ana -> 1
         totals -> 3 124 5
-    ",
-    );
+    " }
 }
 
 #[test]
 fn asks_for_room(rt: HostRuntime) {
-    play_users(
-        &rt,
-        "
+    rows! { play_users(rt) "
         takes 2 NIrob -> yes
         takes 4 NIrob -> no
-    ",
-    );
+    " }
+}
+
+#[test]
+fn sums_what_is_shared(rt: HostRuntime) {
+    rows! { play_nobody(rt) "
+        enters 1 1 dan SS18446744073709551615 | 2 2 leo SS18446744073709551615 -> ok
+        totals -> 2 36893488147419103230 0
+    " }
+    // 120 and 5, and twice 2^64 - 1
+    rows! { play_users(rt) "
+        totals -> 3 120 5
+        enters 4 4 dan SS18446744073709551615 SF18446744073709551615 | 5 5 leo SS18446744073709551615 SF18446744073709551615 -> ok
+        totals -> 5 36893488147419103350 36893488147419103235
+    " }
 }

@@ -3,29 +3,32 @@ use super::hub_port::meet;
 use super::running::new_task;
 use super::wire::Wire;
 use crate::checks::{are_same, are_so_many, begins, is_end, refused_twice};
-use crate::texts::{ENTERED, GREETING, LOGIN};
+use crate::texts::{ENTERED, GREETING, told};
 use adc_sessions::End;
 use futures::test::MockTask;
-use second_try::again;
+use second_try::{Transcript, again};
 use std::alloc::Global;
 use std::process::Abort;
 
-/// A conversation with a new hub: what the client sends, how many bytes one call moves at most, how it ends, and what the
-/// client gets.
-#[derive(Clone, Copy)]
-struct Talk<'a> {
-    input: &'a [u8],
-    room: usize,
-    end: End,
-    output: &'a [u8],
+/// Holds a conversation of ana with a new hub, of which one call moves at most so many bytes, once more where memory was refused, and compares
+/// how it ends and what she hears: with a bell that never is rung, and with one that always is.
+fn holds(rt: &impl Abort, alloc: Global, task: &MockTask, room: usize, end: End, text: &str) {
+    let ana = told(rt, alloc, text, "ana");
+    holds_this(rt, alloc, task, room, end, &ana);
+    drop(ana);
 }
 
-/// Holds a conversation, once more where memory was refused, and compares what the client gets: with a bell that never is
-/// rung, and with one that always is.
-fn holds(rt: &impl Abort, alloc: Global, task: &MockTask, talk: Talk<'_>) {
+fn holds_this(
+    rt: &impl Abort,
+    alloc: Global,
+    task: &MockTask,
+    room: usize,
+    end: End,
+    ana: &Transcript,
+) {
     for bell in [Rung::Never, Rung::Always] {
-        if !is_held(rt, alloc, task, talk, bell) {
-            if !is_held(rt, alloc, task, talk, bell) {
+        if !is_held(rt, alloc, task, room, end, ana, bell) {
+            if !is_held(rt, alloc, task, room, end, ana, bell) {
                 refused_twice(rt);
             }
         }
@@ -33,23 +36,26 @@ fn holds(rt: &impl Abort, alloc: Global, task: &MockTask, talk: Talk<'_>) {
 }
 
 /// Holds a conversation; not where memory was refused.
-fn is_held(rt: &impl Abort, alloc: Global, task: &MockTask, talk: Talk<'_>, bell: Rung) -> bool {
-    let wire = Wire::new(rt, alloc, talk.input, talk.room).slow();
+fn is_held(
+    rt: &impl Abort,
+    alloc: Global,
+    task: &MockTask,
+    room: usize,
+    wanted: End,
+    ana: &Transcript,
+    bell: Rung,
+) -> bool {
+    let wire = Wire::new(rt, alloc, &ana.said, room).slow();
     let (end, wire) = talks(rt, alloc, task, wire, bell);
-    let is_held = is_as_told(rt, end, wire.sent_bytes(), talk);
+    let is_held = end != End::Memory;
+    if is_held {
+        is_end(rt, end, wanted);
+        are_same(rt, wire.sent_bytes(), &ana.heard);
+    } else {
+        begins(rt, wire.sent_bytes(), &ana.heard);
+    }
     drop(wire);
     is_held
-}
-
-/// Compares how a conversation ended, and what the client got; not where memory was refused.
-fn is_as_told(rt: &impl Abort, end: End, sent: &[u8], talk: Talk<'_>) -> bool {
-    if end == End::Memory {
-        begins(rt, sent, talk.output);
-        return false;
-    }
-    is_end(rt, end, talk.end);
-    are_same(rt, sent, talk.output);
-    true
 }
 
 /// Lets a client talk with a new hub.
@@ -76,13 +82,7 @@ fn says(rt: &impl Abort, alloc: Global, task: &MockTask, input: &[u8], room: usi
 fn a_client_is_greeted(rt: HostRuntime) {
     let task = new_task(&rt);
     for room in [1, 7, 4_096] {
-        let talk = Talk {
-            input: b"HSUP ADBASE ADTIGR\n",
-            room,
-            end: End::Closed,
-            output: GREETING,
-        };
-        holds(&rt, rt.alloc(), &task, talk);
+        holds(&rt, rt.alloc(), &task, room, End::Closed, GREETING);
     }
     drop(task);
 }
@@ -91,31 +91,28 @@ fn a_client_is_greeted(rt: HostRuntime) {
 fn single_bytes_give_the_same_lines(rt: HostRuntime) {
     let task = new_task(&rt);
     for room in [1, 4_096] {
-        let talk = Talk {
-            input: LOGIN,
-            room,
-            end: End::Closed,
-            output: ENTERED,
-        };
-        holds(&rt, rt.alloc(), &task, talk);
+        holds(&rt, rt.alloc(), &task, room, End::Closed, ENTERED);
     }
     drop(task);
 }
 
+const WITHOUT_THE_HASH: &str = r"
+ana says HSUP ADBASE
+ana hears ISTA 247 No\scommon\shash
+";
+
+/// Says more, of which nothing is read.
+const AND_MORE: &str = r"
+ana says HSUP ADBASE
+ana says HSUP ADBASE ADTIGR
+ana hears ISTA 247 No\scommon\shash
+";
+
 #[test]
 fn a_client_without_the_hash_is_shut_out(rt: HostRuntime) {
     let task = new_task(&rt);
-    for input in [
-        b"HSUP ADBASE\n".as_slice(),
-        b"HSUP ADBASE\nHSUP ADBASE ADTIGR\n",
-    ] {
-        let talk = Talk {
-            input,
-            room: 12,
-            end: End::Ended,
-            output: b"ISTA 247 No\\scommon\\shash\n",
-        };
-        holds(&rt, rt.alloc(), &task, talk);
+    for text in [WITHOUT_THE_HASH, AND_MORE] {
+        holds(&rt, rt.alloc(), &task, 12, End::Ended, text);
     }
     drop(task);
 }
@@ -123,40 +120,32 @@ fn a_client_without_the_hash_is_shut_out(rt: HostRuntime) {
 #[test]
 fn nothing_is_read_from_a_client_that_is_shut_out(rt: HostRuntime) {
     let task = new_task(&rt);
-    let input = b"HSUP ADBASE\nHSUP ADBASE ADTIGR\n";
-    let (end, wire) = says(&rt, rt.alloc(), &task, input, 12);
+    let ana = told(&rt, rt.alloc(), AND_MORE, "ana");
+    let (end, wire) = says(&rt, rt.alloc(), &task, &ana.said, 12);
     is_end(&rt, end, End::Ended);
     are_so_many(&rt, 0, wire.unread(), 19);
     drop(wire);
     drop(task);
 }
 
-/// A line that everybody gets.
+/// A line that everybody gets, which ana says and hears so often once she has entered.
 const HI: &[u8] = b"BMSG AAAB hi\n";
 
-/// Makes a login, and then this line so often.
-fn chatter(rt: &impl Abort, alloc: Global, front: &[u8], lines: u32) -> Vec<u8> {
-    let mut all = again!(rt; Vec::from_slice(alloc, front));
+fn chatter(rt: &impl Abort, alloc: Global, lines: u32) -> Transcript {
+    let mut ana = told(rt, alloc, ENTERED, "ana");
     for _ in 0..lines {
-        again!(rt; all.extend_from_slice(HI));
+        again!(rt; second_try::append(&mut ana.said, HI));
+        again!(rt; second_try::append(&mut ana.heard, HI));
     }
-    all
+    ana
 }
 
 #[test]
 fn five_thousand_lines_without_pause_come_back(rt: HostRuntime) {
     let task = new_task(&rt);
-    let input = chatter(&rt, rt.alloc(), LOGIN, 5_000);
-    let output = chatter(&rt, rt.alloc(), ENTERED, 5_000);
-    let talk = Talk {
-        input: &input,
-        room: 4_096,
-        end: End::Closed,
-        output: &output,
-    };
-    holds(&rt, rt.alloc(), &task, talk);
-    drop(output);
-    drop(input);
+    let ana = chatter(&rt, rt.alloc(), 5_000);
+    holds_this(&rt, rt.alloc(), &task, 4_096, End::Closed, &ana);
+    drop(ana);
     drop(task);
 }
 
@@ -164,24 +153,26 @@ fn five_thousand_lines_without_pause_come_back(rt: HostRuntime) {
 #[test]
 fn reads_ask_for_more_where_more_comes(rt: HostRuntime) {
     let task = new_task(&rt);
-    let much = chatter(&rt, rt.alloc(), LOGIN, 250);
-    for (input, most) in [(LOGIN, 256), (much.as_slice(), 2_048)] {
-        let (_end, wire) = says(&rt, rt.alloc(), &task, input, 4_096);
+    for (lines, most) in [(0, 256), (250, 2_048)] {
+        let ana = chatter(&rt, rt.alloc(), lines);
+        let (_end, wire) = says(&rt, rt.alloc(), &task, &ana.said, 4_096);
         let (first_room, most_room) = wire.rooms();
         are_so_many(&rt, 0, first_room, 256);
         are_so_many(&rt, 1, most_room, most);
         drop(wire);
+        drop(ana);
     }
-    drop(much);
     drop(task);
 }
 
 #[test]
 fn one_write_carries_what_one_take_gave(rt: HostRuntime) {
     let task = new_task(&rt);
-    let (_end, wire) = says(&rt, rt.alloc(), &task, b"HSUP ADBASE ADTIGR\n", 4_096);
-    are_same(&rt, wire.sent_bytes(), GREETING);
+    let ana = told(&rt, rt.alloc(), GREETING, "ana");
+    let (_end, wire) = says(&rt, rt.alloc(), &task, &ana.said, 4_096);
+    are_same(&rt, wire.sent_bytes(), &ana.heard);
     are_so_many(&rt, 0, wire.writes() as usize, 1);
     drop(wire);
+    drop(ana);
     drop(task);
 }

@@ -3,20 +3,32 @@ use super::hub_port::meet;
 use super::running::new_task;
 use super::wire::{Trouble, Wire};
 use crate::checks::{are_same, are_so_many, begins, refused_twice};
+use crate::texts::told;
 use adc_sessions::End;
 use futures::test::MockTask;
+use second_try::{Machine, Transcript};
 use std::alloc::Global;
 use std::process::Abort;
+use std::random::RandomSource;
 
-const BOB: &[u8] = b"BINF AAAB IDAAAAAAAAAAAAAAAAAAAAAAAAAAAAAAAAAAAAAAI \
-PDAAAAAAAAAAAAAAAAAAAAAAAAAAAAAAAAAAAAAAI NIbob SS5 SF1 SUTCP4";
+/// Bob is there; ana enters and says hi, and leaves.
+const VISIT: &str = r"
+ana is greeted AAAC
+ana says BINF AAAC ID<P0> PD<P0> NIana SS10 SF2 I40.0.0.0 SUTCP4,SEGA
+ana hears BINF AAAB ID<P1> NIbob SS5 SF1 SUTCP4
+ana and bob hear BINF AAAC ID<P0> NIana SS10 SF2 I4127.0.0.1 SUTCP4,SEGA
+ana says BMSG AAAC hi
+ana and bob hear BMSG AAAC hi
+bob hears IQUI AAAC
+";
 
-const ANA: &[u8] = b"HSUP ADBASE ADTIGR\nBINF AAAC IDAAAAAAAAAAAAAAAAAAAAAAAAAAAAAAAAAAAAAAA \
-PDAAAAAAAAAAAAAAAAAAAAAAAAAAAAAAAAAAAAAAA NIana SS10 SF2 I40.0.0.0 SUTCP4,SEGA\nBMSG AAAC hi\n";
+/// Ana does not say anything, as far as bob is told.
+const LOGIN_ALONE: &str = r"
+bob hears BINF AAAC ID<P0> NIana SS10 SF2 I4127.0.0.1 SUTCP4,SEGA
+bob hears IQUI AAAC
+";
 
-const ANA_GETS: &[u8] = b"ISUP ADBASE ADTIGR ADPING ADUCMD\nISID AAAC\n\
-IINF CT32 NIHub VEadc-hub\\s1.0\nBINF AAAB IDAAAAAAAAAAAAAAAAAAAAAAAAAAAAAAAAAAAAAAI NIbob SS5 SF1 SUTCP4\n\
-BINF AAAC IDAAAAAAAAAAAAAAAAAAAAAAAAAAAAAAAAAAAAAAA NIana SS10 SF2 I4127.0.0.1 SUTCP4,SEGA\nBMSG AAAC hi\n";
+const BOBS_LOGIN: &str = "bob says BINF AAAB ID<P1> PD<P1> NIbob SS5 SF1 SUTCP4";
 
 /// The calls that go wrong.
 #[derive(Clone, Copy)]
@@ -26,73 +38,92 @@ enum Kind {
     Full,
 }
 
-/// The bytes that bob gets where ana's line was handed over.
-const WHOLE: &[u8] =
-    b"BINF AAAC IDAAAAAAAAAAAAAAAAAAAAAAAAAAAAAAAAAAAAAAA NIana SS10 SF2 I4127.0.0.1 \
-SUTCP4,SEGA\nBMSG AAAC hi\nIQUI AAAC\n";
-
-/// The bytes that he gets where only her login was.
-const LOGIN_ALONE: &[u8] =
-    b"BINF AAAC IDAAAAAAAAAAAAAAAAAAAAAAAAAAAAAAAAAAAAAAA NIana SS10 SF2 I4127.0.0.1 \
-SUTCP4,SEGA\nIQUI AAAC\n";
-
-/// Answers whether bob was told of ana as one of three visits tells: to the end, to the login, to neither.
-fn is_told(bob: &[u8]) -> bool {
-    bob.is_empty() || bob == LOGIN_ALONE || bob == WHOLE
-}
-
-/// A visit: how it ended, what ana got of it, and what bob.
+/// What is said and heard of a visit where nothing goes wrong, and what bob hears where ana does not get to say anything.
 #[derive(Drop)]
-struct Heard {
-    end: End,
-    ana: Wire,
-    bob: Vec<u8>,
+struct Visit {
+    ana: Transcript,
+    bob: Transcript,
+    bobs_login: Transcript,
+    login_alone: Transcript,
 }
 
-/// Plays a visit: bob is there; ana enters and says hi, byte by byte, and something goes wrong.
-fn play(rt: &impl Abort, alloc: Global, task: &MockTask, trouble: Trouble) -> Heard {
-    let wire = Wire::new(rt, alloc, ANA, 1).with_trouble(trouble);
-    let (end, ana, mut left) = meet(rt, alloc, task, Some(BOB), wire, Rung::Never);
-    let bob = left.heard(rt, alloc);
-    drop(left);
-    Heard { end, ana, bob }
-}
-
-/// Compares what ana and bob got of a visit.
-fn is_heard(rt: &impl Abort, heard: &Heard) {
-    let sent = heard.ana.sent_bytes();
-    let bob = &heard.bob;
-    begins(rt, sent, ANA_GETS);
-    assert!(rt; is_told(bob), "{bob:?}");
-    if heard.end == End::Closed {
-        are_same(rt, sent, ANA_GETS);
-        are_same(rt, bob, WHOLE);
-    }
-}
-
-/// Plays a visit, once more where memory was refused, and tells how it ended.
-fn visit(rt: &impl Abort, alloc: Global, task: &MockTask, trouble: Trouble) -> End {
-    for _ in 0..2 {
-        let heard = play(rt, alloc, task, trouble);
-        is_heard(rt, &heard);
-        let end = heard.end;
-        drop(heard);
-        if end != End::Memory {
-            return end;
+impl Visit {
+    fn new(rt: &impl Abort, alloc: Global) -> Visit {
+        Visit {
+            ana: told(rt, alloc, VISIT, "ana"),
+            bob: told(rt, alloc, VISIT, "bob"),
+            bobs_login: told(rt, alloc, BOBS_LOGIN, "bob"),
+            login_alone: told(rt, alloc, LOGIN_ALONE, "bob"),
         }
     }
-    refused_twice(rt)
+
+    /// Answers whether bob was told of ana as one of three visits tells: to the end, to the login, to neither.
+    fn is_told(&self, bob: &[u8]) -> bool {
+        bob.is_empty()
+            || bob == self.login_alone.heard.as_slice()
+            || bob == self.bob.heard.as_slice()
+    }
+
+    /// Plays a visit: bob is there; ana enters and says hi, byte by byte, and something goes wrong. Compares what both got, and tells how it ended.
+    fn play(&self, rt: &impl Abort, alloc: Global, task: &MockTask, trouble: Trouble) -> End {
+        let wire = Wire::new(rt, alloc, &self.ana.said, 1).with_trouble(trouble);
+        let login = self.bobs_login.said.strip_suffix(b"\n".as_slice());
+        let (end, ana, mut left) = meet(rt, alloc, task, login, wire, Rung::Never);
+        let bob = left.heard(rt, alloc);
+        drop(left);
+        begins(rt, ana.sent_bytes(), &self.ana.heard);
+        assert!(rt; self.is_told(&bob), "{bob:?}");
+        if end == End::Closed {
+            are_same(rt, ana.sent_bytes(), &self.ana.heard);
+            are_same(rt, &bob, &self.bob.heard);
+        }
+        drop(bob);
+        drop(ana);
+        end
+    }
+
+    /// Plays a visit, once more where memory was refused, and tells how it ended.
+    fn ends(&self, rt: &impl Abort, alloc: Global, task: &MockTask, trouble: Trouble) -> End {
+        for _ in 0..2 {
+            let end = self.play(rt, alloc, task, trouble);
+            if end != End::Memory {
+                return end;
+            }
+        }
+        refused_twice(rt)
+    }
 }
 
-/// Makes the first call go wrong, then the second, and so on, up to a visit in which nothing does.
-fn visits(rt: &impl Abort, alloc: Global, task: &MockTask, kind: Kind, end: End) -> u32 {
+/// Makes the first call go wrong, then the second, and so on, up to a visit in which nothing does. It has to be as far behind all that ana
+/// says, or hears, as this.
+fn visits<R: Machine + RandomSource>(rt: &R, kind: Kind, end: End, behind: usize) {
+    let task = new_task(rt);
+    let visit = Visit::new(rt, rt.alloc());
+    let bytes = match kind {
+        Kind::Read => visit.ana.said.len(),
+        _ => visit.ana.heard.len(),
+    };
+    let calls = calls_of(rt, rt.alloc(), &task, &visit, kind, end);
+    are_so_many(rt, 0, calls as usize, bytes.saturating_add(behind));
+    drop(visit);
+    drop(task);
+}
+
+fn calls_of(
+    rt: &impl Abort,
+    alloc: Global,
+    task: &MockTask,
+    visit: &Visit,
+    kind: Kind,
+    end: End,
+) -> u32 {
     for call in 1..1_000u32 {
         let trouble = match kind {
             Kind::Read => Trouble::Read(call),
             Kind::Write => Trouble::Write(call),
             Kind::Full => Trouble::Full(call),
         };
-        let ended = visit(rt, alloc, task, trouble);
+        let ended = visit.ends(rt, alloc, task, trouble);
         if ended == End::Closed {
             return call;
         }
@@ -107,24 +138,15 @@ fn is_end_of(rt: &impl Abort, call: u32, end: End, wanted: End) {
 
 #[test]
 fn any_read_may_fail(rt: HostRuntime) {
-    let task = new_task(&rt);
-    let calls = visits(&rt, rt.alloc(), &task, Kind::Read, End::ReadFailed);
-    are_so_many(&rt, 0, calls as usize, ANA.len() + 2);
-    drop(task);
+    visits(&rt, Kind::Read, End::ReadFailed, 2);
 }
 
 #[test]
 fn any_write_may_fail(rt: HostRuntime) {
-    let task = new_task(&rt);
-    let calls = visits(&rt, rt.alloc(), &task, Kind::Write, End::WriteFailed);
-    are_so_many(&rt, 0, calls as usize, ANA_GETS.len() + 1);
-    drop(task);
+    visits(&rt, Kind::Write, End::WriteFailed, 1);
 }
 
 #[test]
 fn any_write_may_take_nothing(rt: HostRuntime) {
-    let task = new_task(&rt);
-    let calls = visits(&rt, rt.alloc(), &task, Kind::Full, End::WriteFailed);
-    are_so_many(&rt, 0, calls as usize, ANA_GETS.len() + 1);
-    drop(task);
+    visits(&rt, Kind::Full, End::WriteFailed, 1);
 }

@@ -1,5 +1,5 @@
 use crate::hub::{Hub, shared_setup};
-use crate::refusal::holds;
+use crate::refusal::{holds, spell};
 use crate::refused::halls::LOGINS;
 use hub_core::{
     Answer, Ask, Asked, Conn, Core, Options, PlainOptions, Setup, Totals, Verdict, run_calls,
@@ -26,12 +26,12 @@ fn open(rt: &impl Abort, alloc: Global) -> Hub {
 }
 
 /// Joins, and logs in by this line.
-fn enters(rt: &impl Abort, hub: &mut Hub, login: &[u8]) -> Conn {
+fn enters(rt: &impl Abort, alloc: Global, hub: &mut Hub, login: &str) -> Conn {
     let Ok(connection) = hub.join(rt) else {
         panic!(rt; "not admitted")
     };
     says(rt, hub, connection, b"HSUP ADBASE ADTIGR");
-    says(rt, hub, connection, login);
+    says(rt, hub, connection, &spell(rt, alloc, login, 0));
     connection
 }
 
@@ -63,15 +63,15 @@ fn tells(rt: &(impl Abort + Print), hub: &Hub) {
 #[test]
 fn a_line_to_three(rt: HostRuntime) {
     let mut hub = open(&rt, rt.alloc());
-    three_talk(&rt, &mut hub);
+    three_talk(&rt, rt.alloc(), &mut hub);
     tells(&rt, &hub);
     drop(hub);
 }
 
-fn three_talk(rt: &impl Abort, hub: &mut Hub) {
-    let ana = enters(rt, hub, LOGINS[0]);
-    let bob = enters(rt, hub, LOGINS[1]);
-    let cy = enters(rt, hub, LOGINS[2]);
+fn three_talk(rt: &impl Abort, alloc: Global, hub: &mut Hub) {
+    let ana = enters(rt, alloc, hub, LOGINS[0]);
+    let bob = enters(rt, alloc, hub, LOGINS[1]);
+    let cy = enters(rt, alloc, hub, LOGINS[2]);
     let greeting = b"?ISUP ADBASE ADTIGR ADPING ADUCMD\nISID AAA".as_slice();
     hears(rt, hub, ana, greeting);
     hears(rt, hub, bob, greeting);

@@ -5,12 +5,13 @@ ghost use Rattle.hub_rules.specs.Prepared.{prepared_line};
 ghost use Rattle.session_hash.specs.First24.{first_24};
 
 use crate::hub::shared_setup;
+use crate::refusal::spell;
 use hub_core::{
     JoinRefused, LineRefused, Look, Options, PlainOptions, Prepared, Setup, Stage, TakeRefused,
     Taken, Verdict, prepare,
 };
 use hub_shared::{Host, Hub, Pass, Visitor};
-use second_try::{again, once, tell};
+use second_try::{GREETS, again, once, tell};
 use session_hash::First24;
 use std::alloc::Global;
 use std::io::Print;
@@ -194,7 +195,7 @@ pub(crate) fn join_and_login<R: Wait + Abort + Print>(
     alloc: Global,
     hall: &Hall,
     visitor: Visitor<First24>,
-    login: &[u8],
+    login: &str,
 ) -> Guest
     requires { visitor.home ≡ hall.now.hub.home }
     ensures { result.pass.home ≡ hall.now.hub.home }
@@ -207,10 +208,11 @@ pub(crate) fn join_and_login<R: Wait + Abort + Print>(
         alloc,
         hall,
         &mut guest,
-        b"HSUP ADBASE ADTIGR",
+        GREETS.as_bytes(),
         Verdict::Kept,
     );
-    says(rt, alloc, hall, &mut guest, login, Verdict::Kept);
+    let login = spell(rt, alloc, login, 0);
+    says(rt, alloc, hall, &mut guest, &login, Verdict::Kept);
     guest
 }
 

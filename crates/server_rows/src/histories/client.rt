@@ -2,7 +2,7 @@
 ghost use Rattle.std.specs.Prelude.{◌≡◌, Some, ⊤};
 
 use crate::histories::clock::StillClock;
-use crate::histories::play::{Deed, Step};
+use crate::histories::play::{Act, Step};
 use crate::histories::record::Desk;
 use crate::sessions::begin;
 use adc_sessions::{Port, Session};
@@ -44,14 +44,14 @@ impl<R: Wait> Wire<'_, R> {
             if step.who != self.who {
                 continue;
             }
-            match step.deed {
-                Deed::Joins(_) => {}
-                Deed::Says(line) => {
+            match step.act {
+                Act::Joins(_) => {}
+                Act::Says(line) => {
                     self.desk.set_clock(step.moment);
                     self.rest = line;
                     return;
                 }
-                Deed::Leaves => {
+                Act::Leaves => {
                     self.is_over = true;
                     return;
                 }
@@ -191,7 +191,7 @@ pub(crate) fn joins<'a, B: OfHub<First24>, S: AsyncRead + AsyncWrite, R: Wait>(
 ) -> Option<Option<Talk<'a, B, S, R>>>
     requires { B.home ≡ Some hub.now.home }
 {
-    let Deed::Joins(address) = step.deed else {
+    let Act::Joins(address) = step.act else {
         return None;
     };
     let Guest { visitor, .. } = guest;

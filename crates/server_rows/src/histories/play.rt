@@ -5,11 +5,13 @@ use crate::histories::client::{Guest, Talk, joins};
 use crate::histories::clock::StillClock;
 use crate::histories::polls::{are_over, go_round, goes_to_end};
 use crate::histories::record::Desk;
+use crate::machine::ServerMachine;
 use futures::test::MockTask;
 use history_check::Entry;
 use hub_core::Setup;
 use hub_server::{OfHub, Server};
 use hub_shared::{Host, Hub};
+use second_try::Deed;
 use session_hash::First24;
 use std::alloc::{AllocGlobal, Global};
 use std::marker::Brand;
@@ -23,9 +25,9 @@ use tokio::net::TcpStream;
 /// The number of clients of a conversation at most.
 const CLIENTS: usize = 4;
 
-/// The deed of a step.
+/// What a client does in a step.
 #[derive(Clone, Copy)]
-pub(crate) enum Deed<'a> {
+pub(crate) enum Act<'a> {
     /// Joins from this address.
     Joins([u8; 4]),
     /// Says this line, with its line feed.
@@ -39,7 +41,7 @@ pub(crate) enum Deed<'a> {
 pub(crate) struct Step<'a> {
     pub(crate) moment: u64,
     pub(crate) who: u64,
-    pub(crate) deed: Deed<'a>,
+    pub(crate) act: Act<'a>,
 }
 
 /// The threads on which the clients are.
@@ -51,44 +53,55 @@ pub(crate) enum Way {
     Apart,
 }
 
-/// Reads a conversation, a step a line: the moment, the number of the client, and `joins` with an address, `says` with a
-/// line, or `leaves`. Clients have the numbers from 1 on, in the order in which they join.
-pub(crate) fn read_steps(alloc: Global, text: &str) -> Option<Vec<Step<'_>>> {
+/// Reads a conversation, a step a line, of who joins from an address, says a line, or leaves. Clients have the numbers from 1 on, in the order
+/// in which they join.
+fn read_steps(alloc: Global, text: &str) -> Option<Vec<Step<'_>>> {
+    let mut names = Vec::new(alloc);
     let mut steps = Vec::new(alloc);
     for line in text.split_inclusive('\n') {
-        steps.push(read_step(line)?).ok()?;
+        if line == "\n" {
+            continue;
+        }
+        let told = second_try::Step::read(line.trim_end())?;
+        for name in told.who.split(" and ") {
+            if told.deed == Deed::Joins {
+                names.push(name).ok()?;
+            }
+            let place = names.iter().position(|known| *known == name)?;
+            steps
+                .push(Step {
+                    moment: told.moment,
+                    who: place.wrapping_add(1) as u64,
+                    act: act_of(told, line)?,
+                })
+                .ok()?;
+        }
     }
     Some(steps)
 }
 
-fn read_step(line: &str) -> Option<Step<'_>> {
-    let (moment, rest) = line.split_once(' ')?;
-    let (who, rest) = rest.split_once(' ')?;
-    let deed = if rest == "leaves\n" {
-        Deed::Leaves
-    } else {
-        let (verb, rest) = rest.split_once(' ')?;
-        match verb {
-            "joins" => {
-                let address = rest.strip_suffix("\n")?;
-                Deed::Joins(Ipv4Addr::parse_ascii(address.as_bytes()).ok()?.octets())
-            }
-            "says" => Deed::Says(rest.as_bytes()),
-            _ => return None,
+fn act_of<'a>(told: second_try::Step<'a>, line: &'a str) -> Option<Act<'a>> {
+    match told.deed {
+        Deed::Leaves => Some(Act::Leaves),
+        Deed::Joins => {
+            let address = Ipv4Addr::parse_ascii(told.line.as_bytes()).ok()?;
+            Some(Act::Joins(address.octets()))
         }
-    };
-    Some(Step {
-        moment: moment.parse().ok()?,
-        who: who.parse().ok()?,
-        deed,
-    })
+        Deed::Says => {
+            let start = line.len().checked_sub(told.line.len().wrapping_add(1))?;
+            Some(Act::Says(line.as_bytes().get(start..)?))
+        }
+        _ => None,
+    }
 }
 
 /// Plays a conversation on a hub of its own, and gives the history that was recorded; nothing where memory was refused.
-pub(crate) fn plays<R>(rt: &R, text: &str, setup: &Arc<Setup>, way: Way) -> Option<Vec<Entry>>
-where
-    R: Wait + Threads + RandomSource + AllocGlobal + Sync,
-{
+pub(crate) fn plays<R: ServerMachine>(
+    rt: &R,
+    text: &str,
+    setup: &Arc<Setup>,
+    way: Way,
+) -> Option<Vec<Entry>> {
     let steps = read_steps(rt.alloc(), text)?;
     let desk = Desk::new(rt.alloc());
     let (hub, mut host) = Hub::open(rt.alloc(), setup.clone().ok()?, &First24).ok()?;
@@ -97,7 +110,12 @@ where
 }
 
 /// Plays these steps on this hub, whose host has admitted nobody.
-fn converses<'a, B: OfHub<First24> + Send + Sync, S: AsyncRead + AsyncWrite + Send, R>(
+fn converses<
+    'a,
+    B: OfHub<First24> + Send + Sync,
+    S: AsyncRead + AsyncWrite + Send,
+    R: ServerMachine,
+>(
     rt: &R,
     hub: &'a Hub<First24>,
     host: &mut Host<First24>,
@@ -106,8 +124,6 @@ fn converses<'a, B: OfHub<First24> + Send + Sync, S: AsyncRead + AsyncWrite + Se
     steps: &'a [Step<'a>],
     way: Way,
 ) -> Option<()>
-where
-    R: Wait + Threads + RandomSource + AllocGlobal + Sync,
     requires here { B.home ≡ Some hub.now.home }
     requires timed { (moment : ℕ) → ∥ B.tells moment ∥₁ }
     requires host { host.old ≡ record { home = hub.now.home; admitted = 0 } }
@@ -146,7 +162,12 @@ fn admits<B: OfHub<First24>>(
 
 /// Makes the steps one after the other. On one thread its client goes on as far as it can after each, and then all others;
 /// otherwise each goes on by itself once all have joined, on a thread of its own.
-fn make_steps<'a, B: OfHub<First24> + Send + Sync, S: AsyncRead + AsyncWrite + Send, R>(
+fn make_steps<
+    'a,
+    B: OfHub<First24> + Send + Sync,
+    S: AsyncRead + AsyncWrite + Send,
+    R: ServerMachine,
+>(
     rt: &R,
     hub: &Hub<First24>,
     server: &'a Server<'a, B, S, First24, StillClock<R>>,
@@ -155,15 +176,13 @@ fn make_steps<'a, B: OfHub<First24> + Send + Sync, S: AsyncRead + AsyncWrite + S
     way: Way,
     guests: Vec<Guest<B>>,
 ) -> Option<()>
-where
-    R: Wait + Threads + RandomSource + AllocGlobal + Sync,
     requires { B.home ≡ Some hub.now.home }
 {
     let mut guests = guests;
     let task = MockTask::new(rt).ok()?;
     let mut talks = Vec::new(rt.alloc());
     for (place, step) in steps.iter().enumerate() {
-        if let Deed::Joins(_) = step.deed {
+        if let Act::Joins(_) = step.act {
             let guest = guests.pop()?;
             let talk = joins(rt.alloc(), hub, server, desk, steps, *step, guest)?;
             talks.push(talk).ok()?;

@@ -1,16 +1,10 @@
 // The program over memory: what it is asked for, and what it leaves.
+use crate::machine::ProgramMachine;
 use hub_program::{Counting, program};
 use second_try::again;
-use std::alloc::{AllocError, AllocGlobal, Global};
-use std::env::Env;
-use std::fs::Files;
+use std::alloc::{AllocError, Global};
 use std::io::{self, Read, Write};
-use std::net::Net;
 use std::process::Abort;
-use std::random::RandomSource;
-use std::sync::Wait;
-use std::thread::Threads;
-use std::time::Clock;
 
 /// The file of the program that fails at each call.
 #[derive(Clone, Copy, Debug, PartialEq)]
@@ -43,15 +37,15 @@ impl Read for Input<'_> {
 
 /// Standard output or error.
 #[derive(Drop)]
-struct Output {
-    got: Vec<u8>,
+pub(crate) struct Output {
+    pub(crate) got: Vec<u8>,
     is_broken: bool,
     calls: usize,
 }
 
 impl Output {
     /// Makes one with room for all that these tests write, so that no write asks for memory.
-    fn new(alloc: Global, is_broken: bool) -> Result<Output, AllocError> {
+    pub(crate) fn new(alloc: Global, is_broken: bool) -> Result<Output, AllocError> {
         Ok(Output {
             got: Vec::with_capacity(alloc, 1024)?,
             is_broken,
@@ -94,11 +88,7 @@ fn strings(alloc: Global, words: &[&str]) -> Result<Vec<String>, AllocError> {
 }
 
 /// Runs the program with a greeting for its input.
-fn attempt<T: Wait + Threads + Clock + Net + RandomSource + AllocGlobal + Files + Env + Sync>(
-    rt: &T,
-    words: &[&str],
-    broken: Broken,
-) -> Result<Left, AllocError> {
+fn attempt<T: ProgramMachine>(rt: &T, words: &[&str], broken: Broken) -> Result<Left, AllocError> {
     let words = strings(rt.alloc(), words)?;
     let mut input = Counting::new(Input {
         rest: b"HSUP ADBASE ADTIGR\n",
@@ -115,11 +105,7 @@ fn attempt<T: Wait + Threads + Clock + Net + RandomSource + AllocGlobal + Files 
 }
 
 /// Runs the program, and once more where memory was refused, as it then says.
-fn run<T: Wait + Threads + Clock + Net + RandomSource + AllocGlobal + Files + Env + Sync + Abort>(
-    rt: &T,
-    words: &[&str],
-    broken: Broken,
-) -> Left {
+fn run<T: ProgramMachine>(rt: &T, words: &[&str], broken: Broken) -> Left {
     if let Ok(left) = attempt(rt, words, broken) {
         if left.status != 4 {
             return left;
@@ -131,9 +117,14 @@ fn run<T: Wait + Threads + Clock + Net + RandomSource + AllocGlobal + Files + En
 }
 
 /// Stops the test unless the program, asked like this, leaves just that. Where it says nothing, it does not try to.
-pub(crate) fn asks<
-    T: Wait + Threads + Clock + Net + RandomSource + AllocGlobal + Files + Env + Sync + Abort,
->(rt: &T, words: &[&str], broken: Broken, status: u8, output: &[u8], errors: &[u8]) {
+pub(crate) fn asks<T: ProgramMachine>(
+    rt: &T,
+    words: &[&str],
+    broken: Broken,
+    status: u8,
+    output: &[u8],
+    errors: &[u8],
+) {
     let left = run(rt, words, broken);
     let asked = Asked { words, broken };
     asked.holds(rt, left.status == status, "status");

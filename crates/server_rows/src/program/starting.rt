@@ -1,15 +1,11 @@
 // A server that is not started, and why.
+use crate::machine::ProgramMachine;
 use crate::program::asking::{Broken, asks};
 use second_try::again;
 use std::alloc::AllocGlobal;
-use std::env::Env;
 use std::fs::{self, Files};
-use std::net::Net;
 use std::process::Abort;
 use std::random::RandomSource;
-use std::sync::Wait;
-use std::thread::Threads;
-use std::time::Clock;
 
 /// A file that no other run of these tests has.
 #[derive(Drop)]
@@ -49,9 +45,7 @@ impl Scratch {
     }
 
     /// Stops the test unless the program, asked to serve the hub of this file, ends by this status, and says just this.
-    fn refuses<
-        R: Wait + Threads + Clock + Net + RandomSource + AllocGlobal + Files + Env + Sync + Abort,
-    >(&self, rt: &R, status: u8, said: &[u8]) {
+    fn refuses<R: ProgramMachine>(&self, rt: &R, status: u8, said: &[u8]) {
         asks(
             rt,
             &["serve", self.path.as_str()],

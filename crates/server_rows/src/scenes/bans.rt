@@ -11,19 +11,14 @@ const THREE_JOINED: &[u8] = b"\njoins 3 present 0\n";
 const BAN: &str = "\
 ana says HMSG !ban\\sbob\\s1
 bob hears IQUI AAAC IDAAAB TL1
-bob hears-the-end
+bob hears the end
 ana hears IQUI AAAC IDAAAB TL1
 ana hears ISTA 000 Done
 a second passes
-bob connects
-bob says HSUP ADBASE ADTIGR
-bob hears ISUP ADBASE ADTIGR ADPING ADUCMD
-bob hears ISID AAAD
-bob hears IINF CT32 NIHub VEadc-hub\\s1.0
-bob says BINF AAAD IDAAAAAAAAAAAAAAAAAAAAAAAAAAAAAAAAAAAAAAI PDAAAAAAAAAAAAAAAAAAAAAAAAAAAAAAAAAAAAAAI NIbob
-bob hears BINF AAAB IDAAAAAAAAAAAAAAAAAAAAAAAAAAAAAAAAAAAAAAA NIop CT4
-bob hears BINF AAAD IDAAAAAAAAAAAAAAAAAAAAAAAAAAAAAAAAAAAAAAI NIbob
-ana hears BINF AAAD IDAAAAAAAAAAAAAAAAAAAAAAAAAAAAAAAAAAAAAAI NIbob
+bob is greeted AAAD
+bob says BINF AAAD ID<P1> PD<P1> NIbob
+bob hears BINF AAAB ID<P0> NIop CT4
+bob and ana hear BINF AAAD ID<P1> NIbob
 ";
 
 #[test]

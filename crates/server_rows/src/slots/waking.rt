@@ -4,7 +4,8 @@ use adc_sessions::Bell;
 use connection_slots::{Amount, BURST, FAR_BEHIND, LITTLE, PATIENCE, Wakers};
 use futures::test::MockTask;
 use hub_server::SlotBell;
-use std::alloc::AllocGlobal;
+use second_try::again;
+use std::alloc::{AllocError, AllocGlobal};
 use std::process::Abort;
 use std::random::RandomSource;
 
@@ -47,13 +48,7 @@ impl Waiters {
     }
 
     fn new<R: Abort + RandomSource + AllocGlobal>(rt: &R) -> Waiters {
-        let waiters = match Waiters::try_new(rt) {
-            Some(waiters) => waiters,
-            None => match Waiters::try_new(rt) {
-                Some(waiters) => waiters,
-                None => panic!(rt; "refused twice"),
-            },
-        };
+        let waiters = again!(rt; Waiters::try_new(rt).ok_or(AllocError));
         waiters.all_wait(rt);
         waiters
     }
@@ -130,13 +125,7 @@ fn a_wake_that_nobody_waits_for_is_heard(rt: HostRuntime) {
 #[test]
 fn a_call_for_help_wakes_the_accepting_task(rt: HostRuntime) {
     let waiters = Waiters::new(&rt);
-    let helper = match MockTask::new(&rt) {
-        Ok(task) => task,
-        Err(_) => match MockTask::new(&rt) {
-            Ok(task) => task,
-            Err(_) => panic!(&rt; "refused twice"),
-        },
-    };
+    let helper = again!(&rt; MockTask::new(&rt));
     helper.enter(|cx| waiters.wakers.wait_to_help(cx));
     assert!(&rt; !helper.is_woken());
     waiters.wakers.call_for_help(0);

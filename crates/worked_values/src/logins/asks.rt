@@ -1,11 +1,10 @@
 use super::say_check;
-use crate::rows::{Part, number, pair, play, unknown};
+use crate::rows::{Part, Row, number, rows, unknown};
 use login_state::{
-    Account, Address, Admission, Ban, CHECKED, Check, Claim, EntryAsk, Identity, InfAsk, Required,
-    Size, UpdateAsk, Validity, check_entry, check_inf, check_update,
+    Account, Address, Admission, Ban, CHECKED, Claim, EntryAsk, Identity, InfAsk, Required, Size,
+    UpdateAsk, Validity, check_entry, check_inf, check_update,
 };
-use std::alloc::AllocGlobal;
-use std::io::Print;
+use second_try::Machine;
 use std::process::Abort;
 
 /// A login with which everything is wrong at first; each row but the first mends something and asks again.
@@ -15,26 +14,19 @@ struct Login {
 }
 
 impl Part for Login {
-    fn call<R: Abort + AllocGlobal + Print>(
-        &mut self,
-        rt: &R,
-        name: &str,
-        text: &str,
-        _bytes: &[u8],
-        said: &mut Vec<u8>,
-    ) {
-        match name {
+    fn call(&mut self, rt: &impl Machine, row: Row<'_>, said: &mut Vec<u8>) {
+        match row.name {
             "asks" => {}
             "words" => self.ask.words = Validity::Good,
-            "id" => self.ask.id = required_of(rt, text),
-            "pid" => self.ask.pid = required_of(rt, text),
-            "nick" => self.ask.nick = required_of(rt, text),
+            "id" => self.ask.id = required_of(rt, row.text),
+            "pid" => self.ask.pid = required_of(rt, row.text),
+            "nick" => self.ask.nick = required_of(rt, row.text),
             "share_size" => self.ask.values[0] = Validity::Good,
             "shared_files" => self.ask.values[1] = Validity::Good,
             "identity" => self.ask.identity = Identity::Own,
             "address" => self.ask.address = Address::Right,
             "admission" => self.ask.admission = Admission::Admitted,
-            _ => self.ask.entry = entry(rt, name, text),
+            _ => self.ask.entry = entry(rt, row.name, row.text),
         }
         say_check(rt, said, check_inf(&self.ask));
     }
@@ -78,10 +70,7 @@ fn checks_a_login_in_order(rt: HostRuntime) {
         admission: Admission::RegisteredOnly,
         entry: entry(&rt, "ever", "both"),
     };
-    play(
-        &rt,
-        &mut Login { ask },
-        r"
+    rows! { rt, Login { ask }, r"
         asks -> ISTA 140 Protocol\serror
         words -> ISTA 243 INF\sfield\smissing FMID
         id bad -> ISTA 243 INF\sfield\smissing FMPD
@@ -99,8 +88,7 @@ fn checks_a_login_in_order(rt: HostRuntime) {
         admission -> ISTA 222 Nick\staken
         free cid -> ISTA 224 CID\staken
         free none -> Go
-    ",
-    );
+    " }
 }
 
 /// An update with which everything is wrong at first; each row but the first mends something and asks again.
@@ -110,15 +98,8 @@ struct Renewal {
 }
 
 impl Part for Renewal {
-    fn call<R: Abort + AllocGlobal + Print>(
-        &mut self,
-        rt: &R,
-        name: &str,
-        _text: &str,
-        _bytes: &[u8],
-        said: &mut Vec<u8>,
-    ) {
-        match name {
+    fn call(&mut self, rt: &impl Machine, row: Row<'_>, said: &mut Vec<u8>) {
+        match row.name {
             "asks" => {}
             "words" => self.ask.words = Validity::Good,
             "identity" => self.ask.identity = Identity::Own,
@@ -129,7 +110,7 @@ impl Part for Renewal {
             "address" => self.ask.address = Address::Right,
             "size" => self.ask.size = Size::Fits,
             "nick_claim" => self.ask.nick_claim = Claim::Free,
-            _ => unknown(rt, name),
+            _ => unknown(rt, row.name),
         }
         say_check(rt, said, check_update(&self.ask));
     }
@@ -147,10 +128,7 @@ fn checks_an_update_in_order(rt: HostRuntime) {
         size: Size::TooMany,
         nick_claim: Claim::Taken,
     };
-    play(
-        &rt,
-        &mut Renewal { ask },
-        r"
+    rows! { rt, Renewal { ask }, r"
         asks -> ISTA 140 Protocol\serror
         words -> ISTA 143 INF\sfield\sbad FBID
         identity -> ISTA 143 INF\sfield\sbad FBSS
@@ -161,8 +139,7 @@ fn checks_an_update_in_order(rt: HostRuntime) {
         address -> ISTA 140 Protocol\serror
         size -> ISTA 122 Nick\staken
         nick_claim -> Go
-    ",
-    );
+    " }
 }
 
 /// The questions that are asked once more at the entry.
@@ -170,29 +147,18 @@ fn checks_an_update_in_order(rt: HostRuntime) {
 struct LastAsk;
 
 impl Part for LastAsk {
-    fn call<R: Abort + AllocGlobal + Print>(
-        &mut self,
-        rt: &R,
-        name: &str,
-        text: &str,
-        _bytes: &[u8],
-        said: &mut Vec<u8>,
-    ) {
-        say_check(rt, said, check_entry(&entry(rt, name, text)));
+    fn call(&mut self, rt: &impl Machine, row: Row<'_>, said: &mut Vec<u8>) {
+        say_check(rt, said, check_entry(&entry(rt, row.name, row.text)));
     }
 }
 
 #[test]
 fn checks_once_more_at_entry(rt: HostRuntime) {
-    play(
-        &rt,
-        &mut LastAsk,
-        r"
+    rows! { rt, LastAsk, r"
         ever both -> ISTA 231 Banned
         7 both -> ISTA 232 Banned TL7
         free both -> ISTA 222 Nick\staken
         free cid -> ISTA 224 CID\staken
         free none -> Go
-    ",
-    );
+    " }
 }

@@ -1,8 +1,7 @@
 use super::say_denial;
-use crate::rows::{Part, number, pair, play, unknown};
+use crate::rows::{Part, Row, number, pair, rows, unknown};
 use login_state::{Deny, NamedField, Severity};
-use std::alloc::AllocGlobal;
-use std::io::Print;
+use second_try::Machine;
 use std::process::Abort;
 
 /// The words that a client is told that is refused something.
@@ -10,19 +9,12 @@ use std::process::Abort;
 pub(crate) struct Denials;
 
 impl Part for Denials {
-    fn call<R: Abort + AllocGlobal + Print>(
-        &mut self,
-        rt: &R,
-        name: &str,
-        text: &str,
-        _bytes: &[u8],
-        said: &mut Vec<u8>,
-    ) {
-        let deny = match name {
-            "fatal" => denial_of(rt, Severity::Fatal, text),
-            "recoverable" => denial_of(rt, Severity::Recoverable, text),
-            "login" => login_denied(rt, text),
-            _ => act_denied(rt, text),
+    fn call(&mut self, rt: &impl Machine, row: Row<'_>, said: &mut Vec<u8>) {
+        let deny = match row.name {
+            "fatal" => denial_of(rt, Severity::Fatal, row.text),
+            "recoverable" => denial_of(rt, Severity::Recoverable, row.text),
+            "login" => login_denied(rt, row.text),
+            _ => act_denied(rt, row.text),
         };
         say_denial(rt, said, deny);
     }
@@ -83,10 +75,7 @@ fn act_denied(rt: &impl Abort, text: &str) -> Deny {
 
 #[test]
 fn writes_each_denial(rt: HostRuntime) {
-    play(
-        &rt,
-        &mut Denials,
-        r"
+    rows! { rt, Denials, r"
         act Protocol -> ISTA 140 Protocol\serror
         login WrongSid -> ISTA 240 Wrong\sSID
         act BadStage BMSG -> ISTA 144 Invalid\sstate FCBMSG
@@ -117,6 +106,5 @@ fn writes_each_denial(rt: HostRuntime) {
         recoverable BadNick -> ISTA 121 Invalid\snick
         recoverable Address 127.0.0.1 -> ISTA 146 Wrong\saddress I4127.0.0.1
         recoverable NickTaken -> ISTA 122 Nick\staken
-    ",
-    );
+    " }
 }

@@ -1,12 +1,11 @@
 use super::say_check;
 use crate::lines::line;
 use crate::rows::{
-    Part, pair, play, say, say_bytes, say_refused_memory, say_whether, small, unknown,
+    Part, Row, pair, play, rows, say, say_bytes, say_refused_memory, say_whether, small, unknown,
 };
 use login_state::{Feature, Features, SupFault, check_sup};
-use second_try::again;
-use std::alloc::{AllocError, AllocGlobal, Global};
-use std::io::Print;
+use second_try::{Machine, again};
+use std::alloc::{AllocError, Global};
 use std::process::Abort;
 
 /// The features that a client says it supports.
@@ -16,30 +15,23 @@ pub(crate) struct Supports {
 }
 
 impl Part for Supports {
-    fn call<R: Abort + AllocGlobal + Print>(
-        &mut self,
-        rt: &R,
-        name: &str,
-        text: &str,
-        _bytes: &[u8],
-        said: &mut Vec<u8>,
-    ) {
-        match name {
+    fn call(&mut self, rt: &impl Machine, row: Row<'_>, said: &mut Vec<u8>) {
+        match row.name {
             "none" => self.features = Features::new(rt.alloc()),
-            "says" => self.says(rt, text, said),
-            "many" => self.says(rt, &many(rt, text), said),
+            "says" => self.says(rt, row.text, said),
+            "many" => self.says(rt, &many(rt, row.text), said),
             "ends" => say_check(rt, said, check_sup(&self.features)),
-            "has" => say_whether(rt, said, self.features.has(feature(rt, text))),
-            "named" => say_feature(rt, said, find_feature(text)),
-            "known" => say_bytes(rt, said, &feature_of(rt, text).name()),
-            _ => unknown(rt, name),
+            "has" => say_whether(rt, said, self.features.has(feature(rt, row.text))),
+            "named" => say_feature(rt, said, find_feature(row.text)),
+            "known" => say_bytes(rt, said, &feature_of(rt, row.text).name()),
+            _ => unknown(rt, row.name),
         }
     }
 }
 
 impl Supports {
     /// Applies another line SUP. Where it is refused, the features are those before.
-    fn says(&mut self, rt: &(impl Abort + AllocGlobal + Print), text: &str, said: &mut Vec<u8>) {
+    fn says(&mut self, rt: &impl Machine, text: &str, said: &mut Vec<u8>) {
         let line = line(rt, text.as_bytes());
         let base = self.features.has(Feature::base());
         let answer = match self.features.apply(rt.alloc(), line.params()) {
@@ -60,7 +52,7 @@ impl Supports {
 }
 
 /// Writes a SUP that adds so many features, `X000` and so on, with these words behind it.
-fn many(rt: &(impl Abort + AllocGlobal), text: &str) -> String {
+fn many(rt: &impl Machine, text: &str) -> String {
     let (count, words) = pair(text, ' ');
     again!(rt; sup(rt.alloc(), small(rt, count), words))
 }
@@ -110,7 +102,7 @@ fn say_feature(rt: &impl Abort, said: &mut Vec<u8>, feature: Option<Feature>) {
     }
 }
 
-pub(crate) fn play_supports<R: Abort + AllocGlobal + Print>(rt: &R, rows: &str) {
+pub(crate) fn play_supports<R: Machine>(rt: &R, rows: &str) {
     play(
         rt,
         &mut Supports {
@@ -121,10 +113,9 @@ pub(crate) fn play_supports<R: Abort + AllocGlobal + Print>(rt: &R, rows: &str) 
 }
 
 #[test]
-fn greets_who_supports_base_and_tiger(rt: HostRuntime) {
-    play_supports(
-        &rt,
-        r"
+fn features_are_counted(rt: HostRuntime) {
+    rows! { play_supports(rt) r"
+        == greets who supports base and tiger ==
         says HSUP ADBASE ADTIGR -> <>
         ends -> Go
         none -> <>
@@ -146,52 +137,21 @@ fn greets_who_supports_base_and_tiger(rt: HostRuntime) {
         says HSUP RMBASE ADTIGR ADBASE RMTIGR ADTIGR -> <>
         ends -> Go
         none -> <>
-        says HSUP ADBASE ADTIGR -> <>
-        says HSUP RMTIGR -> <>
+        says HSUP ADBASE ADTIGR | HSUP RMTIGR -> <>
         ends -> ISTA 247 No\scommon\shash
         none -> <>
-        says HSUP ADTIGR -> <>
-        says HSUP ADBASE ADPING -> <>
-        says HSUP RMPING -> <>
+        says HSUP ADTIGR | HSUP ADBASE ADPING | HSUP RMPING -> <>
         ends -> Go
         none -> <>
-        says HSUP ADBASE ADTIGR -> <>
-        says HSUP RMBASE -> <>
-        says HSUP ADBASE -> <>
+        says HSUP ADBASE ADTIGR | HSUP RMBASE | HSUP ADBASE -> <>
         ends -> Go
-    ",
-    );
-}
-
-#[test]
-fn refuses_words_that_mention_nothing(rt: HostRuntime) {
-    play_supports(
-        &rt,
-        r"
-        says HSUP ADBASE TIGR -> Bad
-        says HSUP AD -> Bad
-        says HSUP ADBAS -> Bad
-        says HSUP ADBASEX -> Bad
-        says HSUP ADbase -> Bad
-        says HSUP AD1ASE -> Bad
-        says HSUP XXBASE -> Bad
-        says HSUP adBASE -> Bad
-        says HSUP DABASE -> Bad
-        says HSUP AMBASE -> Bad
-        says HSUP ADBA\s -> Bad
-    ",
-    );
-}
-
-#[test]
-fn counts_after_the_whole_line(rt: HostRuntime) {
-    play_supports(
-        &rt,
-        "
+        == refuses words that mention nothing ==
+        says HSUP ADBASE TIGR | HSUP AD | HSUP ADBAS | HSUP ADBASEX | HSUP ADbase | HSUP AD1ASE | HSUP XXBASE | HSUP adBASE -> Bad
+        says HSUP DABASE | HSUP AMBASE | HSUP ADBA\s -> Bad
+        == counts after the whole line ==
         many 65 -> TooMany
         many 64 -> <>
-        has X000 -> yes
-        has X063 -> yes
+        has X000 | X063 -> yes
         says HSUP ADBASE -> TooMany
         says HSUP ADX001 -> <>
         none -> <>
@@ -199,17 +159,8 @@ fn counts_after_the_whole_line(rt: HostRuntime) {
         has X000 -> no
         has X063 -> yes
         says HSUP ADX000 -> <>
-        has X000 -> yes
-        has X063 -> yes
-    ",
-    );
-}
-
-#[test]
-fn names_features(rt: HostRuntime) {
-    play_supports(
-        &rt,
-        "
+        has X000 | X063 -> yes
+        == names features ==
         known base -> BASE
         known tigr -> TIGR
         known ping -> PING
@@ -221,15 +172,8 @@ fn names_features(rt: HostRuntime) {
         named BAS0 -> BASE
         named UCM0 -> UCMD
         named bas0 -> none
-        has BASE -> no
-        has TIGR -> no
-        has PING -> no
-        has UCMD -> no
+        has BASE | TIGR | PING | UCMD -> no
         says HSUP ADBAS0 ADTIGR ADUCM0 ADPING -> <>
-        has BASE -> yes
-        has TIGR -> yes
-        has PING -> yes
-        has UCMD -> yes
-    ",
-    );
+        has BASE | TIGR | PING | UCMD -> yes
+    " }
 }

@@ -3,19 +3,15 @@ use crate::hashes::Hashes;
 use crate::identities::Identities;
 use crate::logins::denials::Denials;
 use crate::routing::Routing;
-use crate::rows::play;
+use crate::rows::{play, rows};
 
 #[test]
 fn base32(rt: HostRuntime) {
     // The last vector of RFC 4648, section 10.
-    play(
-        &rt,
-        &mut Base32,
-        "
+    rows! { rt, Base32, "
         encode foobar -> MZXW6YTBOI
         decode 6 MZXW6YTBOI -> foobar
-    ",
-    );
+    " }
 }
 
 #[test]
@@ -39,13 +35,8 @@ fn denials(rt: HostRuntime) {
 
 #[test]
 fn feature_sets(rt: HostRuntime) {
-    play(
-        &rt,
-        &mut Routing,
-        "
-        match +TCP4 TCP4,UDP4 -> yes
-        match +UDP4 TCP4,UDP4 -> yes
+    rows! { rt, Routing, "
+        match +TCP4 TCP4,UDP4 | +UDP4 TCP4,UDP4 -> yes
         match +SEGA TCP4,UDP4 -> no
-    ",
-    );
+    " }
 }

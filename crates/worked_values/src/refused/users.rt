@@ -3,10 +3,7 @@ use crate::users::alike::{keep, say_run};
 use crate::users::play_table;
 use crate::users::samples::{say_totals, user};
 use plain_users::{Answer, Command, PlainUsers, RunRefused, run_users};
-use second_try::again;
-use std::alloc::AllocGlobal;
-use std::io::Print;
-use std::process::Abort;
+use second_try::{Machine, again};
 use user_table::{IndexedUsers, Users};
 
 const ENTER_AND_CHANGE: &str = "
@@ -33,7 +30,7 @@ fn indexed_users(rt: HostRuntime) {
     play_table::<IndexedUsers>(&rt, ENTER_AND_CHANGE);
 }
 
-fn commands(rt: &(impl Abort + AllocGlobal + Print)) -> Vec<Command> {
+fn commands(rt: &impl Machine) -> Vec<Command> {
     let mut commands = again!(rt; Vec::with_capacity(rt.alloc(), 3));
     keep(
         rt,
@@ -51,7 +48,7 @@ fn commands(rt: &(impl Abort + AllocGlobal + Print)) -> Vec<Command> {
 
 /// Tests that no command is made where there is no room for the answers; where memory is refused later, one command is
 /// refused and the rest are made.
-fn runs<U: Users>(rt: &(impl Abort + AllocGlobal + Print)) {
+fn runs<U: Users>(rt: &impl Machine) {
     let mut users = U::new(rt.alloc());
     let mut said = Vec::new(rt.alloc());
     for answer in run_twice(rt, &mut users).iter() {
@@ -74,7 +71,7 @@ fn runs<U: Users>(rt: &(impl Abort + AllocGlobal + Print)) {
 }
 
 /// Runs the commands, once more where memory was refused: nobody is there then.
-fn run_twice<U: Users>(rt: &(impl Abort + AllocGlobal + Print), users: &mut U) -> Vec<Answer> {
+fn run_twice<U: Users>(rt: &impl Machine, users: &mut U) -> Vec<Answer> {
     match run_users(rt.alloc(), users, commands(rt)) {
         Ok(answers) => answers,
         Err(RunRefused::Memory) => {
@@ -84,7 +81,7 @@ fn run_twice<U: Users>(rt: &(impl Abort + AllocGlobal + Print), users: &mut U) -
     }
 }
 
-fn has_totals<U: Users>(rt: &(impl Abort + AllocGlobal), users: &U, wanted: &str) -> bool {
+fn has_totals<U: Users>(rt: &impl Machine, users: &U, wanted: &str) -> bool {
     let mut totals = Vec::new(rt.alloc());
     say_totals(rt, &mut totals, users);
     totals.as_slice() == wanted.as_bytes()

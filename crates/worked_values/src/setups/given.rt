@@ -1,10 +1,10 @@
 use super::*;
 use crate::queues::outbox;
-use crate::rows::{Part, byte, pair, play, say, say_number, say_whether, small};
+use crate::rows::{Part, Row, byte, pair, rows, say, say_number, say_whether, small};
 use hub_rules::Topic;
 use hub_setup::done_line;
 use outboxes::{Batch, Outbox};
-use second_try::again;
+use second_try::{Machine, again};
 use std::alloc::{AllocError, Global};
 
 /// The things that a hub is set up with.
@@ -12,26 +12,19 @@ use std::alloc::{AllocError, Global};
 pub(crate) struct Given;
 
 impl Part for Given {
-    fn call<R: Abort + AllocGlobal + Print>(
-        &mut self,
-        rt: &R,
-        name: &str,
-        text: &str,
-        _bytes: &[u8],
-        said: &mut Vec<u8>,
-    ) {
-        match name {
-            "tells" => tells(rt, text, said),
+    fn call(&mut self, rt: &impl Machine, row: Row<'_>, said: &mut Vec<u8>) {
+        match row.name {
+            "tells" => tells(rt, row.text, said),
             "menu" => menu(rt, said),
             "listed" => say_entries(rt, said),
-            "topic" => topic(rt, text, said),
-            _ => refusal(rt, name, text, said),
+            "topic" => topic(rt, row.text, said),
+            _ => refusal(rt, row.name, row.text, said),
         }
     }
 }
 
 /// Says why some options are refused.
-fn refusal<R: Abort + AllocGlobal + Print>(rt: &R, name: &str, text: &str, said: &mut Vec<u8>) {
+fn refusal<R: Machine>(rt: &R, name: &str, text: &str, said: &mut Vec<u8>) {
     match name {
         "max_users" => max_users(rt, small(rt, text), said),
         "lists" => lists(rt, text, said),
@@ -43,7 +36,7 @@ fn refusal<R: Abort + AllocGlobal + Print>(rt: &R, name: &str, text: &str, said:
 }
 
 /// Says why the options are refused.
-fn say_refusal(rt: &(impl Abort + AllocGlobal + Print), said: &mut Vec<u8>, options: &Options<'_>) {
+fn say_refusal(rt: &impl Machine, said: &mut Vec<u8>, options: &Options<'_>) {
     let word = match set_up(rt, options) {
         Ok(setup) => {
             drop(setup);
@@ -64,7 +57,7 @@ fn refusal_name(refused: SetupRefused) -> &'static str {
     }
 }
 
-fn max_users(rt: &(impl Abort + AllocGlobal + Print), max_users: u32, said: &mut Vec<u8>) {
+fn max_users(rt: &impl Machine, max_users: u32, said: &mut Vec<u8>) {
     let options = Options {
         plain: PlainOptions::for_users(max_users),
         ..options("Hub")
@@ -73,7 +66,7 @@ fn max_users(rt: &(impl Abort + AllocGlobal + Print), max_users: u32, said: &mut
 }
 
 /// Says the answer to options with an account for each letter, and so many lines between menu entries.
-fn lists(rt: &(impl Abort + AllocGlobal + Print), text: &str, said: &mut Vec<u8>) {
+fn lists(rt: &impl Machine, text: &str, said: &mut Vec<u8>) {
     let (nicks, count) = pair(text, ' ');
     let accounts = again!(rt; accounts_called(rt.alloc(), nicks));
     let commands = again!(rt; separators(rt.alloc(), small(rt, count)));
@@ -102,7 +95,7 @@ fn separators(alloc: Global, count: u32) -> Result<Vec<MenuEntry<'static>>, Allo
 }
 
 /// Says the answer to options with two accounts, `nick=password` each.
-fn accounts(rt: &(impl Abort + AllocGlobal + Print), text: &str, said: &mut Vec<u8>) {
+fn accounts(rt: &impl Machine, text: &str, said: &mut Vec<u8>) {
     let (first, second) = pair(text, ';');
     let ((nick, password), (other, word)) = (pair(first, '='), pair(second, '='));
     let accounts = [account(nick, password, true), account(other, word, true)];
@@ -113,7 +106,7 @@ fn accounts(rt: &(impl Abort + AllocGlobal + Print), text: &str, said: &mut Vec<
     say_refusal(rt, said, &options);
 }
 
-fn command(rt: &(impl Abort + AllocGlobal + Print), text: &str, said: &mut Vec<u8>) {
+fn command(rt: &impl Machine, text: &str, said: &mut Vec<u8>) {
     let (context, name) = pair(text, ' ');
     let commands = [entry(name, byte(rt, context), MenuItem::Text("HMSG !help\n"))];
     let options = Options {
@@ -124,7 +117,7 @@ fn command(rt: &(impl Abort + AllocGlobal + Print), text: &str, said: &mut Vec<u
 }
 
 /// Says the answer to options with some of the faults.
-fn faults(rt: &(impl Abort + AllocGlobal + Print), text: &str, said: &mut Vec<u8>) {
+fn faults(rt: &impl Machine, text: &str, said: &mut Vec<u8>) {
     let bad_accounts = [account("a b", "secret", true)];
     let bad_commands = [entry("", 0, MenuItem::Separator)];
     let name = if text.contains("name") { "" } else { "Hub" };
@@ -146,7 +139,7 @@ fn faults(rt: &(impl Abort + AllocGlobal + Print), text: &str, said: &mut Vec<u8
 }
 
 /// Says what a setup tells of what it was given.
-fn tells(rt: &(impl Abort + AllocGlobal + Print), text: &str, said: &mut Vec<u8>) {
+fn tells(rt: &impl Machine, text: &str, said: &mut Vec<u8>) {
     let setup = of_two(rt);
     match text {
         "name" => say(rt, said, setup.name()),
@@ -158,7 +151,7 @@ fn tells(rt: &(impl Abort + AllocGlobal + Print), text: &str, said: &mut Vec<u8>
 }
 
 /// Makes a setup with two accounts.
-fn of_two(rt: &(impl Abort + AllocGlobal + Print)) -> Setup {
+fn of_two(rt: &impl Machine) -> Setup {
     let accounts = [
         account("\u{e9}", "secret", true),
         account("bob", "another", false),
@@ -178,7 +171,7 @@ fn of_two(rt: &(impl Abort + AllocGlobal + Print)) -> Setup {
 }
 
 /// Says what a setup tells of a number, or of who has a nick.
-fn tells_number(rt: &(impl Abort + AllocGlobal), setup: &Setup, text: &str, said: &mut Vec<u8>) {
+fn tells_number(rt: &impl Machine, setup: &Setup, text: &str, said: &mut Vec<u8>) {
     let number = match text {
         "search_interval" => setup.search_interval() as u128,
         "max_users" => setup.max_users() as u128,
@@ -210,7 +203,7 @@ const COMMANDS: [MenuEntry<'static>; 2] = [
 ];
 
 /// Says the menu of a setup of options.
-fn menu(rt: &(impl Abort + AllocGlobal + Print), said: &mut Vec<u8>) {
+fn menu(rt: &impl Machine, said: &mut Vec<u8>) {
     let options = Options {
         commands: &COMMANDS,
         ..options("Hub")
@@ -221,14 +214,14 @@ fn menu(rt: &(impl Abort + AllocGlobal + Print), said: &mut Vec<u8>) {
 }
 
 /// Says the menu of a setup of lists.
-fn say_entries(rt: &(impl Abort + AllocGlobal + Print), said: &mut Vec<u8>) {
+fn say_entries(rt: &impl Machine, said: &mut Vec<u8>) {
     let setup = of_lists(rt, &[account("ana", "secret", true)], &COMMANDS);
     say_menu(rt, &setup, said);
     drop(setup);
 }
 
 /// Says the lines of a menu of two entries behind another line, each with its line feed.
-fn say_menu(rt: &(impl Abort + AllocGlobal + Print), setup: &Setup, said: &mut Vec<u8>) {
+fn say_menu(rt: &impl Machine, setup: &Setup, said: &mut Vec<u8>) {
     let mut queue = outbox(rt, 8, 1000);
     give(&mut queue, menu_lines(rt, setup));
     if !takes_eight(&mut queue, said) && !takes_eight(&mut queue, said) {
@@ -237,7 +230,7 @@ fn say_menu(rt: &(impl Abort + AllocGlobal + Print), setup: &Setup, said: &mut V
     drop(queue);
 }
 
-fn menu_lines(rt: &(impl Abort + AllocGlobal + Print), setup: &Setup) -> Batch {
+fn menu_lines(rt: &impl Machine, setup: &Setup) -> Batch {
     match twice!(rt; "hub_setup::Setup::menu", AllocError, setup.menu(done_batch(rt))) {
         Ok(lines) => lines,
         Err(_) => unknown(rt, "menu"),
@@ -252,7 +245,7 @@ fn takes_eight(queue: &mut Outbox, said: &mut Vec<u8>) -> bool {
     queue.take(8, said).is_ok()
 }
 
-fn done_batch(rt: &(impl Abort + AllocGlobal)) -> Batch {
+fn done_batch(rt: &impl Machine) -> Batch {
     let mut batch = Batch::new(rt.alloc());
     if !is_pushed(&mut batch, done(rt)) && !is_pushed(&mut batch, done(rt)) {
         unknown(rt, "refused twice");
@@ -260,7 +253,7 @@ fn done_batch(rt: &(impl Abort + AllocGlobal)) -> Batch {
     batch
 }
 
-fn done(rt: &(impl Abort + AllocGlobal)) -> Bytes {
+fn done(rt: &impl Machine) -> Bytes {
     again!(rt; done_line(rt.alloc()))
 }
 
@@ -268,7 +261,7 @@ fn is_pushed(batch: &mut Batch, line: Bytes) -> bool {
     batch.push(line).is_ok()
 }
 
-fn topic(rt: &(impl Abort + AllocGlobal + Print), text: &str, said: &mut Vec<u8>) {
+fn topic(rt: &impl Machine, text: &str, said: &mut Vec<u8>) {
     match twice!(rt; "hub_rules::Topic::new", AllocError, Topic::new(rt.alloc(), text)) {
         Ok(topic) => {
             say(rt, said, topic.as_str());
@@ -279,105 +272,44 @@ fn topic(rt: &(impl Abort + AllocGlobal + Print), text: &str, said: &mut Vec<u8>
 }
 
 #[test]
-fn has_room_for_1_to_900_users(rt: HostRuntime) {
-    play(
-        &rt,
-        &mut Given,
-        "
-        max_users 0 -> Limit
-        max_users 1 -> ok
-        max_users 900 -> ok
-        max_users 901 -> Limit
-    ",
-    );
-}
-
-#[test]
 fn takes_32_accounts_and_64_commands(rt: HostRuntime) {
-    play(
-        &rt,
-        &mut Given,
-        "
+    rows! { rt, Given, r"
         lists a,b,c,d,e,f,g,h,i,j,k,l,m,n,o,p,q,r,s,t,u,v,w,x,y,z,A,B,C,D,E,F 64 -> ok
         lists a,b,c,d,e,f,g,h,i,j,k,l,m,n,o,p,q,r,s,t,u,v,w,x,y,z,A,B,C,D,E,F,G 64 -> Limit
         lists a,b,c,d,e,f,g,h,i,j,k,l,m,n,o,p,q,r,s,t,u,v,w,x,y,z,A,B,C,D,E,F 65 -> Limit
-    ",
-    );
+    " }
 }
 
 #[test]
-fn refuses_accounts(rt: HostRuntime) {
-    play(
-        &rt,
-        &mut Given,
-        "
-        accounts ana=secret;bob=secret -> ok
-        accounts Ana=secret;ana=secret -> ok
-        accounts ana=secret;a b=secret -> Account
-        accounts =secret;ana=secret -> Account
-        accounts ana=secret;bob= -> Account
-        accounts op=secret;op=another -> Account
-        accounts \u{e9}=secret;e\u{301}=secret -> Account
-    ",
-    );
-}
-
-#[test]
-fn refuses_commands(rt: HostRuntime) {
-    play(
-        &rt,
-        &mut Given,
-        "
-        command 1 Help -> ok
-        command 15 Help -> ok
-        command 1 -> Command
-        command 0 Help -> Command
-        command 16 Help -> Command
-    ",
-    );
-}
-
-#[test]
-fn looks_for_faults_in_order(rt: HostRuntime) {
-    play(
-        &rt,
-        &mut Given,
-        "
+fn setups_tell_what_they_were_given(rt: HostRuntime) {
+    rows! { rt, Given, r"
+        == has room for 1 to 900 users ==
+        max_users 0 -> Limit
+        max_users 1 | 900 -> ok
+        max_users 901 -> Limit
+        == refuses accounts ==
+        accounts ana=secret;bob=secret | Ana=secret;ana=secret -> ok
+        accounts ana=secret;a b=secret | =secret;ana=secret | ana=secret;bob= | op=secret;op=another -> Account
+        accounts é=secret;é=secret -> Account
+        == refuses commands ==
+        command 1 Help | 15 Help -> ok
+        command 1 | 0 Help | 16 Help -> Command
+        == looks for faults in order ==
         faults limit name account command -> Limit
         faults name account command -> Name
         faults account command -> Account
         faults command -> Command
-    ",
-    );
-}
-
-#[test]
-fn tells_what_it_was_given(rt: HostRuntime) {
-    play(
-        &rt,
-        &mut Given,
-        "
+        == tells what it was given ==
         tells name -> Hub
         tells topic -> new one
         tells registered_only -> yes
         tells search_interval -> 7
         tells max_users -> 512
         tells opening -> 1000
-        tells \u{e9} -> an operator
+        tells é -> an operator
         tells bob -> a user
-        tells Bob -> nobody
-        tells e\u{301} -> nobody
-    ",
-    );
-}
-
-#[test]
-fn tells_of_the_menu(rt: HostRuntime) {
-    play(
-        &rt,
-        &mut Given,
-        r"
+        tells Bob | é -> nobody
+        == tells of the menu ==
         menu -> ISTA 000 Done<x0a>ICMD Help CT1 TTHMSG\s!help\n<x0a>ICMD Sep CT2 SP1<x0a>
-    ",
-    );
+    " }
 }

@@ -1,8 +1,9 @@
 use super::*;
-use crate::rows::{Part, play, say};
+use crate::rows::{Part, Row, play, rows, say};
 use hub_rules::LineRefused;
 use hub_setup::{Prepared, Says, prepare};
 use inf_fields::FieldName;
+use second_try::Machine;
 use session_hash::First24;
 
 /// Lines that are made ready for a hub where ana has the password `secret` and \u{e9} has `another`.
@@ -12,36 +13,24 @@ pub(crate) struct Lines {
 }
 
 impl Part for Lines {
-    fn call<R: Abort + AllocGlobal + Print>(
-        &mut self,
-        rt: &R,
-        name: &str,
-        _text: &str,
-        bytes: &[u8],
-        said: &mut Vec<u8>,
-    ) {
-        let challenge = match name {
+    fn call(&mut self, rt: &impl Machine, row: Row<'_>, said: &mut Vec<u8>) {
+        let challenge = match row.name {
             "challenged" => *b"foobarfoobarfoobarfoobar",
             _ => [0; 24],
         };
-        let line = prepare_line(rt, &self.setup, challenge, bytes);
-        match name {
+        let line = prepare_line(rt, &self.setup, challenge, row.bytes);
+        match row.name {
             "says" => say_command(rt, said, &line),
             "nick" => say_nick(rt, said, &line),
             "owner" => say_digest(rt, said, line.owner()),
             "password" | "challenged" => say_digest(rt, said, line.password()),
-            _ => unknown(rt, name),
+            _ => unknown(rt, row.name),
         }
         drop(line);
     }
 }
 
-fn prepare_line(
-    rt: &(impl Abort + AllocGlobal + Print),
-    setup: &Setup,
-    challenge: [u8; 24],
-    bytes: &[u8],
-) -> Prepared {
+fn prepare_line(rt: &impl Machine, setup: &Setup, challenge: [u8; 24], bytes: &[u8]) -> Prepared {
     match twice!(rt; "hub_setup::prepare", LineRefused::Memory, prepare(rt.alloc(), setup, &First24, challenge, bytes))
     {
         Ok(line) => line,
@@ -74,7 +63,7 @@ fn say_digest(rt: &impl Abort, said: &mut Vec<u8>, digest: Option<[u8; 24]>) {
     }
 }
 
-fn hub(rt: &(impl Abort + AllocGlobal + Print)) -> Setup {
+fn hub(rt: &impl Machine) -> Setup {
     let accounts = [
         account("ana", "secret", true),
         account("\u{e9}", "another", true),
@@ -88,7 +77,7 @@ fn hub(rt: &(impl Abort + AllocGlobal + Print)) -> Setup {
     )
 }
 
-pub(crate) fn play_lines<R: Abort + AllocGlobal + Print>(rt: &R, rows: &str) {
+pub(crate) fn play_lines<R: Machine>(rt: &R, rows: &str) {
     let mut lines = Lines { setup: hub(rt) };
     play(rt, &mut lines, rows);
     drop(lines);
@@ -96,9 +85,7 @@ pub(crate) fn play_lines<R: Abort + AllocGlobal + Print>(rt: &R, rows: &str) {
 
 #[test]
 fn reads_lines(rt: HostRuntime) {
-    play_lines(
-        &rt,
-        r"
+    rows! { play_lines(rt) r"
         says <> -> nothing
         nick <> -> no update
         says <x20> -> no message
@@ -119,15 +106,12 @@ fn reads_lines(rt: HostRuntime) {
         nick BINF AAAB NIana SS10 -> update ana
         says BINF AAAB SS10 -> INF
         nick BINF AAAB SS10 -> update <>
-    ",
-    );
+    " }
 }
 
 #[test]
 fn makes_digests(rt: HostRuntime) {
-    play_lines(
-        &rt,
-        "
+    rows! { play_lines(rt) "
         owner BINF AAAB NIana -> none
         password BINF AAAB NIana -> secret<18*x00>
         owner BINF AAAB NIbob -> none
@@ -148,8 +132,7 @@ fn makes_digests(rt: HostRuntime) {
         password DINF AAAB AAAC PDMZXW6YTBOJTG633CMFZGM33PMJQXEZTPN5RGC4Q NIana -> none
         owner <> -> none
         password <> -> none
-    ",
-    );
+    " }
 }
 
 #[test]

@@ -1,7 +1,7 @@
 use super::*;
 use crate::fields::{fields_of_line, update};
 use crate::lines::line;
-use crate::rows::{Part, pair, play, say, small, twenty_four};
+use crate::rows::{Part, Row, pair, rows, say, small, twenty_four};
 use adc_base32::Sid;
 use hub_setup::{
     Registered, challenge_line, denial_line, done_line, hub_line, identifier_line, passed_line,
@@ -9,7 +9,7 @@ use hub_setup::{
 };
 use inf_fields::Fields;
 use login_state::Deny;
-use second_try::again;
+use second_try::{Machine, again};
 use std::alloc::AllocError;
 use user_table::Totals;
 
@@ -18,38 +18,25 @@ use user_table::Totals;
 pub(crate) struct Texts;
 
 impl Part for Texts {
-    fn call<R: Abort + AllocGlobal + Print>(
-        &mut self,
-        rt: &R,
-        name: &str,
-        text: &str,
-        bytes: &[u8],
-        said: &mut Vec<u8>,
-    ) {
-        match name {
+    fn call(&mut self, rt: &impl Machine, row: Row<'_>, said: &mut Vec<u8>) {
+        match row.name {
             "ping" => say_ping(rt, said),
-            "hub" => hub(rt, text, said),
-            "user" => user(rt, text, said),
-            "removal" => removal(rt, text, said),
-            _ => say_short(rt, name, text, bytes, said),
+            "hub" => hub(rt, row.text, said),
+            "user" => user(rt, row.text, said),
+            "removal" => removal(rt, row.text, said),
+            _ => say_short(rt, row.name, row.text, row.bytes, said),
         }
     }
 }
 
-fn say_ping(rt: &(impl Abort + AllocGlobal + Print), said: &mut Vec<u8>) {
+fn say_ping(rt: &impl Machine, said: &mut Vec<u8>) {
     let text = ping(rt);
     say(rt, said, &text);
     drop(text);
 }
 
 /// Says a line that is told by few words.
-fn say_short(
-    rt: &(impl Abort + AllocGlobal + Print),
-    name: &str,
-    text: &str,
-    bytes: &[u8],
-    said: &mut Vec<u8>,
-) {
+fn say_short(rt: &impl Machine, name: &str, text: &str, bytes: &[u8], said: &mut Vec<u8>) {
     let made = match name {
         "support" => support(rt),
         "done" => done(rt),
@@ -58,11 +45,11 @@ fn say_short(
     say_made(rt, said, made);
 }
 
-fn support(rt: &(impl Abort + AllocGlobal)) -> Result<Bytes, AllocError> {
+fn support(rt: &impl Machine) -> Result<Bytes, AllocError> {
     Ok(again!(rt; support_line(rt.alloc())))
 }
 
-fn done(rt: &(impl Abort + AllocGlobal)) -> Result<Bytes, AllocError> {
+fn done(rt: &impl Machine) -> Result<Bytes, AllocError> {
     Ok(again!(rt; done_line(rt.alloc())))
 }
 
@@ -78,12 +65,7 @@ fn say_made(rt: &impl Abort, said: &mut Vec<u8>, made: Result<Bytes, AllocError>
 }
 
 /// Makes a line that is told by few words.
-fn short(
-    rt: &(impl Abort + AllocGlobal + Print),
-    name: &str,
-    text: &str,
-    bytes: &[u8],
-) -> Result<Bytes, AllocError> {
+fn short(rt: &impl Machine, name: &str, text: &str, bytes: &[u8]) -> Result<Bytes, AllocError> {
     match name {
         "identifier" => identifier(rt, sid(rt, text)),
         "topic" => topic(rt, text),
@@ -95,11 +77,11 @@ fn short(
     }
 }
 
-fn topic(rt: &(impl Abort + AllocGlobal + Print), text: &str) -> Result<Bytes, AllocError> {
+fn topic(rt: &impl Machine, text: &str) -> Result<Bytes, AllocError> {
     twice!(rt; "hub_setup::topic_line", AllocError, topic_line(rt.alloc(), text))
 }
 
-fn denial(rt: &(impl Abort + AllocGlobal + Print)) -> Result<Bytes, AllocError> {
+fn denial(rt: &impl Machine) -> Result<Bytes, AllocError> {
     twice!(rt; "hub_setup::denial_line", AllocError, denial_line(rt.alloc(), Deny::Password))
 }
 
@@ -110,28 +92,25 @@ fn sid(rt: &impl Abort, text: &str) -> Sid {
     }
 }
 
-fn identifier(rt: &(impl Abort + AllocGlobal + Print), sid: Sid) -> Result<Bytes, AllocError> {
+fn identifier(rt: &impl Machine, sid: Sid) -> Result<Bytes, AllocError> {
     twice!(rt; "hub_setup::identifier_line", AllocError, identifier_line(rt.alloc(), sid))
 }
 
-fn challenge(rt: &(impl Abort + AllocGlobal + Print), bytes: &[u8]) -> Result<Bytes, AllocError> {
+fn challenge(rt: &impl Machine, bytes: &[u8]) -> Result<Bytes, AllocError> {
     let Some(challenge) = twenty_four(bytes) else {
         unknown(rt, "challenge")
     };
     twice!(rt; "hub_setup::challenge_line", AllocError, challenge_line(rt.alloc(), challenge))
 }
 
-fn pass_line(rt: &(impl Abort + AllocGlobal + Print), bytes: &[u8]) -> Result<Bytes, AllocError> {
+fn pass_line(rt: &impl Machine, bytes: &[u8]) -> Result<Bytes, AllocError> {
     let line = line(rt, bytes);
     let made = twice!(rt; "hub_setup::passed_line", AllocError, passed_line(rt.alloc(), &line));
     drop(line);
     made
 }
 
-fn line_of_update(
-    rt: &(impl Abort + AllocGlobal + Print),
-    text: &str,
-) -> Result<Bytes, AllocError> {
+fn line_of_update(rt: &impl Machine, text: &str) -> Result<Bytes, AllocError> {
     let (who, words) = pair(text, ' ');
     let (sid, update) = (sid(rt, who), update(rt, words));
     let made =
@@ -141,7 +120,7 @@ fn line_of_update(
 }
 
 /// Writes what a hub for 512 users says to who asks, 90 seconds after it opened, where one is present.
-fn ping(rt: &(impl Abort + AllocGlobal + Print)) -> String {
+fn ping(rt: &impl Machine) -> String {
     let totals = Totals {
         users: 1,
         ss: 10,
@@ -155,7 +134,7 @@ fn ping(rt: &(impl Abort + AllocGlobal + Print)) -> String {
 }
 
 /// Says the line of a hub with a name and a topic, to who asks or to another.
-fn hub(rt: &(impl Abort + AllocGlobal + Print), text: &str, said: &mut Vec<u8>) {
+fn hub(rt: &impl Machine, text: &str, said: &mut Vec<u8>) {
     let (name, rest) = pair(text, ';');
     let (topic, asked) = pair(rest, ';');
     let setup = setup(rt, &options(name));
@@ -169,7 +148,7 @@ fn hub(rt: &(impl Abort + AllocGlobal + Print), text: &str, said: &mut Vec<u8>) 
 }
 
 /// Says the line of a user who is AAAC, with the account of a nick, and said some words.
-fn user(rt: &(impl Abort + AllocGlobal + Print), text: &str, said: &mut Vec<u8>) {
+fn user(rt: &impl Machine, text: &str, said: &mut Vec<u8>) {
     let (nick, words) = pair(text, ' ');
     let (setup, known) = (of_ana_and_bob(rt), fields_of_line(rt, words));
     let made = line_of_user(rt, &known, setup.account(nick));
@@ -179,7 +158,7 @@ fn user(rt: &(impl Abort + AllocGlobal + Print), text: &str, said: &mut Vec<u8>)
 }
 
 /// Makes a setup in which ana is an operator and bob is registered.
-fn of_ana_and_bob(rt: &(impl Abort + AllocGlobal + Print)) -> Setup {
+fn of_ana_and_bob(rt: &impl Machine) -> Setup {
     let accounts = [
         account("ana", "secret", true),
         account("bob", "secret", false),
@@ -192,7 +171,7 @@ fn of_ana_and_bob(rt: &(impl Abort + AllocGlobal + Print)) -> Setup {
 }
 
 fn line_of_user(
-    rt: &(impl Abort + AllocGlobal + Print),
+    rt: &impl Machine,
     known: &Fields,
     account: Option<&Registered>,
 ) -> Result<Bytes, AllocError> {
@@ -201,7 +180,7 @@ fn line_of_user(
 }
 
 /// Says the line for AAAC whom AAAB removes for so many seconds, `-` where none are told, for a reason.
-fn removal(rt: &(impl Abort + AllocGlobal + Print), text: &str, said: &mut Vec<u8>) {
+fn removal(rt: &impl Machine, text: &str, said: &mut Vec<u8>) {
     let (seconds, reason) = pair(text, ' ');
     let seconds = match seconds {
         "-" => None,
@@ -211,7 +190,7 @@ fn removal(rt: &(impl Abort + AllocGlobal + Print), text: &str, said: &mut Vec<u
 }
 
 fn line_of_removal(
-    rt: &(impl Abort + AllocGlobal + Print),
+    rt: &impl Machine,
     seconds: Option<u32>,
     reason: &str,
 ) -> Result<Bytes, AllocError> {
@@ -220,94 +199,37 @@ fn line_of_removal(
 }
 
 #[test]
-fn writes_what_never_changes(rt: HostRuntime) {
-    play(
-        &rt,
-        &mut Texts,
-        "
+fn texts_are_written(rt: HostRuntime) {
+    rows! { rt, Texts, r"
+        == writes what never changes ==
         support -> ISUP ADBASE ADTIGR ADPING ADUCMD
         done -> ISTA 000 Done
-    ",
-    );
-}
-
-#[test]
-fn writes_the_greeting(rt: HostRuntime) {
-    play(
-        &rt,
-        &mut Texts,
-        r"
+        == writes the greeting ==
         identifier AAAC -> ISID AAAC
         hub Hub -> IINF CT32 NIHub VEadc-hub\s1.0
         hub Hub;new one -> IINF CT32 NIHub VEadc-hub\s1.0 DEnew\sone
         hub Hub;;ping -> IINF CT32 NIHub VEadc-hub\s1.0 UC1 SS10 SF2 MC512 UP90
         hub Hub;new one;ping -> IINF CT32 NIHub VEadc-hub\s1.0 DEnew\sone UC1 SS10 SF2 MC512 UP90
         hub My Hub -> IINF CT32 NIMy\sHub VEadc-hub\s1.0
-    ",
-    );
-}
-
-#[test]
-fn writes_a_new_topic(rt: HostRuntime) {
-    play(
-        &rt,
-        &mut Texts,
-        r"
+        == writes a new topic ==
         topic new one -> IINF DEnew\sone
         topic <> -> IINF DE
-    ",
-    );
-}
-
-#[test]
-fn writes_a_challenge(rt: HostRuntime) {
-    play(
-        &rt,
-        &mut Texts,
-        "
+        == writes a challenge ==
         challenge <24*x00> -> IGPA <39*A>
         challenge <4*foobar> -> IGPA MZXW6YTBOJTG633CMFZGM33PMJQXEZTPN5RGC4Q
-    ",
-    );
-}
-
-#[test]
-fn writes_users(rt: HostRuntime) {
-    play(
-        &rt,
-        &mut Texts,
-        "
+        == writes users ==
         user ana NIana DE SS10 -> BINF AAAC NIana SS10 CT4
         user bob NIana DE SS10 -> BINF AAAC NIana SS10 CT2
         user carl NIana DE SS10 -> BINF AAAC NIana SS10
         update AAAC DE SS11 -> BINF AAAC DE SS11
-    ",
-    );
-}
-
-#[test]
-fn writes_removals(rt: HostRuntime) {
-    play(
-        &rt,
-        &mut Texts,
-        r"
+        == writes removals ==
         removal - rude -> IQUI AAAC IDAAAB MSrude
         removal - -> IQUI AAAC IDAAAB
         removal 60 -> IQUI AAAC IDAAAB TL60
         removal 0 -> IQUI AAAC IDAAAB TL-1
         removal 60 very rude -> IQUI AAAC IDAAAB TL60 MSvery\srude
-    ",
-    );
-}
-
-#[test]
-fn writes_denials_and_passes_lines_on(rt: HostRuntime) {
-    play(
-        &rt,
-        &mut Texts,
-        r"
+        == writes denials and passes lines on ==
         password -> ISTA 223 Invalid\spassword
         passed BMSG AAAB hello\sall -> BMSG AAAB hello\sall
-    ",
-    );
+    " }
 }

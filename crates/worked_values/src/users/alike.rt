@@ -2,19 +2,19 @@
 use super::commands::{Draws, command, renewal};
 use super::samples::{say_users, sid};
 use super::{entering, say_answer};
-use crate::rows::{Part, number, pair, play, say, say_number, say_refused_memory, small, unknown};
+use crate::rows::{
+    Part, Row, number, pair, play, say, say_number, say_refused_memory, small, unknown,
+};
 use adc_ids::Cid;
 use plain_users::{Answer, Command, PlainUsers, RunRefused, run_users};
-use second_try::again;
-use std::alloc::AllocGlobal;
-use std::io::Print;
+use second_try::{Machine, again};
 use std::process::Abort;
 use user_table::{IndexedUsers, TableRefused, Totals, Users};
 
 const COUNT: usize = 2_000;
 
 /// Runs commands, and the same commands once more where memory was refused.
-fn run<U: Users>(rt: &(impl Abort + AllocGlobal + Print)) -> (U, Vec<Answer>) {
+fn run<U: Users>(rt: &impl Machine) -> (U, Vec<Answer>) {
     for _ in 0..2 {
         if let Some(both) = run_once(rt) {
             return both;
@@ -23,7 +23,7 @@ fn run<U: Users>(rt: &(impl Abort + AllocGlobal + Print)) -> (U, Vec<Answer>) {
     unknown(rt, "refused twice")
 }
 
-fn run_once<U: Users>(rt: &(impl Abort + AllocGlobal + Print)) -> Option<(U, Vec<Answer>)> {
+fn run_once<U: Users>(rt: &impl Machine) -> Option<(U, Vec<Answer>)> {
     let mut users = U::new(rt.alloc());
     match run_users(rt.alloc(), &mut users, draw_commands(rt)) {
         Err(RunRefused::Memory) => {
@@ -35,7 +35,7 @@ fn run_once<U: Users>(rt: &(impl Abort + AllocGlobal + Print)) -> Option<(U, Vec
     }
 }
 
-fn draw_commands(rt: &(impl Abort + AllocGlobal + Print)) -> Vec<Command> {
+fn draw_commands(rt: &impl Machine) -> Vec<Command> {
     let mut draws = Draws { state: 2026 };
     let mut commands = again!(rt; Vec::with_capacity(rt.alloc(), COUNT));
     for _ in 0..COUNT {
@@ -83,7 +83,7 @@ fn answer_2000_commands_alike(rt: HostRuntime) {
 }
 
 /// Runs the commands, and gives what is said of the users then, and the answers.
-fn run_and_say<U: Users>(rt: &(impl Abort + AllocGlobal + Print)) -> (Vec<u8>, Vec<Answer>) {
+fn run_and_say<U: Users>(rt: &impl Machine) -> (Vec<u8>, Vec<Answer>) {
     let (users, answers): (U, Vec<Answer>) = run(rt);
     let said = say_users(rt, &users);
     drop(users);
@@ -117,17 +117,10 @@ struct CommandRun<U: Users> {
 }
 
 impl<U: Users> Part for CommandRun<U> {
-    fn call<R: Abort + AllocGlobal + Print>(
-        &mut self,
-        rt: &R,
-        name: &str,
-        text: &str,
-        _bytes: &[u8],
-        said: &mut Vec<u8>,
-    ) {
+    fn call(&mut self, rt: &impl Machine, row: Row<'_>, said: &mut Vec<u8>) {
         let before = say_users(rt, &self.users);
         for _ in 0..2 {
-            match self.run(rt, command_of(rt, name, text)) {
+            match self.run(rt, command_of(rt, row.name, row.text)) {
                 Some(answer) => return say_run(rt, said, answer),
                 None => self.is_unchanged(rt, &before),
             }
@@ -136,13 +129,13 @@ impl<U: Users> Part for CommandRun<U> {
 }
 
 impl<U: Users> CommandRun<U> {
-    fn is_unchanged(&self, rt: &(impl Abort + AllocGlobal + Print), before: &[u8]) {
+    fn is_unchanged(&self, rt: &impl Machine, before: &[u8]) {
         let same = say_users(rt, &self.users).as_slice() == before;
         say_refused_memory(rt, "plain_users::run_users", same);
     }
 
     /// Gives the answer to a command, or nothing where memory is refused.
-    fn run(&mut self, rt: &(impl Abort + AllocGlobal), command: Command) -> Option<Answer> {
+    fn run(&mut self, rt: &impl Machine, command: Command) -> Option<Answer> {
         let mut commands = again!(rt; Vec::with_capacity(rt.alloc(), 1));
         keep(rt, &mut commands, command);
         match run_users(rt.alloc(), &mut self.users, commands) {
@@ -156,7 +149,7 @@ impl<U: Users> CommandRun<U> {
     }
 }
 
-fn command_of(rt: &(impl Abort + AllocGlobal + Print), name: &str, text: &str) -> Command {
+fn command_of(rt: &impl Machine, name: &str, text: &str) -> Command {
     match name {
         "insert" => Command::Insert(entering(rt, text)),
         "remove" => Command::Remove(sid(rt, small(rt, text))),
@@ -173,7 +166,7 @@ fn command_of(rt: &(impl Abort + AllocGlobal + Print), name: &str, text: &str) -
     }
 }
 
-pub(crate) fn say_run(rt: &(impl Abort + AllocGlobal), said: &mut Vec<u8>, answer: Answer) {
+pub(crate) fn say_run(rt: &impl Machine, said: &mut Vec<u8>, answer: Answer) {
     match answer {
         Answer::Skipped => say(rt, said, "skipped"),
         Answer::Done => say(rt, said, "done"),
@@ -188,7 +181,7 @@ pub(crate) fn say_run(rt: &(impl Abort + AllocGlobal), said: &mut Vec<u8>, answe
     }
 }
 
-fn play_runs<U: Users>(rt: &(impl Abort + AllocGlobal + Print), rows: &str) {
+fn play_runs<U: Users>(rt: &impl Machine, rows: &str) {
     let mut runs: CommandRun<U> = CommandRun {
         users: U::new(rt.alloc()),
     };

@@ -4,9 +4,8 @@ use super::samples::{sid, user};
 use crate::fields::update;
 use adc_ids::Cid;
 use plain_users::Command;
-use second_try::again;
-use std::alloc::{AllocError, AllocGlobal, Global};
-use std::io::Print;
+use second_try::{Machine, again};
+use std::alloc::{AllocError, Global};
 use std::process::Abort;
 
 /// A linear congruential generator with Knuth's constants; the high bits are used.
@@ -27,7 +26,7 @@ impl Draws {
 }
 
 /// Draws a command on one of at most 60 users with 40 nicks and 48 client identifiers.
-pub(crate) fn command(rt: &(impl Abort + AllocGlobal + Print), draws: &mut Draws) -> Command {
+pub(crate) fn command(rt: &impl Machine, draws: &mut Draws) -> Command {
     let kind = draws.byte();
     let number = draws.byte() % 60;
     let which = draws.byte() % 40;
@@ -44,34 +43,18 @@ pub(crate) fn command(rt: &(impl Abort + AllocGlobal + Print), draws: &mut Draws
     }
 }
 
-fn insertion(
-    rt: &(impl Abort + AllocGlobal + Print),
-    number: u32,
-    cid: u8,
-    name: &str,
-    amount: u32,
-) -> Command {
+fn insertion(rt: &impl Machine, number: u32, cid: u8, name: &str, amount: u32) -> Command {
     let line = again!(rt; text(rt.alloc(), name, amount));
     Command::Insert(user(rt, number, cid, name, &line))
 }
 
-fn whole_renewal(
-    rt: &(impl Abort + AllocGlobal + Print),
-    number: u32,
-    name: &str,
-    amount: u32,
-) -> Command {
+fn whole_renewal(rt: &impl Machine, number: u32, name: &str, amount: u32) -> Command {
     let line = again!(rt; text(rt.alloc(), name, amount));
     renewal(rt, number, &line, name)
 }
 
 /// Reads the update that a line says, with a nick unless that is empty.
-pub(crate) fn renewal(
-    rt: &(impl Abort + AllocGlobal + Print),
-    number: u32,
-    line: &str,
-    name: &str,
-) -> Command {
+pub(crate) fn renewal(rt: &impl Machine, number: u32, line: &str, name: &str) -> Command {
     let given = nick_unless_empty(rt, name);
     Command::MergeInfo(sid(rt, number), update(rt, line), given)
 }

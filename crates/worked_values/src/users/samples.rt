@@ -4,8 +4,7 @@ use crate::identities::key_of;
 use crate::rows::{say, say_number, unknown};
 use adc_base32::Sid;
 use adc_ids::Cid;
-use std::alloc::AllocGlobal;
-use std::io::Print;
+use second_try::Machine;
 use std::process::Abort;
 use user_table::{User, Users};
 
@@ -17,13 +16,7 @@ pub(crate) fn sid(rt: &impl Abort, number: u32) -> Sid {
 }
 
 /// Makes a user whose client identifier is so many equal bytes, and who said a line.
-pub(crate) fn user(
-    rt: &(impl Abort + AllocGlobal + Print),
-    number: u32,
-    cid: u8,
-    name: &str,
-    line: &str,
-) -> User {
+pub(crate) fn user(rt: &impl Machine, number: u32, cid: u8, name: &str, line: &str) -> User {
     let key = key_of(rt, name);
     User::new(
         sid(rt, number),
@@ -35,7 +28,7 @@ pub(crate) fn user(
 
 /// Says the users in order of entry, a line for each: numbers, the nick's key and the fields; and what they share together.
 /// Each has to be found by session identifier, client identifier and nick.
-pub(crate) fn say_users<U: Users>(rt: &(impl Abort + AllocGlobal + Print), users: &U) -> Vec<u8> {
+pub(crate) fn say_users<U: Users>(rt: &impl Machine, users: &U) -> Vec<u8> {
     let mut text = Vec::new(rt.alloc());
     for place in 0..users.totals().users {
         match users.at(place as usize) {
@@ -50,7 +43,7 @@ pub(crate) fn say_users<U: Users>(rt: &(impl Abort + AllocGlobal + Print), users
     text
 }
 
-pub(crate) fn say_user(rt: &(impl Abort + AllocGlobal + Print), said: &mut Vec<u8>, user: &User) {
+pub(crate) fn say_user(rt: &impl Machine, said: &mut Vec<u8>, user: &User) {
     say_number(rt, said, user.sid().number() as u128);
     say_number(rt, said, cid_number(rt, user) as u128);
     say(rt, said, " ");
@@ -82,7 +75,7 @@ pub(crate) fn number_of(user: Option<&User>) -> Option<u32> {
     }
 }
 
-pub(crate) fn say_totals<U: Users>(rt: &(impl Abort + AllocGlobal), said: &mut Vec<u8>, users: &U) {
+pub(crate) fn say_totals<U: Users>(rt: &impl Machine, said: &mut Vec<u8>, users: &U) {
     let totals = users.totals();
     say_number(rt, said, totals.users as u128);
     say_number(rt, said, totals.ss);

@@ -1,4 +1,4 @@
-use Rattle.std.proofs.Common.{◌≡◌, refl}
+use Rattle.std.proofs.Common.{refl}
 use Rattle.std.specs.Prelude.{codes}
 use Rattle.hub_client.specs.Entries.{IsInfo}
 use Rattle.hub_client.proofs.client.entry_in.Goals as goal

@@ -1,4 +1,4 @@
-use Rattle.std.proofs.Common.{rules, ◌∙◌, ◌≡◌, subst, List, ℕ}
+use Rattle.std.proofs.Common.{rules, ◌≡◌, subst, List, ℕ}
 use Rattle.std.specs.Prelude.{IfOk}
 use Rattle.hub_client.specs.Requests.{Says, request_bytes}
 use Rattle.hub_client.proofs.Asking.{asks-for, request_bytes-some}

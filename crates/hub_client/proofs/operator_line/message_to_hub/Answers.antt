@@ -1,7 +1,6 @@
-use Rattle.std.proofs.Common.{rules, ◌≡◌, ◌≤◌, length, arith}
+use Rattle.std.proofs.Common.{rules, ◌≡◌}
 use Rattle.std.specs.Str.{IsUtf8}
 use Rattle.std.proofs.lemmas.Str.{IsUtf8-string_bytes}
-use Rattle.adc_line.specs.Frames.{max_line}
 use Rattle.hub_client.specs.Requests.{message_bytes}
 use Rattle.hub_client.proofs.Messages.{says-read, refused-read}
 use Rattle.hub_client.proofs.operator_line.message_to_hub.Goals as goal

@@ -11,4 +11,4 @@ invariant-loop-taken g l = record {
 }
 
 abbrev pub decreases-loop-taken : goal.decreases-loop-taken
-decreases-loop-taken g l = first_waits l.self.core.seats
+decreases-loop-taken g l = first_waits l.self.core.backlogs

@@ -1,0 +1,17 @@
+use Rattle.std.proofs.Common.{◌≡◌, ◌++◌, List, None}
+use Rattle.std.specs.List.{All, filter}
+use Rattle.adc_line.specs.Lines.{Reading}
+use Rattle.hub_client.specs.Conversations.{Waits}
+use Rattle.hub_client.specs.Entries.{IsAnswer, is_quit_line, is_user_line}
+use Rattle.hub_client.specs.Talks.{gone_of, turns_of, unheard, users_of}
+use Rattle.hub_client.proofs.client.Client.ask.Given as goal
+
+-- the lines that were heard are no answer
+abbrev pub invariant-lines : goal.invariant-lines
+invariant-lines g l =
+    (heard : List Reading) × Waits g.S.Read.remaining g.S.Write.contents l.fn.self l.line.text heard (unheard g.S.Read.remaining l.self)
+    × All (λ line. IsAnswer line None) heard
+    × (users_of l.self ≡ users_of l.fn.self ++ filter is_user_line heard) × (gone_of l.self ≡ gone_of l.fn.self ++ filter is_quit_line heard)
+
+abbrev pub decreases-lines : goal.decreases-lines
+decreases-lines g l = turns_of l.self

@@ -1,0 +1,74 @@
+-- What is kept of a connection, and what it stands for.
+use Rattle.std.specs.Prelude.{ℕ, ◌-◌, ◌≤◌, ◌==◌, Bool, true, List, drop, get_or, is_some, length, map, Option, Some, None}
+use Rattle.std.specs.List.{All}
+use Rattle.outboxes.specs.Backlogs.{Backlog, backlog_after, empty_backlog, with_lines}
+use Rattle.shared_log.specs.declared.cursor.Cursor.{Cursor}
+use Rattle.shared_log.specs.declared.entry.Entry.{Entry}
+use Rattle.shared_log.specs.Entries.{after_all}
+use Rattle.shared_log.specs.Tables.{Row}
+
+-- lines of its own wait first, and then the entries of the log from its place on
+abbrev pub owed : List Entry → Backlog → Option ℕ → Backlog
+owed log own None = own
+owed log own (Some tail) = after_all own (drop tail log)
+
+abbrev pub row_of : List Entry → Cursor → Row
+row_of log cursor = record { backlog = owed log cursor.own cursor.tail; is_member = is_some cursor.tail }
+
+-- nothing of a log of this size waits
+abbrev pub is_at_end : ℕ → Option ℕ → Bool
+is_at_end size None = true
+is_at_end size (Some tail) = tail == size
+
+abbrev pub is_settled : ℕ → Cursor → Bool
+is_settled size cursor = is_at_end size cursor.tail
+
+abbrev pub IsTailWithin : ℕ → Option ℕ → Type 0
+IsTailWithin size None = Unit {0}
+IsTailWithin size (Some tail) = tail ≤ size
+
+-- its place is one of a log of this size, or its end
+abbrev pub IsWithin : ℕ → Cursor → Type 0
+IsWithin size cursor = IsTailWithin size cursor.tail
+
+abbrev pub IsTailPast : ℕ → Option ℕ → Type 0
+IsTailPast count None = Unit {0}
+IsTailPast count (Some tail) = count ≤ tail
+
+-- none of the first entries, as many as these, waits
+abbrev pub IsPast : ℕ → Cursor → Type 0
+IsPast count cursor = IsTailPast count cursor.tail
+
+abbrev pub tail_after : ℕ → Option ℕ → Option ℕ
+tail_after count None = None
+tail_after count (Some tail) = Some (tail - count)
+
+-- so many first entries have left the log
+abbrev pub shifted : ℕ → Cursor → Cursor
+shifted count cursor = record cursor { tail = tail_after count cursor.tail }
+
+-- ---- all connections
+
+abbrev pub rows_of : List Entry → List Cursor → List Row
+rows_of log cursors = map (row_of log) cursors
+
+abbrev pub settled_of : List Entry → List Cursor → List Bool
+settled_of log cursors = map (is_settled (length log)) cursors
+
+abbrev pub AreWithin : List Entry → List Cursor → Type 0
+AreWithin log cursors = All (IsWithin (length log)) cursors
+
+-- ---- changes of the lines of its own, and of its place
+
+abbrev pub cursor_given : List (List ℕ) → Cursor → Cursor
+cursor_given share cursor = record cursor { own = backlog_after cursor.own share }
+
+abbrev pub cursor_taken : ℕ → Cursor → Cursor
+cursor_taken count cursor = record cursor { own = with_lines cursor.own (drop count cursor.own.lines) }
+
+abbrev pub with_tail : Option ℕ → Cursor → Cursor
+with_tail tail cursor = record cursor { tail = tail }
+
+-- the lines of its own of the cursor at a place
+abbrev pub own_at : ℕ → List Cursor → Backlog
+own_at place cursors = (get_or cursors place (record { own = empty_backlog 0 0; tail = None })).own

@@ -1,0 +1,6 @@
+pub mod Cursors
+pub mod Entries
+pub mod Logs
+pub mod Parts
+pub mod Tables
+pub mod Tallies

@@ -1,0 +1,12 @@
+//! The lines that wait for many connections, where those for all of them are kept once.
+#![tactic(auto)]
+
+mod backlogs;
+mod cursor;
+mod cursors;
+mod entry;
+mod evict;
+mod part;
+mod tally;
+
+pub use backlogs::Backlogs;
