@@ -156,7 +156,7 @@ impl Core {
         let sid = Sid::next_free(self.last, &taken);
         let number = self.joins + 1;
         let seat = Seat::new(number, Sender::new(alloc, sid, peer, challenge));
-        self.backlogs.add(alloc)?;
+        self.backlogs.add()?;
         if add(&mut self.seats, &mut self.index, seat).is_err() {
             self.backlogs.remove(self.seats.len());
             return Err(JoinRefused::Memory);

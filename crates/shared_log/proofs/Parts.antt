@@ -12,6 +12,7 @@ use Rattle.std.proofs.lemmas.List.Sums.{sum_by-append}
 use Rattle.std.proofs.lemmas.Option.{get_or_from_slice_get}
 use Rattle.outboxes.specs.Backlogs.{Backlog, backlog_after, fits, size_of, with_lines}
 use Rattle.shared_log.specs.declared.entry.Entry.{Entry}
+use Rattle.shared_log.specs.OwnLines.{own_with}
 use Rattle.shared_log.specs.Entries.{after_all, all_lines, entry_lines}
 use Rattle.shared_log.specs.declared.cursor.Cursor.{Cursor}
 use Rattle.shared_log.specs.declared.part.Part.{Part}
@@ -182,27 +183,27 @@ bytes-more log tail place e from h is = ap concat (lines-more log tail place e f
 -- ---- a part
 
 module _ (log : List Entry) (cursor : Cursor) (count tail n : ℕ) (run : Run) (member : cursor.tail ≡ Some tail) (open' : (row_of log cursor).backlog.lags ≡ false)
-    (own : n ≡ min (length cursor.own.lines) count) (whole : AreWhole log tail (count - n) run) where
-  waits : (row_of log cursor).backlog ≡ with_lines cursor.own (cursor.own.lines ++ all_lines (drop tail log))
+    (own : n ≡ min (length cursor.own.backlog.lines) count) (whole : AreWhole log tail (count - n) run) where
+  waits : (row_of log cursor).backlog ≡ with_lines cursor.own.backlog (cursor.own.backlog.lines ++ all_lines (drop tail log))
   waits =
-      ap (owed log cursor.own) member
-      ∙ all-fit cursor.own (drop tail log) (sym (ap (λ t. (owed log cursor.own t).lags) member) ∙ open')
+      ap (owed log cursor.own.backlog) member
+      ∙ all-fit cursor.own.backlog (drop tail log) (sym (ap (λ t. (owed log cursor.own.backlog t).lags) member) ∙ open')
 
-  lines-are : (row_of log cursor).backlog.lines ≡ cursor.own.lines ++ all_lines (drop tail log)
+  lines-are : (row_of log cursor).backlog.lines ≡ cursor.own.backlog.lines ++ all_lines (drop tail log)
   lines-are = ap (λ (b : Backlog). b.lines) waits
 
-  first-is : take n cursor.own.lines ++ all_lines (between log tail run.end) ≡ take count (row_of log cursor).backlog.lines
+  first-is : take n cursor.own.backlog.lines ++ all_lines (between log tail run.end) ≡ take count (row_of log cursor).backlog.lines
   first-is =
-      ap (λ ls. take n cursor.own.lines ++ ls) whole.first
-      ∙ ap (λ m. take m cursor.own.lines ++ take (count - m) (all_lines (drop tail log))) own
-      ∙ sym (take-both cursor.own.lines (all_lines (drop tail log)) count) ∙ sym (ap (take count) lines-are)
+      ap (λ ls. take n cursor.own.backlog.lines ++ ls) whole.first
+      ∙ ap (λ m. take m cursor.own.backlog.lines ++ take (count - m) (all_lines (drop tail log))) own
+      ∙ sym (take-both cursor.own.backlog.lines (all_lines (drop tail log)) count) ∙ sym (ap (take count) lines-are)
 
-  rest-are : drop n cursor.own.lines ++ all_lines (drop run.end log) ≡ drop count (row_of log cursor).backlog.lines
+  rest-are : drop n cursor.own.backlog.lines ++ all_lines (drop run.end log) ≡ drop count (row_of log cursor).backlog.lines
   rest-are =
-      ap (λ ls. drop n cursor.own.lines ++ ls)
+      ap (λ ls. drop n cursor.own.backlog.lines ++ ls)
       (rest-is (all_lines (drop tail log)) (all_lines (between log tail run.end)) (all_lines (drop run.end log)) (count - n) (lines-parted log tail run.end whole.from) whole.first)
-      ∙ ap (λ m. drop m cursor.own.lines ++ drop (count - m) (all_lines (drop tail log))) own
-      ∙ sym (drop-both cursor.own.lines (all_lines (drop tail log)) count) ∙ sym (ap (drop count) lines-are)
+      ∙ ap (λ m. drop m cursor.own.backlog.lines ++ drop (count - m) (all_lines (drop tail log))) own
+      ∙ sym (drop-both cursor.own.backlog.lines (all_lines (drop tail log)) count) ∙ sym (ap (drop count) lines-are)
 
   pub part-is : IsPart log cursor count (record { own = n; tail = tail; end = run.end; lines = count - run.left })
   part-is = record {
@@ -213,27 +214,27 @@ module _ (log : List Entry) (cursor : Cursor) (count tail n : ℕ) (run : Run) (
     within = whole.within;
     first = first-is;
     rest = rest-are;
-    lines = omega (arith, own, whole.counted, ap length first-is, length-append (take n cursor.own.lines) (all_lines (between log tail run.end)), length-take n cursor.own.lines);
+    lines = omega (arith, own, whole.counted, ap length first-is, length-append (take n cursor.own.backlog.lines) (all_lines (between log tail run.end)), length-take n cursor.own.backlog.lines);
   }
 
 module _ (log : List Entry) (cursor : Cursor) (count : ℕ) (part : Part) (is : IsPart log cursor count part) where
   -- what is left where a part was taken
-  pub row-after : row_of log (record { own = with_lines cursor.own (drop part.own cursor.own.lines); tail = Some part.end }) ≡ taken count (row_of log cursor)
+  pub row-after : row_of log (record { own = own_with (with_lines cursor.own.backlog (drop part.own cursor.own.backlog.lines)) cursor.own; tail = Some part.end }) ≡ taken count (row_of log cursor)
   row-after =
-      let open' : (after_all cursor.own (drop part.tail log)).lags ≡ false = sym (ap (λ t. (owed log cursor.own t).lags) is.member) ∙ is.fits in
-      let split : after_all cursor.own (drop part.tail log) ≡ after_all (after_all cursor.own (between log part.tail part.end)) (drop part.end log) =
-      ap (after_all cursor.own) (parted log part.tail part.end is.from) ∙ after-append cursor.own (between log part.tail part.end) (drop part.end log) in
-      let later : (after_all (after_all cursor.own (between log part.tail part.end)) (drop part.end log)).lags ≡ false = sym (ap (λ (b : Backlog). b.lags) split) ∙ open' in
-      let first : after_all cursor.own (between log part.tail part.end) ≡ with_lines cursor.own (cursor.own.lines ++ all_lines (between log part.tail part.end)) =
-      all-fit cursor.own (between log part.tail part.end) (open-before (after_all cursor.own (between log part.tail part.end)) (drop part.end log) later) in
-      let whole : (row_of log cursor).backlog ≡ with_lines cursor.own (cursor.own.lines ++ all_lines (drop part.tail log)) =
-      ap (owed log cursor.own) is.member ∙ all-fit cursor.own (drop part.tail log) open' in
+      let open' : (after_all cursor.own.backlog (drop part.tail log)).lags ≡ false = sym (ap (λ t. (owed log cursor.own.backlog t).lags) is.member) ∙ is.fits in
+      let split : after_all cursor.own.backlog (drop part.tail log) ≡ after_all (after_all cursor.own.backlog (between log part.tail part.end)) (drop part.end log) =
+      ap (after_all cursor.own.backlog) (parted log part.tail part.end is.from) ∙ after-append cursor.own.backlog (between log part.tail part.end) (drop part.end log) in
+      let later : (after_all (after_all cursor.own.backlog (between log part.tail part.end)) (drop part.end log)).lags ≡ false = sym (ap (λ (b : Backlog). b.lags) split) ∙ open' in
+      let first : after_all cursor.own.backlog (between log part.tail part.end) ≡ with_lines cursor.own.backlog (cursor.own.backlog.lines ++ all_lines (between log part.tail part.end)) =
+      all-fit cursor.own.backlog (between log part.tail part.end) (open-before (after_all cursor.own.backlog (between log part.tail part.end)) (drop part.end log) later) in
+      let whole : (row_of log cursor).backlog ≡ with_lines cursor.own.backlog (cursor.own.backlog.lines ++ all_lines (drop part.tail log)) =
+      ap (owed log cursor.own.backlog) is.member ∙ all-fit cursor.own.backlog (drop part.tail log) open' in
       ap₂ (λ b m. record { backlog = b; is_member = m })
-      (less-fits (with_lines cursor.own (cursor.own.lines ++ all_lines (between log part.tail part.end))) (drop part.end log) (drop part.own cursor.own.lines)
-      (omega (arith, length-drop part.own cursor.own.lines, length-append cursor.own.lines (all_lines (between log part.tail part.end))))
-      (size-less part.own cursor.own.lines (all_lines (between log part.tail part.end)))
+      (less-fits (with_lines cursor.own.backlog (cursor.own.backlog.lines ++ all_lines (between log part.tail part.end))) (drop part.end log) (drop part.own cursor.own.backlog.lines)
+      (omega (arith, length-drop part.own cursor.own.backlog.lines, length-append cursor.own.backlog.lines (all_lines (between log part.tail part.end))))
+      (size-less part.own cursor.own.backlog.lines (all_lines (between log part.tail part.end)))
       (sym (ap (λ (b : Backlog). (after_all b (drop part.end log)).lags) first) ∙ later)
-      ∙ ap (with_lines cursor.own) is.rest
+      ∙ ap (with_lines cursor.own.backlog) is.rest
       ∙ sym (ap (λ (b : Backlog). with_lines b (drop count (row_of log cursor).backlog.lines)) whole))
       (sym (ap is_some is.member))
 
@@ -267,7 +268,7 @@ taken-is log cursors place count before part cursor now after at inside is all r
           ∙ and-false (length (drop count (row_of log cursor).backlog.lines) == 0));
     }
 
-same-item : {A : Type 0} (xs : List A) (i : ℕ) (d e : A) → i < length xs → get_or xs i d ≡ get_or xs i e
+pub same-item : {A : Type 0} (xs : List A) (i : ℕ) (d e : A) → i < length xs → get_or xs i d ≡ get_or xs i e
 same-item [] i d e within = absurd (omega (arith, within))
 same-item (x ∷ xs) zero d e within = refl
 same-item (x ∷ xs) (suc i) d e within = same-item xs i d e (omega (arith, within))

@@ -1,6 +1,6 @@
 -- What changes of cursors and of the log are for the rows.
 use Rattle.std.proofs.Common.{◌≡◌, ℕ, zero, suc, ◌+◌, ◌-◌, true, false, List, [], ◌∷◌, ◌++◌, length, get_or, drop, map, refl, ap, sym, ◌∙◌, arith, Option, Some, None, length-append, length-drop}
-use Rattle.std.specs.Prelude.{slice_get, not}
+use Rattle.std.specs.Prelude.{◌&&◌, ◌==◌, slice_get, not}
 use Rattle.std.specs.List.{All}
 use Rattle.std.proofs.lemmas.Bool.{eq-eqb}
 use Rattle.std.proofs.lemmas.Bool.Decides.{eqb_tells}
@@ -9,18 +9,24 @@ use Rattle.std.proofs.lemmas.List.Elements.{All-cons, All-head, All-nil, All-tai
 use Rattle.outboxes.specs.Backlogs.{Backlog, backlog_after, with_lines}
 use Rattle.shared_log.specs.declared.cursor.Cursor.{Cursor}
 use Rattle.shared_log.specs.declared.entry.Entry.{Entry}
-use Rattle.shared_log.specs.Cursors.{IsPast, IsTailWithin, IsWithin, shifted, tail_after, cursor_given, cursor_taken, own_at, is_at_end, is_settled, row_of, with_tail}
+use Rattle.shared_log.specs.Cursors.{IsPast, IsTailWithin, IsWithin, shifted, tail_after, cursor_given, cursor_taken, own_at, is_at_end, is_kept_at, is_settled, row_of, with_tail}
 use Rattle.shared_log.specs.Entries.{after_all, entry_lines}
-use Rattle.shared_log.specs.Tables.{Row, at_place, given, new_row, taken, told, with_membership}
+use Rattle.shared_log.specs.OwnLines.{Own}
+use Rattle.shared_log.specs.Tables.{Row, at_place, given, new_row, settled_but, taken, told, with_membership}
 use Rattle.shared_log.proofs.Logs.{after-none, after-push}
 use Rattle.shared_log.proofs.Places.{map-at, map-at-same}
-use Rattle.shared_log.proofs.Settled.{cursor-settled, owed-settled}
+use Rattle.shared_log.proofs.Settled.{cursor-kept, cursor-settled, owed-settled}
 
 own-waits-at : (log : List Entry) (cursors : List Cursor) (place : ℕ) → slice_get (map (is_settled (length log)) cursors) place ≡ Some true → own_at place cursors ≡ (get_or (map (row_of log) cursors) place (new_row 0 0)).backlog
 own-waits-at log [] zero settled = refl
 own-waits-at log [] (suc place) settled = refl
-own-waits-at log (c ∷ cursors) zero settled = sym (owed-settled log c.own c.tail (cursor-settled (length log) (c ∷ cursors) zero c settled refl))
+own-waits-at log (c ∷ cursors) zero settled = sym (owed-settled log c.own.backlog c.tail (cursor-settled (length log) (c ∷ cursors) zero c settled refl))
 own-waits-at log (c ∷ cursors) (suc place) settled = own-waits-at log cursors place settled
+
+kept-at : (n : ℕ) (cursors : List Cursor) (place : ℕ) → slice_get (map (is_settled n) cursors) place ≡ Some true → is_kept_at place cursors ≡ true
+kept-at n [] place settled = absurd (cc)
+kept-at n (c ∷ cursors) zero settled = cursor-kept n (c ∷ cursors) zero c settled refl
+kept-at n (c ∷ cursors) (suc place) settled = kept-at n cursors place settled
 
 module _ (log : List Entry) (cursors : List Cursor) (place : ℕ) (settled : slice_get (map (is_settled (length log)) cursors) place ≡ Some true) where
   -- lines of its own are behind all that waits
@@ -29,8 +35,8 @@ module _ (log : List Entry) (cursors : List Cursor) (place : ℕ) (settled : sli
       map-at (row_of log) (cursor_given share) (given share) place cursors
       (λ c is.
       let end = cursor-settled (length log) cursors place c settled is in
-      let e = owed-settled log (backlog_after c.own share) c.tail end in
-      let f = owed-settled log c.own c.tail end in
+      let e = owed-settled log (backlog_after c.own.backlog share) c.tail end in
+      let f = owed-settled log c.own.backlog c.tail end in
       ap (λ b. record { backlog = b; is_member = (row_of log c).is_member }) (e ∙ ap (λ b. backlog_after b share) (sym f)))
 
   pub settled-given : (share : List (List ℕ)) → map (is_settled (length log)) (at_place place (cursor_given share) cursors) ≡ map (is_settled (length log)) cursors
@@ -40,32 +46,32 @@ module _ (log : List Entry) (cursors : List Cursor) (place : ℕ) (settled : sli
   rows-entered =
       map-at (row_of log) (with_tail (Some (length log))) (with_membership true) place cursors
       (λ c is.
-      let e = after-none c.own log (length log) (omega arith) in
-      let f = owed-settled log c.own c.tail (cursor-settled (length log) cursors place c settled is) in
+      let e = after-none c.own.backlog log (length log) (omega arith) in
+      let f = owed-settled log c.own.backlog c.tail (cursor-settled (length log) cursors place c settled is) in
       ap (λ b. record { backlog = b; is_member = true }) (e ∙ sym f))
 
   pub settled-entered : map (is_settled (length log)) (at_place place (with_tail (Some (length log))) cursors) ≡ map (is_settled (length log)) cursors
   settled-entered =
       map-at-same (is_settled (length log)) (with_tail (Some (length log))) place cursors
-      (λ c is. eq-eqb (length log) (length log) refl ∙ sym (cursor-settled (length log) cursors place c settled is))
+      (λ c is. ap (λ b. b && c.own.is_kept) (eq-eqb (length log) (length log) refl ∙ sym (cursor-settled (length log) cursors place c settled is)))
 
   pub rows-left : map (row_of log) (at_place place (with_tail None) cursors) ≡ at_place place (with_membership false) (map (row_of log) cursors)
   rows-left =
       map-at (row_of log) (with_tail None) (with_membership false) place cursors
       (λ c is.
-      let f = owed-settled log c.own c.tail (cursor-settled (length log) cursors place c settled is) in
+      let f = owed-settled log c.own.backlog c.tail (cursor-settled (length log) cursors place c settled is) in
       ap (λ b. record { backlog = b; is_member = false }) (sym f))
 
   pub settled-left : map (is_settled (length log)) (at_place place (with_tail None) cursors) ≡ map (is_settled (length log)) cursors
-  settled-left = map-at-same (is_settled (length log)) (with_tail None) place cursors (λ c is. sym (cursor-settled (length log) cursors place c settled is))
+  settled-left = map-at-same (is_settled (length log)) (with_tail None) place cursors (λ c is. ap (λ b. b && c.own.is_kept) (sym (cursor-settled (length log) cursors place c settled is)))
 
   pub rows-taken : (count : ℕ) → map (row_of log) (at_place place (cursor_taken count) cursors) ≡ at_place place (taken count) (map (row_of log) cursors)
   rows-taken count =
       map-at (row_of log) (cursor_taken count) (taken count) place cursors
       (λ c is.
       let end = cursor-settled (length log) cursors place c settled is in
-      let e = owed-settled log (with_lines c.own (drop count c.own.lines)) c.tail end in
-      let f = owed-settled log c.own c.tail end in
+      let e = owed-settled log (with_lines c.own.backlog (drop count c.own.backlog.lines)) c.tail end in
+      let f = owed-settled log c.own.backlog c.tail end in
       ap (λ b. record { backlog = b; is_member = (row_of log c).is_member }) (e ∙ ap (λ b. with_lines b (drop count b.lines)) (sym f)))
 
   pub settled-taken : (count : ℕ) → map (is_settled (length log)) (at_place place (cursor_taken count) cursors) ≡ map (is_settled (length log)) cursors
@@ -75,12 +81,16 @@ module _ (log : List Entry) (cursors : List Cursor) (place : ℕ) (settled : sli
   pub own-waits : own_at place cursors ≡ (get_or (map (row_of log) cursors) place (new_row 0 0)).backlog
   own-waits = own-waits-at log cursors place settled
 
+  -- and it has an outbox
+  pub own-kept : is_kept_at place cursors ≡ true
+  own-kept = kept-at (length log) cursors place settled
+
 -- an entry behind the others is for the members
-row-told : (log : List Entry) (e : Entry) (own : Backlog) (tail : Option ℕ) → IsWithin (length log) (record { own = own; tail = tail })
+row-told : (log : List Entry) (e : Entry) (own : Own) (tail : Option ℕ) → IsWithin (length log) (record { own = own; tail = tail })
     → row_of (log ++ e ∷ []) (record { own = own; tail = tail }) ≡ told (entry_lines e) (row_of log (record { own = own; tail = tail }))
 row-told log e own None within = refl
 row-told log e own (Some tail) within =
-    ap (λ b. record { backlog = b; is_member = true }) (ap (after_all own) (drop-append-le tail log (e ∷ []) within) ∙ after-push own (drop tail log) e)
+    ap (λ b. record { backlog = b; is_member = true }) (ap (after_all own.backlog) (drop-append-le tail log (e ∷ []) within) ∙ after-push own.backlog (drop tail log) e)
 
 pub rows-told : (log : List Entry) (e : Entry) (cursors : List Cursor) → All (IsWithin (length log)) cursors → map (row_of (log ++ e ∷ [])) cursors ≡ map (told (entry_lines e)) (map (row_of log) cursors)
 rows-told log e [] all = refl
@@ -89,25 +99,28 @@ rows-told log e (c ∷ cursors) all =
     ∙ ap (λ rows. told (entry_lines e) (row_of log c) ∷ rows) (rows-told log e cursors (All-tail (IsWithin (length log)) c cursors all))
 
 -- then only those are settled that are no members
-unsettled : (log : List Entry) (e : Entry) (own : Backlog) (tail : Option ℕ) → IsWithin (length log) (record { own = own; tail = tail })
-    → is_at_end (length (log ++ e ∷ [])) tail ≡ not (row_of log (record { own = own; tail = tail })).is_member
+unsettled : (log : List Entry) (e : Entry) (own : Own) (tail : Option ℕ) → IsWithin (length log) (record { own = own; tail = tail })
+    → is_settled (length (log ++ e ∷ [])) (record { own = own; tail = tail })
+    ≡ (not (row_of log (record { own = own; tail = tail })).is_member && is_settled (length log) (record { own = own; tail = tail }))
 unsettled log e own None within = refl
-unsettled log e own (Some tail) within = grind (arith, length-append log (e ∷ []), eqb_tells tail (length (log ++ e ∷ [])))
+unsettled log e own (Some tail) within =
+    let other : (tail == length (log ++ e ∷ [])) ≡ false = grind (arith, length-append log (e ∷ []), eqb_tells tail (length (log ++ e ∷ []))) in
+    ap (λ b. b && own.is_kept) other
 
 pub settled-told : (log : List Entry) (e : Entry) (cursors : List Cursor) → All (IsWithin (length log)) cursors
-    → map (is_settled (length (log ++ e ∷ []))) cursors ≡ map (λ (row : Row). not row.is_member) (map (row_of log) cursors)
+    → map (is_settled (length (log ++ e ∷ []))) cursors ≡ settled_but (map (row_of log) cursors) (map (is_settled (length log)) cursors)
 settled-told log e [] all = refl
 settled-told log e (c ∷ cursors) all =
     ap (λ b. b ∷ map (is_settled (length (log ++ e ∷ []))) cursors) (unsettled log e c.own c.tail (All-head (IsWithin (length log)) c cursors all))
-    ∙ ap (λ bs. not (row_of log c).is_member ∷ bs) (settled-told log e cursors (All-tail (IsWithin (length log)) c cursors all))
+    ∙ ap (λ bs. (not (row_of log c).is_member && is_settled (length log) c) ∷ bs) (settled-told log e cursors (All-tail (IsWithin (length log)) c cursors all))
 
 -- the first entries have left the log, and none of them waited
-row-shifted : (log : List Entry) (count : ℕ) (own : Backlog) (tail : Option ℕ) → IsPast count (record { own = own; tail = tail })
+row-shifted : (log : List Entry) (count : ℕ) (own : Own) (tail : Option ℕ) → IsPast count (record { own = own; tail = tail })
     → row_of (drop count log) (shifted count (record { own = own; tail = tail })) ≡ row_of log (record { own = own; tail = tail })
 row-shifted log count own None past = refl
 row-shifted log count own (Some tail) past =
     let places : count + (tail - count) ≡ tail = omega (arith, past) in
-    ap (λ b. record { backlog = b; is_member = true }) (ap (after_all own) (drop-drop (tail - count) count log ∙ ap (λ n. drop n log) places))
+    ap (λ b. record { backlog = b; is_member = true }) (ap (after_all own.backlog) (drop-drop (tail - count) count log ∙ ap (λ n. drop n log) places))
 
 pub rows-shifted : (log : List Entry) (count : ℕ) (cursors : List Cursor) → All (IsPast count) cursors → map (row_of (drop count log)) (map (shifted count) cursors) ≡ map (row_of log) cursors
 rows-shifted log count [] all = refl

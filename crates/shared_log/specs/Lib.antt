@@ -1,6 +1,7 @@
 pub mod Cursors
 pub mod Entries
 pub mod Logs
+pub mod OwnLines
 pub mod Parts
 pub mod Tables
 pub mod Tallies

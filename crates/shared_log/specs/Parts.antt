@@ -30,11 +30,11 @@ pub record AreWhole (log : List Entry) (tail count : ℕ) (run : Run) : Type 0 w
 pub record IsPart (log : List Entry) (cursor : Cursor) (count : ℕ) (part : Part) : Type 0 where
   pub member : cursor.tail ≡ Some part.tail
   pub fits : (row_of log cursor).backlog.lags ≡ false
-  pub own : part.own ≤ length cursor.own.lines
+  pub own : part.own ≤ length cursor.own.backlog.lines
   pub from : part.tail ≤ part.end
   pub within : part.end ≤ length log
-  pub first : take part.own cursor.own.lines ++ all_lines (between log part.tail part.end) ≡ take count (row_of log cursor).backlog.lines
-  pub rest : drop part.own cursor.own.lines ++ all_lines (drop part.end log) ≡ drop count (row_of log cursor).backlog.lines
+  pub first : take part.own cursor.own.backlog.lines ++ all_lines (between log part.tail part.end) ≡ take count (row_of log cursor).backlog.lines
+  pub rest : drop part.own cursor.own.backlog.lines ++ all_lines (drop part.end log) ≡ drop count (row_of log cursor).backlog.lines
   pub lines : part.lines ≡ length (take count (row_of log cursor).backlog.lines)
 
 abbrev pub backlog_of : List Entry → List Cursor → ℕ → Backlog

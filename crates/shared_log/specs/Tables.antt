@@ -1,5 +1,5 @@
 -- What waits for connections, of which some are members: those who hear what is given to all members.
-use Rattle.std.specs.Prelude.{◌≡◌, ℕ, zero, suc, Bool, true, false, not, List, [], ◌∷◌, ◌++◌, drop, get_or, map, slice_get, Some, if◌then◌else◌}
+use Rattle.std.specs.Prelude.{◌≡◌, ℕ, zero, suc, Bool, true, false, not, List, [], ◌∷◌, ◌++◌, ◌&&◌, drop, get_or, map, slice_get, Some, if◌then◌else◌}
 use Rattle.std.specs.List.{remove}
 use Rattle.outboxes.specs.Backlogs.{Backlog, backlog_after, empty_backlog, with_lines}
 use Rattle.outboxes.specs.Quits.{quit_line}
@@ -85,11 +85,17 @@ at_row place change table = with_rows (at_place place change table.rows) table
 abbrev pub settled_at : ℕ → Table → Table
 settled_at place table = with_settled (at_place place (λ _. true) table.settled) table
 
+-- of those that were settled only those are that are no members
+abbrev pub settled_but : List Row → List Bool → List Bool
+settled_but [] settled = []
+settled_but (row ∷ rows) [] = []
+settled_but (row ∷ rows) (is_settled ∷ settled) = (not row.is_member && is_settled) ∷ settled_but rows settled
+
 -- the members hear a share, and are no more settled
 abbrev pub told_members : List (List ℕ) → Table → Table
 told_members share table = record table {
   rows = map (told share) table.rows;
-  settled = map (λ (row : Row). not row.is_member) table.rows;
+  settled = settled_but table.rows table.settled;
   is_ready = false;
 }
 

@@ -4,18 +4,20 @@ ghost use Rattle.shared_log.specs.Tables.{IsSettled, after_quit, at_row, backlog
 ghost use Rattle.shared_log.specs.Tables.{with_membership, with_new, with_room, with_settled, without};
 
 use crate::cursor::Cursor;
-use crate::cursors::{give_at, set_tail, settle_at, take_at, take_whole_at, tally_at};
+use crate::cursors::{give_at, rest_at, set_tail, settle_at, take_at, take_whole_at, tally_at};
 use crate::entry::Entry;
 use crate::evict::make_room;
+use crate::own_lines::OwnLines;
 use adc_base32::Sid;
 use circular_buffer::HeapCircularBuffer;
-use outboxes::{Batch, Outbox, OutboxRefused, TakeRefused, Taken};
+use outboxes::{Batch, OutboxRefused, TakeRefused, Taken};
 use std::alloc::{AllocError, Global};
 use std::marker::Model;
 
 /// The lines that wait for connections, each known by its place. Some are members: what all members hear is kept once.
 #[derive(Drop)]
 pub struct Backlogs {
+    alloc: Global,
     cursors: Vec<Cursor>,
     log: HeapCircularBuffer<Entry>,
     is_ready: bool,
@@ -52,6 +54,7 @@ impl Backlogs {
     {
         let log = HeapCircularBuffer::with_capacity(alloc, places)?;
         Ok(Backlogs {
+            alloc,
             cursors: Vec::new(alloc),
             log,
             is_ready: false,
@@ -64,15 +67,18 @@ impl Backlogs {
     /// Adds a connection behind the others, which is no member. Others may have to be settled again.
     ///
     /// `Memory` where it runs out; then only others may have to be settled again.
-    pub fn add(&mut self, alloc: Global) -> Result<(), OutboxRefused>
+    pub fn add(&mut self) -> Result<(), OutboxRefused>
         ensures ok { OnOk result (self.new ≡ with_settled self.new.settled (with_new self.old)) }
         ensures err { OnErr result (self.new ≡ with_settled self.new.settled self.old) }
     {
-        let own = Outbox::new(alloc, self.cap, self.bytes)?;
         // A place for the news that it has left, and one for a batch.
         let wanted = self.cursors.len() + 2;
-        make_room(&mut self.cursors, &mut self.log, wanted, false)?;
-        if self.cursors.push(Cursor::new(own)).is_err() {
+        make_room(self.alloc, &mut self.cursors, &mut self.log, wanted, false)?;
+        if self
+            .cursors
+            .push(Cursor::new(OwnLines::new(self.cap, self.bytes)))
+            .is_err()
+        {
             return Err(OutboxRefused::Memory);
         }
         Ok(())
@@ -87,7 +93,13 @@ impl Backlogs {
     {
         let wanted = self.cursors.len() + 1;
         let is_heavy = self.log_bytes > self.bytes;
-        make_room(&mut self.cursors, &mut self.log, wanted, is_heavy)?;
+        make_room(
+            self.alloc,
+            &mut self.cursors,
+            &mut self.log,
+            wanted,
+            is_heavy,
+        )?;
         if is_heavy {
             self.log_bytes = 0;
         }
@@ -104,7 +116,7 @@ impl Backlogs {
         ensures settled { OnOk result (IsSettled place self.new) }
         ensures err { OnErr result (self.new ≡ self.old) }
     {
-        settle_at(&mut self.cursors, place, &self.log)
+        settle_at(self.alloc, &mut self.cursors, place, &self.log)
     }
 
     /// Gives lines to one connection, which was settled. It takes no memory.
@@ -189,6 +201,27 @@ impl Backlogs {
         ensures err { OnErr result (self.new ≡ with_settled self.new.settled self.old) }
         ensures out_kept { OnErr result (out.new.items ≡ out.old.items) }
     {
+        let taken = self.take_first(place, count, out)?;
+        self.rest(place);
+        Ok(taken)
+    }
+
+    fn take_first(
+        &mut self,
+        place: usize,
+        count: usize,
+        out: &mut Vec<u8>,
+    ) -> Result<Taken, TakeRefused>
+        requires place { place < length self.old.rows }
+        requires some { 1 ≤ count }
+        requires few { count ≤ 256 }
+        ensures lines { IfOk result (λ answer. answer.lines ≡ length (take count (backlog_at place self.old).lines)) }
+        ensures ended { IfOk result (λ answer. answer.ended ≡ ((length (drop count (backlog_at place self.old).lines) == 0) && (backlog_at place self.old).lags)) }
+        ensures rest { OnOk result (self.new ≡ with_settled self.new.settled (at_row place (taken count) self.old)) }
+        ensures bytes { OnOk result (out.new.items ≡ out.old.items ++ concat (take count (backlog_at place self.old).lines)) }
+        ensures err { OnErr result (self.new ≡ with_settled self.new.settled self.old) }
+        ensures out_kept { OnErr result (out.new.items ≡ out.old.items) }
+    {
         match take_whole_at(&mut self.cursors, place, &self.log, count, out)? {
             Some(taken) => Ok(taken),
             None => {
@@ -196,6 +229,14 @@ impl Backlogs {
                 self.take_own(place, count, out)
             }
         }
+    }
+
+    /// Lets the outbox of a connection go where nothing waits in it.
+    fn rest(&mut self, place: usize)
+        requires { place < length self.old.rows }
+        ensures { self.new ≡ with_settled self.new.settled self.old }
+    {
+        rest_at(&mut self.cursors, place);
     }
 
     /// Takes lines of a connection which is settled.

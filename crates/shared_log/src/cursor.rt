@@ -3,36 +3,41 @@ ghost use Rattle.shared_log.specs.Tallies.{IsTally};
 ghost use Rattle.shared_log.specs.Cursors.{IsWithin, IsPast, is_settled, row_of, shifted};
 
 use crate::entry::Entry;
+use crate::own_lines::OwnLines;
 use crate::tally::Tally;
 use circular_buffer::HeapCircularBuffer;
-use outboxes::Outbox;
-use std::alloc::AllocError;
+use std::alloc::{AllocError, Global};
 
 /// What is kept of a connection: the lines that are its own, and its place in the log, where it is a member.
 #[derive(Drop)]
 pub struct Cursor {
     /// The lines that wait before those of the log.
-    pub(crate) own: Outbox,
+    pub(crate) own: OwnLines,
     /// The place in the log from which on entries wait.
     pub(crate) tail: Option<usize>,
 }
 
 impl Cursor {
     /// Makes the cursor of a connection that has just come.
-    pub(crate) fn new(own: Outbox) -> Cursor
+    pub(crate) fn new(own: OwnLines) -> Cursor
         ensures { result ≡ record { own = own; tail = None } }
     {
         Cursor { own, tail: None }
     }
 
     /// Moves what waits in the log into its own outbox. Where memory runs out, it may have moved a part.
-    pub(crate) fn settle(&mut self, log: &HeapCircularBuffer<Entry>) -> Result<(), AllocError>
+    pub(crate) fn settle(
+        &mut self,
+        alloc: Global,
+        log: &HeapCircularBuffer<Entry>,
+    ) -> Result<(), AllocError>
         requires { IsWithin (length log.now.items) self.old }
         ensures kept { row_of log.now.items self.new ≡ row_of log.now.items self.old }
         ensures within { IsWithin (length log.now.items) self.new }
         ensures settled { OnOk result (is_settled (length log.now.items) self.new ≡ true) }
         ensures err { OnErr result (is_settled (length log.now.items) self.new ≡ is_settled (length log.now.items) self.old) }
     {
+        self.own.keep(alloc)?;
         let Some(tail) = self.tail else {
             return Ok(());
         };
@@ -49,6 +54,7 @@ impl Cursor {
     /// Moves what waits in the log into its own outbox, where one of the first `count` entries waits.
     pub(crate) fn settle_before(
         &mut self,
+        alloc: Global,
         log: &HeapCircularBuffer<Entry>,
         count: usize,
     ) -> Result<(), AllocError>
@@ -59,18 +65,22 @@ impl Cursor {
         ensures past { OnOk result (IsPast count self.new) }
     {
         match self.tail {
-            Some(tail) if tail < count => self.settle_at_end(log),
+            Some(tail) if tail < count => self.settle_at_end(alloc, log),
             _ => Ok(()),
         }
     }
 
-    fn settle_at_end(&mut self, log: &HeapCircularBuffer<Entry>) -> Result<(), AllocError>
+    fn settle_at_end(
+        &mut self,
+        alloc: Global,
+        log: &HeapCircularBuffer<Entry>,
+    ) -> Result<(), AllocError>
         requires { IsWithin (length log.now.items) self.old }
         ensures kept { row_of log.now.items self.new ≡ row_of log.now.items self.old }
         ensures within { IsWithin (length log.now.items) self.new }
         ensures past { OnOk result (IsPast (length log.now.items) self.new) }
     {
-        self.settle(log)
+        self.settle(alloc, log)
     }
 
     /// Counts its place from a log whose first `count` entries have left.
@@ -88,7 +98,7 @@ impl Cursor {
         requires { IsWithin (length log.now.items) self.now }
         ensures { IsTally (row_of log.now.items self.now).backlog result }
     {
-        let mut tally = Tally::of(&self.own);
+        let mut tally = self.own.tally();
         let Some(tail) = self.tail else {
             return tally;
         };

@@ -1,6 +1,7 @@
-ghost use Rattle.std.specs.Prelude.{◌≡◌, ◌<◌, ◌≤◌, ◌==◌, ◌&&◌, ◌++◌, true, get_or, length, map, drop, take, slice_get, Some, IfNone, IfOk, IfSome, OnErr, OnOk};
+ghost use Rattle.std.specs.Prelude.{◌≡◌, ◌<◌, ◌≤◌, ◌==◌, ◌&&◌, ◌++◌, true, List, get_or, length, map, drop, take, slice_get, Some, IfNone, IfOk, IfSome, OnErr, OnOk};
 ghost use Rattle.std.specs.List.{All, concat};
-ghost use Rattle.shared_log.specs.Cursors.{AreWithin, IsPast, rows_of, settled_of, shifted, cursor_given, cursor_taken, own_at, with_tail};
+ghost use Rattle.shared_log.specs.Cursors.{AreWithin, IsPast, rows_of, settled_of, shifted, cursor_given, cursor_taken, is_kept_at, own_at, with_tail};
+ghost use Rattle.shared_log.specs.declared.entry.Entry.{Entry};
 ghost use Rattle.shared_log.specs.Tables.{at_place, new_row};
 ghost use Rattle.shared_log.specs.Parts.{IsTaken};
 ghost use Rattle.shared_log.specs.Tallies.{IsTally};
@@ -10,10 +11,11 @@ use crate::entry::Entry;
 use crate::tally::Tally;
 use circular_buffer::HeapCircularBuffer;
 use outboxes::{Batch, TakeRefused, Taken};
-use std::alloc::AllocError;
+use std::alloc::{AllocError, Global};
 
 /// Moves what waits in the log for the connection at a place into its own outbox.
 pub(crate) fn settle_at(
+    alloc: Global,
     cursors: &mut [Cursor],
     place: usize,
     log: &HeapCircularBuffer<Entry>,
@@ -25,11 +27,12 @@ pub(crate) fn settle_at(
     ensures settled { OnOk result (settled_of log.now.items cursors.new ≡ at_place place (λ _. true) (settled_of log.now.items cursors.old)) }
     ensures err { OnErr result (settled_of log.now.items cursors.new ≡ settled_of log.now.items cursors.old) }
 {
-    cursors[place].settle(log)
+    cursors[place].settle(alloc, log)
 }
 
 /// Moves what waits in the log into own outboxes, where one of the first `count` entries waits.
 pub(crate) fn settle_before(
+    alloc: Global,
     cursors: &mut [Cursor],
     log: &HeapCircularBuffer<Entry>,
     count: usize,
@@ -41,7 +44,7 @@ pub(crate) fn settle_before(
     ensures past { OnOk result (All (IsPast count) cursors.new) }
 {
     for cursor in cursors.iter_mut() {
-        cursor.settle_before(log, count)?;
+        cursor.settle_before(alloc, log, count)?;
     }
     Ok(())
 }
@@ -58,7 +61,8 @@ pub(crate) fn shift(cursors: &mut [Cursor], count: usize)
 
 /// Gives lines of its own to the connection at a place.
 pub(crate) fn give_at(cursors: &mut [Cursor], place: usize, batch: Batch)
-    requires { place < length cursors.old }
+    requires place { place < length cursors.old }
+    requires kept { is_kept_at place cursors.old ≡ true }
     ensures { cursors.new ≡ at_place place (cursor_given batch) cursors.old }
 {
     cursors[place].own.give(batch);
@@ -90,6 +94,16 @@ pub(crate) fn take_at(
     ensures out_kept { OnErr result (out.new.items ≡ out.old.items) }
 {
     cursors[place].own.take(count, out)
+}
+
+/// Lets the outbox of the connection at a place go where nothing waits in it.
+pub(crate) fn rest_at(cursors: &mut [Cursor], place: usize)
+    requires { place < length cursors.old }
+    ensures kept { (log : List Entry) → rows_of log cursors.new ≡ rows_of log cursors.old }
+    ensures within { (log : List Entry) → AreWithin log cursors.old → AreWithin log cursors.new }
+    ensures many { length cursors.new ≡ length cursors.old }
+{
+    cursors[place].own.rest();
 }
 
 /// Takes the first `count` lines of the connection at a place, or all, where these are some of its own and whole entries, and

@@ -1,10 +1,12 @@
-ghost use Rattle.std.specs.Prelude.{◌≡◌, ◌<◌, ◌≤◌, ◌++◌, length, IfNone, IfSome, OnErr, OnOk};
+ghost use Rattle.std.specs.Prelude.{◌≡◌, ◌<◌, ◌≤◌, ◌++◌, true, length, IfNone, IfSome, OnErr, OnOk};
 ghost use Rattle.std.specs.List.{concat};
 ghost use Rattle.outboxes.specs.Backlogs.{backlog_after, size_of};
 ghost use Rattle.shared_log.specs.Entries.{entry_lines};
+ghost use Rattle.shared_log.specs.OwnLines.{own_with};
 
+use crate::own_lines::OwnLines;
 use adc_base32::Sid;
-use outboxes::{Batch, Outbox, quit_line};
+use outboxes::{Batch, quit_line};
 use std::alloc::AllocError;
 
 // "IQUI ", four digits and a line feed.
@@ -20,9 +22,10 @@ pub enum Entry {
 }
 
 impl Entry {
-    /// Gives another handle of its lines to an outbox.
-    pub(crate) fn give_to(&self, own: &mut Outbox) -> Result<(), AllocError>
-        ensures ok { OnOk result (own.new ≡ backlog_after own.old (entry_lines self.now)) }
+    /// Gives another handle of its lines to a connection that has an outbox.
+    pub(crate) fn give_to(&self, own: &mut OwnLines) -> Result<(), AllocError>
+        requires { own.old.is_kept ≡ true }
+        ensures ok { OnOk result (own.new ≡ own_with (backlog_after own.old.backlog (entry_lines self.now)) own.old) }
         ensures err { OnErr result (own.new ≡ own.old) }
     {
         match self {

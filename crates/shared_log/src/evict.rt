@@ -7,10 +7,11 @@ use crate::cursor::Cursor;
 use crate::cursors::{settle_before, shift};
 use crate::entry::Entry;
 use circular_buffer::HeapCircularBuffer;
-use std::alloc::AllocError;
+use std::alloc::{AllocError, Global};
 
 /// Lets the first `count` entries of the log go. What of them waits for a connection is first moved into its own outbox.
 pub(crate) fn evict(
+    alloc: Global,
     cursors: &mut [Cursor],
     log: &mut HeapCircularBuffer<Entry>,
     count: usize,
@@ -22,7 +23,7 @@ pub(crate) fn evict(
     ensures ok { OnOk result (log.new ≡ buffer (drop count log.old.items) log.old.capacity) }
     ensures err { OnErr result (log.new ≡ log.old) }
 {
-    settle_before(cursors, log, count)?;
+    settle_before(alloc, cursors, log, count)?;
     shift(cursors, count);
     log.truncate_front(log.len() - count);
     Ok(())
@@ -31,6 +32,7 @@ pub(crate) fn evict(
 /// Makes room in the log for so many entries more. All others go where they are heavy. Where there is no
 /// room yet, the older half goes, and then the log grows.
 pub(crate) fn make_room(
+    alloc: Global,
     cursors: &mut [Cursor],
     log: &mut HeapCircularBuffer<Entry>,
     wanted: usize,
@@ -44,12 +46,12 @@ pub(crate) fn make_room(
     ensures larger { log.old.capacity ≤ log.new.capacity }
 {
     if is_heavy {
-        evict(cursors, log, log.len())?;
+        evict(alloc, cursors, log, log.len())?;
     }
     if log.capacity() - log.len() >= wanted {
         return Ok(());
     }
-    evict(cursors, log, log.len() - log.len() / 2)?;
+    evict(alloc, cursors, log, log.len() - log.len() / 2)?;
     if log.capacity() - log.len() >= wanted {
         return Ok(());
     }

@@ -6,6 +6,7 @@ mod cursor;
 mod cursors;
 mod entry;
 mod evict;
+mod own_lines;
 mod part;
 mod tally;
 

@@ -64,7 +64,7 @@ impl Cursor {
         if self.tally(log).lags {
             return None;
         }
-        let own = (self.own.waiting() as usize).min(count);
+        let own = self.own.waiting().min(count);
         let run = run_from(log, tail, count - own)?;
         Some(Part {
             own,

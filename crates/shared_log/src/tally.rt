@@ -1,5 +1,5 @@
 ghost use Rattle.std.specs.Prelude.{◌≡◌, length};
-ghost use Rattle.outboxes.specs.Backlogs.{Backlog, backlog_after, size_of};
+ghost use Rattle.outboxes.specs.Backlogs.{Backlog, backlog_after, empty_backlog, size_of};
 ghost use Rattle.shared_log.specs.Entries.{entry_lines};
 ghost use Rattle.shared_log.specs.Tallies.{IsTally, grown};
 
@@ -28,6 +28,19 @@ impl Tally {
             lags: own.lagging(),
             cap,
             limit,
+        }
+    }
+
+    /// Counts where nothing waits, of at most so many lines and bytes.
+    pub(crate) fn of_nothing(cap: usize, bytes: usize) -> Tally
+        ensures { IsTally (empty_backlog cap bytes) result }
+    {
+        Tally {
+            lines: 0,
+            bytes: 0,
+            lags: false,
+            cap,
+            limit: bytes,
         }
     }
 

@@ -4,7 +4,7 @@ use Rattle.std.proofs.lemmas.Grind.{common_steps}
 use Rattle.std.proofs.lemmas.List.Elements.{All-same}
 use Rattle.shared_log.specs.Cursors.{cursor_given, IsWithin, is_settled}
 use Rattle.shared_log.proofs.Places.{All-at, length-at, with-at}
-use Rattle.shared_log.proofs.Tables.{rows-given, settled-given}
+use Rattle.shared_log.proofs.Tables.{own-kept, rows-given, settled-given}
 use Rattle.shared_log.proofs.backlogs.Backlogs.give.Goals as goal
 
 pub invariant_of-self : goal.invariant_of-self
@@ -26,3 +26,11 @@ returns c =
     let flags = settled-given log cs c.args.place settled c.args.batch in
     let is = with-at c.self.inside.cursors (cursor_given c.args.batch) c.args.place c.deref_mut.result.now c.give_at.new.cursors c.give_at.ensures c.deref_mut.ensures.value c.deref_mut.ensures.len in
     grind (arith, common_steps, rows, flags, is)
+
+pub give_at-requires-clause-kept : goal.give_at-requires-clause-kept
+give_at-requires-clause-kept c =
+    let log = c.self.inside.log.items in
+    let cs = c.self.inside.cursors.items in
+    let settled : slice_get (map (is_settled (length log)) cs) c.args.place ≡ Some true = cc in
+    let kept = own-kept log cs c.args.place settled in
+    grind (arith, common_steps, kept)

@@ -1,4 +1,4 @@
-use Rattle.std.proofs.Common.{◌≡◌, ◌≤◌, Some, length, drop}
+use Rattle.std.proofs.Common.{◌≡◌, ◌≤◌, true, Some, length, drop}
 use Rattle.shared_log.specs.Entries.{after_all}
 use Rattle.shared_log.proofs.cursor.Cursor.settle.Given as goal
 
@@ -10,5 +10,6 @@ invariant-loop-place l =
       from : l.tail ≤ l.place;
       within : l.place ≤ length l.log.items;
       tail : l.self.tail ≡ Some l.place;
-      owed : after_all l.self.own (drop l.place l.log.items) ≡ after_all l.fn.self.own (drop l.tail l.log.items);
+      kept : l.self.own.is_kept ≡ true;
+      owed : after_all l.self.own.backlog (drop l.place l.log.items) ≡ after_all l.fn.self.own.backlog (drop l.tail l.log.items);
     }

@@ -10,7 +10,7 @@ use Rattle.shared_log.proofs.cursor.Cursor.take_part.Goals as goal
 
 pub skip-requires-clause-bytes : goal.skip-requires-clause-bytes
 skip-requires-clause-bytes c =
-    let long = length-concat (take c.args.part.now.own c.args.self.now.own.lines) in
+    let long = length-concat (take c.args.part.now.own c.args.self.now.own.backlog.lines) in
     grind (arith, common_steps, long)
 
 pub returns-clause-row : goal.returns-clause-row
@@ -20,6 +20,6 @@ returns-clause-row c =
 
 pub returns-clause-bytes : goal.returns-clause-bytes
 returns-clause-bytes c =
-    let joined = concat-append (take c.args.part.now.own c.args.self.now.own.lines) (all_lines (between c.args.log.now.items c.args.part.now.tail c.args.part.now.end)) in
+    let joined = concat-append (take c.args.part.now.own c.args.self.now.own.backlog.lines) (all_lines (between c.args.log.now.items c.args.part.now.tail c.args.part.now.end)) in
     let first = ap concat c.requires.first in
     grind (arith, common_steps, joined, first)

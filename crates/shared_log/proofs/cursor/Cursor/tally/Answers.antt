@@ -9,7 +9,7 @@ use Rattle.shared_log.proofs.cursor.Cursor.tally.Goals as goal
 pub loop-place-preserved : goal.loop-place-preserved
 loop-place-preserved c =
     let log = c.args.log.now.items in
-    let own = c.args.self.now.own in
+    let own = c.args.self.now.own.backlog in
     let tail = c.in-Some.tail in
     let place = c.loop-place.place in
     let more = after-heard own log tail place c.in-Some-get.entry.now (omega arith) (omega arith) c.in-Some-get.ensures in
@@ -30,7 +30,7 @@ loop-place-init c =
       end = c.len-place-end.ensures.len;
       from = omega arith;
       within = within;
-      counted = subst (λ (b : Backlog). IsTally b c.of-tally.result) (sym (after-heard-none c.args.self.now.own log c.in-Some.tail)) c.of-tally.ensures;
+      counted = subst (λ (b : Backlog). IsTally b c.tally-tally.result) (sym (after-heard-none c.args.self.now.own.backlog log c.in-Some.tail)) c.tally-tally.ensures;
     }
 
 pub unreachable-requires : goal.unreachable-requires

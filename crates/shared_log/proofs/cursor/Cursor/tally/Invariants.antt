@@ -9,5 +9,5 @@ invariant-loop-place l =
       end : l.place-end ≡ length l.log.items;
       from : l.tail ≤ l.place;
       within : l.place ≤ length l.log.items;
-      counted : IsTally (after_all l.self.own (take (l.place - l.tail) (drop l.tail l.log.items))) l.tally;
+      counted : IsTally (after_all l.self.own.backlog (take (l.place - l.tail) (drop l.tail l.log.items))) l.tally;
     }
