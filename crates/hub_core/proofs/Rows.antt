@@ -51,11 +51,6 @@ module _ {X : Type 0} where
   twice-at x y (suc i) (z ∷ zs) = ap (λ ws. z ∷ ws) (twice-at x y i zs)
 
   -- what stands at the place already
-  pub same-at : (x : X) (i : ℕ) (xs : List X) → get_or xs i x ≡ x → at_place i (λ _. x) xs ≡ xs
-  same-at x i [] is = refl
-  same-at x zero (y ∷ ys) is = ap (λ z. z ∷ ys) (sym is)
-  same-at x (suc i) (y ∷ ys) is = ap (λ zs. y ∷ zs) (same-at x i ys is)
-
   pub nothing-at : (g : X → X) → ((x : X) → g x ≡ x) → (i : ℕ) (xs : List X) → at_place i g xs ≡ xs
   nothing-at g same i [] = refl
   nothing-at g same zero (x ∷ xs) = ap (λ y. y ∷ xs) (same x)

@@ -5,7 +5,7 @@ use Rattle.std.proofs.lemmas.Bool.{cases_lt}
 use Rattle.hub_core.specs.declared.share.Share.{Share}
 use Rattle.hub_core.specs.Deliveries.{AreSettled, HaveRoom, WaitsAs, given_all, row_given}
 use Rattle.hub_core.proofs.Rows.{length-at}
-use Rattle.shared_log.specs.Tables.{IsSettled, Row, Table, at_place, at_row, settled_at, with_membership, with_rows}
+use Rattle.shared_log.specs.Tables.{IsSettled, Row, Table, at_place, at_row, settled_at, settled_but, with_membership, with_rows}
 
 pub waits-self : (a : Table) → WaitsAs a a
 waits-self a = record { rows = refl; cap = refl; bytes = refl }
@@ -36,11 +36,13 @@ more-settled place a b is here before other less =
       | inr at_least ↦ let same : place ≡ other = omega (arith, less, at_least) in subst (λ n. IsSettled n b) same here
     ]
 
--- who is no member is settled once the members were told
-pub none-waits : (place : ℕ) (rows : List Row) → place < length rows → slice_get (map (λ (row : Row). not row.is_member) (at_place place (with_membership false) rows)) place ≡ Some true
-none-waits place [] within = absurd (omega (arith, within))
-none-waits zero (row ∷ rows) within = refl
-none-waits (suc place) (row ∷ rows) within = none-waits place rows (omega (arith, within))
+-- who was settled and is no member stays settled where the members are told
+pub none-waits : (place : ℕ) (rows : List Row) (settled : List Bool) → place < length rows → slice_get settled place ≡ Some true
+    → slice_get (settled_but (at_place place (with_membership false) rows) settled) place ≡ Some true
+none-waits place [] settled within is = absurd (omega (arith, within))
+none-waits place (row ∷ rows) [] within is = absurd (cc)
+none-waits zero (row ∷ rows) (here ∷ settled) within is = is
+none-waits (suc place) (row ∷ rows) (here ∷ settled) within is = none-waits place rows settled (omega (arith, within)) is
 
 -- ---- shares
 

@@ -39,6 +39,10 @@ abbrev pub seat_share : ℕ → Effect → Seat → List (List ℕ)
 seat_share c effect seat =
     (if phase_hears seat.phase (seat.number == c) effect.hearers seat.sender.sid then effect.others else []) ++ (if seat.number == c then effect.own else [])
 
+-- the same of the connection that sent the line
+abbrev pub own_share : Effect → Seat → List (List ℕ)
+own_share effect seat = (if phase_hears seat.phase true effect.hearers seat.sender.sid then effect.others else []) ++ effect.own
+
 -- ---- changes
 
 -- an operator changes the connection

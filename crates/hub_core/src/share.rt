@@ -3,7 +3,7 @@ ghost use Rattle.hub_core.specs.Index.{AreIndexed, keys};
 ghost use Rattle.hub_core.specs.Numbers.{Rising, numbers};
 ghost use Rattle.hub_core.specs.Owed.{AreQuietBut, IsMeant, IsOnlyFor, share_at, shares_from};
 ghost use Rattle.hub_core.specs.Phases.{is_among, phase_hears, stage_in};
-ghost use Rattle.hub_core.specs.Seats.{seat_share};
+ghost use Rattle.hub_core.specs.Seats.{own_share, seat_share};
 ghost use Rattle.hub_core.specs.State.{IsPlace};
 ghost use Rattle.hub_core.specs.Touching.{NamesEffect, NamesHearers, NamesOthers, NamesOwed, falls, names};
 ghost use Rattle.hub_core.specs.declared.seat.Seat.{Seat};
@@ -162,16 +162,13 @@ fn push_owed(
 ) -> Result<(), AllocError>
     ensures { OnOk result (shares.new.items ≡ shares.old.items ++ share_at place (seat_share number effect.now seat.now)) }
 {
-    let is_caller = seat.number == number;
-    let hears = hears(&seat.phase, is_caller, &effect.hearers, seat.sender.sid);
-    if !is_caller {
-        if hears {
-            return push_share(shares, place, effect.others.share()?);
-        }
-        return Ok(());
+    if seat.number == number {
+        return push_share(shares, place, sender_share(alloc, seat, effect)?);
     }
-    let lines = lines_owed(alloc, hears, effect)?;
-    push_share(shares, place, lines)
+    if hears(&seat.phase, false, &effect.hearers, seat.sender.sid) {
+        return push_share(shares, place, effect.others.share()?);
+    }
+    Ok(())
 }
 
 /// Makes the share of the connection that sent the line, which has this seat.
@@ -180,7 +177,7 @@ pub(crate) fn sender_share(
     seat: &Seat,
     effect: &Effect<'_>,
 ) -> Result<Batch, AllocError>
-    ensures { IfOk result (λ share. share ≡ (if phase_hears seat.now.phase true effect.now.hearers seat.now.sender.sid then effect.now.others else []) ++ effect.now.own) }
+    ensures { IfOk result (λ share. share ≡ own_share effect.now seat.now) }
 {
     let hears = hears(&seat.phase, true, &effect.hearers, seat.sender.sid);
     lines_owed(alloc, hears, effect)

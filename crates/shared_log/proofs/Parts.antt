@@ -106,9 +106,6 @@ given-open : (b : Backlog) (share : Lines) → (backlog_after b share).lags ≡ 
 given-open b share open' =
     let told = as-told b share b.lags (fits b share) refl refl open' in given-fits b share told.0 told.1
 
-with-same : (b : Backlog) → with_lines b b.lines ≡ b
-with-same b = refl
-
 pub all-fit : (b : Backlog) (es : List Entry) → (after_all b es).lags ≡ false → after_all b es ≡ with_lines b (b.lines ++ all_lines es)
 unfolding after_all
 all-fit b [] open' = ap (with_lines b) (sym (append-nil b.lines))

@@ -74,11 +74,8 @@ impl Backlogs {
         // A place for the news that it has left, and one for a batch.
         let wanted = self.cursors.len() + 2;
         make_room(self.alloc, &mut self.cursors, &mut self.log, wanted, false)?;
-        if self
-            .cursors
-            .push(Cursor::new(OwnLines::new(self.cap, self.bytes)))
-            .is_err()
-        {
+        let own = OwnLines::new(self.cap, self.bytes);
+        if self.cursors.push(Cursor::new(own)).is_err() {
             return Err(OutboxRefused::Memory);
         }
         Ok(())

@@ -60,9 +60,9 @@ fn log_of(rt: &impl Machine, cap: usize, bytes: usize) -> Log {
 
 fn join(rt: &impl Machine, backlogs: &mut Backlogs) {
     let count = backlogs.len();
-    if backlogs.add(rt.alloc()).is_err() {
+    if backlogs.add().is_err() {
         say_refused_memory(rt, "shared_log::Backlogs::add", backlogs.len() == count);
-        assert!(rt; backlogs.add(rt.alloc()).is_ok(), "not added");
+        assert!(rt; backlogs.add().is_ok(), "not added");
     }
 }
 
