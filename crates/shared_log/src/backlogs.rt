@@ -8,6 +8,7 @@ use crate::cursors::{give_at, rest_at, set_tail, settle_at, take_at, take_whole_
 use crate::entry::Entry;
 use crate::evict::make_room;
 use crate::own_lines::OwnLines;
+use crate::spares::Spares;
 use adc_base32::Sid;
 use circular_buffer::HeapCircularBuffer;
 use outboxes::{Batch, OutboxRefused, TakeRefused, Taken};
@@ -17,7 +18,7 @@ use std::marker::Model;
 /// The lines that wait for connections, each known by its place. Some are members: what all members hear is kept once.
 #[derive(Drop)]
 pub struct Backlogs {
-    alloc: Global,
+    spares: Spares,
     cursors: Vec<Cursor>,
     log: HeapCircularBuffer<Entry>,
     is_ready: bool,
@@ -54,7 +55,7 @@ impl Backlogs {
     {
         let log = HeapCircularBuffer::with_capacity(alloc, places)?;
         Ok(Backlogs {
-            alloc,
+            spares: Spares::new(alloc)?,
             cursors: Vec::new(alloc),
             log,
             is_ready: false,
@@ -73,7 +74,13 @@ impl Backlogs {
     {
         // A place for the news that it has left, and one for a batch.
         let wanted = self.cursors.len() + 2;
-        make_room(self.alloc, &mut self.cursors, &mut self.log, wanted, false)?;
+        make_room(
+            &mut self.spares,
+            &mut self.cursors,
+            &mut self.log,
+            wanted,
+            false,
+        )?;
         let own = OwnLines::new(self.cap, self.bytes);
         if self.cursors.push(Cursor::new(own)).is_err() {
             return Err(OutboxRefused::Memory);
@@ -91,7 +98,7 @@ impl Backlogs {
         let wanted = self.cursors.len() + 1;
         let is_heavy = self.log_bytes > self.bytes;
         make_room(
-            self.alloc,
+            &mut self.spares,
             &mut self.cursors,
             &mut self.log,
             wanted,
@@ -113,7 +120,7 @@ impl Backlogs {
         ensures settled { OnOk result (IsSettled place self.new) }
         ensures err { OnErr result (self.new ≡ self.old) }
     {
-        settle_at(self.alloc, &mut self.cursors, place, &self.log)
+        settle_at(&mut self.spares, &mut self.cursors, place, &self.log)
     }
 
     /// Gives lines to one connection, which was settled. It takes no memory.
@@ -233,7 +240,7 @@ impl Backlogs {
         requires { place < length self.old.rows }
         ensures { self.new ≡ with_settled self.new.settled self.old }
     {
-        rest_at(&mut self.cursors, place);
+        rest_at(&mut self.spares, &mut self.cursors, place);
     }
 
     /// Takes lines of a connection which is settled.

@@ -4,9 +4,10 @@ ghost use Rattle.shared_log.specs.Cursors.{IsWithin, IsPast, is_settled, row_of,
 
 use crate::entry::Entry;
 use crate::own_lines::OwnLines;
+use crate::spares::Spares;
 use crate::tally::Tally;
 use circular_buffer::HeapCircularBuffer;
-use std::alloc::{AllocError, Global};
+use std::alloc::AllocError;
 
 /// What is kept of a connection: the lines that are its own, and its place in the log, where it is a member.
 #[derive(Drop)]
@@ -28,7 +29,7 @@ impl Cursor {
     /// Moves what waits in the log into its own outbox. Where memory runs out, it may have moved a part.
     pub(crate) fn settle(
         &mut self,
-        alloc: Global,
+        spares: &mut Spares,
         log: &HeapCircularBuffer<Entry>,
     ) -> Result<(), AllocError>
         requires { IsWithin (length log.now.items) self.old }
@@ -37,7 +38,7 @@ impl Cursor {
         ensures settled { OnOk result (is_settled (length log.now.items) self.new ≡ true) }
         ensures err { OnErr result (is_settled (length log.now.items) self.new ≡ is_settled (length log.now.items) self.old) }
     {
-        self.own.keep(alloc)?;
+        self.own.keep(spares)?;
         let Some(tail) = self.tail else {
             return Ok(());
         };
@@ -54,7 +55,7 @@ impl Cursor {
     /// Moves what waits in the log into its own outbox, where one of the first `count` entries waits.
     pub(crate) fn settle_before(
         &mut self,
-        alloc: Global,
+        spares: &mut Spares,
         log: &HeapCircularBuffer<Entry>,
         count: usize,
     ) -> Result<(), AllocError>
@@ -65,14 +66,14 @@ impl Cursor {
         ensures past { OnOk result (IsPast count self.new) }
     {
         match self.tail {
-            Some(tail) if tail < count => self.settle_at_end(alloc, log),
+            Some(tail) if tail < count => self.settle_at_end(spares, log),
             _ => Ok(()),
         }
     }
 
     fn settle_at_end(
         &mut self,
-        alloc: Global,
+        spares: &mut Spares,
         log: &HeapCircularBuffer<Entry>,
     ) -> Result<(), AllocError>
         requires { IsWithin (length log.now.items) self.old }
@@ -80,7 +81,7 @@ impl Cursor {
         ensures within { IsWithin (length log.now.items) self.new }
         ensures past { OnOk result (IsPast (length log.now.items) self.new) }
     {
-        self.settle(alloc, log)
+        self.settle(spares, log)
     }
 
     /// Counts its place from a log whose first `count` entries have left.

@@ -8,14 +8,15 @@ ghost use Rattle.shared_log.specs.Tallies.{IsTally};
 
 use crate::cursor::Cursor;
 use crate::entry::Entry;
+use crate::spares::Spares;
 use crate::tally::Tally;
 use circular_buffer::HeapCircularBuffer;
 use outboxes::{Batch, TakeRefused, Taken};
-use std::alloc::{AllocError, Global};
+use std::alloc::AllocError;
 
 /// Moves what waits in the log for the connection at a place into its own outbox.
 pub(crate) fn settle_at(
-    alloc: Global,
+    spares: &mut Spares,
     cursors: &mut [Cursor],
     place: usize,
     log: &HeapCircularBuffer<Entry>,
@@ -27,12 +28,12 @@ pub(crate) fn settle_at(
     ensures settled { OnOk result (settled_of log.now.items cursors.new ≡ at_place place (λ _. true) (settled_of log.now.items cursors.old)) }
     ensures err { OnErr result (settled_of log.now.items cursors.new ≡ settled_of log.now.items cursors.old) }
 {
-    cursors[place].settle(alloc, log)
+    cursors[place].settle(spares, log)
 }
 
 /// Moves what waits in the log into own outboxes, where one of the first `count` entries waits.
 pub(crate) fn settle_before(
-    alloc: Global,
+    spares: &mut Spares,
     cursors: &mut [Cursor],
     log: &HeapCircularBuffer<Entry>,
     count: usize,
@@ -44,7 +45,7 @@ pub(crate) fn settle_before(
     ensures past { OnOk result (All (IsPast count) cursors.new) }
 {
     for cursor in cursors.iter_mut() {
-        cursor.settle_before(alloc, log, count)?;
+        cursor.settle_before(spares, log, count)?;
     }
     Ok(())
 }
@@ -97,13 +98,13 @@ pub(crate) fn take_at(
 }
 
 /// Lets the outbox of the connection at a place go where nothing waits in it.
-pub(crate) fn rest_at(cursors: &mut [Cursor], place: usize)
+pub(crate) fn rest_at(spares: &mut Spares, cursors: &mut [Cursor], place: usize)
     requires { place < length cursors.old }
     ensures kept { (log : List Entry) → rows_of log cursors.new ≡ rows_of log cursors.old }
     ensures within { (log : List Entry) → AreWithin log cursors.old → AreWithin log cursors.new }
     ensures many { length cursors.new ≡ length cursors.old }
 {
-    cursors[place].own.rest();
+    cursors[place].own.rest(spares);
 }
 
 /// Takes the first `count` lines of the connection at a place, or all, where these are some of its own and whole entries, and

@@ -6,12 +6,13 @@ ghost use Rattle.shared_log.specs.Cursors.{AreWithin, rows_of};
 use crate::cursor::Cursor;
 use crate::cursors::{settle_before, shift};
 use crate::entry::Entry;
+use crate::spares::Spares;
 use circular_buffer::HeapCircularBuffer;
-use std::alloc::{AllocError, Global};
+use std::alloc::AllocError;
 
 /// Lets the first `count` entries of the log go. What of them waits for a connection is first moved into its own outbox.
 pub(crate) fn evict(
-    alloc: Global,
+    spares: &mut Spares,
     cursors: &mut [Cursor],
     log: &mut HeapCircularBuffer<Entry>,
     count: usize,
@@ -23,7 +24,7 @@ pub(crate) fn evict(
     ensures ok { OnOk result (log.new ≡ buffer (drop count log.old.items) log.old.capacity) }
     ensures err { OnErr result (log.new ≡ log.old) }
 {
-    settle_before(alloc, cursors, log, count)?;
+    settle_before(spares, cursors, log, count)?;
     shift(cursors, count);
     log.truncate_front(log.len() - count);
     Ok(())
@@ -32,7 +33,7 @@ pub(crate) fn evict(
 /// Makes room in the log for so many entries more. All others go where they are heavy. Where there is no
 /// room yet, the older half goes, and then the log grows.
 pub(crate) fn make_room(
-    alloc: Global,
+    spares: &mut Spares,
     cursors: &mut [Cursor],
     log: &mut HeapCircularBuffer<Entry>,
     wanted: usize,
@@ -46,12 +47,12 @@ pub(crate) fn make_room(
     ensures larger { log.old.capacity ≤ log.new.capacity }
 {
     if is_heavy {
-        evict(alloc, cursors, log, log.len())?;
+        evict(spares, cursors, log, log.len())?;
     }
     if log.capacity() - log.len() >= wanted {
         return Ok(());
     }
-    evict(alloc, cursors, log, log.len() - log.len() / 2)?;
+    evict(spares, cursors, log, log.len() - log.len() / 2)?;
     if log.capacity() - log.len() >= wanted {
         return Ok(());
     }

@@ -8,6 +8,7 @@ mod entry;
 mod evict;
 mod own_lines;
 mod part;
+mod spares;
 mod tally;
 
 pub use backlogs::Backlogs;

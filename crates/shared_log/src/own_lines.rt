@@ -5,10 +5,11 @@ ghost use Rattle.outboxes.specs.Quits.{quit_line};
 ghost use Rattle.shared_log.specs.OwnLines.{nothing_own, own_with};
 ghost use Rattle.shared_log.specs.Tallies.{IsTally};
 
+use crate::spares::Spares;
 use crate::tally::Tally;
 use adc_base32::Sid;
 use outboxes::{Batch, Outbox, TakeRefused, Taken};
-use std::alloc::{AllocError, Global};
+use std::alloc::AllocError;
 use std::marker::Model;
 
 /// The lines that wait for one connection alone. Most of the time there are none: an outbox is made for the first of them,
@@ -44,22 +45,19 @@ impl OwnLines {
     /// Makes an outbox where there is none, so that lines can be given.
     ///
     /// `AllocError` where memory runs out; nothing has changed then.
-    pub(crate) fn keep(&mut self, alloc: Global) -> Result<(), AllocError>
+    pub(crate) fn keep(&mut self, spares: &mut Spares) -> Result<(), AllocError>
         ensures ok { OnOk result (self.new ≡ record self.old { is_kept = true }) }
         ensures err { OnErr result (self.new ≡ self.old) }
     {
         if self.outbox.is_some() {
             return Ok(());
         }
-        match Outbox::new(alloc, self.cap, self.bytes) {
-            Ok(outbox) => self.outbox = Some(outbox),
-            Err(_) => return Err(AllocError),
-        }
+        self.outbox = Some(spares.take(self.cap, self.bytes)?);
         Ok(())
     }
 
     /// Lets the outbox go where no line waits and none was too many.
-    pub(crate) fn rest(&mut self)
+    pub(crate) fn rest(&mut self, spares: &mut Spares)
         ensures { self.new.backlog ≡ self.old.backlog }
     {
         let Some(outbox) = &self.outbox else {
@@ -67,7 +65,9 @@ impl OwnLines {
         };
         if outbox.waiting() == 0 && !outbox.lagging() {
             (self.cap, self.bytes) = outbox.limits();
-            self.outbox = None;
+            if let Some(outbox) = self.outbox.take() {
+                spares.keep(outbox);
+            }
         }
     }
 

@@ -5,6 +5,7 @@ use Rattle.std.proofs.lemmas.Grind.{common_steps}
 use Rattle.std.proofs.lemmas.List.{with_items_is}
 use Rattle.std.proofs.lemmas.List.Elements.{All-same}
 use Rattle.shared_log.specs.Cursors.{cursor_taken, IsWithin, is_settled}
+use Rattle.shared_log.specs.Tables.{Table}
 use Rattle.shared_log.proofs.Places.{All-at, either-way, length-at, then-ok, with-at}
 use Rattle.shared_log.proofs.Tables.{own-waits, rows-taken, settled-taken}
 use Rattle.shared_log.proofs.backlogs.Backlogs.take_own.Goals as goal
@@ -31,13 +32,15 @@ invariant_of-self c =
 
 pub returns-clause-lines : goal.returns-clause-lines
 returns-clause-lines c =
-    let settled : slice_get (map (is_settled (length c.self.inside.log.items)) c.self.inside.cursors.items) c.args.place ≡ Some true = cc in
+    let settled : slice_get (map (is_settled (length c.self.inside.log.items)) c.self.inside.cursors.items) c.args.place ≡ Some true =
+    ap (λ (t : Table). slice_get t.settled c.args.place) c.self.view_is ∙ c.requires.settled in
     let own = own-waits c.self.inside.log.items c.self.inside.cursors.items c.args.place settled in
     grind (arith, common_steps, own)
 
 pub returns-clause-ended : goal.returns-clause-ended
 returns-clause-ended c =
-    let settled : slice_get (map (is_settled (length c.self.inside.log.items)) c.self.inside.cursors.items) c.args.place ≡ Some true = cc in
+    let settled : slice_get (map (is_settled (length c.self.inside.log.items)) c.self.inside.cursors.items) c.args.place ≡ Some true =
+    ap (λ (t : Table). slice_get t.settled c.args.place) c.self.view_is ∙ c.requires.settled in
     let own = own-waits c.self.inside.log.items c.self.inside.cursors.items c.args.place settled in
     grind (arith, common_steps, own)
 
@@ -45,7 +48,8 @@ pub returns-clause-rest : goal.returns-clause-rest
 returns-clause-rest c =
     let log = c.self.inside.log.items in
     let cs = c.self.inside.cursors.items in
-    let settled : slice_get (map (is_settled (length log)) cs) c.args.place ≡ Some true = cc in
+    let settled : slice_get (map (is_settled (length log)) cs) c.args.place ≡ Some true =
+    ap (λ (t : Table). slice_get t.settled c.args.place) c.self.view_is ∙ c.requires.settled in
     let rows = rows-taken log cs c.args.place settled c.args.count in
     let flags = settled-taken log cs c.args.place settled c.args.count in
     then-ok c.take_at.result c.take_at.ensures.rest
@@ -55,6 +59,7 @@ returns-clause-rest c =
 
 pub returns-clause-bytes : goal.returns-clause-bytes
 returns-clause-bytes c =
-    let settled : slice_get (map (is_settled (length c.self.inside.log.items)) c.self.inside.cursors.items) c.args.place ≡ Some true = cc in
+    let settled : slice_get (map (is_settled (length c.self.inside.log.items)) c.self.inside.cursors.items) c.args.place ≡ Some true =
+    ap (λ (t : Table). slice_get t.settled c.args.place) c.self.view_is ∙ c.requires.settled in
     let own = own-waits c.self.inside.log.items c.self.inside.cursors.items c.args.place settled in
     grind (arith, common_steps, own)
