@@ -20,5 +20,6 @@ fn main(rt: HostRuntime) -> io::Result<()> {
     for users in [10, 100, 500, 900] {
         report::report_calls(&rt, rt.alloc(), users)?;
     }
-    report::report_threads(&rt, rt.alloc())
+    report::report_threads(&rt, rt.alloc(), 100)?;
+    report::report_threads(&rt, rt.alloc(), 500)
 }

@@ -7,9 +7,6 @@ use std::sync::Wait;
 use std::thread::{self, Threads};
 use std::time::{Clock, Instant};
 
-/// The number of users who are there.
-const USERS: u32 = 100;
-
 /// The number of lines that are said in a stretch, by all threads together. Threads begin a stretch together, and first
 /// take all that waits. So never more than two stretches' lines wait for a user, however the threads are run, and there is
 /// room for 1,024.
@@ -44,15 +41,16 @@ impl Figures {
     }
 }
 
-/// Lets 100 users, shared out among so many threads, say and hear 100,000 lines. The first user of each thread chats.
+/// Lets so many users, shared out among so many threads, say and hear 100,000 lines. The first user of each thread chats.
 pub fn deliveries<R: Threads + Wait + Clock + Sync>(
     rt: &R,
     alloc: Global,
+    users: u32,
     threads: u32,
 ) -> io::Result<Figures> {
     let (shared, host) = open_hub(alloc)?;
     let mut door = Door::new(&shared, host);
-    let figures = measured(rt, alloc, &mut door, threads);
+    let figures = measured(rt, alloc, &mut door, users, threads);
     // By calls, in one place: a body that lets go of much where each of its calls may fail is dear to prove.
     drop(door);
     drop(shared);
@@ -63,12 +61,13 @@ fn measured<R: Threads + Wait + Clock + Sync>(
     rt: &R,
     alloc: Global,
     door: &mut Door<'_>,
+    users: u32,
     threads: u32,
 ) -> io::Result<Figures> {
-    let crowds = settled(rt, alloc, door, threads)?;
+    let crowds = settled(rt, alloc, door, users, threads)?;
     let start = Instant::now(rt)?;
     let crowds = chat(rt, crowds, LINES.checked_div(threads).ok_or(AllocError)?)?;
-    added_up(&crowds, start.elapsed(rt)?.as_nanos())
+    added_up(&crowds, users, start.elapsed(rt)?.as_nanos())
 }
 
 /// Lets the users in, shared out among so many threads, for whom nothing waits.
@@ -76,12 +75,13 @@ fn settled<'a, R: Wait>(
     rt: &R,
     alloc: Global,
     door: &mut Door<'a>,
+    users: u32,
     threads: u32,
 ) -> io::Result<Vec<Crowd<'a>>> {
-    let users = USERS.checked_div(threads).ok_or(AllocError)?;
+    let each = users.checked_div(threads).ok_or(AllocError)?;
     let mut crowds = Vec::with_capacity(alloc, threads as usize)?;
     for _ in 0..threads {
-        crowds.push(Crowd::new(alloc, door.let_in(rt, alloc, users)?)?)?;
+        crowds.push(Crowd::new(alloc, door.let_in(rt, alloc, each)?)?)?;
     }
     for crowd in crowds.iter_mut() {
         crowd.settle(rt)?;
@@ -106,7 +106,7 @@ fn chat<'a, R: Threads + Wait + Clock + Sync>(
 }
 
 /// Adds up. It fails where somebody did not hear all, since the others then had less to do.
-fn added_up(crowds: &[Crowd<'_>], nanos: u128) -> io::Result<Figures> {
+fn added_up(crowds: &[Crowd<'_>], users: u32, nanos: u128) -> io::Result<Figures> {
     let (mut delivered, mut in_calls) = (0u64, 0u128);
     for crowd in crowds {
         if crowd.has_failed() {
@@ -115,7 +115,7 @@ fn added_up(crowds: &[Crowd<'_>], nanos: u128) -> io::Result<Figures> {
         delivered = delivered.wrapping_add(crowd.lines_delivered());
         in_calls = in_calls.wrapping_add(crowd.in_calls());
     }
-    if delivered != u64::from(USERS) * u64::from(LINES) * u64::from(STRETCHES) {
+    if delivered != u64::from(users).wrapping_mul(u64::from(LINES) * u64::from(STRETCHES)) {
         return Err(io::ErrorKind::InvalidData.into());
     }
     Ok(Figures {

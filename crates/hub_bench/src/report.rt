@@ -43,18 +43,22 @@ fn say<R: Print>(rt: &R, users: u32, what: &str, nanos: u128) -> io::Result<()> 
     println!(rt; "{users} users, {what}: {nanos} ns")
 }
 
-/// Reports how many lines a hub delivers that threads share.
+/// Reports how many lines a hub of so many users delivers that threads share.
 pub fn report_threads<R: Threads + Wait + Clock + Print + Sync>(
     rt: &R,
     alloc: Global,
+    users: u32,
 ) -> io::Result<()> {
-    let alone = deliveries(rt, alloc, 1)?;
-    println!(rt; "1 thread: {} lines delivered a second", alone.a_second())?;
+    let alone = deliveries(rt, alloc, users, 1)?;
+    println!(rt;
+        "{users} users, 1 thread: {} lines delivered a second",
+        alone.a_second()
+    )?;
     for threads in [2, 4] {
-        let figures = deliveries(rt, alloc, threads)?;
+        let figures = deliveries(rt, alloc, users, threads)?;
         let (delivered, waiting) = (figures.a_second(), figures.waiting(&alone));
         println!(rt;
-            "{threads} threads: {delivered} lines delivered a second, {waiting} % of the time in calls spent waiting"
+            "{users} users, {threads} threads: {delivered} lines delivered a second, {waiting} % of the time in calls spent waiting"
         )?;
     }
     Ok(())
