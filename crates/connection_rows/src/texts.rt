@@ -8,8 +8,7 @@ pub(crate) const GREETING: &str = "ana is greeted AAAB\n";
 
 pub(crate) const ENTERED: &str = "\
 ana is greeted AAAB
-ana says BINF AAAB ID<P0> PD<P0> NIana SS10 SF2 I40.0.0.0 SUTCP4,SEGA
-ana hears BINF AAAB ID<P0> NIana SS10 SF2 I4127.0.0.1 SUTCP4,SEGA
+ana says BINF AAAB ID<P0> PD<P0> NIana SS10 SF2 I40.0.0.0 SUTCP4,SEGA -> BINF AAAB ID<P0> NIana SS10 SF2 I4127.0.0.1 SUTCP4,SEGA
 ";
 
 /// Gives what one says and hears in a conversation.

@@ -1,14 +1,5 @@
-use crate::refusal::holds;
+use crate::refusal::*;
 use adc_base32::Sid;
-use hub_core::{
-    Conn, Core, JoinRefused, Options, Prepared, Setup, SetupRefused, Stage, Totals, Touched,
-    Verdict, prepare,
-};
-use second_try::again;
-use session_hash::First24;
-use std::alloc::Global;
-use std::process::Abort;
-use std::sync::Arc;
 
 /// A hub whose peers are all 127.0.0.1 and whose challenges are all 24 zero bytes. A call for which memory is refused
 /// has to leave all as it was, and is made once more; it has to succeed then.

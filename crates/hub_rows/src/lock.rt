@@ -5,11 +5,8 @@ ghost use Rattle.std.specs.Prelude.{◌≡◌, ◌∷◌, []};
 
 use crate::lock::counter::{CountersSeat, add, open_counter};
 use crate::lock::worker::{Worker, both, disband, eight, hire, interrupt, is_one_run, leave, team};
-use crate::refusal::holds;
+use crate::refusal::*;
 use one_history::NotAlone;
-use second_try::again;
-use std::alloc::Global;
-use std::process::Abort;
 use std::test::Fail;
 use std::time::{CpuClock, Duration};
 

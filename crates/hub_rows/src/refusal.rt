@@ -1,5 +1,13 @@
-use std::alloc::Global;
-use std::process::Abort;
+pub(crate) use hub_core::{
+    Account, Answer, Ask, Asked, Conn, Core, JoinRefused, Options, PlainOptions, Prepared, Setup,
+    SetupRefused, Stage, Totals, Touched, Verdict, prepare, run_calls,
+};
+pub(crate) use second_try::{Machine, again, tell};
+pub(crate) use session_hash::First24;
+pub(crate) use std::alloc::{AllocError, AllocGlobal, Global};
+pub(crate) use std::io::Print;
+pub(crate) use std::process::Abort;
+pub(crate) use std::sync::{Arc, Wait};
 
 /// Puts an item last, at the second try where memory is refused at the first.
 pub(crate) fn keep<T: Drop>(rt: &impl Abort, items: &mut Vec<T>, item: T) {

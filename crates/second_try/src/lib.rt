@@ -13,7 +13,7 @@ pub use cast::{GREETED, GREETS, Machine, login_of};
 pub use growth::{append, copy, push};
 pub use said::tell;
 pub use spelling::spell;
-pub use steps::{Deed, Step};
+pub use steps::{Deed, Step, steps_of};
 pub use transcript::{Transcript, transcript_of};
 
 /// Makes a call that a test needs beside those that it is about, once more where memory was refused.

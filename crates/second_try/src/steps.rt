@@ -1,4 +1,6 @@
 // A deed has its words here alone: players tell deeds apart, and no words.
+use crate::push;
+use std::alloc::Global;
 
 /// What is done in a step. Where several do it, the first of its words has no s at its end.
 #[derive(Clone, Copy, Debug, PartialEq, Eq)]
@@ -152,6 +154,51 @@ impl<'t> Step<'t> {
     }
 }
 
+/// Reads a conversation, blank lines apart, a step of one after the other; but for whom a call concerned, which is one step. A line may be short
+/// for several: `ana says A | B -> C | only D` for `ana says A`, `ana says B`, `ana hears C` and `ana hears only D`, and `-> last D` for
+/// `ana hears last D`. Gives nothing where a line is no step, or memory is refused twice.
+pub fn steps_of<'t>(alloc: Global, text: &'t str) -> Option<Vec<Step<'t>>> {
+    let mut steps = Vec::new(alloc);
+    for line in text.lines() {
+        if !line.trim().is_empty() {
+            add_steps(&mut steps, Step::read(line.trim())?)?;
+        }
+    }
+    Some(steps)
+}
+
+fn add_steps<'t>(steps: &mut Vec<Step<'t>>, step: Step<'t>) -> Option<()> {
+    let Some((line, answers)) = step.line.split_once(" -> ") else {
+        return add_lines(steps, step);
+    };
+    add_lines(steps, Step { line, ..step })?;
+    let (deed, line) = (Deed::Hears, answers);
+    add_lines(steps, Step { deed, line, ..step })
+}
+
+fn add_lines<'t>(steps: &mut Vec<Step<'t>>, step: Step<'t>) -> Option<()> {
+    for line in step.line.split(" | ") {
+        let (deed, line) = match (line.strip_prefix("only "), line.strip_prefix("last ")) {
+            (Some(line), _) => (Deed::HearsOnly, line),
+            (_, Some(line)) if step.deed == Deed::Takes => (Deed::TakesLast, line),
+            (_, Some(line)) => (Deed::HearsLast, line),
+            _ => (step.deed, line),
+        };
+        add_names(steps, Step { deed, line, ..step })?;
+    }
+    Some(())
+}
+
+fn add_names<'t>(steps: &mut Vec<Step<'t>>, step: Step<'t>) -> Option<()> {
+    if step.deed == Deed::IsConcerned {
+        return push(steps, step).ok();
+    }
+    for who in step.who.split(" and ") {
+        push(steps, Step { who, ..step }).ok()?;
+    }
+    Some(())
+}
+
 /// Gives what stands behind the names.
 fn behind_names(text: &str) -> Option<&str> {
     let (_, mut rest) = text.split_once(' ')?;
@@ -190,39 +237,61 @@ fn deed_of(words: &str) -> Option<Deed> {
 
 #[cfg(test)]
 mod tests {
-    use crate::{Deed, Step};
-    use std::test::Fail;
+    use crate::{Machine, Step, append, steps_of};
+    use std::alloc::Global;
+
+    /// Each kind of line, and the steps that it is short for.
+    const LINES: [(&str, &str); 6] = [
+        ("ana enters", "0 ana Enters:;"),
+        ("at 9 bob says BMSG AAAC hi", "9 bob Says:BMSG AAAC hi;"),
+        (
+            "ana and bob hear only ISTA",
+            "0 ana HearsOnly:ISTA;0 bob HearsOnly:ISTA;",
+        ),
+        (
+            "ana takes last 3\n\n  a digest begins",
+            "0 ana TakesLast:3;0 a DigestBegins:;",
+        ),
+        (
+            "at 9 ana says A | B -> C | last D",
+            "9 ana Says:A;9 ana Says:B;9 ana Hears:C;9 ana HearsLast:D;",
+        ),
+        ("bob and ana are concerned", "0 bob and ana IsConcerned:;"),
+    ];
+
+    fn told(alloc: Global, steps: &[Step<'_>]) -> Option<Vec<u8>> {
+        let mut told = Vec::new(alloc);
+        for Step {
+            moment,
+            who,
+            deed,
+            line,
+        } in steps {
+            let step = format!(in alloc; "{moment} {who} {deed:?}:{line};").ok()?;
+            append(&mut told, step.as_bytes()).ok()?;
+        }
+        Some(told)
+    }
+
+    fn is_short_for(rt: &impl Machine, text: &str, wanted: &str) {
+        for _ in 0..2 {
+            if let Some(steps) = steps_of(rt.alloc(), text)
+                && let Some(told) = told(rt.alloc(), &steps)
+            {
+                assert!(rt; told.as_slice() == wanted.as_bytes(), "{text}");
+                return;
+            }
+        }
+        panic!(rt; "{text}: no steps")
+    }
 
     #[test]
-    fn steps_are_read(rt: HostRuntime) -> Result<(), Fail> {
-        for (text, moment, who, deed, line) in [
-            ("ana enters", 0, "ana", Deed::Enters, ""),
-            (
-                "at 9 bob says BMSG AAAC hi",
-                9,
-                "bob",
-                Deed::Says,
-                "BMSG AAAC hi",
-            ),
-            (
-                "ana and bob hear only ISTA 000",
-                0,
-                "ana and bob",
-                Deed::HearsOnly,
-                "ISTA 000",
-            ),
-            ("ana takes last 3", 0, "ana", Deed::TakesLast, "3"),
-            ("a digest begins", 0, "a", Deed::DigestBegins, ""),
-        ] {
-            let step = Step::read(text).ok_or("no step")?;
-            assert!(&rt;
-                step.moment == moment && step.who == who && step.deed == deed && step.line == line,
-                "{text}"
-            );
+    fn steps_are_read(rt: HostRuntime) {
+        for (text, wanted) in LINES {
+            is_short_for(&rt, text, wanted);
         }
         for text in ["ana", "ana dances", "at x ana enters", "ana and bob"] {
             assert!(&rt; Step::read(text).is_none(), "{text}");
         }
-        Ok(())
     }
 }

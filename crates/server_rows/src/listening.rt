@@ -1,15 +1,12 @@
 // Servers that cannot be had, or not for long.
 
-use crate::machine::ServerMachine;
+use crate::machine::*;
 use crate::program::asking::Output;
 use crate::run::settings;
 use hub_listener::Bind;
 use hub_server::serve_at;
-use session_hash::First24;
-use std::io;
-use std::net::{Ipv4Addr, Net, SocketAddr, SocketAddrV4, TcpListener, TcpStream};
+use std::net::{TcpListener, TcpStream};
 use std::os::fd::OwnedFd;
-use std::sync::Arc;
 use tokio::reactor::Handle;
 
 /// A socket that is connected already, so that it accepts nobody.
@@ -57,15 +54,8 @@ fn at<R: ServerMachine + Net<Stream = TcpStream, Listener = TcpListener>, A: Bin
     let hash = Arc::new(rt.alloc(), First24)?;
     let mut output = Output::new(rt.alloc(), is_broken)?;
     let mut errors = Vec::with_capacity(rt.alloc(), 64)?;
-    let status = serve_at(
-        rt,
-        &settings,
-        hash,
-        [0; 32],
-        address,
-        &mut output,
-        &mut errors,
-    );
+    let (seed, errors_to) = ([0; 32], &mut errors);
+    let status = serve_at(rt, &settings, hash, seed, address, &mut output, errors_to);
     Ok(Ended {
         status,
         output: output.got,
@@ -89,11 +79,8 @@ fn in_trouble<R: ServerMachine + Net<Stream = TcpStream, Listener = TcpListener>
         (Trouble::Mute, _) => at(rt, any, true),
         (Trouble::Connected, local) => {
             let stream = TcpStream::connect(rt, local)?;
-            at(
-                rt,
-                Connected(TcpListener::from(OwnedFd::from(stream))),
-                false,
-            )
+            let connected = TcpListener::from(OwnedFd::from(stream));
+            at(rt, Connected(connected), false)
         }
     }
 }
@@ -111,9 +98,8 @@ fn ends<R: ServerMachine + Net<Stream = TcpStream, Listener = TcpListener>>(
             && ended.status != 4
         {
             assert!(rt; ended.status == status, "{}", ended.status);
-            assert!(rt;
-                ended.output.starts_with(output) && output.is_empty() == ended.output.is_empty()
-            );
+            let is_silent = output.is_empty() == ended.output.is_empty();
+            assert!(rt; ended.output.starts_with(output) && is_silent);
             assert!(rt; ended.errors.as_slice() == errors);
             return;
         }
@@ -125,20 +111,11 @@ fn ends<R: ServerMachine + Net<Stream = TcpStream, Listener = TcpListener>>(
 fn an_address_that_cannot_be_had(rt: HostRuntime) {
     ends(&rt, Trouble::NotHere, 3, b"", b"adc_hub: address\n");
     ends(&rt, Trouble::InUse, 3, b"", b"adc_hub: address\n");
-}
-
-#[test]
-fn an_output_that_fails(rt: HostRuntime) {
     ends(&rt, Trouble::Mute, 5, b"", b"adc_hub: input or output\n");
 }
 
 #[test]
 fn a_listener_that_fails_is_given_up(rt: HostRuntime) {
-    ends(
-        &rt,
-        Trouble::Connected,
-        3,
-        b"listening 127.0.0.1:",
-        b"adc_hub: address\n",
-    );
+    let (output, errors) = (b"listening 127.0.0.1:", b"adc_hub: address\n");
+    ends(&rt, Trouble::Connected, 3, output, errors);
 }

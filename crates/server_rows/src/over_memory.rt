@@ -1,22 +1,14 @@
 // A session over memory, with a connection of the server.
 ghost use Rattle.std.specs.Prelude.{◌≡◌, Some, ℕ, ⊤};
 
+use crate::machine::*;
 use crate::sessions::hold;
 use adc_sessions::End;
-use futures::task::{Context, Poll};
-use futures::test::MockTask;
 use hub_core::{Options, Setup};
 use hub_server::{Connection, OfHub, Server};
 use hub_shared::{Host, Hub};
-use second_try::{again, transcript_of};
-use session_hash::First24;
-use std::alloc::{AllocError, AllocGlobal};
-use std::io;
+use second_try::transcript_of;
 use std::marker::Brand;
-use std::random::RandomSource;
-use std::sync::{Arc, Wait};
-use std::time::Clock;
-use tokio::io::{AsyncRead, AsyncWrite};
 
 const CHALLENGE: [u8; 24] = [0; 24];
 

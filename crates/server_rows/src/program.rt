@@ -25,14 +25,10 @@ fn says_how_it_ended(rt: HostRuntime) {
 }
 
 #[test]
-fn says_that_input_or_output_failed(rt: HostRuntime) {
+fn says_that_input_or_output_failed_or_nobody_hears_why(rt: HostRuntime) {
     let said = b"adc_hub: input or output\n";
     asks(&rt, &["stdin"], Broken::Input, 5, b"", said);
     asks(&rt, &["stdin"], Broken::Output, 5, b"", said);
-}
-
-#[test]
-fn ends_alike_where_nobody_hears_why(rt: HostRuntime) {
     asks(&rt, &["serve"], Broken::Errors, 1, b"", b"");
     asks(&rt, &["stdin"], Broken::Errors, 0, GREETING, b"");
 }

@@ -1,14 +1,9 @@
 // Warnings: what stands in each line, what the journal has of them, and the queue by which nobody waits.
+use crate::machine::*;
 use hub_warnings::{Cause, Dropped, End, Journal, Moment, Start, Warning, Warnings, queue};
 use log::{Level, Logged};
-use second_try::{Machine, again};
-use std::alloc::{AllocError, AllocGlobal, Global};
 use std::fmt::Display;
 use std::io::{self, Write};
-use std::net::{Ipv4Addr, SocketAddr, SocketAddrV4};
-use std::process::Abort;
-use std::sync::Wait;
-use std::time::Clock;
 
 const HOME: Ipv4Addr = Ipv4Addr::LOCALHOST;
 

@@ -1,11 +1,7 @@
 ghost use Rattle.std.specs.Prelude.{⊤};
 
-use crate::checks::refused_twice;
-use futures::task::{Context, Poll};
-use std::alloc::Global;
+use super::*;
 use std::io;
-use std::process::Abort;
-use tokio::io::{AsyncRead, AsyncWrite};
 
 /// The call of a stream that goes wrong, counted from 1.
 #[derive(Clone, Copy)]

@@ -2,13 +2,8 @@
 ghost use Rattle.std.specs.Prelude.{◌≡◌, ◌<◌, ◌≤◌, ◌++◌, length};
 
 use crate::in_memory::desk::Desk;
-use futures::task::{Context, Poll};
+use crate::machine::*;
 use hub_listener::{Bind, Listens, Socket};
-use std::alloc::Global;
-use std::io;
-use std::net::{Ipv4Addr, Net, SocketAddr, SocketAddrV4};
-use std::time::{Clock, Duration};
-use tokio::io::{AsyncRead, AsyncWrite};
 use tokio::reactor::Handle;
 
 /// The number of times that a client looks whether its turn has come, a millisecond or more apart.

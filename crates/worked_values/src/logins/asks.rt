@@ -1,11 +1,9 @@
 use super::say_check;
-use crate::rows::{Part, Row, number, rows, unknown};
+use crate::rows::*;
 use login_state::{
     Account, Address, Admission, Ban, CHECKED, Claim, EntryAsk, Identity, InfAsk, Required, Size,
     UpdateAsk, Validity, check_entry, check_inf, check_update,
 };
-use second_try::Machine;
-use std::process::Abort;
 
 /// A login with which everything is wrong at first; each row but the first mends something and asks again.
 #[derive(Drop)]
@@ -18,9 +16,9 @@ impl Part for Login {
         match row.name {
             "asks" => {}
             "words" => self.ask.words = Validity::Good,
-            "id" => self.ask.id = required_of(rt, row.text),
-            "pid" => self.ask.pid = required_of(rt, row.text),
-            "nick" => self.ask.nick = required_of(rt, row.text),
+            "id" => self.ask.id = required(row.text == "good"),
+            "pid" => self.ask.pid = required(row.text == "good"),
+            "nick" => self.ask.nick = required(row.text == "good"),
             "share_size" => self.ask.values[0] = Validity::Good,
             "shared_files" => self.ask.values[1] = Validity::Good,
             "identity" => self.ask.identity = Identity::Own,
@@ -29,14 +27,6 @@ impl Part for Login {
             _ => self.ask.entry = entry(rt, row.name, row.text),
         }
         say_check(rt, said, check_inf(&self.ask));
-    }
-}
-
-fn required_of(rt: &impl Abort, text: &str) -> Required {
-    match text {
-        "bad" => Required::Bad,
-        "good" => Required::Good,
-        _ => unknown(rt, text),
     }
 }
 
@@ -55,6 +45,14 @@ fn entry(rt: &impl Abort, ban: &str, taken: &str) -> EntryAsk {
 
 fn claim(is_taken: bool) -> Claim {
     if is_taken { Claim::Taken } else { Claim::Free }
+}
+
+fn required(is_good: bool) -> Required {
+    if is_good {
+        Required::Good
+    } else {
+        Required::Bad
+    }
 }
 
 #[test]
@@ -86,8 +84,7 @@ fn checks_a_login_in_order(rt: HostRuntime) {
         free both -> ISTA 246 Wrong\saddress I410.0.0.1
         address -> ISTA 226 Registered\susers\sonly
         admission -> ISTA 222 Nick\staken
-        free cid -> ISTA 224 CID\staken
-        free none -> Go
+        free cid -> ISTA 224 CID\staken | none -> Go
     " }
 }
 
@@ -157,8 +154,6 @@ fn checks_once_more_at_entry(rt: HostRuntime) {
     rows! { rt, LastAsk, r"
         ever both -> ISTA 231 Banned
         7 both -> ISTA 232 Banned TL7
-        free both -> ISTA 222 Nick\staken
-        free cid -> ISTA 224 CID\staken
-        free none -> Go
+        free both -> ISTA 222 Nick\staken | cid -> ISTA 224 CID\staken | none -> Go
     " }
 }

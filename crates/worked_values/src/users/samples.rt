@@ -1,11 +1,9 @@
 // Users for tests.
 use crate::fields::{fields_of_line, say_fields};
 use crate::identities::key_of;
-use crate::rows::{say, say_number, unknown};
+use crate::rows::*;
 use adc_base32::Sid;
 use adc_ids::Cid;
-use second_try::Machine;
-use std::process::Abort;
 use user_table::{User, Users};
 
 pub(crate) fn sid(rt: &impl Abort, number: u32) -> Sid {
@@ -69,10 +67,7 @@ fn is_found<U: Users>(rt: &impl Abort, users: &U, user: &User) {
 
 /// Gives the number of the session identifier.
 pub(crate) fn number_of(user: Option<&User>) -> Option<u32> {
-    match user {
-        Some(user) => Some(user.sid().number()),
-        None => None,
-    }
+    Some(user?.sid().number())
 }
 
 pub(crate) fn say_totals<U: Users>(rt: &impl Machine, said: &mut Vec<u8>, users: &U) {
