@@ -1,8 +1,7 @@
 pub(crate) mod fakes;
 
-use crate::checks::{are_same, are_so_many, begins, refused_twice};
+use crate::checks::{ENTERED, GREETING, are_same, are_so_many, begins, refused_twice, told};
 use crate::streams::fakes::{Input, Output};
-use crate::texts::{ENTERED, GREETING, told};
 use hub_core::{MenuEntry, MenuItem, Options, Setup};
 use hub_stream::{Counting, Failures, RunFault, run_one};
 use second_try::again;
@@ -85,8 +84,7 @@ fn unless_refused<'a>(rt: &impl Abort, ran: Option<Ran<'a>>, whole: &[u8]) -> Op
     None
 }
 
-/// Runs it as [`attempt`] does, where memory is refused once at most: a run that met that wrote the front of `whole`, and
-/// another one is made.
+/// Runs it as [`attempt`] does, where memory is refused once at most: a run that met that wrote the front of `whole`, and another one is made.
 fn run_with<'a, R: AllocGlobal + Abort>(
     rt: &R,
     menu: &[MenuEntry<'_>],
@@ -112,32 +110,14 @@ fn ends<'a, R: AllocGlobal + Abort>(
     wanted: &[u8],
 ) -> Ran<'a> {
     let ran = run_with(rt, &[], input, 4096, 0, wanted);
-    assert!(rt;
-        ran.answer == answer && ran.output.get_ref().got.as_slice() == wanted,
-        "by {}, bad {}: {:?}, {:?}",
-        input.most,
-        input.bad,
-        ran.answer,
-        ran.output.get_ref().got
-    );
+    answers(rt, input.most, &ran, answer);
+    are_same(rt, &ran.output.get_ref().got, wanted);
     ran
 }
 
 /// Stops the test unless a run answered as it should in this case.
 fn answers(rt: &impl Abort, case: usize, ran: &Ran<'_>, answer: Result<(), RunFault>) {
     assert!(rt; ran.answer == answer, "case {case}: {:?}", ran.answer);
-}
-
-/// Stops the test unless a run wrote this in this case.
-fn wrote(rt: &impl Abort, case: usize, ran: &Ran<'_>, wanted: &[u8]) {
-    let got = &ran.output.get_ref().got;
-    assert!(rt; got.as_slice() == wanted, "case {case}: {got:?}");
-}
-
-/// Stops the test unless a run wrote the front of this in this case.
-fn wrote_front(rt: &impl Abort, case: usize, ran: &Ran<'_>, whole: &[u8]) {
-    let got = &ran.output.get_ref().got;
-    assert!(rt; whole.starts_with(got), "case {case}: {got:?}");
 }
 
 /// Stops the test unless these calls failed in this case.
@@ -166,15 +146,11 @@ fn answers_the_lines_that_it_reads(rt: HostRuntime) {
         is_answered(&rt, &ana.said, &ana.heard);
     }
     let denied: &[u8] = b"ISTA 140 Protocol\\serror\n";
-    let rows: [(&[u8], &[u8]); 5] = [
-        (b"x\n", denied),
-        (b"x\nx", denied),
-        (b"HSTA 000 x\n", b""),
-        (b"HSUP ADBASE ADTIGR", b""),
-        (b"", b""),
-    ];
-    for (input, wanted) in rows {
-        is_answered(&rt, input, wanted);
+    for input in [b"x\n".as_slice(), b"x\nx"] {
+        is_answered(&rt, input, denied);
+    }
+    for input in [b"HSTA 000 x\n".as_slice(), b"HSUP ADBASE ADTIGR", b""] {
+        is_answered(&rt, input, b"");
     }
 }
 
@@ -223,11 +199,10 @@ fn ends_once_the_connection_is_owed_too_much(rt: HostRuntime) {
 fn stops_at_a_line_that_is_too_long(rt: HostRuntime) {
     let ana = told(&rt, rt.alloc(), GREETING, "ana");
     // A line of 65,536 bytes may come to an end yet, and one of 65,537 is too long.
-    let bytes = padded(&rt, rt.alloc(), &ana.said, 65_555);
-    drop(ends(&rt, Input::of(&bytes, 4096), Ok(()), &ana.heard));
-    let bytes = padded(&rt, rt.alloc(), &ana.said, 65_556);
-    let answer = Err(RunFault::TooLong);
-    drop(ends(&rt, Input::of(&bytes, 4096), answer, &ana.heard));
+    for (length, answer) in [(65_555, Ok(())), (65_556, Err(RunFault::TooLong))] {
+        let bytes = padded(&rt, rt.alloc(), &ana.said, length);
+        drop(ends(&rt, Input::of(&bytes, 4096), answer, &ana.heard));
+    }
 }
 
 #[test]
@@ -237,7 +212,7 @@ fn writes_on_as_the_writer_takes(rt: HostRuntime) {
     for most in [1, 2, 73] {
         let ran = run_with(&rt, &[], input, most, 0, &ana.heard);
         answers(&rt, most, &ran, Ok(()));
-        wrote(&rt, most, &ran, &ana.heard);
+        are_same(&rt, &ran.output.get_ref().got, &ana.heard);
     }
     let ran = run_with(&rt, &[], input, 0, 0, &ana.heard);
     answers(&rt, 0, &ran, Err(RunFault::Write));
@@ -257,7 +232,7 @@ fn stops_at_a_write_that_fails(rt: HostRuntime) {
     for bad in 1..=good.output.get_ref().calls {
         let ran = run_with(&rt, &[], input, 10, bad, whole);
         answers(&rt, bad, &ran, Err(RunFault::Write));
-        wrote_front(&rt, bad, &ran, whole);
+        begins(&rt, &ran.output.get_ref().got, whole);
         failed(&rt, bad, ran.output.failures(), ONE);
         failed(&rt, bad, ran.input.failures(), NONE);
         are_so_many(&rt, bad, ran.output.get_ref().calls, bad);

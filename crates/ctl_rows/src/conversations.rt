@@ -15,22 +15,13 @@ op says BINF AAAC ID<P0> PD<P0> NIop SS0 SF0 VEadc-hubctl\s1.0
 ";
 
 /// It answers a challenge of zeros, by the password `secret` and the hash of tests.
-const ASKED: &str = r"
-op hears IGPA <39*A>
-op says HPAS <secret>
-";
+const ASKED: &str = "op hears IGPA <39*A>\nop says HPAS <secret>";
 
-const LIST: &str = r"
-op hears BINF AAAB IDMFXGC<34*A> NIana SS10 SF2 DEa\sb I4127.0.0.1
-";
+const LIST: &str = r"op hears BINF AAAB IDMFXGC<34*A> NIana SS10 SF2 DEa\sb I4127.0.0.1";
 
-const OWN: &str = r"
-op hears BINF AAAC ID<P0> NIop SS0 SF0 CT4
-";
+const OWN: &str = r"op hears BINF AAAC ID<P0> NIop SS0 SF0 CT4";
 
-const KICK: &str = r"
-op says HMSG !kick\sana\sbe\skind
-";
+const KICK: &str = r"op says HMSG !kick\sana\sbe\skind";
 
 /// A deed of an operator.
 #[derive(Clone, Copy)]
@@ -44,9 +35,8 @@ enum Deed {
 fn outcome(alloc: Global, memory: &mut Memory<'_>, deed: Deed) -> Result<String, ClientFault> {
     let mut client = Client::new(alloc, memory);
     let sid = client.hello(false)?.sid;
-    let nick = match NickText::parse(alloc, "op") {
-        Ok(nick) => nick,
-        Err(_) => return Err(ClientFault::Memory),
+    let Ok(nick) = NickText::parse(alloc, "op") else {
+        return Err(ClientFault::Memory);
     };
     let login = login_line(alloc, sid, &Identity::of(&First24, [0; 24]), &nick)?;
     if let Entry::Challenged(challenge) = client.enter(sid, &login)? {
@@ -191,9 +181,9 @@ fn others_answer_otherwise(rt: HostRuntime) {
 #[test]
 fn logins_are_refused(rt: HostRuntime) {
     for (status, wanted) in [
-        (r"op hears ISTA 231 Banned", "Banned: Banned"),
+        ("op hears ISTA 231 Banned", "Banned: Banned"),
         (
-            r"op hears ISTA 232 Banned TL59",
+            "op hears ISTA 232 Banned TL59",
             "Banned: Banned for 59 seconds",
         ),
         (r"op hears ISTA 222 Nick\staken", "Other: Nick taken"),
@@ -228,15 +218,11 @@ fn connections_fail(rt: HostRuntime) {
 }
 
 /// A line of the hub that does not end.
-const BROKEN: &str = "
-op says HSUP ADBASE ADTIGR -> ISUP ADBASE
-op hears a part ISID AA
-";
+const BROKEN: &str = "op says HSUP ADBASE ADTIGR -> ISUP ADBASE\nop hears a part ISID AA";
 
 /// A hub that tells a pinger of itself.
-const PINGED: &str = r"
-op says HSUP ADBASE ADTIGR ADPING -> ISUP ADBASE | ISID AAAB | IINF CT32 NIThe\sHub UC3 SS36893488147419103230
-";
+const PINGED: &str =
+    r"op says HSUP ADBASE ADTIGR ADPING -> ISUP ADBASE | ISID AAAB | IINF CT32 NIThe\sHub UC3 SS36893488147419103230";
 
 /// Gives what a pinger says, and what it is told.
 fn ping(alloc: Global, heard: &[u8]) -> Result<(Vec<u8>, String), ClientFault> {

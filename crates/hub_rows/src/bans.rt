@@ -24,9 +24,7 @@ const BANS: &str = r"
     with account op secret operator
     with account reg secret
     op enters
-    reg joins
-    reg says HSUP ADBASE ADTIGR | BINF AAAC ID<P1> PD<P1> NIreg
-    all take
+    reg enters BINF AAAC ID<P1> PD<P1> NIreg
     bob enters BINF AAAD ID<P1> PD<P1> NIbob
     op says HMSG !ban\sbob\s0
     reg is ended by HPAS <secret> -> last ISTA 231 Banned
@@ -34,9 +32,7 @@ const BANS: &str = r"
     with account op secret operator
     with account reg secret
     op enters
-    reg joins
-    reg says HSUP ADBASE ADTIGR | BINF AAAC ID<P1> PD<P1> NIreg
-    all take
+    reg enters BINF AAAC ID<P1> PD<P1> NIreg
     bob enters BINF AAAD ID<P1> PD<P1> NIbob
     at 100 op says HMSG !ban\sbob\s60 -> IQUI AAAD IDAAAB TL60 | ISTA 000 Done
     at 130 reg is ended by HPAS <secret> -> last ISTA 232 Banned TL30

@@ -1,7 +1,7 @@
 use crate::conversation::talk;
 
 #[test]
-fn a_hub_without_a_place_or_a_name_is_refused(rt: HostRuntime) {
+fn a_hub_has_1_to_900_places_and_a_name(rt: HostRuntime) {
     talk! { rt, r"
         == no place
         with max_users 0
@@ -17,12 +17,7 @@ fn a_hub_without_a_place_or_a_name_is_refused(rt: HostRuntime) {
         with max_users 900
         with name
         the hub is refused Name
-    " }
-}
-
-#[test]
-fn a_hub_of_900_connections_is_full(rt: HostRuntime) {
-    talk! { rt, r"
+        == 900 connections
         with max_users 900
         for 1 to 900:
             user joins

@@ -41,17 +41,8 @@ const CHAT: &str = r"
     ana says <line> -> only <answer>
     bob hears nothing
     each:
-    BMSG -> ISTA 140 Protocol\serror
-    BMSG AAA -> ISTA 140 Protocol\serror
-    BMSG AAAB<x20> -> ISTA 140 Protocol\serror
-    bMSG AAAB hi -> ISTA 140 Protocol\serror
-    BMSG aaab hi -> ISTA 140 Protocol\serror
-    FSCH AAAB ANx -> ISTA 140 Protocol\serror
-    FSCH AAAB +TCP ANx -> ISTA 140 Protocol\serror
-    DMSG AAAB -> ISTA 140 Protocol\serror
-    UMSG ABC hi -> ISTA 140 Protocol\serror
-    EMSG AAAB AAAC \ -> ISTA 140 Protocol\serror
-    <x20> -> ISTA 140 Protocol\serror
+    BMSG | BMSG AAA | BMSG AAAB<x20> | bMSG AAAB hi | BMSG aaab hi | FSCH AAAB ANx | FSCH AAAB +TCP ANx | DMSG AAAB -> ISTA 140 Protocol\serror
+    UMSG ABC hi | EMSG AAAB AAAC \ | <x20> -> ISTA 140 Protocol\serror
 ";
 
 #[test]

@@ -1,18 +1,17 @@
 //! Conversations with a hub, told as text and played line by line. Blank lines, and blanks around a line, say nothing;
 //! a line that is none of the following stops the test, as does each step that goes otherwise.
 //!
-//! A text has one conversation, or several, each behind a line `== NAME`. First come settings: `with max_users 900`,
-//! `with interval 10` and `with opening 5` (seconds), `with registered_only`, `with name Hub`, `with topic TEXT`. Others are
-//! `with account op secret operator`, `with account reg secret`, `with menu Help 1 text TEXT`, `with menu Sep 2 separator`. Where they are
-//! refused, `the hub is refused Limit` is all that follows.
+//! A text has one conversation, or several, each behind a line `== NAME`. First come settings: `with max_users 900`, `with interval 10` and `with
+//! opening 5` (seconds), `with registered_only`, `with name Hub`, `with topic TEXT`. Others are `with account op secret operator`, `with account reg
+//! secret`, `with menu Help 1 text TEXT`, `with menu Sep 2 separator`. Where they are refused, `the hub is refused Limit` is all that follows.
 //!
 //! Then come steps, of which `second_try::steps_of` and `second_try::Deed` tell. A name that is taken again means the last who took it; `#450` is the 450th who
 //! joined, but for those who `come and go`. Beside them there are
 //!
 //!     all take                  all who are there take what waits for them, up to 256 lines each
 //!     for 2 to 9:               the steps up to the line `end` are played in rounds numbered 2 to 9
-//!     each:                     the conversation up to here is played for each row `LINE -> ANSWER` that follows: a line that is
-//!                               `<line>` or `<answer>` alone stands for these
+//!     each:                     the conversation up to here is played for each line of the rows `LINE | LINE -> ANSWER` that follow: a line
+//!                               that is `<line>` or `<answer>` alone stands for these
 //!
 //! Who greets, and who enters, is followed by `all take`; and op sends its password, too.
 
@@ -58,23 +57,20 @@ pub(crate) fn play(rt: &(impl Abort + AllocGlobal), text: &str) {
 }
 
 fn play_rows(rt: &impl Abort, alloc: Global, text: &str) {
-    let (mut line, mut answer) = ("", "");
     let Some((text, rows)) = text.split_once("each:") else {
+        let (line, answer) = ("", "");
         return play_with(rt, alloc, Told { text, line, answer });
     };
     for row in rows.lines() {
         let row = row.trim();
         if !row.is_empty() {
-            (line, answer) = halves(rt, row);
-            play_with(rt, alloc, Told { text, line, answer });
+            let Some((lines, answer)) = row.split_once(" -> ") else {
+                unknown(rt, "row", row)
+            };
+            for line in lines.split(" | ") {
+                play_with(rt, alloc, Told { text, line, answer });
+            }
         }
-    }
-}
-
-fn halves<'t>(rt: &impl Abort, row: &'t str) -> (&'t str, &'t str) {
-    match row.split_once(" -> ") {
-        Some(halves) => halves,
-        None => unknown(rt, "row", row),
     }
 }
 

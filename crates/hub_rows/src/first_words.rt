@@ -6,7 +6,8 @@ const FIRST_WORDS: &str = r"
     ana joins
     ana hears nothing
     ana says HSUP ADBASE ADTIGR -> ISUP ADBASE ADTIGR ADPING ADUCMD | ISID AAAB | only IINF CT32 NIHub VEadc-hub\s1.0
-    ana says HSUP ADBASE ADTIGR -> ISTA 144 Invalid\sstate FCHSUP | HSTA 000 ok
+    ana says HSUP ADBASE ADTIGR -> ISTA 144 Invalid\sstate FCHSUP
+    ana says HSTA 000 ok
     ana hears nothing
 == early names of features count
     ana joins
@@ -36,8 +37,7 @@ const FIRST_WORDS: &str = r"
     ana quits
     each:
     HSUP ADBASE -> ISTA 247 No\scommon\shash
-    HSUP ADTIGR -> ISTA 245 Feature\smissing FCBASE
-    HSUP -> ISTA 245 Feature\smissing FCBASE
+    HSUP ADTIGR | HSUP -> ISTA 245 Feature\smissing FCBASE
     HSUP ADBASE ADTIGR RMTIGR -> ISTA 247 No\scommon\shash
 == what is wrong is refused and loses nothing
     ana joins
@@ -47,12 +47,7 @@ const FIRST_WORDS: &str = r"
     ana says <line> -> only <answer> | HSUP ADBASE ADTIGR -> ISUP ADBASE ADTIGR ADPING ADUCMD
     bob hears nothing
     each:
-    HSUP  ADBASE -> ISTA 140 Protocol\serror
-    HSUP ADBASE TIGR -> ISTA 140 Protocol\serror
-    HSUP ADBASE adTIGR -> ISTA 140 Protocol\serror
-    CSUP ADBASE ADTIGR -> ISTA 140 Protocol\serror
-    HSUP ADBASE <xff> -> ISTA 140 Protocol\serror
-    hsup ADBASE ADTIGR -> ISTA 140 Protocol\serror
+    HSUP  ADBASE | HSUP ADBASE TIGR | HSUP ADBASE adTIGR | CSUP ADBASE ADTIGR | HSUP ADBASE <xff> | hsup ADBASE ADTIGR -> ISTA 140 Protocol\serror
     HMSG hi -> ISTA 144 Invalid\sstate FCHMSG
     BMSG AAAB hi -> ISTA 144 Invalid\sstate FCBMSG
 ";

@@ -98,21 +98,12 @@ impl Hub {
         line: &[u8],
         now: u64,
     ) -> Verdict {
-        let line = self.make_ready(rt, line);
+        let line = again!(rt; prepare(self.alloc, &self.setup, &First24, [0; 24], line));
         let before = self.sight();
         for _ in 0..2 {
             match self.try_line(rt, connection, &line, now) {
                 Some(verdict) => return verdict,
                 None => self.has_not_changed(rt, "hub_core::Core::line", &before),
-            }
-        }
-        panic!(rt; "refused twice")
-    }
-
-    fn make_ready(&self, rt: &impl Abort, line: &[u8]) -> Prepared {
-        for _ in 0..2 {
-            if let Ok(line) = prepare(self.alloc, &self.setup, &First24, [0; 24], line) {
-                return line;
             }
         }
         panic!(rt; "refused twice")
@@ -172,7 +163,8 @@ impl Hub {
     }
 
     pub(crate) fn quit(&mut self, rt: &impl Abort, connection: Conn) {
-        leave(rt, &mut self.core, connection);
+        assert!(rt; self.core.is_open(connection), "it has left");
+        self.core.quit(connection);
     }
 
     pub(crate) fn is_open(&self, connection: Conn) -> bool {
@@ -229,11 +221,6 @@ impl Hub {
             waiting: look.waiting,
         })
     }
-}
-
-fn leave(rt: &impl Abort, core: &mut Core, connection: Conn) {
-    assert!(rt; core.is_open(connection), "it has left");
-    core.quit(connection);
 }
 
 fn set_up(rt: &impl Abort, alloc: Global, options: &Options<'_>) -> Result<Setup, SetupRefused> {

@@ -12,23 +12,11 @@ bob says HSUP ADBASE ADTIGR | BINF AAAC ID<P1> PD<P1> NIbob
 ana says BMSG AAAB hello
 ana quits
 ana says BMSG AAAB hello
-bob takes 0
-bob takes 1
-bob takes 256
+bob takes 0 | 1 | 256
 ";
 
-/// What is answered: for each call a line, and behind `took` how many lines it were.
-const ANSWERS: &str = r"joined
-kept
-kept
-joined
-kept
-kept
-kept
-left
-skipped
-skipped
-took 1
+/// What is answered: for each call a word, and behind `took` how many lines it were, and these.
+const ANSWERS: &str = r"joined kept kept joined kept kept kept left skipped skipped took 1
 ISUP ADBASE ADTIGR ADPING ADUCMD
 took 6
 ISID AAAC
@@ -119,12 +107,12 @@ fn tell_all(rt: &impl Abort, told: &mut Vec<u8>, answers: &[Answer]) -> bool {
 
 fn tell(rt: &impl Abort, told: &mut Vec<u8>, answer: &Answer) {
     match answer {
-        Answer::Joined(_) => append(rt, told, b"joined\n"),
-        Answer::Said(Verdict::Kept) => append(rt, told, b"kept\n"),
-        Answer::Left => append(rt, told, b"left\n"),
-        Answer::Skipped => append(rt, told, b"skipped\n"),
+        Answer::Joined(_) => append(rt, told, b"joined "),
+        Answer::Said(Verdict::Kept) => append(rt, told, b"kept "),
+        Answer::Left => append(rt, told, b"left "),
+        Answer::Skipped => append(rt, told, b"skipped "),
         Answer::Took(bytes, taken) => tell_taken(rt, told, bytes, taken.lines),
-        _ => append(rt, told, b"another\n"),
+        _ => append(rt, told, b"another "),
     }
 }
 

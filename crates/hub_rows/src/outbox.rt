@@ -56,9 +56,7 @@ fn a_list_of_users_that_does_not_fit_is_not_given(rt: HostRuntime) {
     // the others hear of it, and hear what it says.
     talk! { rt, r"
         for 1 to 16:
-            user joins
-            user says HSUP ADBASE ADTIGR | BINF A<n> ID<n><36*A> PD<n><36*A> NI<n> DE<64898*x>
-            all take
+            user enters BINF A<n> ID<n><36*A> PD<n><36*A> NI<n> DE<64898*x>
         end
         ana joins
         ana says HSUP ADBASE ADTIGR | BINF AAAR IDAAR<36*A> PDAAR<36*A> NIAAR DE<64898*x>

@@ -8,9 +8,7 @@ const PASSWORDS: &str = r"
     op says BINF AAAB ID<P0> PD<P0> NIop -> only IGPA <39*A> | HPAS <secret> -> only BINF AAAB ID<P0> NIop CT4
 == a wrong password ends it
     with account op secret operator
-    op joins
-    op says HSUP ADBASE ADTIGR | BINF AAAB ID<P0> PD<P0> NIop
-    all take
+    op enters BINF AAAB ID<P0> PD<P0> NIop
     op is ended by HPAS <39*A> -> last ISTA 223 Invalid\spassword
 == the first right password takes the nick
     with account op secret operator
@@ -38,25 +36,18 @@ const PASSWORDS: &str = r"
     ana says BINF AAAB NIop -> only ISTA 125 Access\sdenied FCBINF
 == a password is awaited alone
     with account op secret operator
-    op joins
-    op says HSUP ADBASE ADTIGR | BINF AAAB ID<P0> PD<P0> NIop
-    all take
+    op enters BINF AAAB ID<P0> PD<P0> NIop
     op says HSUP ADBASE -> only ISTA 144 Invalid\sstate FCHSUP
 == a cid is taken before the password
     with account reg secret
-    reg joins
-    reg says HSUP ADBASE ADTIGR | BINF AAAB ID<P1> PD<P1> NIreg
-    all take
+    reg enters BINF AAAB ID<P1> PD<P1> NIreg
     bob enters
     reg is ended by HPAS <secret> -> last ISTA 224 CID\staken
     bob hears nothing
 == a nick is taken before the password
     with account reg secret
-    ana joins
-    ana says HSUP ADBASE ADTIGR | BINF AAAB ID<P0> PD<P0> NIreg
-    bob joins
-    bob says HSUP ADBASE ADTIGR | BINF AAAC ID<P1> PD<P1> NIreg
-    all take
+    ana enters BINF AAAB ID<P0> PD<P0> NIreg
+    bob enters BINF AAAC ID<P1> PD<P1> NIreg
     bob says HPAS <secret> -> BINF AAAC ID<P1> NIreg CT2
     ana is ended by HPAS <secret> -> last ISTA 222 Nick\staken
     bob hears nothing

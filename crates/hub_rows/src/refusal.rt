@@ -1,3 +1,5 @@
+ghost use Rattle.std.specs.Prelude.{◌≡◌, ◌∷◌, []};
+
 pub(crate) use hub_core::{
     Account, Answer, Ask, Asked, Conn, Core, JoinRefused, Options, PlainOptions, Prepared, Setup,
     SetupRefused, Stage, Totals, Touched, Verdict, prepare, run_calls,
@@ -47,4 +49,13 @@ pub(crate) fn spell_text(rt: &impl Abort, alloc: Global, text: &str) -> String {
         Ok(text) => text,
         Err(_) => unknown(rt, "text", text),
     }
+}
+
+/// Puts one item in a new vector.
+pub(crate) fn only<S: Drop>(rt: &impl Abort, alloc: Global, item: S) -> Vec<S>
+    ensures { result.items ≡ item ∷ [] }
+{
+    let mut all = again!(rt; Vec::with_capacity(alloc, 1));
+    all.push_reserved(item);
+    all
 }

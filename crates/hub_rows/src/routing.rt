@@ -38,6 +38,6 @@ fn lines_reach_whom_they_are_for(rt: HostRuntime) {
         ana says FSCH AAAB +TCP4 ANx TO5 -> only FSCH AAAB +TCP4 ANx TO5
         bob and cy hear nothing
         dee greets
-        dee says BINF AAAE ID<P3> PD<P3> NIdee -> BINF AAAB ID<P0> NIana SS10 SF2 I4127.0.0.1 SUTCP4,SEGA -> BINF AAAC ID<P1> NIbob SS5 SF1
+        dee says BINF AAAE ID<P3> PD<P3> NIdee -> BINF AAAB ID<P0> NIana SS10 SF2 I4127.0.0.1 SUTCP4,SEGA | BINF AAAC ID<P1> NIbob SS5 SF1
     " }
 }

@@ -7,8 +7,7 @@ ghost use Rattle.std.specs.Prelude.{◌≡◌};
 use crate::refusal::*;
 use crate::shared::chatting::{chats_of_two, is_one_chat, speaks_apart};
 use crate::shared::guests::{
-    ENTERS, Hall, both, compare, hears, join, join_and_login, leave, looks, only, open_for_two,
-    says,
+    ENTERS, Hall, both, compare, hears, join, join_and_login, leave, looks, open_for_two, says,
 };
 use crate::shared::refused::{hears_it_once, is_said, is_told_nothing};
 use hub_shared::{CloseRefused, Host, Report, Visitor};

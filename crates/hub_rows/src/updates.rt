@@ -33,7 +33,7 @@ const UPDATES: &str = r"
     ana quits
     all take
     dan greets
-    dan says BINF AAAE ID<P3> PD<P3> NIdan -> BINF AAAC ID<P1> NIbob SS5 SF1 SUTCP4 DEhi | BINF AAAD ID<P2> NIcy -> only BINF AAAE ID<P3> NIdan
+    dan says BINF AAAE ID<P3> PD<P3> NIdan -> BINF AAAC ID<P1> NIbob SS5 SF1 SUTCP4 DEhi | BINF AAAD ID<P2> NIcy | only BINF AAAE ID<P3> NIdan
     cy says BINF AAAD DEho
     bob says BINF AAAC DE SF2
     ana greets

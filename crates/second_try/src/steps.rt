@@ -155,8 +155,9 @@ impl<'t> Step<'t> {
 }
 
 /// Reads a conversation, blank lines apart, a step of one after the other; but for whom a call concerned, which is one step. A line may be short
-/// for several: `ana says A | B -> C | only D` for `ana says A`, `ana says B`, `ana hears C` and `ana hears only D`, and `-> last D` for
-/// `ana hears last D`. Gives nothing where a line is no step, or memory is refused twice.
+/// for several: `ana says A | B -> C | only D | E -> last F` for `ana says A`, `ana says B`, `ana hears C`, `ana hears only D`, `ana says E` and
+/// `ana hears last F`. What has no arrow is said before the first, and heard behind it. Gives nothing where a line is no step, or memory is
+/// refused twice.
 pub fn steps_of<'t>(alloc: Global, text: &'t str) -> Option<Vec<Step<'t>>> {
     let mut steps = Vec::new(alloc);
     for line in text.lines() {
@@ -168,25 +169,33 @@ pub fn steps_of<'t>(alloc: Global, text: &'t str) -> Option<Vec<Step<'t>>> {
 }
 
 fn add_steps<'t>(steps: &mut Vec<Step<'t>>, step: Step<'t>) -> Option<()> {
-    let Some((line, answers)) = step.line.split_once(" -> ") else {
-        return add_lines(steps, step);
-    };
-    add_lines(steps, Step { line, ..step })?;
-    let (deed, line) = (Deed::Hears, answers);
-    add_lines(steps, Step { deed, line, ..step })
-}
-
-fn add_lines<'t>(steps: &mut Vec<Step<'t>>, step: Step<'t>) -> Option<()> {
-    for line in step.line.split(" | ") {
-        let (deed, line) = match (line.strip_prefix("only "), line.strip_prefix("last ")) {
-            (Some(line), _) => (Deed::HearsOnly, line),
-            (_, Some(line)) if step.deed == Deed::Takes => (Deed::TakesLast, line),
-            (_, Some(line)) => (Deed::HearsLast, line),
-            _ => (step.deed, line),
+    let mut deed = step.deed;
+    for part in step.line.split(" | ") {
+        let line = match part.split_once(" -> ") {
+            Some((line, answer)) => {
+                add_line(steps, Step { line, ..step })?;
+                deed = Deed::Hears;
+                answer
+            }
+            None => part,
         };
-        add_names(steps, Step { deed, line, ..step })?;
+        add_line(steps, Step { deed, line, ..step })?;
     }
     Some(())
+}
+
+fn add_line<'t>(steps: &mut Vec<Step<'t>>, step: Step<'t>) -> Option<()> {
+    let (only, last) = (
+        step.line.strip_prefix("only "),
+        step.line.strip_prefix("last "),
+    );
+    let (deed, line) = match (only, last) {
+        (Some(line), _) => (Deed::HearsOnly, line),
+        (_, Some(line)) if step.deed == Deed::Takes => (Deed::TakesLast, line),
+        (_, Some(line)) => (Deed::HearsLast, line),
+        _ => (step.deed, step.line),
+    };
+    add_names(steps, Step { deed, line, ..step })
 }
 
 fn add_names<'t>(steps: &mut Vec<Step<'t>>, step: Step<'t>) -> Option<()> {
@@ -240,33 +249,26 @@ mod tests {
     use crate::{Machine, Step, append, steps_of};
     use std::alloc::Global;
 
+    const SAID_TWICE: &str = "0 a Says:A;0 a Hears:B;0 a Says:C;0 a HearsLast:D;";
+
     /// Each kind of line, and the steps that it is short for.
-    const LINES: [(&str, &str); 6] = [
+    const LINES: [(&str, &str); 9] = [
         ("ana enters", "0 ana Enters:;"),
         ("at 9 bob says BMSG AAAC hi", "9 bob Says:BMSG AAAC hi;"),
-        (
-            "ana and bob hear only ISTA",
-            "0 ana HearsOnly:ISTA;0 bob HearsOnly:ISTA;",
-        ),
-        (
-            "ana takes last 3\n\n  a digest begins",
-            "0 ana TakesLast:3;0 a DigestBegins:;",
-        ),
-        (
-            "at 9 ana says A | B -> C | last D",
-            "9 ana Says:A;9 ana Says:B;9 ana Hears:C;9 ana HearsLast:D;",
-        ),
+        ("a and b hear only X", "0 a HearsOnly:X;0 b HearsOnly:X;"),
+        ("ana takes last 3\n", "0 ana TakesLast:3;"),
+        ("\n  a digest begins", "0 a DigestBegins:;"),
+        ("a says A | B -> C", "0 a Says:A;0 a Says:B;0 a Hears:C;"),
+        ("a says A -> B | C", "0 a Says:A;0 a Hears:B;0 a Hears:C;"),
+        ("a says A -> B | C -> last D", SAID_TWICE),
         ("bob and ana are concerned", "0 bob and ana IsConcerned:;"),
     ];
 
     fn told(alloc: Global, steps: &[Step<'_>]) -> Option<Vec<u8>> {
         let mut told = Vec::new(alloc);
-        for Step {
-            moment,
-            who,
-            deed,
-            line,
-        } in steps {
+        for step in steps {
+            let (moment, who) = (step.moment, step.who);
+            let (deed, line) = (step.deed, step.line);
             let step = format!(in alloc; "{moment} {who} {deed:?}:{line};").ok()?;
             append(&mut told, step.as_bytes()).ok()?;
         }

@@ -21,8 +21,7 @@ const TALK_PLACES: u32 = 3;
 /// The number of connections that the hub of a crowd admits.
 const CROWD_PLACES: u32 = 4;
 
-/// An operator and a user enter and talk, and the user is kicked; a third cannot agree on a hash, and for a fourth there is no
-/// room.
+/// An operator and a user enter and talk, and the user is kicked; a third cannot agree on a hash, and for a fourth there is no room.
 const TALK: &str = "\
 op joins 127.0.0.1
 op says HSUP ADBASE ADTIGR | BINF AAAB ID<P0> PD<P0> NIop
@@ -189,21 +188,13 @@ fn a_history_of_four_threads_is_legal(rt: HostRuntime) {
 }
 
 #[test]
-fn a_history_is_read_as_it_was_written(rt: HostRuntime) {
+fn a_history_is_read_and_a_change_is_found(rt: HostRuntime) {
     let setup = again!(&rt; setup_for(rt.alloc(), TALK_PLACES));
     let talk = history(&rt, &setup, TALK, Way::Alone);
     let text = again!(&rt; write_history(rt.alloc(), &talk));
     let written = again!(&rt; read_history(rt.alloc(), &text));
     // What stands in the text is all that an entry has.
-    let again = again!(&rt; write_history(rt.alloc(), &written.entries));
-    assert!(&rt; again == text);
-}
-
-#[test]
-fn a_change_of_a_history_is_found_there(rt: HostRuntime) {
-    let setup = again!(&rt; setup_for(rt.alloc(), TALK_PLACES));
-    let talk = history(&rt, &setup, TALK, Way::Alone);
-    let text = again!(&rt; write_history(rt.alloc(), &talk));
+    assert!(&rt; again!(&rt; write_history(rt.alloc(), &written.entries)) == text);
     let text = String::from_utf8(text).expect(&rt, "UTF-8");
     for (old, new) in CHANGES {
         change_is_found(&rt, &setup, &text, old, new);

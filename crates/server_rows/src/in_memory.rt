@@ -1,6 +1,6 @@
 // The whole server over memory, with four threads: what each of its connections was written, byte for byte.
-mod desk;
-mod wire;
+pub(crate) mod desk;
+pub(crate) mod wire;
 
 use crate::in_memory::desk::{Desk, Gone};
 use crate::in_memory::wire::{Client, Cue, Lobby};
@@ -115,8 +115,10 @@ fn serve<R: ServerMachine>(rt: &R, talk: &[Transcript]) -> Result<Served, AllocE
             enters,
         })?;
     }
-    let settings = settings(rt.alloc(), SETTINGS)?;
-    let hash = Arc::new(rt.alloc(), First24)?;
+    let (settings, hash) = (
+        settings(rt.alloc(), SETTINGS)?,
+        Arc::new(rt.alloc(), First24)?,
+    );
     let mut output = Vec::with_capacity(rt.alloc(), 1_024)?;
     let mut errors = Vec::with_capacity(rt.alloc(), 1_024)?;
     let desk = Desk::new(rt.alloc(), clients.len())?;

@@ -36,38 +36,26 @@ enum Trouble {
     Connected,
 }
 
-/// The end of a server, and what it said.
-#[derive(Drop)]
-struct Ended {
-    status: u8,
-    output: Vec<u8>,
-    errors: Vec<u8>,
-}
-
-/// Runs a server at this address.
+/// Runs a server at this address, and gives its status, its output and what it said on standard error.
 fn at<R: ServerMachine + Net<Stream = TcpStream, Listener = TcpListener>, A: Bind>(
     rt: &R,
     address: A,
     is_broken: bool,
-) -> io::Result<Ended> {
+) -> io::Result<(u8, Vec<u8>, Vec<u8>)> {
     let settings = settings(rt.alloc(), "hash = \"first24\"\nmax_users = 4\n")?;
     let hash = Arc::new(rt.alloc(), First24)?;
     let mut output = Output::new(rt.alloc(), is_broken)?;
     let mut errors = Vec::with_capacity(rt.alloc(), 64)?;
     let (seed, errors_to) = ([0; 32], &mut errors);
     let status = serve_at(rt, &settings, hash, seed, address, &mut output, errors_to);
-    Ok(Ended {
-        status,
-        output: output.got,
-        errors,
-    })
+    Ok((status, output.got, errors))
 }
 
 /// Runs a server in this trouble.
 fn in_trouble<R: ServerMachine + Net<Stream = TcpStream, Listener = TcpListener>>(
     rt: &R,
     trouble: Trouble,
-) -> io::Result<Ended> {
+) -> io::Result<(u8, Vec<u8>, Vec<u8>)> {
     let here = TcpListener::bind(rt, "127.0.0.1:0")?;
     let local = here.local_addr()?;
     let any = SocketAddrV4::new(Ipv4Addr::LOCALHOST, 0);
@@ -94,13 +82,12 @@ fn ends<R: ServerMachine + Net<Stream = TcpStream, Listener = TcpListener>>(
     errors: &[u8],
 ) {
     for _ in 0..2 {
-        if let Ok(ended) = in_trouble(rt, trouble)
-            && ended.status != 4
+        if let Ok((ended, got, said)) = in_trouble(rt, trouble)
+            && ended != 4
         {
-            assert!(rt; ended.status == status, "{}", ended.status);
-            let is_silent = output.is_empty() == ended.output.is_empty();
-            assert!(rt; ended.output.starts_with(output) && is_silent);
-            assert!(rt; ended.errors.as_slice() == errors);
+            assert!(rt; ended == status, "{ended}");
+            assert!(rt; got.starts_with(output) && output.is_empty() == got.is_empty());
+            assert!(rt; said.as_slice() == errors);
             return;
         }
     }

@@ -63,14 +63,12 @@ fn try_listener<R: ServerMachine>(rt: &R, number: i32) -> Option<Did> {
 
 #[test]
 fn a_listener_rests_goes_on_or_fails(rt: HostRuntime) {
+    let gone = [4, 11, 64, 71, 92, 95, 100, 101, 103, 107, 112, 113];
     let rows: [(Did, &[i32]); 3] = [
         // Until a socket is closed.
         (Did::Rested, &[12, 23, 24, 28, 105]),
         // A connection that is gone is no fault.
-        (
-            Did::Yielded,
-            &[4, 11, 64, 71, 92, 95, 100, 101, 103, 107, 112, 113],
-        ),
+        (Did::Yielded, &gone),
         (Did::Failed, &[9, 22]),
     ];
     for (wanted, numbers) in rows {

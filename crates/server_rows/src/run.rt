@@ -19,8 +19,7 @@ const LOOKS: u32 = 30_000;
 /// The number of times that the clients look whether the server ends with them, before they come and go.
 const LAST_LOOKS: u32 = 10_000;
 
-/// The number of times that the server looks whether its clients have a thread. Where they have none, it is in vain: they
-/// would come after it.
+/// The number of times that the server looks whether its clients have a thread. Where they have none, it is in vain: they would come after it.
 const FIRST_LOOKS: u32 = 500;
 
 /// The seed of the challenges of each server.
@@ -194,21 +193,15 @@ fn attempt<R: ServerMachine + Net<Stream = TcpStream, Listener = TcpListener>>(
             rt,
             move || heard.sees(rt, gate, talk),
             move || {
-                let mut output = Told { rt, heard };
+                let (output, path) = (&mut Told { rt, heard }, "/etc/adc-hub/hub.toml");
                 let status = match way {
-                    Way::AsSet => serve_on(rt, settings, served, SEED, &mut output, errors),
-                    Way::Journal => serve_for_journal(
-                        rt,
-                        settings,
-                        "/etc/adc-hub/hub.toml",
-                        served,
-                        SEED,
-                        &mut output,
-                        errors,
-                    ),
+                    Way::AsSet => serve_on(rt, settings, served, SEED, output, errors),
+                    Way::Journal => {
+                        serve_for_journal(rt, settings, path, served, SEED, output, errors)
+                    }
                     Way::Flaky => {
                         let address = Flaky(settings.listen());
-                        serve_at(rt, settings, served, SEED, address, &mut output, errors)
+                        serve_at(rt, settings, served, SEED, address, output, errors)
                     }
                 };
                 heard.over.store(true, Ordering::SeqCst);

@@ -206,13 +206,8 @@ fn bans_are_kept(rt: HostRuntime) {
         remove 1 1 -> yes | 1 1 -> no
         left 1 1 12 -> free | 0 2 12 -> ever
         count -> 1
-    " }
-}
-
-#[test]
-fn holds_no_more_than_1024(rt: HostRuntime) {
-    // Each of the first has run out, and counts.
-    rows! { play_bans(rt) "
+        == holds no more than 1024 ==
+        // Each of the first has run out, and counts.
         fill 1024 -> ok
         left 3 255 100 -> free
         count -> 1024

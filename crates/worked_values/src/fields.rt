@@ -167,11 +167,8 @@ fn say_dotted(rt: &impl Machine, text: &str, said: &mut Vec<u8>) {
         rest = behind;
     }
     let call = "inf_fields::dotted_decimal";
-    say(
-        rt,
-        said,
-        &got!(rt; call, AllocError, dotted_decimal(rt.alloc(), peer)),
-    );
+    let text = got!(rt; call, AllocError, dotted_decimal(rt.alloc(), peer));
+    say(rt, said, &text);
 }
 
 /// Merges a line, cleaned for 127.0.0.1, and tells what is known then. Where it is refused all is as before.
@@ -261,19 +258,14 @@ fn what_users_say_is_kept(rt: HostRuntime) {
         fits XY1 NI2 -> no | XY1 NI ZZ | XX2 -> yes
         merge XY1 -> TooMany
         print -> <x20>ID1 NI1 SS1 SF1 I41 SU1 X01 X11 X21 X31 X41 X51 X61 X71 X81 X91 XA1 XB1 XC1 XD1 XE1 XF1 XG1 XH1 XI1 XJ1 XK1 XL1 XM1 XN1 XO1 XP1 XQ1 XR1 XS1 XT1 XU1 XV1 XW1 XX1
+        == knows names ==
+        name ID -> ID | I4 -> I4 | ZZ -> ZZ | id | Id | 4I | I<x20> -> none
+        known share_size -> SS
         == spells addresses ==
         dotted 127 0 0 1 -> 127.0.0.1 | 0 0 0 0 -> 0.0.0.0 | 255 10 9 100 -> 255.10.9.100
         == reads amounts ==
         amount 0 -> 0 | 10 | 00000000000000000010 -> 10 | 000000000000000000010 -> none | 18446744073709551615 -> 18446744073709551615
         amount 18446744073709551616 | 99999999999999999999 | <> | x | 5x | +5 | -5 | 5\s -> none
-    " }
-}
-
-#[test]
-fn knows_names(rt: HostRuntime) {
-    rows! { play_user(rt) "
-        name ID -> ID | I4 -> I4 | ZZ -> ZZ | id | Id | 4I | I<x20> -> none
-        known share_size -> SS
     " }
     merging_laws();
 }

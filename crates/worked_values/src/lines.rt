@@ -135,10 +135,8 @@ fn pieces(rt: &impl Machine, stream: &[u8], said: &mut Vec<u8>) {
 }
 
 pub(crate) fn new_frames(rt: &impl AllocGlobal) -> Frames {
-    Frames {
-        framer: Framer::new(rt.alloc()),
-        line: Vec::new(rt.alloc()),
-    }
+    let (framer, line) = (Framer::new(rt.alloc()), Vec::new(rt.alloc()));
+    Frames { framer, line }
 }
 
 #[test]

@@ -216,8 +216,7 @@ fn commands(rt: &impl Machine) -> Vec<Command> {
     commands
 }
 
-/// Tests that no command is made where there is no room for the answers; where memory is refused later, one command is
-/// refused and the rest are made.
+/// Tests that no command is made where there is no room for the answers; where memory is refused later, one command is refused and the rest are made.
 fn runs<U: Users>(rt: &impl Machine) {
     let mut users = U::new(rt.alloc());
     let mut said = Vec::new(rt.alloc());

@@ -209,13 +209,7 @@ pub(crate) fn say_refused_memory(rt: &impl Machine, call: &str, is_unchanged: bo
 /// Makes a call once more where memory was refused, which changes nothing that is seen. Whatever else it answers stands.
 macro_rules! twice {
     ($rt:expr; $name:expr, $memory:pat, $call:expr) => {
-        match $call {
-            Err($memory) => {
-                crate::rows::say_refused_memory($rt, $name, true);
-                $call
-            }
-            answer => answer,
-        }
+        crate::rows::twice!($rt; $name, $memory, true, $call)
     };
     ($rt:expr; $name:expr, $memory:pat, $seen:expr, $call:expr) => {{
         let before = $seen;

@@ -1,8 +1,7 @@
 use crate::rows::*;
 use search_pass::may_search;
 
-/// The rows of whether a user may search: each has the moment of the last search, the present moment and the interval, all
-/// in seconds.
+/// The rows of whether a user may search: each has the moment of the last search, the present moment and the interval, all in seconds.
 #[derive(Drop)]
 struct Searches;
 
@@ -13,11 +12,8 @@ impl Part for Searches {
             "never" => None,
             _ => Some(number(rt, row.name)),
         };
-        say_whether(
-            rt,
-            said,
-            may_search(last, number(rt, now), number(rt, interval)),
-        );
+        let (now, interval) = (number(rt, now), number(rt, interval));
+        say_whether(rt, said, may_search(last, now, interval));
     }
 }
 

@@ -105,11 +105,17 @@ pub(crate) fn play_file<R: Machine>(rt: &R, rows: &str) {
 }
 
 #[test]
-fn an_empty_text_gives_the_defaults(rt: HostRuntime) {
+fn settings_are_read(rt: HostRuntime) {
     rows! { play_file(rt) r#"
+        == an empty text gives the defaults ==
         read <> -> ok
         program listen -> 127.0.0.1:4111 | hash -> Tiger | tables -> tiger.bin | threads -> 2 | stop_after -> 0 | seed_file -> /dev/urandom
         hub name -> Hub | topic -> <> | max_users -> 512 | search_interval -> 0 | registered_only -> no | opening -> 7
+        == every key is read ==
+        read name = "My hub";topic = "All";listen = "0.0.0.0:65535";hash = "first24";tables = "t";registered_only = true;search_interval = 4294967295;max_users = 900;threads = 64;stop_after = 65536;seed_file = "s";[[account]];nick = "op";password = "secret";operator = true;[[account]];nick = "reg";password = "x";[[command]];name = "Help";context = 15;text = "HMSG !help";separator = false;[[command]];name = "Sep";context = 2;separator = true -> ok
+        program listen -> 0.0.0.0:65535 | hash -> First24 | tables -> t | seed_file -> s | threads -> 64 | stop_after -> 65536
+        hub name -> My hub | topic -> All | max_users -> 900 | search_interval -> 4294967295 | registered_only | operator op -> yes
+        hub operator reg -> no
     "# }
 }
 
@@ -141,15 +147,5 @@ fn each_fault_is_named_by_its_key(rt: HostRuntime) {
         read [[command]];name = "n";context = 1;text = 1 | [[command]];name = "n";context = 1;text = "t";key = 1 -> key command
         read command = 1;[[account]];nick = "a b";password = "p" -> key account | a = 1;command = 1 -> key command
         list 32 accounts -> ok | 33 accounts -> key account | 64 commands -> ok | 65 commands -> key command
-    "# }
-}
-
-#[test]
-fn every_key_is_read(rt: HostRuntime) {
-    rows! { play_file(rt) r#"
-        read name = "My hub";topic = "All";listen = "0.0.0.0:65535";hash = "first24";tables = "t";registered_only = true;search_interval = 4294967295;max_users = 900;threads = 64;stop_after = 65536;seed_file = "s";[[account]];nick = "op";password = "secret";operator = true;[[account]];nick = "reg";password = "x";[[command]];name = "Help";context = 15;text = "HMSG !help";separator = false;[[command]];name = "Sep";context = 2;separator = true -> ok
-        program listen -> 0.0.0.0:65535 | hash -> First24 | tables -> t | seed_file -> s | threads -> 64 | stop_after -> 65536
-        hub name -> My hub | topic -> All | max_users -> 900 | search_interval -> 4294967295 | registered_only | operator op -> yes
-        hub operator reg -> no
     "# }
 }

@@ -63,8 +63,7 @@ impl Starter<()> for Count<'_> {
     }
 }
 
-/// Polls until it is over, at most so often, and tells how it ended and how many streams were started; at most 16 streams come
-/// of one poll.
+/// Polls until it is over, at most so often, and tells how it ended and how many streams were started; at most 16 streams come of one poll.
 fn polls<I: Incoming, T: Starter<I::Stream>>(
     rt: &impl Abort,
     bench: &Bench,
@@ -103,26 +102,22 @@ fn accepts(
     assert!(rt; ended == end && started == wanted, "{ended:?}, {started}");
 }
 
+/// Tests that 64 faults in a row are too many, and 63 and a stream are not; and that as many streams are accepted as are to be, without a number all.
 #[test]
-fn sixty_four_faults_in_a_row_are_too_many(rt: HostRuntime) {
+fn streams_are_accepted_until_an_end(rt: HostRuntime) {
     let bench = Bench::new(&rt);
     let (failed, stopped) = (Some(AcceptEnd::AcceptFailed), Some(AcceptEnd::Stopped));
     accepts(&rt, &bench, Script::twice(64, 1), Some(2), failed, 0);
     accepts(&rt, &bench, Script::twice(63, 1), Some(2), stopped, 2);
-}
-
-/// Tests that as many streams are accepted as are to be; without a number there is no end.
-#[test]
-fn the_set_number_of_streams_is_accepted(rt: HostRuntime) {
-    let (bench, end) = (Bench::new(&rt), Some(AcceptEnd::Stopped));
-    for number in [0, 1, 16, 17, 40] {
+    for number in [0, 1, 16, 17, 40u32] {
+        let stop_after = Some(u64::from(number));
         accepts(
             &rt,
             &bench,
             Script::twice(1, 50),
-            Some(number),
-            end,
-            number as u32,
+            stop_after,
+            stopped,
+            number,
         );
     }
     accepts(&rt, &bench, Script::twice(3, 50), None, None, 100);

@@ -24,11 +24,11 @@ fn is_held(
     let wire = Wire::new(rt, bench.alloc, &ana.said, room).slow();
     let (end, wire, _) = meet(rt, bench, None, wire, bell);
     if end == End::Memory {
-        begins(rt, wire.sent_bytes(), &ana.heard);
+        begins(rt, &wire.written, &ana.heard);
         return false;
     }
     is_end(rt, end, wanted);
-    are_same(rt, wire.sent_bytes(), &ana.heard);
+    are_same(rt, &wire.written, &ana.heard);
     true
 }
 
@@ -47,18 +47,11 @@ fn says(rt: &impl Abort, bench: &Bench, input: &[u8], room: usize) -> (End, Wire
 #[test]
 fn a_client_is_greeted(rt: HostRuntime) {
     let bench = Bench::new(&rt);
-    let ana = told(&rt, rt.alloc(), GREETING, "ana");
-    for room in [1, 7, 4_096] {
-        holds(&rt, &bench, room, End::Closed, &ana);
-    }
-}
-
-#[test]
-fn single_bytes_give_the_same_lines(rt: HostRuntime) {
-    let bench = Bench::new(&rt);
-    let ana = told(&rt, rt.alloc(), ENTERED, "ana");
-    for room in [1, 4_096] {
-        holds(&rt, &bench, room, End::Closed, &ana);
+    for (text, rooms) in [(GREETING, [1, 7, 4_096]), (ENTERED, [1, 7, 4_096])] {
+        let ana = told(&rt, rt.alloc(), text, "ana");
+        for room in rooms {
+            holds(&rt, &bench, room, End::Closed, &ana);
+        }
     }
 }
 
@@ -108,9 +101,8 @@ fn reads_ask_for_more_where_more_comes(rt: HostRuntime) {
     for (lines, most) in [(0, 256), (250, 2_048)] {
         let ana = chatter(&rt, rt.alloc(), lines);
         let (_end, wire) = says(&rt, &bench, &ana.said, 4_096);
-        let (first_room, most_room) = wire.rooms();
-        are_so_many(&rt, 0, first_room, 256);
-        are_so_many(&rt, 1, most_room, most);
+        are_so_many(&rt, 0, wire.first_room, 256);
+        are_so_many(&rt, 1, wire.most_room, most);
     }
 }
 
@@ -118,6 +110,6 @@ fn reads_ask_for_more_where_more_comes(rt: HostRuntime) {
 fn one_write_carries_what_one_take_gave(rt: HostRuntime) {
     let ana = told(&rt, rt.alloc(), GREETING, "ana");
     let (_end, wire) = says(&rt, &Bench::new(&rt), &ana.said, 4_096);
-    are_same(&rt, wire.sent_bytes(), &ana.heard);
-    are_so_many(&rt, 0, wire.writes() as usize, 1);
+    are_same(&rt, &wire.written, &ana.heard);
+    are_so_many(&rt, 0, wire.writes as usize, 1);
 }

@@ -58,10 +58,10 @@ impl Visit {
         let login = self.bobs_login.said.strip_suffix(b"\n".as_slice());
         let (end, ana, mut left) = meet(rt, bench, login, wire, Rung::Never);
         let bob = left.heard(rt, bench.alloc);
-        begins(rt, ana.sent_bytes(), &self.ana.heard);
+        begins(rt, &ana.written, &self.ana.heard);
         assert!(rt; self.is_told(&bob), "{bob:?}");
         if end == End::Closed {
-            are_same(rt, ana.sent_bytes(), &self.ana.heard);
+            are_same(rt, &ana.written, &self.ana.heard);
             are_same(rt, &bob, &self.bob.heard);
         }
         end

@@ -18,7 +18,12 @@ pub(crate) struct HubPort {
 // Written out, so that to let a hub go is one call wherever it is done.
 impl Drop for HubPort {
     fn drop(self) {
-        let HubPort { setup, core, .. } = self;
+        let HubPort {
+            setup,
+            core,
+            first: _,
+            me: _,
+        } = self;
         drop(core);
         drop(setup);
     }

@@ -5,14 +5,6 @@ use crate::refusal::*;
 use adc_base32::Sid;
 use second_try::{Deed, GREETED, GREETS, login_of, steps_of};
 
-/// Steps that are played in rounds.
-#[derive(Drop)]
-struct Rounds<'t> {
-    first: usize,
-    last: usize,
-    steps: Vec<Place<'t>>,
-}
-
 /// A hub, those who joined it, and how far the conversation has come.
 #[derive(Drop)]
 pub(super) struct Played<'t> {
@@ -47,64 +39,50 @@ impl<'t> Played<'t> {
 
     pub(super) fn play(mut self, rt: &impl Abort, name: &'t str) {
         let mut begun = false;
-        let mut rounds = None;
+        let mut rounds: Option<Place<'t>> = None;
         for (number, line) in self.told.text.lines().enumerate() {
             let text = line.trim();
             if number == 0 || text.is_empty() || !begun && text.starts_with("with ") {
                 continue;
             }
             begun = true;
-            rounds = self.read(rt, rounds, Place { name, number, text });
+            self.place = Place { name, number, text };
+            if let Some(first) = rounds {
+                if text == "end" {
+                    self.play_rounds(rt, first, number);
+                    rounds = None;
+                }
+            } else if text.starts_with("for ") {
+                rounds = Some(self.place);
+            } else {
+                self.step(rt);
+            }
         }
         if !begun || rounds.is_some() {
             panic!(rt; "{name}: there is more to come");
         }
     }
 
-    /// Plays a step, or keeps it where it belongs to rounds.
-    fn read(
-        &mut self,
-        rt: &impl Abort,
-        rounds: Option<Rounds<'t>>,
-        place: Place<'t>,
-    ) -> Option<Rounds<'t>> {
-        if let Some(mut rounds) = rounds {
-            if place.text == "end" {
-                self.play_rounds(rt, &rounds);
-                return None;
-            }
-            keep(rt, &mut rounds.steps, place);
-            return Some(rounds);
-        }
-        self.place = place;
-        match place.text.strip_prefix("for ") {
-            Some(told) => Some(self.rounds(rt, told)),
-            None => {
-                self.step(rt);
-                None
-            }
-        }
-    }
-
-    /// Reads the rounds that `2 to 9:` begins.
-    fn rounds(&self, rt: &impl Abort, told: &str) -> Rounds<'t> {
-        let Some((first, last)) = told.strip_suffix(':').unwrap_or("").split_once(" to ") else {
+    /// Plays the steps from the line `for 2 to 9:` up to an end, in rounds of these numbers.
+    fn play_rounds(&mut self, rt: &impl Abort, begin: Place<'t>, end: usize) {
+        let told = begin.text.trim_start_matches("for ").trim_end_matches(':');
+        let Some((first, last)) = told.split_once(" to ") else {
             self.unknown(rt)
         };
-        Rounds {
-            first: self.number(rt, first),
-            last: self.number(rt, last),
-            steps: Vec::new(self.alloc),
-        }
-    }
-
-    fn play_rounds(&mut self, rt: &impl Abort, rounds: &Rounds<'t>) {
-        holds(rt, rounds.first <= rounds.last, "no rounds");
-        for round in rounds.first..=rounds.last {
+        let (first, last) = (self.number(rt, first), self.number(rt, last));
+        holds(rt, first <= last, "no rounds");
+        for round in first..=last {
             self.round = round;
-            for place in &rounds.steps {
-                self.place = *place;
-                self.step(rt);
+            for (number, line) in self.told.text.lines().enumerate() {
+                let text = line.trim();
+                if begin.number < number && number < end && !text.is_empty() {
+                    self.place = Place {
+                        number,
+                        text,
+                        ..begin
+                    };
+                    self.step(rt);
+                }
             }
         }
     }

@@ -77,11 +77,8 @@ fn three_talk(rt: &impl Abort, alloc: Global, hub: &mut Hub) {
     for who in [ana, bob, cy] {
         hears_hi(rt, hub, who);
     }
-    let totals = Totals {
-        users: 3,
-        ss: 60,
-        sf: 0,
-    };
+    let (users, ss, sf) = (3, 60, 0);
+    let totals = Totals { users, ss, sf };
     holds(rt, hub.counts() == (totals, 3), "other counts");
 }
 
@@ -102,8 +99,7 @@ fn run(rt: &impl Abort, alloc: Global, setup: &Arc<Setup>) -> Option<(Core, Vec<
     run_calls(alloc, again!(rt; setup.clone()), asks(rt, alloc)).ok()
 }
 
-/// Tests that a call is answered with `Memory`, and a take of nobody is not made, where memory is refused later than for
-/// the answers.
+/// Tests that a call is answered with `Memory`, and a take of nobody is not made, where memory is refused later than for the answers.
 #[test]
 fn calls(rt: HostRuntime) {
     let setup = shared_setup(&rt, rt.alloc(), &options());

@@ -237,19 +237,6 @@ pub(crate) fn compare(hall: &Hall, left: Guest, right: Guest) -> (Guest, Guest)
     (Guest { pass, challenge }, other)
 }
 
-/// Puts one visitor in a vector.
-pub(crate) fn only(
-    rt: &impl Abort,
-    alloc: Global,
-    visitor: Visitor<First24>,
-) -> Vec<Visitor<First24>>
-    ensures { result.items ≡ visitor ∷ [] }
-{
-    let mut all = again!(rt; Vec::with_capacity(alloc, 1));
-    all.push_reserved(visitor);
-    all
-}
-
 /// Puts two visitors in a vector.
 pub(crate) fn both(
     rt: &impl Abort,

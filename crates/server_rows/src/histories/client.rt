@@ -29,7 +29,19 @@ pub(crate) struct Wire<'a, R> {
     is_over: bool,
 }
 
-impl<R: Wait> Wire<'_, R> {
+impl<'a, R: Wait> Wire<'a, R> {
+    fn new(desk: &'a Desk<R>, steps: &'a [Step<'a>], who: &'a str) -> Wire<'a, R> {
+        Wire {
+            desk,
+            steps,
+            who,
+            next: 0,
+            rest: b"",
+            owes_feed: false,
+            is_over: false,
+        }
+    }
+
     /// Goes on to what the client says or does next, if its turn has come.
     fn goes_on(&mut self) {
         for place in self.next..self.desk.turn() {
@@ -194,22 +206,9 @@ pub(crate) fn joins<'a, B: OfHub<First24>, S: AsyncRead + AsyncWrite, R: Wait>(
     match hub.join(&desk.clock, alloc, visitor, address, CHALLENGE, step.moment) {
         Ok(pass) => {
             let connection = record.note_join(caller, call);
-            let port = Connection::new(
-                server,
-                pass,
-                CHALLENGE,
-                connection.wrapping_sub(1) as usize,
-            );
-            let bell = port.bell();
-            let wire = Wire {
-                desk,
-                steps,
-                who: step.who,
-                next: 0,
-                rest: b"",
-                owes_feed: false,
-                is_over: false,
-            };
+            let slot = connection.wrapping_sub(1) as usize;
+            let port = Connection::new(server, pass, CHALLENGE, slot);
+            let (bell, wire) = (port.bell(), Wire::new(desk, steps, step.who));
             let port = Recorder {
                 port,
                 desk,

@@ -97,6 +97,11 @@ fn those_are_woken_whom_a_call_concerned(rt: HostRuntime) {
     // A session is not woken by its own call.
     waiters.wakes_two(&rt, 1, 2);
     waiters.are_woken(&rt, [false, true, false, false]);
+    // A wake that nobody waits for is heard.
+    waiters.wakers.wake_everybody(0, Amount::NONE, SECOND);
+    waiters.wakers.wake_everybody(1, Amount::NONE, SECOND);
+    waiters.wakers.wake_one(sid(&rt, 2), 0, LINE, SECOND);
+    waiters.are_woken(&rt, [true, true, true, true]);
 }
 
 #[test]
@@ -109,15 +114,6 @@ fn who_left_is_not_woken_alone(rt: HostRuntime) {
     waiters.wakers.name(2, sid(&rt, 9));
     waiters.wakers.wake_one(sid(&rt, 9), 0, LINE, SECOND);
     waiters.are_woken(&rt, [false, false, true, false]);
-}
-
-#[test]
-fn a_wake_that_nobody_waits_for_is_heard(rt: HostRuntime) {
-    let waiters = Waiters::new(&rt);
-    waiters.wakers.wake_everybody(0, Amount::NONE, SECOND);
-    waiters.wakers.wake_everybody(1, Amount::NONE, SECOND);
-    waiters.wakers.wake_one(sid(&rt, 2), 0, LINE, SECOND);
-    waiters.are_woken(&rt, [true, true, true, true]);
 }
 
 #[test]

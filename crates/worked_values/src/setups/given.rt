@@ -102,10 +102,8 @@ fn command(rt: &impl Machine, text: &str, said: &mut Vec<u8>) {
 
 /// Says the answer to options with some of the faults.
 fn faults(rt: &impl Machine, text: &str, said: &mut Vec<u8>) {
-    let (accounts, commands) = (
-        [account("a b", "secret", true)],
-        [entry("", 0, MenuItem::Separator)],
-    );
+    let accounts = [account("a b", "secret", true)];
+    let commands = [entry("", 0, MenuItem::Separator)];
     let name = if text.contains("name") { "" } else { "Hub" };
     let mut options = options(name);
     if text.contains("account") {
@@ -136,10 +134,8 @@ fn tells(rt: &impl Machine, text: &str, said: &mut Vec<u8>) {
 
 /// Makes a setup with two accounts.
 fn of_two(rt: &impl Machine) -> Setup {
-    let accounts = [
-        account("\u{e9}", "secret", true),
-        account("bob", "another", false),
-    ];
+    let bob = account("bob", "another", false);
+    let accounts = [account("\u{e9}", "secret", true), bob];
     let options = Options {
         topic: "new one",
         accounts: &accounts,
@@ -196,19 +192,14 @@ fn topic(rt: &impl Machine, text: &str, said: &mut Vec<u8>) {
 }
 
 #[test]
-fn takes_32_accounts_and_64_commands(rt: HostRuntime) {
-    rows! { rt, Given, r"
-        lists a,b,c,d,e,f,g,h,i,j,k,l,m,n,o,p,q,r,s,t,u,v,w,x,y,z,A,B,C,D,E,F 64 -> ok
-        lists a,b,c,d,e,f,g,h,i,j,k,l,m,n,o,p,q,r,s,t,u,v,w,x,y,z,A,B,C,D,E,F,G 64 -> Limit
-        lists a,b,c,d,e,f,g,h,i,j,k,l,m,n,o,p,q,r,s,t,u,v,w,x,y,z,A,B,C,D,E,F 65 -> Limit
-    " }
-}
-
-#[test]
 fn setups_tell_what_they_were_given(rt: HostRuntime) {
     rows! { rt, Given, r"
         == has room for 1 to 900 users ==
         max_users 0 -> Limit | 1 | 900 -> ok | 901 -> Limit
+        == takes 32 accounts and 64 commands ==
+        lists a,b,c,d,e,f,g,h,i,j,k,l,m,n,o,p,q,r,s,t,u,v,w,x,y,z,A,B,C,D,E,F 64 -> ok
+        lists a,b,c,d,e,f,g,h,i,j,k,l,m,n,o,p,q,r,s,t,u,v,w,x,y,z,A,B,C,D,E,F,G 64 -> Limit
+        lists a,b,c,d,e,f,g,h,i,j,k,l,m,n,o,p,q,r,s,t,u,v,w,x,y,z,A,B,C,D,E,F 65 -> Limit
         == refuses accounts ==
         accounts ana=secret;bob=secret | Ana=secret;ana=secret -> ok
         accounts ana=secret;a b=secret | =secret;ana=secret | ana=secret;bob= | op=secret;op=another -> Account | é=secret;é=secret -> Account

@@ -58,10 +58,8 @@ fn say_digest(rt: &impl Abort, said: &mut Vec<u8>, digest: Option<[u8; 24]>) {
 }
 
 fn hub(rt: &impl Machine) -> Setup {
-    let accounts = [
-        account("ana", "secret", true),
-        account("\u{e9}", "another", true),
-    ];
+    let ana = account("ana", "secret", true);
+    let accounts = [ana, account("\u{e9}", "another", true)];
     let options = Options {
         accounts: &accounts,
         ..options("Hub")
@@ -76,17 +74,13 @@ pub(crate) fn play_lines<R: Machine>(rt: &R, rows: &str) {
 #[test]
 fn reads_lines(rt: HostRuntime) {
     rows! { play_lines(rt) r"
+        == reads lines ==
         says <> -> nothing | <x20> -> no message | BINF -> no message | BINF AAAB NIa\b -> no message | HSUP ADBASE ADTIGR -> SUP
         says BMSG AAAB NIana -> MSG | DINF AAAB AAAC NIana -> INF | BINF AAAB 1Iana -> INF | BINF AAAB NIana SS10 -> INF | BINF AAAB SS10 -> INF
         nick <> -> no update | <x20> -> no update | BINF -> no update | BINF AAAB NIa\b -> no update | HSUP ADBASE ADTIGR -> no update
         nick BMSG AAAB NIana -> no update | DINF AAAB AAAC NIana -> no update | BINF AAAB 1Iana -> no update
         nick BINF AAAB NIana SS10 -> update ana | BINF AAAB SS10 -> update <>
-    " }
-}
-
-#[test]
-fn makes_digests(rt: HostRuntime) {
-    rows! { play_lines(rt) "
+        == makes digests ==
         owner BINF AAAB NIana -> none | BINF AAAB NIbob -> none | BINF AAAB NI<xc3><xa9> -> none | BINF AAAB NIe<xcc><x81> -> none
         owner BINF AAAB SS10 -> none | BINF AAAB PDMZXW6YTBOJTG633CMFZGM33PMJQXEZTPN5RGC4Q NIbob -> <4*foobar>
         owner BINF AAAB PDMZXW6YTBOJTG633CMFZGM33PMJQXEZTPN5RGC4Q NIana -> <4*foobar> | BINF AAAB PDMZXW6YTB NIana -> none
@@ -96,12 +90,9 @@ fn makes_digests(rt: HostRuntime) {
         password BINF AAAB PDMZXW6YTBOJTG633CMFZGM33PMJQXEZTPN5RGC4Q NIbob -> none
         password BINF AAAB PDMZXW6YTBOJTG633CMFZGM33PMJQXEZTPN5RGC4Q NIana -> secret<18*x00> | BINF AAAB PDMZXW6YTB NIana -> secret<18*x00>
         password DINF AAAB AAAC PDMZXW6YTBOJTG633CMFZGM33PMJQXEZTPN5RGC4Q NIana -> none | <> -> none
+        == hashes the password before the challenge ==
+        challenged BINF AAAB NIana -> secret<3*foobar>
     " }
-}
-
-#[test]
-fn hashes_the_password_before_the_challenge(rt: HostRuntime) {
-    play_lines(&rt, "challenged BINF AAAB NIana -> secret<3*foobar>");
 }
 
 fn is_shared<T: Send + Sync>(_value: &T) -> bool {

@@ -81,11 +81,8 @@ fn line_of_update(rt: &impl Machine, text: &str) -> Bytes {
 
 /// Writes what a hub for 512 users says to who asks, 90 seconds after it opened, where one is present.
 fn ping(rt: &impl Machine) -> String {
-    let totals = Totals {
-        users: 1,
-        ss: 10,
-        sf: 2,
-    };
+    let (users, ss, sf) = (1, 10, 2);
+    let totals = Totals { users, ss, sf };
     got!(rt; "hub_setup::ping_fields", AllocError, ping_fields(rt.alloc(), &totals, 512, 90))
 }
 
@@ -109,10 +106,8 @@ fn user(rt: &impl Machine, text: &str) -> Bytes {
 
 /// Makes a setup in which ana is an operator and bob is registered.
 fn of_ana_and_bob(rt: &impl Machine) -> Setup {
-    let accounts = [
-        account("ana", "secret", true),
-        account("bob", "secret", false),
-    ];
+    let ana = account("ana", "secret", true);
+    let accounts = [ana, account("bob", "secret", false)];
     let options = Options {
         accounts: &accounts,
         ..options("Hub")

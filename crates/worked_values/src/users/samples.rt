@@ -16,12 +16,8 @@ pub(crate) fn sid(rt: &impl Abort, number: u32) -> Sid {
 /// Makes a user whose client identifier is so many equal bytes, and who said a line.
 pub(crate) fn user(rt: &impl Machine, number: u32, cid: u8, name: &str, line: &str) -> User {
     let key = key_of(rt, name);
-    User::new(
-        sid(rt, number),
-        Cid::from_bytes([cid; 24]),
-        key,
-        fields_of_line(rt, line),
-    )
+    let (sid, cid) = (sid(rt, number), Cid::from_bytes([cid; 24]));
+    User::new(sid, cid, key, fields_of_line(rt, line))
 }
 
 /// Says the users in order of entry, a line for each: numbers, the nick's key and the fields; and what they share together.
