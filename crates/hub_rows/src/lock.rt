@@ -1,8 +1,6 @@
 mod counter;
 mod worker;
 
-ghost use Rattle.std.specs.Prelude.{◌≡◌, ◌∷◌, []};
-
 use crate::lock::counter::{CountersSeat, add, open_counter};
 use crate::lock::worker::{Worker, both, disband, eight, hire, interrupt, is_one_run, leave, team};
 use crate::refusal::*;

@@ -123,8 +123,8 @@ fn serve<R: ServerMachine>(rt: &R, talk: &[Transcript]) -> Result<Served, AllocE
     let mut errors = Vec::with_capacity(rt.alloc(), 1_024)?;
     let desk = Desk::new(rt.alloc(), clients.len())?;
     let lobby = Lobby::new(rt, rt.alloc(), &desk, &clients);
-    let (seed, errors_to) = ([0; 32], &mut errors);
-    let status = serve_at(rt, &settings, hash, seed, lobby, &mut output, errors_to);
+    let said = &mut errors;
+    let status = serve_at(rt, &settings, hash, [0; 32], lobby, &mut output, said);
     Ok(Served {
         status,
         output,

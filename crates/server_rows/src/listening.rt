@@ -46,8 +46,8 @@ fn at<R: ServerMachine + Net<Stream = TcpStream, Listener = TcpListener>, A: Bin
     let hash = Arc::new(rt.alloc(), First24)?;
     let mut output = Output::new(rt.alloc(), is_broken)?;
     let mut errors = Vec::with_capacity(rt.alloc(), 64)?;
-    let (seed, errors_to) = ([0; 32], &mut errors);
-    let status = serve_at(rt, &settings, hash, seed, address, &mut output, errors_to);
+    let said = &mut errors;
+    let status = serve_at(rt, &settings, hash, [0; 32], address, &mut output, said);
     Ok((status, output.got, errors))
 }
 

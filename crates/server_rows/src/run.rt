@@ -183,10 +183,8 @@ fn attempt<R: ServerMachine + Net<Stream = TcpStream, Listener = TcpListener>>(
     hash: &Arc<GateHash>,
     talk: &[Step<'_>],
 ) -> Result<Ran, AllocError> {
-    let settings = settings(rt.alloc(), text)?;
-    let heard = Heard::new(rt.alloc())?;
-    let served = hash.clone()?;
-    let mut errors = Vec::with_capacity(rt.alloc(), 1024)?;
+    let (settings, heard) = (settings(rt.alloc(), text)?, Heard::new(rt.alloc())?);
+    let (served, mut errors) = (hash.clone()?, Vec::with_capacity(rt.alloc(), 1024)?);
     let ((went_well, waited), status) = {
         let (settings, heard, gate, errors) = (&settings, &heard, &**hash, &mut errors);
         join(

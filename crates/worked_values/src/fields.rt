@@ -160,7 +160,8 @@ fn say_name(rt: &impl Abort, said: &mut Vec<u8>, bytes: &[u8]) {
 
 /// Says the address that four numbers with blanks between tell.
 fn say_dotted(rt: &impl Machine, text: &str, said: &mut Vec<u8>) {
-    let (mut peer, mut rest) = ([0; 4], text);
+    let mut peer = [0; 4];
+    let mut rest = text;
     for number in &mut peer {
         let (front, behind) = pair(rest, ' ');
         *number = byte(rt, front);

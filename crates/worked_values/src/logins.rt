@@ -52,38 +52,39 @@ fn pass(rt: &impl Machine, bytes: &[u8], said: &mut Vec<u8>) {
     say_check(rt, said, check_pass(digest, twenty_four(bytes)));
 }
 
-/// Reads the head of a line, as `BMSG`.
-fn head_of(head: &str) -> Option<(Kind, [u8; 3])> {
-    let [letter, a, b, c] = head.as_bytes() else {
-        return None;
-    };
-    let kind = match letter {
-        b'B' => Kind::Broadcast,
-        b'C' => Kind::Client,
-        b'D' => Kind::Direct,
-        b'E' => Kind::Echo,
-        b'F' => Kind::Feature,
-        b'H' => Kind::Hub,
-        b'I' => Kind::Info,
-        b'U' => Kind::Udp,
-        _ => return None,
-    };
-    Some((kind, [*a, *b, *c]))
+/// Tells the kind of a line by its head, as `BMSG`.
+fn kind(rt: &impl Abort, head: &str) -> Kind {
+    match head.as_bytes().first() {
+        Some(b'B') => Kind::Broadcast,
+        Some(b'C') => Kind::Client,
+        Some(b'D') => Kind::Direct,
+        Some(b'E') => Kind::Echo,
+        Some(b'F') => Kind::Feature,
+        Some(b'H') => Kind::Hub,
+        Some(b'I') => Kind::Info,
+        Some(b'U') => Kind::Udp,
+        _ => unknown(rt, head),
+    }
+}
+
+fn command(rt: &impl Abort, head: &str) -> [u8; 3] {
+    match head.as_bytes() {
+        [_, a, b, c] => [*a, *b, *c],
+        _ => unknown(rt, head),
+    }
 }
 
 /// Says of each of some heads of lines what it asks for at a stage, or with which code it is denied.
 fn say_requests(rt: &impl Machine, stage: Stage, heads: &str, said: &mut Vec<u8>) {
     for head in heads.split(' ') {
-        let Some((kind, command)) = head_of(head) else {
-            unknown(rt, head)
-        };
         say_next(rt, said, "");
-        match stage.request(kind, command) {
+        match stage.request(kind(rt, head), command(rt, head)) {
             Ok(request) => say_shown(rt, said, &request),
             Err(Deny::Protocol) => say(rt, said, "140"),
-            Err(Deny::BadStage(first)) if first.as_slice() == head.as_bytes() => say(
-                rt, said, "144",
-            ),
+            Err(Deny::BadStage(first)) => {
+                assert!(rt; first.as_slice() == head.as_bytes(), "{head}");
+                say(rt, said, "144");
+            }
             Err(_) => unknown(rt, head),
         }
     }

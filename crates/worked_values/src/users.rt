@@ -233,8 +233,7 @@ fn users_are_kept(rt: HostRuntime) {
         totals -> 3 124 5
         == asks for room ==
         takes 2 NIrob -> yes | 4 NIrob -> no
-        == sums what is shared ==
-        // 120 and 5, and twice 2^64 - 1
+        == sums what is shared: 120 and 5, and twice 2^64 - 1 ==
         totals -> 3 120 5
         enters 4 4 dan SS18446744073709551615 SF18446744073709551615 | 5 5 leo SS18446744073709551615 SF18446744073709551615 -> ok
         totals -> 5 36893488147419103350 36893488147419103235

@@ -68,8 +68,11 @@ fn join_once<R: Wait>(
     ensures guest { IfOk result (λ guest. guest.pass.home ≡ hall.now.hub.home) }
     ensures back { IfErr result (λ r. r.1.home ≡ hall.now.hub.home) }
 {
-    let (home, challenge) = ([127, 0, 0, 1], [0; 24]);
-    match hall.hub.join(rt, hall.alloc, visitor, home, challenge, 0) {
+    let challenge = [0; 24];
+    match hall
+        .hub
+        .join(rt, hall.alloc, visitor, [127, 0, 0, 1], challenge, 0)
+    {
         Ok(pass) => Ok(Guest { pass, challenge }),
         Err(refused) => Err(refused),
     }
