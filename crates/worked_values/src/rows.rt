@@ -60,20 +60,26 @@ pub(crate) fn play<R: Machine, P: Part>(rt: &R, part: &mut P, rows: &str) {
 }
 
 fn play_row<R: Machine, P: Part>(rt: &R, part: &mut P, row: &str) {
-    let (name, all) = pair(row, ' ');
-    let mut rest = all;
-    for call in all.split(" | ") {
+    let (name, calls) = pair(row, ' ');
+    for (place, call) in calls.split(" | ").enumerate() {
         let (given, _) = call.split_once("-> ").unwrap_or((call, ""));
-        let Some((_, answers)) = rest.split_once("-> ") else {
-            unknown(rt, row)
-        };
-        let (answer, _) = answers.split_once(" | ").unwrap_or((answers, ""));
         let said = answer_to(rt, part, name, given.strip_suffix(' ').unwrap_or(given));
-        if said != spell(rt, rt.alloc(), answer) {
+        if said != spell(rt, rt.alloc(), answer_of(rt, calls, place)) {
             is_another(rt, row, &said);
         }
-        (_, rest) = rest.split_once(" | ").unwrap_or((rest, ""));
     }
+}
+
+/// Gives the answer of a call of a row: its own, or that of the next that has one.
+fn answer_of<'a>(rt: &impl Abort, calls: &'a str, place: usize) -> &'a str {
+    for (number, call) in calls.split(" | ").enumerate() {
+        if number >= place
+            && let Some((_, answer)) = call.split_once("-> ")
+        {
+            return answer;
+        }
+    }
+    unknown(rt, calls)
 }
 
 /// Makes a call, and gives what it answers.
@@ -166,12 +172,8 @@ pub(crate) fn say_next(rt: &impl Abort, said: &mut Vec<u8>, text: &str) {
 }
 
 pub(crate) fn say_number(rt: &impl Machine, said: &mut Vec<u8>, number: u128) {
-    let digits = again!(rt; decimal(rt.alloc(), number));
+    let digits = again!(rt; shown(rt.alloc(), &number));
     say_next(rt, said, &digits);
-}
-
-fn decimal(alloc: Global, number: u128) -> Result<String, AllocError> {
-    format!(in alloc; "{number}")
 }
 
 /// Says a value by its name in the code.
