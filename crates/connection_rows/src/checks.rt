@@ -1,5 +1,4 @@
-// What is said and heard in all tests, and their comparisons, which say what was wrong. Each stands here once, since to prove an assertion with a message costs much more
-// than to prove a call.
+// What is said and heard in all tests, and their comparisons: to prove an assertion with a message costs much more than to prove a call.
 use adc_sessions::End;
 use second_try::{Transcript, transcript_of};
 use std::alloc::Global;

@@ -52,8 +52,7 @@ fn an_outbox_holds_1_048_576_bytes(rt: HostRuntime) {
 
 #[test]
 fn a_list_of_users_that_does_not_fit_is_not_given(rt: HostRuntime) {
-    // The seventeenth would be told of 17 times 65,000 bytes, which are more than 1,048,576. It is present nevertheless:
-    // the others hear of it, and hear what it says.
+    // The seventeenth would be told of 17 times 65,000 bytes, more than 1,048,576. It is present all the same, and the others hear it.
     talk! { rt, r"
         for 1 to 16:
             user enters BINF A<n> ID<n><36*A> PD<n><36*A> NI<n> DE<64898*x>

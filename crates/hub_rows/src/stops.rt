@@ -1,5 +1,4 @@
 //! A conversation that goes otherwise than it is told stops its test.
-
 use crate::conversation::talk;
 
 #[test]

@@ -1,5 +1,4 @@
 // Servers that cannot be had, or not for long.
-
 use crate::machine::*;
 use crate::program::asking::Output;
 use crate::run::settings;

@@ -8,12 +8,11 @@ const GREETING: &[u8] =
 
 const USAGE: &[u8] = b"adc_hub: usage: adc_hub stdin | adc_hub serve SETTINGS\n";
 
-const HUB: &str = "hub.toml";
-
 const FAILED: &[u8] = b"adc_hub: input or output\n";
 
 #[test]
 fn says_how_it_ended(rt: HostRuntime) {
+    let hub = "hub.toml";
     let rows: [(&[&str], Broken, u8, &[u8], &[u8]); 11] = [
         (&["stdin"], Broken::Nothing, 0, GREETING, b""),
         (&[], Broken::Nothing, 1, b"", USAGE),
@@ -21,7 +20,7 @@ fn says_how_it_ended(rt: HostRuntime) {
         (&["stdin", "stdin"], Broken::Nothing, 1, b"", USAGE),
         (&[""], Broken::Nothing, 1, b"", USAGE),
         (&["serve"], Broken::Nothing, 1, b"", USAGE),
-        (&["serve", HUB, HUB], Broken::Nothing, 1, b"", USAGE),
+        (&["serve", hub, hub], Broken::Nothing, 1, b"", USAGE),
         (&["stdin"], Broken::Input, 5, b"", FAILED),
         (&["stdin"], Broken::Output, 5, b"", FAILED),
         (&["serve"], Broken::Errors, 1, b"", b""),

@@ -39,7 +39,7 @@ impl<'t> Played<'t> {
 
     pub(super) fn play(mut self, rt: &impl Abort, name: &'t str) {
         let mut begun = false;
-        let mut rounds: Option<Place<'t>> = None;
+        let mut rounds = None;
         for (number, line) in self.told.text.lines().enumerate() {
             let text = line.trim();
             if number == 0 || text.is_empty() || !begun && text.starts_with("with ") {
@@ -47,15 +47,14 @@ impl<'t> Played<'t> {
             }
             begun = true;
             self.place = Place { name, number, text };
-            if let Some(first) = rounds {
-                if text == "end" {
-                    self.play_rounds(rt, first, number);
+            match (rounds, text.strip_prefix("for ")) {
+                (Some((of, begin)), _) if text == "end" => {
+                    self.play_rounds(rt, name, of, begin, number);
                     rounds = None;
                 }
-            } else if text.starts_with("for ") {
-                rounds = Some(self.place);
-            } else {
-                self.step(rt);
+                (None, Some(told)) => rounds = Some((self.rounds(rt, told), number)),
+                (None, None) => self.step(rt),
+                _ => {}
             }
         }
         if !begun || rounds.is_some() {
@@ -63,24 +62,30 @@ impl<'t> Played<'t> {
         }
     }
 
-    /// Plays the steps from the line `for 2 to 9:` up to an end, in rounds of these numbers.
-    fn play_rounds(&mut self, rt: &impl Abort, begin: Place<'t>, end: usize) {
-        let told = begin.text.trim_start_matches("for ").trim_end_matches(':');
-        let Some((first, last)) = told.split_once(" to ") else {
+    /// Reads the numbers of the rounds that `2 to 9:` begins.
+    fn rounds(&self, rt: &impl Abort, told: &str) -> (usize, usize) {
+        let Some((first, last)) = told.trim_end_matches(':').split_once(" to ") else {
             self.unknown(rt)
         };
-        let (first, last) = (self.number(rt, first), self.number(rt, last));
-        holds(rt, first <= last, "no rounds");
-        for round in first..=last {
+        (self.number(rt, first), self.number(rt, last))
+    }
+
+    /// Plays the steps between two lines in rounds of these numbers.
+    fn play_rounds(
+        &mut self,
+        rt: &impl Abort,
+        name: &'t str,
+        of: (usize, usize),
+        begin: usize,
+        end: usize,
+    ) {
+        holds(rt, of.0 <= of.1, "no rounds");
+        for round in of.0..=of.1 {
             self.round = round;
             for (number, line) in self.told.text.lines().enumerate() {
                 let text = line.trim();
-                if begin.number < number && number < end && !text.is_empty() {
-                    self.place = Place {
-                        number,
-                        text,
-                        ..begin
-                    };
+                if begin < number && number < end && !text.is_empty() {
+                    self.place = Place { name, number, text };
                     self.step(rt);
                 }
             }
