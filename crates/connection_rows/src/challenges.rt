@@ -22,8 +22,6 @@ fn deals_the_published_key_stream(rt: HostRuntime) {
     seed[31] = 1;
     let mut others = Challenges::from_seed(seed);
     assert!(&rt; next(&mut others).as_slice() != STREAM[0]);
-    drop(others);
-    drop(challenges);
 }
 
 fn next(challenges: &mut Challenges) -> [u8; 24] {

@@ -1,6 +1,7 @@
-// Comparisons of all tests, which say what was wrong. Each stands here once, since to prove an assertion with a message costs much more
-// than to prove a call.
+// What is said and heard in all tests, and their comparisons: to prove an assertion with a message costs much more than to prove a call.
 use adc_sessions::End;
+use second_try::{Transcript, transcript_of};
+use std::alloc::Global;
 use std::process::Abort;
 
 /// Stops the test unless these are the bytes that are wanted.
@@ -26,4 +27,19 @@ pub(crate) fn begins(rt: &impl Abort, front: &[u8], whole: &[u8]) {
 /// Stops the test where memory was refused twice.
 pub(crate) fn refused_twice(rt: &impl Abort) -> ! {
     panic!(rt; "refused twice")
+}
+
+pub(crate) const GREETING: &str = "ana is greeted AAAB\n";
+
+pub(crate) const ENTERED: &str = "\
+ana is greeted AAAB
+ana says BINF AAAB ID<P0> PD<P0> NIana SS10 SF2 I40.0.0.0 SUTCP4,SEGA -> BINF AAAB ID<P0> NIana SS10 SF2 I4127.0.0.1 SUTCP4,SEGA
+";
+
+/// Gives what one says and hears in a conversation.
+pub(crate) fn told(rt: &impl Abort, alloc: Global, text: &str, who: &str) -> Transcript {
+    match transcript_of(alloc, text, who) {
+        Some(transcript) => transcript,
+        None => refused_twice(rt),
+    }
 }

@@ -10,6 +10,4 @@ mod sessions;
 #[cfg(test)]
 mod streams;
 #[cfg(test)]
-mod texts;
-#[cfg(test)]
 mod writes;

@@ -1,8 +1,7 @@
 pub(crate) mod fakes;
 
-use crate::checks::{are_same, are_so_many, begins, refused_twice};
+use crate::checks::{ENTERED, GREETING, are_same, are_so_many, begins, refused_twice, told};
 use crate::streams::fakes::{Input, Output};
-use crate::texts::{ENTERED, GREETING, told};
 use hub_core::{MenuEntry, MenuItem, Options, Setup};
 use hub_stream::{Counting, Failures, RunFault, run_one};
 use second_try::again;
@@ -14,8 +13,7 @@ use std::sync::Arc;
 /// Ana is greeted, and says what is no line.
 const DENIED: &str = r"
 ana is greeted AAAB
-ana says <x78>
-ana hears ISTA 140 Protocol\serror
+ana says <x78> -> ISTA 140 Protocol\serror
 ";
 
 /// What is counted where each call succeeded.
@@ -83,12 +81,10 @@ fn unless_refused<'a>(rt: &impl Abort, ran: Option<Ran<'a>>, whole: &[u8]) -> Op
         return Some(ran);
     }
     begins(rt, &ran.output.get_ref().got, whole);
-    drop(ran);
     None
 }
 
-/// Runs it as [`attempt`] does, where memory is refused once at most: a run that met that wrote the front of `whole`, and
-/// another one is made.
+/// Runs it as [`attempt`] does, where memory is refused once at most: a run that met that wrote the front of `whole`, and another one is made.
 fn run_with<'a, R: AllocGlobal + Abort>(
     rt: &R,
     menu: &[MenuEntry<'_>],
@@ -114,32 +110,14 @@ fn ends<'a, R: AllocGlobal + Abort>(
     wanted: &[u8],
 ) -> Ran<'a> {
     let ran = run_with(rt, &[], input, 4096, 0, wanted);
-    assert!(rt;
-        ran.answer == answer && ran.output.get_ref().got.as_slice() == wanted,
-        "by {}, bad {}: {:?}, {:?}",
-        input.most,
-        input.bad,
-        ran.answer,
-        ran.output.get_ref().got
-    );
+    answers(rt, input.most, &ran, answer);
+    are_same(rt, &ran.output.get_ref().got, wanted);
     ran
 }
 
 /// Stops the test unless a run answered as it should in this case.
 fn answers(rt: &impl Abort, case: usize, ran: &Ran<'_>, answer: Result<(), RunFault>) {
     assert!(rt; ran.answer == answer, "case {case}: {:?}", ran.answer);
-}
-
-/// Stops the test unless a run wrote this in this case.
-fn wrote(rt: &impl Abort, case: usize, ran: &Ran<'_>, wanted: &[u8]) {
-    let got = &ran.output.get_ref().got;
-    assert!(rt; got.as_slice() == wanted, "case {case}: {got:?}");
-}
-
-/// Stops the test unless a run wrote the front of this in this case.
-fn wrote_front(rt: &impl Abort, case: usize, ran: &Ran<'_>, whole: &[u8]) {
-    let got = &ran.output.get_ref().got;
-    assert!(rt; whole.starts_with(got), "case {case}: {got:?}");
 }
 
 /// Stops the test unless these calls failed in this case.
@@ -166,18 +144,13 @@ fn answers_the_lines_that_it_reads(rt: HostRuntime) {
     for text in [GREETING, ENTERED, "ana says\nana says\nana is greeted AAAB"] {
         let ana = told(&rt, rt.alloc(), text, "ana");
         is_answered(&rt, &ana.said, &ana.heard);
-        drop(ana);
     }
     let denied: &[u8] = b"ISTA 140 Protocol\\serror\n";
-    let rows: [(&[u8], &[u8]); 5] = [
-        (b"x\n", denied),
-        (b"x\nx", denied),
-        (b"HSTA 000 x\n", b""),
-        (b"HSUP ADBASE ADTIGR", b""),
-        (b"", b""),
-    ];
-    for (input, wanted) in rows {
-        is_answered(&rt, input, wanted);
+    for input in [b"x\n".as_slice(), b"x\nx"] {
+        is_answered(&rt, input, denied);
+    }
+    for input in [b"HSTA 000 x\n".as_slice(), b"HSUP ADBASE ADTIGR", b""] {
+        is_answered(&rt, input, b"");
     }
 }
 
@@ -189,22 +162,16 @@ fn ends_once_the_connection_is_shut_out(rt: HostRuntime) {
     for (most, reads) in [(1, 12), (12, 1), (4096, 1)] {
         let ran = ends(&rt, Input::of(input, most), Ok(()), wanted);
         are_so_many(&rt, most, ran.input.get_ref().reads, reads);
-        drop(ran);
     }
     // A line that is too long behind that line is not looked at.
     let long = padded(&rt, rt.alloc(), b"HSUP ADBASE\n", 80_000);
     drop(ends(&rt, Input::of(&long, 4096), Ok(()), wanted));
-    drop(long);
 }
 
 /// Ana enters, and is owed too much.
 const OWED: &str = r"
-ana says HSUP ADBASE ADTIGR ADUCM0
-ana hears ISUP ADBASE ADTIGR ADPING ADUCMD
-ana hears ISID AAAB
-ana hears IINF CT32 NIHub VEadc-hub\s1.0
-ana says BINF AAAB ID<P0> PD<P0> NIana
-ana says BMSG AAAB hi
+ana says HSUP ADBASE ADTIGR ADUCM0 -> ISUP ADBASE ADTIGR ADPING ADUCMD | ISID AAAB | IINF CT32 NIHub VEadc-hub\s1.0
+ana says BINF AAAB ID<P0> PD<P0> NIana | BMSG AAAB hi
 ";
 
 #[test]
@@ -226,20 +193,16 @@ fn ends_once_the_connection_is_owed_too_much(rt: HostRuntime) {
     answers(&rt, 0, &ran, Ok(()));
     are_same(&rt, &ran.output.get_ref().got, &ana.heard);
     are_same(&rt, ran.input.get_ref().rest, b"BMSG AAAB hi\n");
-    drop(ran);
 }
 
 #[test]
 fn stops_at_a_line_that_is_too_long(rt: HostRuntime) {
     let ana = told(&rt, rt.alloc(), GREETING, "ana");
     // A line of 65,536 bytes may come to an end yet, and one of 65,537 is too long.
-    let bytes = padded(&rt, rt.alloc(), &ana.said, 65_555);
-    drop(ends(&rt, Input::of(&bytes, 4096), Ok(()), &ana.heard));
-    drop(bytes);
-    let bytes = padded(&rt, rt.alloc(), &ana.said, 65_556);
-    let answer = Err(RunFault::TooLong);
-    drop(ends(&rt, Input::of(&bytes, 4096), answer, &ana.heard));
-    drop(bytes);
+    for (length, answer) in [(65_555, Ok(())), (65_556, Err(RunFault::TooLong))] {
+        let bytes = padded(&rt, rt.alloc(), &ana.said, length);
+        drop(ends(&rt, Input::of(&bytes, 4096), answer, &ana.heard));
+    }
 }
 
 #[test]
@@ -249,14 +212,12 @@ fn writes_on_as_the_writer_takes(rt: HostRuntime) {
     for most in [1, 2, 73] {
         let ran = run_with(&rt, &[], input, most, 0, &ana.heard);
         answers(&rt, most, &ran, Ok(()));
-        wrote(&rt, most, &ran, &ana.heard);
-        drop(ran);
+        are_same(&rt, &ran.output.get_ref().got, &ana.heard);
     }
     let ran = run_with(&rt, &[], input, 0, 0, &ana.heard);
     answers(&rt, 0, &ran, Err(RunFault::Write));
     are_same(&rt, &ran.output.get_ref().got, b"");
     failed(&rt, 0, ran.output.failures(), ONE);
-    drop(ran);
 }
 
 #[test]
@@ -271,13 +232,11 @@ fn stops_at_a_write_that_fails(rt: HostRuntime) {
     for bad in 1..=good.output.get_ref().calls {
         let ran = run_with(&rt, &[], input, 10, bad, whole);
         answers(&rt, bad, &ran, Err(RunFault::Write));
-        wrote_front(&rt, bad, &ran, whole);
+        begins(&rt, &ran.output.get_ref().got, whole);
         failed(&rt, bad, ran.output.failures(), ONE);
         failed(&rt, bad, ran.input.failures(), NONE);
         are_so_many(&rt, bad, ran.output.get_ref().calls, bad);
-        drop(ran);
     }
-    drop(good);
 }
 
 #[test]
@@ -295,7 +254,6 @@ fn stops_at_a_read_that_fails(rt: HostRuntime) {
         let ran = ends(&rt, input, Err(RunFault::Read), wanted);
         failed(&rt, bad, ran.input.failures(), ONE);
         failed(&rt, bad, ran.output.failures(), NONE);
-        drop(ran);
     }
 }
 
@@ -309,6 +267,4 @@ fn reads_so_often_and_no_more(rt: HostRuntime) {
     let ran = ends(&rt, input, Err(RunFault::Turns), b"");
     let reads = ran.input.get_ref().reads;
     are_so_many(&rt, 0, reads, 1_048_576);
-    drop(ran);
-    drop(line);
 }

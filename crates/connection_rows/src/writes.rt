@@ -13,7 +13,8 @@ fn kinds(answer: io::Result<()>) -> Result<(), io::ErrorKind> {
     }
 }
 
-/// Stops the test unless these bytes are written like this, and so many calls are made.
+/// Stops the test unless these bytes are written like this, and so many calls are made; and just so by a writer that counts, which counts the
+/// call that fails.
 fn writes<R: AllocGlobal + Abort>(
     rt: &R,
     bytes: &[u8],
@@ -28,7 +29,16 @@ fn writes<R: AllocGlobal + Abort>(
     assert!(rt; answer == wanted, "by {most}, bad {bad}: {answer:?}");
     let is_written = taker.got.as_slice() == got && taker.calls == calls;
     assert!(rt; is_written, "by {most}, bad {bad}");
-    drop(taker);
+    let mut taker = Counting::new(again!(rt; Output::new(rt.alloc(), most, bad)));
+    let answer = kinds(write_and_flush_counted(&mut taker, bytes));
+    let failures = taker.failures();
+    let is_counted = failures.count == wanted.is_err() as u64
+        && failures.is_last == wanted.is_err();
+    let is_written = answer == wanted && taker.get_ref().got.as_slice() == got;
+    assert!(rt;
+        is_counted && is_written,
+        "by {most}, bad {bad}: {failures:?}"
+    );
 }
 
 #[test]
@@ -41,41 +51,6 @@ fn writes_all_or_the_front(rt: HostRuntime) {
     // The fourth call is the flush.
     for (bad, got) in [(1, b"".as_slice()), (2, b"ab"), (3, b"abcd"), (4, b"abcde")] {
         writes(&rt, b"abcde", 2, bad, broken, got, bad);
-    }
-}
-
-/// Stops the test unless these bytes, by a writer that counts, are written like this, and so many calls are counted.
-fn counts<R: AllocGlobal + Abort>(
-    rt: &R,
-    bytes: &[u8],
-    most: usize,
-    bad: usize,
-    wanted: Result<(), io::ErrorKind>,
-    got: &[u8],
-    failed: u64,
-) {
-    let mut taker = Counting::new(again!(rt; Output::new(rt.alloc(), most, bad)));
-    let answer = kinds(write_and_flush_counted(&mut taker, bytes));
-    assert!(rt; answer == wanted, "by {most}, bad {bad}: {answer:?}");
-    let failures = taker.failures();
-    let is_counted = failures.count == failed && failures.is_last == (failed > 0);
-    let is_written = taker.get_ref().got.as_slice() == got;
-    assert!(rt;
-        is_counted && is_written,
-        "by {most}, bad {bad}: {failures:?}"
-    );
-    drop(taker);
-}
-
-#[test]
-fn counts_the_write_that_fails(rt: HostRuntime) {
-    let broken = Err(io::ErrorKind::BrokenPipe);
-    counts(&rt, b"", 2, 1, Ok(()), b"", 0);
-    counts(&rt, b"abcde", 2, 0, Ok(()), b"abcde", 0);
-    counts(&rt, b"abcde", 0, 0, Err(io::ErrorKind::WriteZero), b"", 1);
-    // The fourth call is the flush.
-    for (bad, got) in [(1, b"".as_slice()), (2, b"ab"), (3, b"abcd"), (4, b"abcde")] {
-        counts(&rt, b"abcde", 2, bad, broken, got, 1);
     }
 }
 
@@ -103,9 +78,7 @@ fn counts_the_reads_that_fail(rt: HostRuntime) {
         let answer = reader.read_counted(&mut buffer);
         let failures = reader.failures();
         assert!(rt; answer.is_err() == is_last);
-        assert!(rt;
-            failures.count == count && failures.is_last == is_last,
-            "{failures:?}"
-        );
+        let is_counted = failures.count == count && failures.is_last == is_last;
+        assert!(rt; is_counted, "{failures:?}");
     }
 }

@@ -10,30 +10,18 @@ use std::alloc::{AllocError, Global};
 
 /// The client greets, is greeted, and sends its login.
 const HELLO: &str = r"
-op says HSUP ADBASE ADTIGR
-op hears ISUP ADBASE ADTIGR ADPING ADUCMD
-op hears ISID AAAC
-op hears IINF CT32 NIHub VEadc-hub\s1.0 DEBe\skind
+op says HSUP ADBASE ADTIGR -> ISUP ADBASE ADTIGR ADPING ADUCMD | ISID AAAC | IINF CT32 NIHub VEadc-hub\s1.0 DEBe\skind
 op says BINF AAAC ID<P0> PD<P0> NIop SS0 SF0 VEadc-hubctl\s1.0
 ";
 
 /// It answers a challenge of zeros, by the password `secret` and the hash of tests.
-const ASKED: &str = r"
-op hears IGPA <39*A>
-op says HPAS <secret>
-";
+const ASKED: &str = "op hears IGPA <39*A>\nop says HPAS <secret>";
 
-const LIST: &str = r"
-op hears BINF AAAB IDMFXGC<34*A> NIana SS10 SF2 DEa\sb I4127.0.0.1
-";
+const LIST: &str = r"op hears BINF AAAB IDMFXGC<34*A> NIana SS10 SF2 DEa\sb I4127.0.0.1";
 
-const OWN: &str = r"
-op hears BINF AAAC ID<P0> NIop SS0 SF0 CT4
-";
+const OWN: &str = r"op hears BINF AAAC ID<P0> NIop SS0 SF0 CT4";
 
-const KICK: &str = r"
-op says HMSG !kick\sana\sbe\skind
-";
+const KICK: &str = r"op says HMSG !kick\sana\sbe\skind";
 
 /// A deed of an operator.
 #[derive(Clone, Copy)]
@@ -47,9 +35,8 @@ enum Deed {
 fn outcome(alloc: Global, memory: &mut Memory<'_>, deed: Deed) -> Result<String, ClientFault> {
     let mut client = Client::new(alloc, memory);
     let sid = client.hello(false)?.sid;
-    let nick = match NickText::parse(alloc, "op") {
-        Ok(nick) => nick,
-        Err(_) => return Err(ClientFault::Memory),
+    let Ok(nick) = NickText::parse(alloc, "op") else {
+        return Err(ClientFault::Memory);
     };
     let login = login_line(alloc, sid, &Identity::of(&First24, [0; 24]), &nick)?;
     if let Entry::Challenged(challenge) = client.enter(sid, &login)? {
@@ -162,8 +149,7 @@ fn operators_act(rt: HostRuntime) {
         op hears ISTA 000 Done
     "], "Done ana MFXGCAAAAAAAAAAAAAAAAAAAAAAAAAAAAAAAAAA" }
     talk! { rt, Kick, Waits, [HELLO, ASKED, OWN, KICK, r"
-        op hears BMSG AAAB hi
-        op hears ISTA 100 No\ssuch\suser
+        op hears BMSG AAAB hi | ISTA 100 No\ssuch\suser
     "], "Other: No such user" }
     talk! { rt, Kick, Waits, [HELLO, OWN, KICK, r"
         op hears ISTA 125 Access\sdenied FCHMSG
@@ -172,8 +158,7 @@ fn operators_act(rt: HostRuntime) {
         "ana|user|MFXGCAAAAAAAAAAAAAAAAAAAAAAAAAAAAAAAAAA|127.0.0.1|10|a b|" }
     talk! { rt, Say, Waits, [HELLO, LIST, OWN, r"
         op hears BMSG AAAB hi\sall
-        op says BMSG AAAC hi\sall
-        op hears BMSG AAAC hi\sall
+        op says BMSG AAAC hi\sall -> BMSG AAAC hi\sall
     "], "said" }
 }
 
@@ -183,11 +168,7 @@ fn others_answer_otherwise(rt: HostRuntime) {
     talk! { rt, Kick, Waits, [HELLO, LIST, r"
         op hears BINF IDAA IDGEZDG<34*A> NIold CT5
     ", OWN, KICK, r"
-        op hears IQUI AAAB IDAAAD TL5
-        op hears IQUI AAAB
-        op hears BINF IDAA NInew
-        op hears IQUI IDAA IDAAAC TL5 MSa
-        op hears ISTA 000 Done
+        op hears IQUI AAAB IDAAAD TL5 | IQUI AAAB | BINF IDAA NInew | IQUI IDAA IDAAAC TL5 MSa | ISTA 000 Done
     "], "Done new GEZDGAAAAAAAAAAAAAAAAAAAAAAAAAAAAAAAAAA" }
     talk! { rt, Kick, Waits, [HELLO, OWN, KICK, r"
         op hears IMSG no\ssuch\scommand
@@ -200,9 +181,9 @@ fn others_answer_otherwise(rt: HostRuntime) {
 #[test]
 fn logins_are_refused(rt: HostRuntime) {
     for (status, wanted) in [
-        (r"op hears ISTA 231 Banned", "Banned: Banned"),
+        ("op hears ISTA 231 Banned", "Banned: Banned"),
         (
-            r"op hears ISTA 232 Banned TL59",
+            "op hears ISTA 232 Banned TL59",
             "Banned: Banned for 59 seconds",
         ),
         (r"op hears ISTA 222 Nick\staken", "Other: Nick taken"),
@@ -217,16 +198,14 @@ fn logins_are_refused(rt: HostRuntime) {
         op hears ISTA 223 Invalid\spassword
     "], "Password: Invalid password" }
     talk! { rt, Kick, Closes, [r"
-        op says HSUP ADBASE ADTIGR
-        op hears ISTA 211 Hub\sfull
+        op says HSUP ADBASE ADTIGR -> ISTA 211 Hub\sfull
     "], "Other: Hub full" }
 }
 
 #[test]
 fn connections_fail(rt: HostRuntime) {
     talk! { rt, Kick, Closes, ["
-        op says HSUP ADBASE ADTIGR
-        op hears HTTP/1.1 400 Bad Request
+        op says HSUP ADBASE ADTIGR -> HTTP/1.1 400 Bad Request
     "], "this is no ADC hub" }
     for (rest, wanted) in [
         (Rest::Closes, "the hub closed the connection"),
@@ -239,19 +218,11 @@ fn connections_fail(rt: HostRuntime) {
 }
 
 /// A line of the hub that does not end.
-const BROKEN: &str = "
-op says HSUP ADBASE ADTIGR
-op hears ISUP ADBASE
-op hears a part ISID AA
-";
+const BROKEN: &str = "op says HSUP ADBASE ADTIGR -> ISUP ADBASE\nop hears a part ISID AA";
 
 /// A hub that tells a pinger of itself.
-const PINGED: &str = r"
-op says HSUP ADBASE ADTIGR ADPING
-op hears ISUP ADBASE
-op hears ISID AAAB
-op hears IINF CT32 NIThe\sHub UC3 SS36893488147419103230
-";
+const PINGED: &str =
+    r"op says HSUP ADBASE ADTIGR ADPING -> ISUP ADBASE | ISID AAAB | IINF CT32 NIThe\sHub UC3 SS36893488147419103230";
 
 /// Gives what a pinger says, and what it is told.
 fn ping(alloc: Global, heard: &[u8]) -> Result<(Vec<u8>, String), ClientFault> {

@@ -16,31 +16,25 @@ fn requests_are_messages(rt: HostRuntime) {
     let kick = again!(&rt; Request::kick(alloc, "bob", ""));
     sends(&rt, &kick, "HMSG !kick\\sbob");
     let kick = again!(&rt; Request::kick(alloc, "bób", "be kind \\ leave\nnow"));
-    sends(
-        &rt,
-        &kick,
-        "HMSG !kick\\sbób\\sbe\\skind\\s\\\\\\sleave\\nnow",
-    );
+    sends(&rt, &kick, r"HMSG !kick\sbób\sbe\skind\s\\\sleave\nnow");
     let ban = again!(&rt; Request::ban(alloc, "bob", 0, ""));
     sends(&rt, &ban, "HMSG !ban\\sbob\\s0");
     let ban = again!(&rt; Request::ban(alloc, "bob", 4_294_967_295, "spam"));
     sends(&rt, &ban, "HMSG !ban\\sbob\\s4294967295\\sspam");
     sends(&rt, &Request::topic(""), "HMSG !topic");
-    sends(
+    let topic = Request::topic("Films of the week");
+    sends(&rt, &topic, r"HMSG !topic\sFilms\sof\sthe\sweek");
+    let unban = Request::unban("ONSWG4TFOQAAAAAAAAAAAAAAAAAAAAAAAAAAAAA").expect(
         &rt,
-        &Request::topic("Films of the week"),
-        "HMSG !topic\\sFilms\\sof\\sthe\\sweek",
+        "an identifier",
     );
-    let Some(unban) = Request::unban("ONSWG4TFOQAAAAAAAAAAAAAAAAAAAAAAAAAAAAA") else {
-        panic!(rt; "no client identifier");
-    };
     sends(
         &rt,
         &unban,
-        "HMSG !unban\\sONSWG4TFOQAAAAAAAAAAAAAAAAAAAAAAAAAAAAA",
+        r"HMSG !unban\sONSWG4TFOQAAAAAAAAAAAAAAAAAAAAAAAAAAAAA",
     );
     assert!(rt; Request::unban("ONSWG4TFOQ").is_none());
-    let _ = again!(&rt; match Request::kick(alloc, "a b", "") {
+    again!(&rt; match Request::kick(alloc, "a b", "") {
         Ok(_) => panic!(rt; "no nick"),
         Err(adc_ids::NickFault::Invalid) => Ok(()),
         Err(fault) => Err(fault),
@@ -49,14 +43,12 @@ fn requests_are_messages(rt: HostRuntime) {
 
 /// Gives the login of a client whose private identifier is 24 bytes 7, by Tiger with tables of zeros.
 fn login(alloc: Global) -> Result<String, ClientFault> {
-    let Ok(hash) = TableTiger::from_bytes(alloc, &[0; 8192]) else {
+    let (Ok(hash), Ok(nick), Some(sid)) = (
+        TableTiger::from_bytes(alloc, &[0; 8192]),
+        NickText::parse(alloc, "op"),
+        Sid::from_u32(1),
+    ) else {
         return Err(ClientFault::Memory);
-    };
-    let Ok(nick) = NickText::parse(alloc, "op") else {
-        return Err(ClientFault::Memory);
-    };
-    let Some(sid) = Sid::from_u32(1) else {
-        return Err(ClientFault::NotAdc);
     };
     let line = login_line(alloc, sid, &Identity::of(&hash, [7; 24]), &nick)?;
     Ok(String::from_str(alloc, line.text())?)

@@ -14,12 +14,6 @@ fn accounts_are_wrong(rt: HostRuntime) {
         [[account]];nick = "op";password = 12345 -> 3:1: account 1, password: found a whole number; allowed: a text that is not empty
         [[account]];nick = "op";password = "p";operator = "yes" -> 4:1: account 1, operator: found "yes"; allowed: true or false
         [[account]];nick = "op";password = "p";[[account]];nick = "op";password = "q" -> 5:1: account 2, nick: found "op" once more; allowed: a nick that no other account has
-    "# }
-}
-
-#[test]
-fn nicks_are_wrong(rt: HostRuntime) {
-    settings! { rt, r#"
         [[account]];nick = "op";password = "p";;[[account]];  nick = "a b";password = "p" -> 6:3: account 2, nick: found "a b"; allowed: a text of 1 to 64 characters, none of them a blank
         [[account]];password = "p" -> 1:1: account 1, nick: found nothing; allowed: a text of 1 to 64 characters, none of them a blank
         [[account]];nick = 5;password = "p" -> 2:1: account 1, nick: found 5; allowed: a text of 1 to 64 characters, none of them a blank
@@ -61,19 +55,13 @@ fn entries(alloc: Global, count: usize, key: &str) -> Result<String, AllocError>
 
 #[test]
 fn lists_are_too_long(rt: HostRuntime) {
+    let accounts = "97:1: account 33: found one more; allowed: at most 32 accounts";
+    let commands = "257:1: command 65: found one more; allowed: at most 64 entries";
     for (key, count, wanted) in [
         ("account", 32, "127.0.0.1:4111 tiger 32 0 544"),
-        (
-            "account",
-            33,
-            "97:1: account 33: found one more; allowed: at most 32 accounts",
-        ),
+        ("account", 33, accounts),
         ("command", 64, "127.0.0.1:4111 tiger 0 64 544"),
-        (
-            "command",
-            65,
-            "257:1: command 65: found one more; allowed: at most 64 entries",
-        ),
+        ("command", 65, commands),
     ] {
         let text = again!(&rt; entries(rt.alloc(), count, key));
         let got = again!(&rt; report_on(rt.alloc(), &text));

@@ -134,7 +134,7 @@ fn warned(alloc: Global, flaws: [bool; 3]) -> Result<String, AllocError> {
 }
 
 #[test]
-fn texts_are_wrong(rt: HostRuntime) {
+fn values_are_wrong(rt: HostRuntime) {
     settings! { rt, r#"
         name = "" -> 1:1: name: found ""; allowed: a text that is not empty
         name = 7 -> 1:1: name: found 7; allowed: a text that is not empty
@@ -144,12 +144,6 @@ fn texts_are_wrong(rt: HostRuntime) {
         hash = "md5" -> 1:1: hash: found "md5"; allowed: tiger or first24
         tables = 8192 -> 1:1: tables: found 8192; allowed: a text
         seed_file = [] -> 1:1: seed_file: found a list; allowed: a text
-    "# }
-}
-
-#[test]
-fn numbers_are_wrong(rt: HostRuntime) {
-    settings! { rt, r#"
         registered_only = "yes" -> 1:1: registered_only: found "yes"; allowed: true or false
         registered_only = 1 -> 1:1: registered_only: found 1; allowed: true or false
         search_interval = -1 -> 1:1: search_interval: found -1; allowed: a whole number from 0 to 4294967295

@@ -1,30 +1,23 @@
 use crate::conversation::talk;
 
 #[test]
-fn a_hub_without_a_place_or_a_name_is_refused(rt: HostRuntime) {
+fn a_hub_has_1_to_900_places_and_a_name(rt: HostRuntime) {
     talk! { rt, r"
+        == no place
         with max_users 0
         the hub is refused Limit
-    " }
-    talk! { rt, r"
+        == too many places
         with max_users 901
         the hub is refused Limit
-    " }
-    talk! { rt, r"
+        == too many places, and no name
         with max_users 901
         with name
         the hub is refused Limit
-    " }
-    talk! { rt, r"
+        == no name
         with max_users 900
         with name
         the hub is refused Name
-    " }
-}
-
-#[test]
-fn a_hub_of_900_connections_is_full(rt: HostRuntime) {
-    talk! { rt, r"
+        == 900 connections
         with max_users 900
         for 1 to 900:
             user joins
@@ -40,25 +33,11 @@ fn nine_hundred_users_enter(rt: HostRuntime) {
         with max_users 900
         for 1 to 900:
             user joins
-            user says HSUP ADBASE ADTIGR
-            user says BINF A<n> ID<n><36*A> PD<n><36*A> NI<n>
+            user says HSUP ADBASE ADTIGR | BINF A<n> ID<n><36*A> PD<n><36*A> NI<n>
         end
         eve is refused Full
-        #1 takes 256
-        #1 takes 256
-        #1 takes 256
-        #1 takes 135
-        #1 hears nothing
-        #450 takes 256
-        #450 takes 256
-        #450 takes 256
-        #450 takes 135
-        #450 hears nothing
-        #900 takes 256
-        #900 takes 256
-        #900 takes 256
-        #900 takes 135
-        #900 hears nothing
+        #1 and #450 and #900 take 256 | 256 | 256 | 135
+        #1 and #450 and #900 hear nothing
     " }
 }
 
@@ -68,9 +47,7 @@ fn identifiers_begin_again_behind_the_last_one(rt: HostRuntime) {
         ana joins
         1048574 come and go
         bob joins
-        bob says HSUP ADBASE ADTIGR
-        bob hears ISUP ADBASE ADTIGR ADPING ADUCMD
-        bob hears ISID AAAC
+        bob says HSUP ADBASE ADTIGR -> ISUP ADBASE ADTIGR ADPING ADUCMD | ISID AAAC
     " }
 }
 
@@ -79,8 +56,6 @@ fn identifiers_begin_again_where_all_have_left(rt: HostRuntime) {
     talk! { rt, r"
         1048575 come and go
         ana joins
-        ana says HSUP ADBASE ADTIGR
-        ana hears ISUP ADBASE ADTIGR ADPING ADUCMD
-        ana hears ISID AAAB
+        ana says HSUP ADBASE ADTIGR -> ISUP ADBASE ADTIGR ADPING ADUCMD | ISID AAAB
     " }
 }

@@ -1,4 +1,4 @@
-use crate::conversation::{play, talk};
+use crate::conversation::play;
 
 /// Conversations of users who have entered.
 const CHAT: &str = r"
@@ -6,27 +6,17 @@ const CHAT: &str = r"
     ana enters
     ana says
     ana hears nothing
-    ana says BMSG AAAB  hi
-    ana hears ISTA 140 Protocol\serror
-    ana says BMSG AAAB a\xb
-    ana hears ISTA 140 Protocol\serror
-    ana says BMSG AAAB <xff>
-    ana hears only ISTA 140 Protocol\serror
+    ana says BMSG AAAB  hi -> ISTA 140 Protocol\serror | BMSG AAAB a\xb -> ISTA 140 Protocol\serror | BMSG AAAB <xff> -> only ISTA 140 Protocol\serror
 == who writes for another leaves
     ana and bob enter
-    ana is ended by BMSG AAAC hi
-    ana hears last ISTA 240 Wrong\sSID
+    ana is ended by BMSG AAAC hi -> last ISTA 240 Wrong\sSID
     bob hears only IQUI AAAB
 == chat before the login is refused
     ana greets
-    ana says BMSG AAAB hi
-    ana hears only ISTA 144 Invalid\sstate FCBMSG
+    ana says BMSG AAAB hi -> only ISTA 144 Invalid\sstate FCBMSG
 == an unknown command goes to all
     ana and bob enter
-    ana says DINF AAAB AAAC NIx
-    ana hears ISTA 140 Protocol\serror
-    ana says CSUP ADBASE
-    ana hears ISTA 140 Protocol\serror
+    ana says DINF AAAB AAAC NIx -> ISTA 140 Protocol\serror | CSUP ADBASE -> ISTA 140 Protocol\serror
     bob hears nothing
     ana says BXYZ AAAB 1
     ana and bob hear only BXYZ AAAB 1
@@ -40,41 +30,22 @@ const CHAT: &str = r"
     ana and bob hear only BMSG AAAB hi<x0d>
 == a needed feature cannot be given up
     ana and bob enter
-    ana is ended by HSUP RMTIGR
-    ana hears last ISTA 247 No\scommon\shash
+    ana is ended by HSUP RMTIGR -> last ISTA 247 No\scommon\shash
     bob hears only IQUI AAAB
 == words to the hub go nowhere
     ana and bob enter
-    ana says HMSG hello
-    ana says HMSG
-    ana says HSTA 000 ok
-    ana says FMSG AAAB +SEGA-SEGA x
+    ana says HMSG hello | HMSG | HSTA 000 ok | FMSG AAAB +SEGA-SEGA x
     ana and bob hear nothing
+== a malformed line reaches nobody
+    ana and bob enter
+    ana says <line> -> only <answer>
+    bob hears nothing
+    each:
+    BMSG | BMSG AAA | BMSG AAAB<x20> | bMSG AAAB hi | BMSG aaab hi | FSCH AAAB ANx | FSCH AAAB +TCP ANx | DMSG AAAB -> ISTA 140 Protocol\serror
+    UMSG ABC hi | EMSG AAAB AAAC \ | <x20> -> ISTA 140 Protocol\serror
 ";
 
 #[test]
 fn users_chat(rt: HostRuntime) {
     play(&rt, CHAT);
-}
-
-#[test]
-fn a_malformed_line_reaches_nobody(rt: HostRuntime) {
-    talk! { rt, r"
-        ana and bob enter
-        ana says <line>
-        ana hears only <answer>
-        bob hears nothing
-        each:
-        BMSG -> ISTA 140 Protocol\serror
-        BMSG AAA -> ISTA 140 Protocol\serror
-        BMSG AAAB<x20> -> ISTA 140 Protocol\serror
-        bMSG AAAB hi -> ISTA 140 Protocol\serror
-        BMSG aaab hi -> ISTA 140 Protocol\serror
-        FSCH AAAB ANx -> ISTA 140 Protocol\serror
-        FSCH AAAB +TCP ANx -> ISTA 140 Protocol\serror
-        DMSG AAAB -> ISTA 140 Protocol\serror
-        UMSG ABC hi -> ISTA 140 Protocol\serror
-        EMSG AAAB AAAC \ -> ISTA 140 Protocol\serror
-        <x20> -> ISTA 140 Protocol\serror
-    " }
 }

@@ -52,8 +52,7 @@ const CALLS: &str = r"
 == whom acts concern
     with account op secret operator
     op joins
-    op says HSUP ADBASE ADTIGR
-    op says BINF AAAB ID<P0> PD<P0> NIop
+    op says HSUP ADBASE ADTIGR | BINF AAAB ID<P0> PD<P0> NIop
     op is concerned
     op says HPAS <secret>
     all are concerned

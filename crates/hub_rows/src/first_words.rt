@@ -1,34 +1,25 @@
-use crate::conversation::{play, talk};
+use crate::conversation::play;
 
 /// First words of clients, and what is answered.
 const FIRST_WORDS: &str = r"
 == a client is greeted
     ana joins
     ana hears nothing
-    ana says HSUP ADBASE ADTIGR
-    ana hears ISUP ADBASE ADTIGR ADPING ADUCMD
-    ana hears ISID AAAB
-    ana hears only IINF CT32 NIHub VEadc-hub\s1.0
-    ana says HSUP ADBASE ADTIGR
-    ana hears ISTA 144 Invalid\sstate FCHSUP
+    ana says HSUP ADBASE ADTIGR -> ISUP ADBASE ADTIGR ADPING ADUCMD | ISID AAAB | only IINF CT32 NIHub VEadc-hub\s1.0
+    ana says HSUP ADBASE ADTIGR -> ISTA 144 Invalid\sstate FCHSUP
     ana says HSTA 000 ok
     ana hears nothing
 == early names of features count
     ana joins
-    ana says HSUP RMBASE ADBAS0 ADUCM0 ADTIGR ADZLIF RMZLIF
-    ana hears ISUP ADBASE ADTIGR ADPING ADUCMD
+    ana says HSUP RMBASE ADBAS0 ADUCM0 ADTIGR ADZLIF RMZLIF -> ISUP ADBASE ADTIGR ADPING ADUCMD
 == name and topic are escaped
     with name A hub
     with topic one<x0a>two \
     ana joins
-    ana says HSUP ADBASE ADTIGR
-    ana hears ISUP ADBASE ADTIGR ADPING ADUCMD
-    ana hears ISID AAAB
-    ana hears IINF CT32 NIA\shub VEadc-hub\s1.0 DEone\ntwo\s\\
+    ana says HSUP ADBASE ADTIGR -> ISUP ADBASE ADTIGR ADPING ADUCMD | ISID AAAB | IINF CT32 NIA\shub VEadc-hub\s1.0 DEone\ntwo\s\\
 == who writes for another is shut out
     ana joins
-    ana is ended by BMSG AAAC hi
-    ana hears last ISTA 240 Wrong\sSID
+    ana is ended by BMSG AAAC hi -> last ISTA 240 Wrong\sSID
 == places are given again
     with max_users 2
     ana and bob join
@@ -36,54 +27,32 @@ const FIRST_WORDS: &str = r"
     ana quits
     cy joins
     eve is refused Full
-    cy says HSUP ADBASE ADTIGR
-    cy hears ISUP ADBASE ADTIGR ADPING ADUCMD
-    cy hears ISID AAAD
+    cy says HSUP ADBASE ADTIGR -> ISUP ADBASE ADTIGR ADPING ADUCMD | ISID AAAD
     bob hears nothing
+== who lacks a feature is shut out
+    ana joins
+    ana is ended by <line> -> last <answer>
+    ana is ended by HSUP ADBASE ADTIGR
+    ana hears no more
+    ana quits
+    each:
+    HSUP ADBASE -> ISTA 247 No\scommon\shash
+    HSUP ADTIGR | HSUP -> ISTA 245 Feature\smissing FCBASE
+    HSUP ADBASE ADTIGR RMTIGR -> ISTA 247 No\scommon\shash
+== what is wrong is refused and loses nothing
+    ana joins
+    bob enters
+    ana says
+    ana hears nothing
+    ana says <line> -> only <answer> | HSUP ADBASE ADTIGR -> ISUP ADBASE ADTIGR ADPING ADUCMD
+    bob hears nothing
+    each:
+    HSUP  ADBASE | HSUP ADBASE TIGR | HSUP ADBASE adTIGR | CSUP ADBASE ADTIGR | HSUP ADBASE <xff> | hsup ADBASE ADTIGR -> ISTA 140 Protocol\serror
+    HMSG hi -> ISTA 144 Invalid\sstate FCHMSG
+    BMSG AAAB hi -> ISTA 144 Invalid\sstate FCBMSG
 ";
 
 #[test]
 fn first_words_are_answered(rt: HostRuntime) {
     play(&rt, FIRST_WORDS);
-}
-
-#[test]
-fn who_lacks_a_feature_is_shut_out(rt: HostRuntime) {
-    talk! { rt, r"
-        ana joins
-        ana is ended by <line>
-        ana hears last <answer>
-        ana is ended by HSUP ADBASE ADTIGR
-        ana hears no more
-        ana quits
-        each:
-        HSUP ADBASE -> ISTA 247 No\scommon\shash
-        HSUP ADTIGR -> ISTA 245 Feature\smissing FCBASE
-        HSUP -> ISTA 245 Feature\smissing FCBASE
-        HSUP ADBASE ADTIGR RMTIGR -> ISTA 247 No\scommon\shash
-    " }
-}
-
-#[test]
-fn what_is_wrong_is_refused_and_loses_nothing(rt: HostRuntime) {
-    talk! { rt, r"
-        ana joins
-        bob enters
-        ana says
-        ana hears nothing
-        ana says <line>
-        ana hears only <answer>
-        ana says HSUP ADBASE ADTIGR
-        ana hears ISUP ADBASE ADTIGR ADPING ADUCMD
-        bob hears nothing
-        each:
-        HSUP  ADBASE -> ISTA 140 Protocol\serror
-        HSUP ADBASE TIGR -> ISTA 140 Protocol\serror
-        HSUP ADBASE adTIGR -> ISTA 140 Protocol\serror
-        CSUP ADBASE ADTIGR -> ISTA 140 Protocol\serror
-        HSUP ADBASE <xff> -> ISTA 140 Protocol\serror
-        hsup ADBASE ADTIGR -> ISTA 140 Protocol\serror
-        HMSG hi -> ISTA 144 Invalid\sstate FCHMSG
-        BMSG AAAB hi -> ISTA 144 Invalid\sstate FCBMSG
-    " }
 }

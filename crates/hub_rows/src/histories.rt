@@ -1,13 +1,7 @@
 // A history that is legal, and changes of one line after which it is not.
 use crate::hub::shared_setup;
-use crate::refusal::{append, holds, spell_text, unknown};
+use crate::refusal::*;
 use history_check::report_history;
-use hub_core::{Account, Options, PlainOptions, Setup};
-use second_try::{Machine, again};
-use session_hash::First24;
-use std::alloc::{AllocError, AllocGlobal, Global};
-use std::process::Abort;
-use std::sync::Arc;
 
 /// An operator and a user enter and talk, the user is kicked; a third cannot agree on a hash.
 const HISTORY: &str = r"# Two users enter, talk, and one is kicked; a third cannot agree on a hash.
@@ -111,23 +105,19 @@ fn setup(rt: &impl Abort, alloc: Global) -> Arc<Setup> {
     shared_setup(rt, alloc, &options)
 }
 
-/// Gives what stands in the place of the line of a number, if anything does.
-fn other_of<'a>(number: usize, others: &[(usize, &'a str)]) -> Option<&'a str> {
-    for (place, other) in others {
-        if *place == number {
-            return Some(other);
-        }
-    }
-    None
-}
-
-/// Gives the history as text, with these lines in the place of those of their numbers.
-fn text_with(rt: &impl Abort, alloc: Global, history: &str, others: &[(usize, &str)]) -> Vec<u8> {
+/// Gives the history as text, with these lines in the place of those from the one of this number on.
+fn text_with(
+    rt: &impl Abort,
+    alloc: Global,
+    history: &str,
+    from: usize,
+    others: &[&str],
+) -> Vec<u8> {
     let mut text = Vec::new(alloc);
     let mut number: usize = 0;
     for line in history.lines() {
         number = number.wrapping_add(1);
-        match other_of(number, others) {
+        match others.get(number.wrapping_sub(from)) {
             Some(other) => append(rt, &mut text, other.as_bytes()),
             None => append(rt, &mut text, line.as_bytes()),
         }
@@ -140,14 +130,18 @@ fn report(alloc: Global, setup: Arc<Setup>, text: &[u8]) -> Result<Vec<u8>, Allo
     report_history(alloc, setup, &First24, text)
 }
 
-/// Reports on the history, with these lines in the place of those of their numbers.
-fn report_with(rt: &impl Abort, alloc: Global, history: &str, others: &[(usize, &str)]) -> Vec<u8> {
-    let setup = setup(rt, alloc);
-    let text = text_with(rt, alloc, history, others);
-    let said = again!(rt; report(alloc, again!(rt; setup.clone()), &text));
-    drop(text);
-    drop(setup);
-    said
+/// Stops the test unless this is said of a history in which these lines stand in the place of those from a number on.
+fn is_said(rt: &impl Machine, history: &str, from: usize, others: &[&str], wanted: &str) {
+    let setup = setup(rt, rt.alloc());
+    let text = text_with(rt, rt.alloc(), history, from, others);
+    let said = again!(rt; report(rt.alloc(), again!(rt; setup.clone()), &text));
+    holds(rt, said.as_slice() == wanted.as_bytes(), wanted);
+}
+
+/// Stops the test unless this is said of the line of a number, from which on these stand in the place of others.
+fn is_said_of(rt: &impl Machine, history: &str, number: usize, others: &[&str], what: &str) {
+    let wanted = again!(rt; format!(in rt.alloc(); "line {number} {what}"));
+    is_said(rt, history, number, others, &wanted);
 }
 
 fn line_of<'t>(rt: &impl Abort, history: &'t str, number: usize) -> &'t str {
@@ -157,15 +151,6 @@ fn line_of<'t>(rt: &impl Abort, history: &'t str, number: usize) -> &'t str {
         }
     }
     panic!(rt; "no line {number}")
-}
-
-/// Stops the test unless this is said of a line where these stand in the place of others.
-fn is_said(rt: &impl Machine, history: &str, others: &[(usize, &str)], number: usize, what: &str) {
-    let said = report_with(rt, rt.alloc(), history, others);
-    let wanted = again!(rt; format!(in rt.alloc(); "line {number} {what}"));
-    holds(rt, said.as_slice() == wanted.as_bytes(), &wanted);
-    drop(wanted);
-    drop(said);
 }
 
 fn changed(alloc: Global, line: &str, old: &str, new: &str) -> Option<String> {
@@ -186,24 +171,16 @@ fn is_found(rt: &impl Machine, history: &str, row: &str) {
     let Some((number, old, new, what)) = read_change(row) else {
         unknown(rt, "row", row)
     };
-    for _ in 0..2 {
-        if let Some(line) = changed(rt.alloc(), line_of(rt, history, number), old, new) {
-            is_said(rt, history, &[(number, line.as_str())], number, what);
-            drop(line);
-            return;
-        }
-    }
-    panic!(rt; "no {old} in line {number}")
+    let line = line_of(rt, history, number);
+    let line = again!(rt; changed(rt.alloc(), line, old, new).ok_or(AllocError));
+    is_said_of(rt, history, number, &[line.as_str()], what);
 }
 
 /// Stops the test unless it is found that a line changed places with the next one.
 fn swap_is_found(rt: &impl Machine, history: &str, number: usize) {
-    let next = number.wrapping_add(1);
-    let lines = [
-        (number, line_of(rt, history, next)),
-        (next, line_of(rt, history, number)),
-    ];
-    is_said(rt, history, &lines, number, "is to be answered 0 more ");
+    let next = line_of(rt, history, number.wrapping_add(1));
+    let lines = [next, line_of(rt, history, number)];
+    is_said_of(rt, history, number, &lines, "is to be answered 0 more ");
 }
 
 /// Lines that are no entries. A blank stands behind no word that is the last, whatever the reply.
@@ -226,8 +203,7 @@ x quit 1 left
 #[test]
 fn a_legal_history_is_found_legal(rt: HostRuntime) {
     let history = spell_text(&rt, rt.alloc(), HISTORY);
-    let said = report_with(&rt, rt.alloc(), &history, &[]);
-    holds(&rt, said.as_slice() == b"legal".as_slice(), "not legal");
+    is_said(&rt, &history, 1, &[], "legal");
 }
 
 #[test]
@@ -253,6 +229,6 @@ fn a_line_that_is_no_entry_is_named(rt: HostRuntime) {
     let lines = spell_text(&rt, rt.alloc(), NO_ENTRIES);
     let last = history.lines().count();
     for line in lines.lines() {
-        is_said(&rt, &history, &[(last, line)], last, "is no entry");
+        is_said_of(&rt, &history, last, &[line], "is no entry");
     }
 }

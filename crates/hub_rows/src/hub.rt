@@ -1,14 +1,5 @@
-use crate::refusal::holds;
+use crate::refusal::*;
 use adc_base32::Sid;
-use hub_core::{
-    Conn, Core, JoinRefused, Options, Prepared, Setup, SetupRefused, Stage, Totals, Touched,
-    Verdict, prepare,
-};
-use second_try::again;
-use session_hash::First24;
-use std::alloc::Global;
-use std::process::Abort;
-use std::sync::Arc;
 
 /// A hub whose peers are all 127.0.0.1 and whose challenges are all 24 zero bytes. A call for which memory is refused
 /// has to leave all as it was, and is made once more; it has to succeed then.
@@ -107,21 +98,12 @@ impl Hub {
         line: &[u8],
         now: u64,
     ) -> Verdict {
-        let line = self.make_ready(rt, line);
+        let line = again!(rt; prepare(self.alloc, &self.setup, &First24, [0; 24], line));
         let before = self.sight();
         for _ in 0..2 {
             match self.try_line(rt, connection, &line, now) {
                 Some(verdict) => return verdict,
                 None => self.has_not_changed(rt, "hub_core::Core::line", &before),
-            }
-        }
-        panic!(rt; "refused twice")
-    }
-
-    fn make_ready(&self, rt: &impl Abort, line: &[u8]) -> Prepared {
-        for _ in 0..2 {
-            if let Ok(line) = prepare(self.alloc, &self.setup, &First24, [0; 24], line) {
-                return line;
             }
         }
         panic!(rt; "refused twice")
@@ -181,7 +163,8 @@ impl Hub {
     }
 
     pub(crate) fn quit(&mut self, rt: &impl Abort, connection: Conn) {
-        leave(rt, &mut self.core, connection);
+        assert!(rt; self.core.is_open(connection), "it has left");
+        self.core.quit(connection);
     }
 
     pub(crate) fn is_open(&self, connection: Conn) -> bool {
@@ -238,11 +221,6 @@ impl Hub {
             waiting: look.waiting,
         })
     }
-}
-
-fn leave(rt: &impl Abort, core: &mut Core, connection: Conn) {
-    assert!(rt; core.is_open(connection), "it has left");
-    core.quit(connection);
 }
 
 fn set_up(rt: &impl Abort, alloc: Global, options: &Options<'_>) -> Result<Setup, SetupRefused> {

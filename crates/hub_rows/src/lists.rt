@@ -1,41 +1,22 @@
 // A list of calls on one hub: what `run_calls` answers.
 use crate::hub::shared_setup;
-use crate::refusal::{append, holds, keep, spell, unknown};
-use hub_core::{Answer, Ask, Asked, Options, Prepared, Setup, Verdict, prepare, run_calls};
-use second_try::{Deed, Step, again};
-use session_hash::First24;
-use std::alloc::Global;
-use std::process::Abort;
-use std::sync::Arc;
+use crate::refusal::*;
+use second_try::{Deed, Step, steps_of};
 
 /// The calls. The first caller speaks and leaves, the second takes what it heard.
 const CALLS: &str = "\
 ana joins
-ana says HSUP ADBASE ADTIGR
-ana says BINF AAAB ID<P0> PD<P0> NIana
+ana says HSUP ADBASE ADTIGR | BINF AAAB ID<P0> PD<P0> NIana
 bob joins
-bob says HSUP ADBASE ADTIGR
-bob says BINF AAAC ID<P1> PD<P1> NIbob
+bob says HSUP ADBASE ADTIGR | BINF AAAC ID<P1> PD<P1> NIbob
 ana says BMSG AAAB hello
 ana quits
 ana says BMSG AAAB hello
-bob takes 0
-bob takes 1
-bob takes 256
+bob takes 0 | 1 | 256
 ";
 
-/// What is answered: for each call a line, and behind `took` how many lines it were.
-const ANSWERS: &str = r"joined
-kept
-kept
-joined
-kept
-kept
-kept
-left
-skipped
-skipped
-took 1
+/// What is answered: for each call a word, and behind `took` how many lines it were, and these.
+const ANSWERS: &str = r"joined kept kept joined kept kept kept left skipped skipped took 1
 ISUP ADBASE ADTIGR ADPING ADUCMD
 took 6
 ISID AAAC
@@ -46,51 +27,43 @@ BMSG AAAB hello
 IQUI AAAB
 ";
 
-/// A call: the number of its caller and connection, what it does, and its line, made ready.
-#[derive(Drop)]
-struct Call {
-    caller: u64,
-    deed: Deed,
-    count: usize,
-    line: Prepared,
-}
-
 #[test]
 fn a_list_of_calls_is_answered_in_turn(rt: HostRuntime) {
     let setup = shared_setup(&rt, rt.alloc(), &Options::named("Hub"));
-    let mut calls = Vec::new(rt.alloc());
-    for text in CALLS.lines() {
-        keep(&rt, &mut calls, read_call(&rt, rt.alloc(), &setup, text));
-    }
-    let is_answered = is_answered(&rt, rt.alloc(), &setup, &calls)
-        || is_answered(&rt, rt.alloc(), &setup, &calls);
-    holds(&rt, is_answered, "refused twice");
-    drop(calls);
-    drop(setup);
-}
-
-fn read_call(rt: &impl Abort, alloc: Global, setup: &Setup, text: &str) -> Call {
-    let Some(step) = Step::read(text) else {
-        unknown(rt, "call", text)
+    let Some(steps) = steps_of(rt.alloc(), CALLS) else {
+        unknown(&rt, "calls", CALLS)
     };
-    let bytes = spell(rt, alloc, step.line, 0);
-    Call {
-        caller: if step.who == "ana" { 1 } else { 2 },
-        deed: step.deed,
-        count: step.line.parse().unwrap_or(0),
-        line: again!(rt; prepare(alloc, setup, &First24, [0; 24], &bytes)),
-    }
+    let lines = lines_of(&rt, rt.alloc(), &setup, &steps);
+    let is_answered = is_answered(&rt, rt.alloc(), &setup, &steps, &lines)
+        || is_answered(&rt, rt.alloc(), &setup, &steps, &lines);
+    holds(&rt, is_answered, "refused twice");
 }
 
-fn asks<'a>(rt: &impl Abort, alloc: Global, calls: &'a [Call]) -> Vec<Asked<'a>> {
-    let mut asks = again!(rt; Vec::with_capacity(alloc, calls.len()));
-    for call in calls {
-        let caller = call.caller;
-        let ask = match call.deed {
+/// Makes the line of each step ready.
+fn lines_of(rt: &impl Abort, alloc: Global, setup: &Setup, steps: &[Step<'_>]) -> Vec<Prepared> {
+    let mut lines = Vec::new(alloc);
+    for step in steps {
+        let bytes = spell(rt, alloc, step.line, 0);
+        let line = again!(rt; prepare(alloc, setup, &First24, [0; 24], &bytes));
+        keep(rt, &mut lines, line);
+    }
+    lines
+}
+
+fn asks<'a>(
+    rt: &impl Abort,
+    alloc: Global,
+    steps: &[Step<'_>],
+    lines: &'a [Prepared],
+) -> Vec<Asked<'a>> {
+    let mut asks = again!(rt; Vec::with_capacity(alloc, steps.len()));
+    for (step, line) in steps.iter().zip(lines) {
+        let caller = if step.who == "ana" { 1 } else { 2 };
+        let ask = match step.deed {
             Deed::Joins => Ask::Join([127, 0, 0, 1], [0; 24], 0),
-            Deed::Takes => Ask::Take(caller, call.count),
+            Deed::Takes => Ask::Take(caller, step.line.parse().unwrap_or(0)),
             Deed::Quits => Ask::Quit(caller),
-            _ => Ask::Line(caller, &call.line, 0),
+            _ => Ask::Line(caller, line, 0),
         };
         keep(rt, &mut asks, Asked { caller, ask });
     }
@@ -99,9 +72,15 @@ fn asks<'a>(rt: &impl Abort, alloc: Global, calls: &'a [Call]) -> Vec<Asked<'a>>
 
 /// Makes the calls, and stops the test unless they are answered as they should be. Tells whether they were: not where memory was
 /// refused to one of them.
-fn is_answered(rt: &impl Abort, alloc: Global, setup: &Arc<Setup>, calls: &[Call]) -> bool {
-    let Ok((core, answers)) = run_calls(alloc, again!(rt; setup.clone()), asks(rt, alloc, calls))
-    else {
+fn is_answered(
+    rt: &impl Abort,
+    alloc: Global,
+    setup: &Arc<Setup>,
+    steps: &[Step<'_>],
+    lines: &[Prepared],
+) -> bool {
+    let asks = asks(rt, alloc, steps, lines);
+    let Ok((core, answers)) = run_calls(alloc, again!(rt; setup.clone()), asks) else {
         return false;
     };
     let mut told = Vec::new(alloc);
@@ -112,9 +91,6 @@ fn is_answered(rt: &impl Abort, alloc: Global, setup: &Arc<Setup>, calls: &[Call
         holds(rt, core.joins() == 2, "other joins");
         holds(rt, core.totals().users == 1, "other users");
     }
-    drop(told);
-    drop(answers);
-    drop(core);
     is_plain
 }
 
@@ -131,12 +107,12 @@ fn tell_all(rt: &impl Abort, told: &mut Vec<u8>, answers: &[Answer]) -> bool {
 
 fn tell(rt: &impl Abort, told: &mut Vec<u8>, answer: &Answer) {
     match answer {
-        Answer::Joined(_) => append(rt, told, b"joined\n"),
-        Answer::Said(Verdict::Kept) => append(rt, told, b"kept\n"),
-        Answer::Left => append(rt, told, b"left\n"),
-        Answer::Skipped => append(rt, told, b"skipped\n"),
+        Answer::Joined(_) => append(rt, told, b"joined "),
+        Answer::Said(Verdict::Kept) => append(rt, told, b"kept "),
+        Answer::Left => append(rt, told, b"left "),
+        Answer::Skipped => append(rt, told, b"skipped "),
         Answer::Took(bytes, taken) => tell_taken(rt, told, bytes, taken.lines),
-        _ => append(rt, told, b"another\n"),
+        _ => append(rt, told, b"another "),
     }
 }
 

@@ -1,15 +1,10 @@
 mod counter;
 mod worker;
 
-ghost use Rattle.std.specs.Prelude.{◌≡◌, ◌∷◌, []};
-
 use crate::lock::counter::{CountersSeat, add, open_counter};
 use crate::lock::worker::{Worker, both, disband, eight, hire, interrupt, is_one_run, leave, team};
-use crate::refusal::holds;
+use crate::refusal::*;
 use one_history::NotAlone;
-use second_try::again;
-use std::alloc::Global;
-use std::process::Abort;
 use std::test::Fail;
 use std::time::{CpuClock, Duration};
 
@@ -22,15 +17,6 @@ fn processor_time<R: CpuClock + Abort>(rt: &R) -> Duration {
         Ok(time) => time,
         Err(_) => panic!(rt; "no processor time"),
     }
-}
-
-// Puts one element in a new vector.
-fn only<S: Drop>(rt: &impl Abort, alloc: Global, item: S) -> Vec<S>
-    ensures { result.items ≡ item ∷ [] }
-{
-    let mut all = again!(rt; Vec::with_capacity(alloc, 1));
-    all.push_reserved(item);
-    all
 }
 
 #[test]
@@ -52,10 +38,7 @@ fn answers_each_caller_in_turn(rt: HostRuntime) -> Result<(), Fail> {
     holds(&rt, sum == Some(23), "22 and 1");
     host.gather(&lock, first);
     let seats = only(&rt, rt.alloc(), second);
-    let Ok(counter) = lock.close(host, seats) else {
-        panic!(rt; "all seats are back")
-    };
-    holds(&rt, counter.sum == 23, "the sum");
+    assert!(rt; lock.close(host, seats).is_ok_and(|it| it.sum == 23));
     Ok(())
 }
 
@@ -75,10 +58,7 @@ fn hands_all_back_while_a_caller_is_left(rt: HostRuntime) -> Result<(), Fail> {
     holds(&rt, sum == Some(4), "0 and 4");
     let mut host = host;
     host.gather(&lock, first);
-    assert!(rt;
-        lock.close(host, seats)
-            .is_ok_and(|counter| counter.sum == 4)
-    );
+    assert!(rt; lock.close(host, seats).is_ok_and(|it| it.sum == 4));
     Ok(())
 }
 
@@ -87,17 +67,12 @@ fn two_threads_have_one_history(rt: HostRuntime) -> Result<(), Fail> {
     let (lock, mut host) = open_counter(rt.alloc(), 100)?;
     let pair = (hire(&lock, &mut host, 3), hire(&lock, &mut host, 4));
     let (first, second) = both(&rt, &lock, pair);
-    let told = [
-        leave(&lock, &mut host, first),
-        leave(&lock, &mut host, second),
-    ];
+    let first = leave(&lock, &mut host, first);
+    let told = [first, leave(&lock, &mut host, second)];
     holds(&rt, is_one_run(100, &told), "one run");
     let none: Vec<CountersSeat> = Vec::new(rt.alloc());
-    let Ok(counter) = lock.close(host, none) else {
-        panic!(rt; "all seats are back")
-    };
     // 500 times 3 and 4.
-    holds(&rt, counter.sum == 3600, "the sum");
+    assert!(rt; lock.close(host, none).is_ok_and(|it| it.sum == 3600));
     Ok(())
 }
 
@@ -125,11 +100,8 @@ fn eight_threads_have_one_history(rt: HostRuntime) -> Result<(), Fail> {
     let [e, f, g, h] = disband(&lock, &mut host, right);
     holds(&rt, is_one_run(0, &[a, b, c, d, e, f, g, h]), "one run");
     let none: Vec<CountersSeat> = Vec::new(rt.alloc());
-    let Ok(counter) = lock.close(host, none) else {
-        panic!(rt; "all seats are back")
-    };
     // 500 times 1 to 8.
-    holds(&rt, counter.sum == 18_000, "the sum");
+    assert!(rt; lock.close(host, none).is_ok_and(|it| it.sum == 18_000));
     Ok(())
 }
 
@@ -138,9 +110,6 @@ fn closes_over_what_has_a_seat(rt: HostRuntime) -> Result<(), Fail> {
     let (lock, mut host) = open_counter(rt.alloc(), 1)?;
     let worker: Worker = hire(&lock, &mut host, 9);
     let workers = only(&rt, rt.alloc(), worker);
-    assert!(rt;
-        lock.close(host, workers)
-            .is_ok_and(|counter| counter.sum == 1)
-    );
+    assert!(rt; lock.close(host, workers).is_ok_and(|it| it.sum == 1));
     Ok(())
 }

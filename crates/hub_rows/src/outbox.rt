@@ -8,10 +8,7 @@ fn a_full_outbox_gets_no_more(rt: HostRuntime) {
             ana says BMSG AAAB x
             ana and cy hear BMSG AAAB x
         end
-        bob takes 256 BMSG AAAB x
-        bob takes 256 BMSG AAAB x
-        bob takes 256 BMSG AAAB x
-        bob takes last 256 BMSG AAAB x
+        bob takes 256 BMSG AAAB x | 256 BMSG AAAB x | 256 BMSG AAAB x | last 256 BMSG AAAB x
         bob quits
         ana and cy hear IQUI AAAC
     " }
@@ -22,13 +19,9 @@ fn an_outbox_holds_1_024_lines(rt: HostRuntime) {
     talk! { rt, r"
         ana and bob enter
         for 1 to 1024:
-            ana says BMSG AAAB x
-            ana hears BMSG AAAB x
+            ana says BMSG AAAB x -> BMSG AAAB x
         end
-        bob takes 256 BMSG AAAB x
-        bob takes 256 BMSG AAAB x
-        bob takes 256 BMSG AAAB x
-        bob takes 256 BMSG AAAB x
+        bob takes 256 BMSG AAAB x | 256 BMSG AAAB x | 256 BMSG AAAB x | 256 BMSG AAAB x
         bob hears nothing
     " }
 }
@@ -39,8 +32,7 @@ fn an_outbox_holds_15_of_the_longest_lines(rt: HostRuntime) {
         ana enters BINF AAAB ID<P0> PD<P0> NIana
         bob enters BINF AAAC ID<P1> PD<P1> NIbob
         for 1 to 16:
-            ana says BMSG AAAB <65526*x>
-            ana hears BMSG AAAB <65526*x>
+            ana says BMSG AAAB <65526*x> -> BMSG AAAB <65526*x>
         end
         bob takes last 15 BMSG AAAB <65526*x>
     " }
@@ -52,30 +44,21 @@ fn an_outbox_holds_1_048_576_bytes(rt: HostRuntime) {
         ana enters BINF AAAB ID<P0> PD<P0> NIana
         bob enters BINF AAAC ID<P1> PD<P1> NIbob
         for 1 to 1024:
-            ana says BMSG AAAB <1013*x>
-            ana hears BMSG AAAB <1013*x>
+            ana says BMSG AAAB <1013*x> -> BMSG AAAB <1013*x>
         end
-        bob takes 256 BMSG AAAB <1013*x>
-        bob takes 256 BMSG AAAB <1013*x>
-        bob takes 256 BMSG AAAB <1013*x>
-        bob takes 256 BMSG AAAB <1013*x>
+        bob takes 256 BMSG AAAB <1013*x> | 256 BMSG AAAB <1013*x> | 256 BMSG AAAB <1013*x> | 256 BMSG AAAB <1013*x>
     " }
 }
 
 #[test]
 fn a_list_of_users_that_does_not_fit_is_not_given(rt: HostRuntime) {
-    // The seventeenth would be told of 17 times 65,000 bytes, which are more than 1,048,576. It is present nevertheless:
-    // the others hear of it, and hear what it says.
+    // The seventeenth would be told of 17 times 65,000 bytes, more than 1,048,576. It is present all the same, and the others hear it.
     talk! { rt, r"
         for 1 to 16:
-            user joins
-            user says HSUP ADBASE ADTIGR
-            user says BINF A<n> ID<n><36*A> PD<n><36*A> NI<n> DE<64898*x>
-            all take
+            user enters BINF A<n> ID<n><36*A> PD<n><36*A> NI<n> DE<64898*x>
         end
         ana joins
-        ana says HSUP ADBASE ADTIGR
-        ana says BINF AAAR IDAAR<36*A> PDAAR<36*A> NIAAR DE<64898*x>
+        ana says HSUP ADBASE ADTIGR | BINF AAAR IDAAR<36*A> PDAAR<36*A> NIAAR DE<64898*x>
         ana takes last 3
         #1 hears BINF AAAR IDAAR<36*A> NIAAR DE<64898*x>
         ana says BMSG AAAR hello

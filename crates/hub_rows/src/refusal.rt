@@ -1,5 +1,15 @@
-use std::alloc::Global;
-use std::process::Abort;
+ghost use Rattle.std.specs.Prelude.{◌≡◌, ◌∷◌, []};
+
+pub(crate) use hub_core::{
+    Account, Answer, Ask, Asked, Conn, Core, JoinRefused, Options, PlainOptions, Prepared, Setup,
+    SetupRefused, Stage, Totals, Touched, Verdict, prepare, run_calls,
+};
+pub(crate) use second_try::{Machine, again, tell};
+pub(crate) use session_hash::First24;
+pub(crate) use std::alloc::{AllocError, AllocGlobal, Global};
+pub(crate) use std::io::Print;
+pub(crate) use std::process::Abort;
+pub(crate) use std::sync::{Arc, Wait};
 
 /// Puts an item last, at the second try where memory is refused at the first.
 pub(crate) fn keep<T: Drop>(rt: &impl Abort, items: &mut Vec<T>, item: T) {
@@ -39,4 +49,13 @@ pub(crate) fn spell_text(rt: &impl Abort, alloc: Global, text: &str) -> String {
         Ok(text) => text,
         Err(_) => unknown(rt, "text", text),
     }
+}
+
+/// Puts one item in a new vector.
+pub(crate) fn only<S: Drop>(rt: &impl Abort, alloc: Global, item: S) -> Vec<S>
+    ensures { result.items ≡ item ∷ [] }
+{
+    let mut all = again!(rt; Vec::with_capacity(alloc, 1));
+    all.push_reserved(item);
+    all
 }

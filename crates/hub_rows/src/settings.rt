@@ -1,32 +1,28 @@
 use crate::hub::Hub;
-use crate::refusal::{keep, spell_text, unknown};
-use hub_core::{Account, MenuEntry, MenuItem, Options, SetupRefused};
-use std::alloc::Global;
-use std::process::Abort;
+use crate::refusal::*;
+use hub_core::{MenuEntry, MenuItem};
 
 /// Opens the hub that the first lines of a conversation describe, or tells why it is refused.
 pub(crate) fn open(rt: &impl Abort, alloc: Global, text: &str) -> Result<Hub, SetupRefused> {
     let lines = setting_lines(rt, alloc, text);
-    let hub = open_as_told(rt, alloc, &lines);
-    drop(lines);
-    hub
-}
-
-fn open_as_told(rt: &impl Abort, alloc: Global, lines: &[String]) -> Result<Hub, SetupRefused> {
-    let accounts = accounts_of(rt, alloc, lines);
-    let commands = commands_of(rt, alloc, lines);
-    let options = options_of(rt, lines, &accounts, &commands);
-    let hub = Hub::open(rt, alloc, &options);
-    drop(commands);
-    drop(accounts);
-    hub
+    let accounts = accounts_of(rt, alloc, &lines);
+    let commands = commands_of(rt, alloc, &lines);
+    let options = Options {
+        accounts: &accounts,
+        commands: &commands,
+        ..options_of(rt, &lines)
+    };
+    Hub::open(rt, alloc, &options)
 }
 
 fn accounts_of<'a>(rt: &impl Abort, alloc: Global, lines: &'a [String]) -> Vec<Account<'a>> {
     let mut accounts = Vec::new(alloc);
     for line in lines {
         if let Some(told) = line.as_str().strip_prefix("account ") {
-            keep(rt, &mut accounts, account(rt, told));
+            match account(told) {
+                Some(account) => keep(rt, &mut accounts, account),
+                None => unknown(rt, "account", told),
+            }
         }
     }
     accounts
@@ -36,33 +32,25 @@ fn commands_of<'a>(rt: &impl Abort, alloc: Global, lines: &'a [String]) -> Vec<M
     let mut commands = Vec::new(alloc);
     for line in lines {
         if let Some(told) = line.as_str().strip_prefix("menu ") {
-            keep(rt, &mut commands, menu_entry(rt, told));
+            match menu_entry(told) {
+                Some(entry) => keep(rt, &mut commands, entry),
+                None => unknown(rt, "menu entry", told),
+            }
         }
     }
     commands
 }
 
-fn options_of<'a>(
-    rt: &impl Abort,
-    lines: &'a [String],
-    accounts: &'a [Account<'a>],
-    commands: &'a [MenuEntry<'a>],
-) -> Options<'a> {
+/// Reads all options but the lists of accounts and of menu entries.
+fn options_of<'a>(rt: &impl Abort, lines: &'a [String]) -> Options<'a> {
     let mut options = Options::named("Hub");
     for line in lines {
-        let (name, rest) = match line.as_str().split_once(' ') {
-            Some(both) => both,
-            None => (line.as_str(), ""),
-        };
+        let (name, rest) = line.as_str().split_once(' ').unwrap_or((line.as_str(), ""));
         if name != "account" && name != "menu" {
             options = set(rt, options, name, rest);
         }
     }
-    Options {
-        accounts,
-        commands,
-        ..options
-    }
+    options
 }
 
 /// Gives what stands behind `with` in the lines before the first step.
@@ -103,47 +91,31 @@ fn number(rt: &impl Abort, told: &str) -> u32 {
 }
 
 /// Reads `NICK PASSWORD`, and `operator` behind them for one.
-fn account<'a>(rt: &impl Abort, told: &'a str) -> Account<'a> {
-    let Some((nick, rest)) = told.split_once(' ') else {
-        unknown(rt, "account", told)
+fn account<'a>(told: &'a str) -> Option<Account<'a>> {
+    let (nick, rest) = told.split_once(' ')?;
+    let (password, operator) = match rest.strip_suffix(" operator") {
+        Some(password) => (password, true),
+        None => (rest, false),
     };
-    match rest.split_once(' ') {
-        None => Account {
-            nick,
-            password: rest,
-            operator: false,
-        },
-        Some((password, "operator")) => Account {
-            nick,
-            password,
-            operator: true,
-        },
-        Some(_) => unknown(rt, "account", told),
-    }
+    Some(Account {
+        nick,
+        password,
+        operator,
+    })
 }
 
 /// Reads `NAME CONTEXT separator`, or `NAME CONTEXT text TEXT`.
-fn menu_entry<'a>(rt: &impl Abort, told: &'a str) -> MenuEntry<'a> {
-    let Some((name, rest)) = told.split_once(' ') else {
-        unknown(rt, "menu entry", told)
+fn menu_entry<'a>(told: &'a str) -> Option<MenuEntry<'a>> {
+    let (name, rest) = told.split_once(' ')?;
+    let (context, told) = rest.split_once(' ')?;
+    let item = match told.strip_prefix("text ") {
+        Some(text) => MenuItem::Text(text),
+        None if told == "separator" => MenuItem::Separator,
+        None => return None,
     };
-    let Some((context, item)) = rest.split_once(' ') else {
-        unknown(rt, "menu entry", told)
-    };
-    let Ok(context) = context.parse::<u8>() else {
-        unknown(rt, "menu entry", told)
-    };
-    MenuEntry {
+    Some(MenuEntry {
         name,
-        context,
-        item: menu_item(rt, item),
-    }
-}
-
-fn menu_item<'a>(rt: &impl Abort, told: &'a str) -> MenuItem<'a> {
-    match (told, told.strip_prefix("text ")) {
-        ("separator", _) => MenuItem::Separator,
-        (_, Some(text)) => MenuItem::Text(text),
-        _ => unknown(rt, "menu entry", told),
-    }
+        context: context.parse().ok()?,
+        item,
+    })
 }

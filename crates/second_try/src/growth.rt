@@ -1,4 +1,5 @@
 use std::alloc::{AllocError, Global};
+use std::io::Print;
 
 // None of these has a contract, since a test's own proof is dearer the more its calls promise.
 
@@ -27,4 +28,9 @@ pub fn push<T: Drop>(items: &mut Vec<T>, item: T) -> Result<(), AllocError> {
             Err(_) => Err(AllocError),
         },
     }
+}
+
+/// Writes on standard output which call was refused memory, and answers whether the line was taken whole.
+pub fn tell(rt: &impl Print, name: &str) -> bool {
+    println!(rt; "refused: {name}").is_ok()
 }

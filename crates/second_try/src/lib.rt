@@ -4,16 +4,14 @@
 
 mod cast;
 mod growth;
-mod said;
 mod spelling;
 mod steps;
 mod transcript;
 
 pub use cast::{GREETED, GREETS, Machine, login_of};
-pub use growth::{append, copy, push};
-pub use said::tell;
+pub use growth::{append, copy, push, tell};
 pub use spelling::spell;
-pub use steps::{Deed, Step};
+pub use steps::{Deed, Step, steps_of};
 pub use transcript::{Transcript, transcript_of};
 
 /// Makes a call that a test needs beside those that it is about, once more where memory was refused.
@@ -35,17 +33,7 @@ macro_rules! again {
 #[macro_export]
 macro_rules! once {
     ($rt:expr; $name:expr, $memory:pat, $call:expr) => {
-        match $call {
-            Ok(value) => value,
-            Err(refused) => {
-                assert!($rt; second_try::tell($rt, $name), "not written");
-                assert!($rt; matches!(refused, $memory), "{}: not for memory", $name);
-                match $call {
-                    Ok(value) => value,
-                    Err(_) => std::process::Abort::panic(&$rt, "refused twice"),
-                }
-            }
-        }
+        second_try::once!($rt; $name, $memory, true, $call)
     };
     ($rt:expr; $name:expr, $memory:pat, $seen:expr, $call:expr) => {{
         let before = $seen;

@@ -1,4 +1,6 @@
 // A deed has its words here alone: players tell deeds apart, and no words.
+use crate::push;
+use std::alloc::Global;
 
 /// What is done in a step. Where several do it, the first of its words has no s at its end.
 #[derive(Clone, Copy, Debug, PartialEq, Eq)]
@@ -152,6 +154,60 @@ impl<'t> Step<'t> {
     }
 }
 
+/// Reads a conversation, blank lines apart, a step of one after the other; but for whom a call concerned, which is one step. A line may be short
+/// for several: `ana says A | B -> C | only D | E -> last F` for `ana says A`, `ana says B`, `ana hears C`, `ana hears only D`, `ana says E` and
+/// `ana hears last F`. What has no arrow is said before the first, and heard behind it. Gives nothing where a line is no step, or memory is
+/// refused twice.
+pub fn steps_of<'t>(alloc: Global, text: &'t str) -> Option<Vec<Step<'t>>> {
+    let mut steps = Vec::new(alloc);
+    for line in text.lines() {
+        if !line.trim().is_empty() {
+            add_steps(&mut steps, Step::read(line.trim())?)?;
+        }
+    }
+    Some(steps)
+}
+
+fn add_steps<'t>(steps: &mut Vec<Step<'t>>, step: Step<'t>) -> Option<()> {
+    let mut deed = step.deed;
+    for part in step.line.split(" | ") {
+        let line = match part.split_once(" -> ") {
+            Some((line, answer)) => {
+                add_line(steps, Step { line, ..step })?;
+                deed = Deed::Hears;
+                answer
+            }
+            None => part,
+        };
+        add_line(steps, Step { deed, line, ..step })?;
+    }
+    Some(())
+}
+
+fn add_line<'t>(steps: &mut Vec<Step<'t>>, step: Step<'t>) -> Option<()> {
+    let (only, last) = (
+        step.line.strip_prefix("only "),
+        step.line.strip_prefix("last "),
+    );
+    let (deed, line) = match (only, last) {
+        (Some(line), _) => (Deed::HearsOnly, line),
+        (_, Some(line)) if step.deed == Deed::Takes => (Deed::TakesLast, line),
+        (_, Some(line)) => (Deed::HearsLast, line),
+        _ => (step.deed, step.line),
+    };
+    add_names(steps, Step { deed, line, ..step })
+}
+
+fn add_names<'t>(steps: &mut Vec<Step<'t>>, step: Step<'t>) -> Option<()> {
+    if step.deed == Deed::IsConcerned {
+        return push(steps, step).ok();
+    }
+    for who in step.who.split(" and ") {
+        push(steps, Step { who, ..step }).ok()?;
+    }
+    Some(())
+}
+
 /// Gives what stands behind the names.
 fn behind_names(text: &str) -> Option<&str> {
     let (_, mut rest) = text.split_once(' ')?;
@@ -190,39 +246,54 @@ fn deed_of(words: &str) -> Option<Deed> {
 
 #[cfg(test)]
 mod tests {
-    use crate::{Deed, Step};
-    use std::test::Fail;
+    use crate::{Machine, Step, append, steps_of};
+    use std::alloc::Global;
+
+    const SAID_TWICE: &str = "0 a Says:A;0 a Hears:B;0 a Says:C;0 a HearsLast:D;";
+
+    /// Each kind of line, and the steps that it is short for.
+    const LINES: [(&str, &str); 9] = [
+        ("ana enters", "0 ana Enters:;"),
+        ("at 9 bob says BMSG AAAC hi", "9 bob Says:BMSG AAAC hi;"),
+        ("a and b hear only X", "0 a HearsOnly:X;0 b HearsOnly:X;"),
+        ("ana takes last 3\n", "0 ana TakesLast:3;"),
+        ("\n  a digest begins", "0 a DigestBegins:;"),
+        ("a says A | B -> C", "0 a Says:A;0 a Says:B;0 a Hears:C;"),
+        ("a says A -> B | C", "0 a Says:A;0 a Hears:B;0 a Hears:C;"),
+        ("a says A -> B | C -> last D", SAID_TWICE),
+        ("bob and ana are concerned", "0 bob and ana IsConcerned:;"),
+    ];
+
+    fn told(alloc: Global, steps: &[Step<'_>]) -> Option<Vec<u8>> {
+        let mut told = Vec::new(alloc);
+        for step in steps {
+            let (moment, who) = (step.moment, step.who);
+            let (deed, line) = (step.deed, step.line);
+            let step = format!(in alloc; "{moment} {who} {deed:?}:{line};").ok()?;
+            append(&mut told, step.as_bytes()).ok()?;
+        }
+        Some(told)
+    }
+
+    fn is_short_for(rt: &impl Machine, text: &str, wanted: &str) {
+        for _ in 0..2 {
+            if let Some(steps) = steps_of(rt.alloc(), text)
+                && let Some(told) = told(rt.alloc(), &steps)
+            {
+                assert!(rt; told.as_slice() == wanted.as_bytes(), "{text}");
+                return;
+            }
+        }
+        panic!(rt; "{text}: no steps")
+    }
 
     #[test]
-    fn steps_are_read(rt: HostRuntime) -> Result<(), Fail> {
-        for (text, moment, who, deed, line) in [
-            ("ana enters", 0, "ana", Deed::Enters, ""),
-            (
-                "at 9 bob says BMSG AAAC hi",
-                9,
-                "bob",
-                Deed::Says,
-                "BMSG AAAC hi",
-            ),
-            (
-                "ana and bob hear only ISTA 000",
-                0,
-                "ana and bob",
-                Deed::HearsOnly,
-                "ISTA 000",
-            ),
-            ("ana takes last 3", 0, "ana", Deed::TakesLast, "3"),
-            ("a digest begins", 0, "a", Deed::DigestBegins, ""),
-        ] {
-            let step = Step::read(text).ok_or("no step")?;
-            assert!(&rt;
-                step.moment == moment && step.who == who && step.deed == deed && step.line == line,
-                "{text}"
-            );
+    fn steps_are_read(rt: HostRuntime) {
+        for (text, wanted) in LINES {
+            is_short_for(&rt, text, wanted);
         }
         for text in ["ana", "ana dances", "at x ana enters", "ana and bob"] {
             assert!(&rt; Step::read(text).is_none(), "{text}");
         }
-        Ok(())
     }
 }

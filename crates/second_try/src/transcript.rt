@@ -1,4 +1,4 @@
-use crate::{Deed, GREETED, GREETS, Step, append, spell};
+use crate::{Deed, GREETED, GREETS, Step, append, spell, steps_of};
 use std::alloc::Global;
 
 /// The bytes that one says in a conversation, and those that it hears.
@@ -15,13 +15,9 @@ pub fn transcript_of(alloc: Global, text: &str, who: &str) -> Option<Transcript>
         said: Vec::new(alloc),
         heard: Vec::new(alloc),
     };
-    for line in text.lines() {
-        let line = line.trim();
-        if !line.is_empty() {
-            let step = Step::read(line)?;
-            if step.who.split(" and ").any(|name| name == who) {
-                all.add(alloc, step)?;
-            }
+    for step in &steps_of(alloc, text)? {
+        if step.who == who {
+            all.add(alloc, *step)?;
         }
     }
     Some(all)

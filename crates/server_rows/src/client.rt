@@ -11,10 +11,13 @@ const PATIENCE: u64 = 30;
 /// The number of times that a client reads at most.
 const READS: u32 = 30_000;
 
-/// The number of letters of a long line, which is sent in pieces of `PIECE` letters.
-const LONG: usize = 57_344;
-
+/// The number of letters of a piece of a long line, of which it has `PIECES`.
 const PIECE: usize = 4_096;
+
+const PIECES: usize = 14;
+
+/// The number of letters of a long line: its pieces, and what is whispered.
+const LONG: usize = PIECES * PIECE + WHISPER;
 
 /// The number of long lines that are said to one who does not read: more than the system keeps for it.
 const MANY: usize = 300;
@@ -98,46 +101,44 @@ impl<S: Read + Write + OpenStream + Drop> Client<S> {
 
     fn chats_long(&mut self, header: &[u8]) -> Option<()> {
         for _line in 0..MANY {
-            self.says_long(header)?;
-            self.hears_long(header)?;
+            self.says_letters(header, PIECES)?;
+            self.hears_letters(header, PIECES)?;
         }
         Some(())
     }
 
-    fn says_long(&mut self, header: &[u8]) -> Option<()> {
+    /// Says a line that begins so, with so many pieces and a whisper behind it.
+    fn says_letters(&mut self, header: &[u8], pieces: usize) -> Option<()> {
         self.stream.write_all(header).ok()?;
         self.stream.write_all(b" ").ok()?;
-        for _piece in 0..LONG / PIECE {
+        for _piece in 0..pieces {
             self.stream.write_all(&[b'x'; PIECE]).ok()?;
         }
+        self.stream.write_all(&[b'x'; WHISPER]).ok()?;
         self.stream.write_all(b"\n").ok()
     }
 
-    fn hears_long(&mut self, header: &[u8]) -> Option<()> {
+    /// Reads such a line.
+    fn hears_letters(&mut self, header: &[u8], pieces: usize) -> Option<()> {
         self.reads(header)?;
         self.reads(b" ")?;
-        for _piece in 0..LONG / PIECE {
+        for _piece in 0..pieces {
             self.reads(&[b'x'; PIECE])?;
         }
+        self.reads(&[b'x'; WHISPER])?;
         self.reads(b"\n")
     }
 
     fn whispers(&mut self, header: &[u8]) -> Option<()> {
         for _line in 0..WHISPERS {
-            self.stream.write_all(header).ok()?;
-            self.stream.write_all(b" ").ok()?;
-            self.stream.write_all(&[b'x'; WHISPER]).ok()?;
-            self.stream.write_all(b"\n").ok()?;
+            self.says_letters(header, 0)?;
         }
         Some(())
     }
 
     fn hears_whispers(&mut self, header: &[u8]) -> Option<()> {
         for _line in 0..WHISPERS {
-            self.reads(header)?;
-            self.reads(b" ")?;
-            self.reads(&[b'x'; WHISPER])?;
-            self.reads(b"\n")?;
+            self.hears_letters(header, 0)?;
         }
         Some(())
     }

@@ -9,36 +9,19 @@ use std::time::{Clock, Duration};
 /// The number of milliseconds that pass where a second passes.
 const SECOND: u64 = 1_050;
 
-/// The clients that are connected.
-#[derive(Drop)]
-struct Clients<S> {
-    ana: Option<Client<S>>,
-    bob: Option<Client<S>>,
-}
-
 /// Plays a conversation. Nothing where a client does not hear what it should.
 pub fn plays<R: Clock + Net>(
     rt: &R,
     address: SocketAddr,
     gate: &GateHash,
-    text: &str,
+    steps: &[Step<'_>],
 ) -> Option<()> {
-    let mut clients = Clients {
-        ana: None,
-        bob: None,
-    };
-    for line in text.lines() {
-        let line = line.trim();
-        if line.is_empty() {
-            continue;
-        }
-        let step = Step::read(line)?;
-        for who in step.who.split(" and ") {
-            match who {
-                "ana" => goes_on(rt, address, &mut clients.ana, step)?,
-                "bob" => goes_on(rt, address, &mut clients.bob, step)?,
-                _ => happens(rt, gate, step.deed)?,
-            }
+    let (mut ana, mut bob) = (None, None);
+    for step in steps {
+        match step.who {
+            "ana" => goes_on(rt, address, &mut ana, *step)?,
+            "bob" => goes_on(rt, address, &mut bob, *step)?,
+            _ => happens(rt, gate, step.deed)?,
         }
     }
     Some(())

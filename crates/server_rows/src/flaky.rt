@@ -1,8 +1,6 @@
 // A listener that accepts nobody at first, as where connections are gone and descriptors are wanting.
-use futures::task::{Context, Poll};
+use crate::machine::*;
 use hub_listener::{Bind, Listens};
-use std::io;
-use std::net::{Net, SocketAddr, SocketAddrV4};
 use tokio::net::{TcpListener, TcpStream};
 use tokio::reactor::Handle;
 

@@ -21,7 +21,7 @@ impl SessionHash for GateHash {
 
     fn digest(&self, bytes: &[u8]) -> [u8; 24] {
         self.has_begun.store(true, Ordering::SeqCst);
-        if !self.waits() {
+        if !becomes_true(&self.may_end) {
             self.gave_up.store(true, Ordering::SeqCst);
         }
         First24.digest(bytes)
@@ -46,10 +46,6 @@ impl GateHash {
     /// Answers whether a digest waited to its limit.
     pub fn gave_up(&self) -> bool {
         self.gave_up.load(Ordering::SeqCst)
-    }
-
-    fn waits(&self) -> bool {
-        becomes_true(&self.may_end)
     }
 
     /// Waits until a digest has begun.

@@ -8,13 +8,9 @@ mod record;
 use crate::conversation::spelled;
 use crate::histories::play::{Way, plays};
 use crate::histories::record::write_history;
-use crate::machine::ServerMachine;
+use crate::machine::*;
 use history_check::{Entry, Judgement, Reply, check_history, read_history};
 use hub_core::{Account, Options, PlainOptions, Setup};
-use second_try::{Machine, again};
-use session_hash::First24;
-use std::alloc::{AllocError, Global};
-use std::sync::Arc;
 
 /// The number of times that the clients talk on threads of their own.
 const ROUNDS: u32 = 4;
@@ -25,12 +21,10 @@ const TALK_PLACES: u32 = 3;
 /// The number of connections that the hub of a crowd admits.
 const CROWD_PLACES: u32 = 4;
 
-/// An operator and a user enter and talk, and the user is kicked; a third cannot agree on a hash, and for a fourth there is no
-/// room.
+/// An operator and a user enter and talk, and the user is kicked; a third cannot agree on a hash, and for a fourth there is no room.
 const TALK: &str = "\
 op joins 127.0.0.1
-op says HSUP ADBASE ADTIGR
-op says BINF AAAB ID<P0> PD<P0> NIop
+op says HSUP ADBASE ADTIGR | BINF AAAB ID<P0> PD<P0> NIop
 at 1 op says HPAS <secret>
 at 5 bob joins 10.0.0.2
 at 5 bob says HSUP ADBASE ADTIGR
@@ -123,27 +117,19 @@ fn history<R: ServerMachine>(rt: &R, setup: &Arc<Setup>, text: &str, way: Way) -
 }
 
 fn judge<R: Machine>(rt: &R, setup: &Arc<Setup>, history: &[Entry]) -> Judgement {
-    again!(rt; try_judge(rt.alloc(), setup, history))
-}
-
-fn try_judge(
-    alloc: Global,
-    setup: &Arc<Setup>,
-    history: &[Entry],
-) -> Result<Judgement, AllocError> {
-    check_history(alloc, setup.clone()?, &First24, history)
+    again!(rt; check_history(rt.alloc(), again!(rt; setup.clone()), &First24, history))
 }
 
 /// Counts those who joined, and those who left.
 fn visits(history: &[Entry]) -> (usize, usize) {
-    let joined = history
-        .iter()
-        .filter(|entry| matches!(entry.reply, Reply::Joined(_)))
-        .count();
-    let left = history
-        .iter()
-        .filter(|entry| matches!(entry.reply, Reply::Left))
-        .count();
+    let (mut joined, mut left) = (0usize, 0usize);
+    for entry in history {
+        match entry.reply {
+            Reply::Joined(_) => joined = joined.wrapping_add(1),
+            Reply::Left => left = left.wrapping_add(1),
+            _ => {}
+        }
+    }
     (joined, left)
 }
 
@@ -156,71 +142,30 @@ fn is_legal<R: Machine>(rt: &R, setup: &Arc<Setup>, history: &[Entry], places: u
     }
 }
 
-/// Finds the first such words.
-fn find(text: &[u8], words: &[u8]) -> Option<usize> {
-    (0..text.len()).find(|start| {
-        text.get(*start..)
-            .is_some_and(|rest| rest.starts_with(words))
-    })
-}
-
-/// Finds the end of the line that begins or goes on here, behind its line feed.
-fn end_of_line(text: &[u8], start: usize) -> usize {
-    match text.get(start..).and_then(|rest| find(rest, b"\n")) {
-        Some(length) => start.wrapping_add(length).wrapping_add(1),
-        None => text.len(),
-    }
-}
-
-/// Gives these parts as one.
-fn concatenate(alloc: Global, parts: &[&[u8]]) -> Result<Vec<u8>, AllocError> {
-    let mut all = Vec::new(alloc);
-    for part in parts {
-        all.extend_from_slice(part)?;
-    }
-    Ok(all)
-}
-
-/// Stops the test unless a history as text is legal before its line of this number, from 0 on, and not there.
-fn is_found<R: Machine>(rt: &R, setup: &Arc<Setup>, text: &[u8], number: usize) {
-    let written = again!(rt; read_history(rt.alloc(), text));
+/// Stops the test unless a history as text, which begins like this, is legal up to the line behind that, and not there.
+fn is_found<R: Machine>(rt: &R, setup: &Arc<Setup>, text: &str, begin: &str) {
+    let written = again!(rt; read_history(rt.alloc(), text.as_bytes()));
+    let number = begin.bytes().filter(|byte| *byte == b'\n').count();
     match judge(rt, setup, &written.entries) {
         Judgement::Fault(place, _) => assert!(rt; place == number, "{place}, not {number}"),
         Judgement::Legal => panic!(rt; "{number} is legal"),
     }
 }
 
-/// Gives the part of a text from one place to another.
-fn part(text: &[u8], start: usize, end: usize) -> &[u8] {
-    text.get(start..end).unwrap_or(b"")
-}
-
-fn lines_of(text: &[u8]) -> usize {
-    text.iter().filter(|byte| **byte == b'\n').count()
-}
-
 /// Stops the test unless the line is named in which the first such words of a history are others.
-fn change_is_found<R: Machine>(rt: &R, setup: &Arc<Setup>, text: &[u8], old: &str, new: &str) {
-    let start = find(text, old.as_bytes()).expect(rt, old);
-    let before = part(text, 0, start);
-    let behind = part(text, start.wrapping_add(old.len()), text.len());
-    let changed = again!(rt; concatenate(rt.alloc(), &[before, new.as_bytes(), behind]));
-    is_found(rt, setup, &changed, lines_of(before));
+fn change_is_found<R: Machine>(rt: &R, setup: &Arc<Setup>, text: &str, old: &str, new: &str) {
+    let (begin, behind) = text.split_once(old).expect(rt, old);
+    let changed = again!(rt; format!(in rt.alloc(); "{begin}{new}{behind}"));
+    is_found(rt, setup, &changed, begin);
 }
 
-/// Stops the test unless the line is named that begins like this and changed places with the next.
-fn swap_is_found<R: Machine>(rt: &R, setup: &Arc<Setup>, text: &[u8], begin: &str) {
-    let start = find(text, begin.as_bytes()).expect(rt, begin);
-    let middle = end_of_line(text, start);
-    let end = end_of_line(text, middle);
-    let parts = [
-        part(text, 0, start),
-        part(text, middle, end),
-        part(text, start, middle),
-        part(text, end, text.len()),
-    ];
-    let changed = again!(rt; concatenate(rt.alloc(), &parts));
-    is_found(rt, setup, &changed, lines_of(parts[0]));
+/// Stops the test unless the line is named that has these words at first and changed places with the next.
+fn swap_is_found<R: Machine>(rt: &R, setup: &Arc<Setup>, text: &str, words: &str) {
+    let (begin, behind) = text.split_once(words).expect(rt, words);
+    let (line, behind) = behind.split_once('\n').expect(rt, "a line");
+    let (next, behind) = behind.split_once('\n').expect(rt, "the next");
+    let changed = again!(rt; format!(in rt.alloc(); "{begin}{next}\n{words}{line}\n{behind}"));
+    is_found(rt, setup, &changed, begin);
 }
 
 #[test]
@@ -243,21 +188,14 @@ fn a_history_of_four_threads_is_legal(rt: HostRuntime) {
 }
 
 #[test]
-fn a_history_is_read_as_it_was_written(rt: HostRuntime) {
+fn a_history_is_read_and_a_change_is_found(rt: HostRuntime) {
     let setup = again!(&rt; setup_for(rt.alloc(), TALK_PLACES));
     let talk = history(&rt, &setup, TALK, Way::Alone);
     let text = again!(&rt; write_history(rt.alloc(), &talk));
     let written = again!(&rt; read_history(rt.alloc(), &text));
     // What stands in the text is all that an entry has.
-    let again = again!(&rt; write_history(rt.alloc(), &written.entries));
-    assert!(&rt; again == text);
-}
-
-#[test]
-fn a_change_of_a_history_is_found_there(rt: HostRuntime) {
-    let setup = again!(&rt; setup_for(rt.alloc(), TALK_PLACES));
-    let talk = history(&rt, &setup, TALK, Way::Alone);
-    let text = again!(&rt; write_history(rt.alloc(), &talk));
+    assert!(&rt; again!(&rt; write_history(rt.alloc(), &written.entries)) == text);
+    let text = String::from_utf8(text).expect(&rt, "UTF-8");
     for (old, new) in CHANGES {
         change_is_found(&rt, &setup, &text, old, new);
     }

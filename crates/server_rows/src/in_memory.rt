@@ -1,17 +1,14 @@
 // The whole server over memory, with four threads: what each of its connections was written, byte for byte.
-mod desk;
-mod wire;
+pub(crate) mod desk;
+pub(crate) mod wire;
 
 use crate::in_memory::desk::{Desk, Gone};
 use crate::in_memory::wire::{Client, Cue, Lobby};
-use crate::machine::ServerMachine;
+use crate::machine::*;
 use crate::run::settings;
 use crate::warnings::shape;
 use hub_server::serve_at;
-use second_try::{Transcript, again, transcript_of};
-use session_hash::First24;
-use std::alloc::AllocError;
-use std::sync::Arc;
+use second_try::{Transcript, transcript_of};
 
 const SETTINGS: &str = "hash = \"first24\"\nthreads = 4\nstop_after = 6\nmax_users = 8\n";
 
@@ -35,16 +32,14 @@ ana is greeted AAAB
 ana says BINF AAAB ID<P0> PD<P0> NIana I40.0.0.0
 bob is greeted AAAC
 bob says BINF AAAC ID<P1> PD<P1> NIbob I40.0.0.0
-ana and bob hear BINF AAAB ID<P0> NIana I4127.0.0.2
-ana and bob hear BINF AAAC ID<P1> NIbob I4127.0.0.3
+ana and bob hear BINF AAAB ID<P0> NIana I4127.0.0.2 | BINF AAAC ID<P1> NIbob I4127.0.0.3
 ana says BMSG AAAB hi
 ana and bob hear BMSG AAAB hi
 bob says BMSG AAAC hello
 ana and bob hear BMSG AAAC hello
 bob hears IQUI AAAB
 eve is greeted AAAD
-dan says HSUP ADBASE
-dan hears ISTA 247 No\scommon\shash
+dan says HSUP ADBASE -> ISTA 247 No\scommon\shash
 gil is greeted AAAG
 ";
 
@@ -120,21 +115,16 @@ fn serve<R: ServerMachine>(rt: &R, talk: &[Transcript]) -> Result<Served, AllocE
             enters,
         })?;
     }
-    let settings = settings(rt.alloc(), SETTINGS)?;
-    let hash = Arc::new(rt.alloc(), First24)?;
+    let (settings, hash) = (
+        settings(rt.alloc(), SETTINGS)?,
+        Arc::new(rt.alloc(), First24)?,
+    );
     let mut output = Vec::with_capacity(rt.alloc(), 1_024)?;
     let mut errors = Vec::with_capacity(rt.alloc(), 1_024)?;
     let desk = Desk::new(rt.alloc(), clients.len())?;
     let lobby = Lobby::new(rt, rt.alloc(), &desk, &clients);
-    let status = serve_at(
-        rt,
-        &settings,
-        hash,
-        [0; 32],
-        lobby,
-        &mut output,
-        &mut errors,
-    );
+    let said = &mut errors;
+    let status = serve_at(rt, &settings, hash, [0; 32], lobby, &mut output, said);
     Ok(Served {
         status,
         output,

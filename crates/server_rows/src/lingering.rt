@@ -1,17 +1,8 @@
 // Sockets that linger: for how long, which one is cut off where too many do, and that the ticker waits for them.
 use crate::histories::clock::StillClock;
-use crate::machine::ServerMachine;
+use crate::machine::*;
 use connection_slots::{Lingering, Shared, Ticker};
-use futures::task::{Context, Poll};
-use futures::test::MockTask;
-use second_try::again;
-use std::alloc::{AllocError, AllocGlobal};
-use std::io;
-use std::random::RandomSource;
-use std::sync::Wait;
 use std::sync::atomic::{AtomicU64, Ordering};
-use std::time::Duration;
-use tokio::io::{AsyncRead, AsyncWrite};
 use tokio::runtime::Runtime;
 use tokio::time::Sleep;
 
@@ -66,6 +57,16 @@ impl AsyncWrite for Silent<'_> {
     }
 }
 
+/// Lets a socket of this number begin to linger.
+fn let_out<'a, R: Wait>(
+    lingering: &Lingering<Silent<'a>>,
+    clock: &StillClock<R>,
+    number: u64,
+    closed: &'a AtomicU64,
+) {
+    lingering.let_out(clock, Silent { number, closed });
+}
+
 /// Answers whether a socket still lingers so many seconds after its session.
 fn lingers_after<R: Wait + RandomSource + AllocGlobal>(
     rt: &R,
@@ -75,11 +76,7 @@ fn lingers_after<R: Wait + RandomSource + AllocGlobal>(
     let closed = AtomicU64::new(0);
     let task = MockTask::new(rt).map_err(|_| AllocError)?;
     let lingering = Lingering::new(rt.alloc())?;
-    let socket = Silent {
-        number: 1,
-        closed: &closed,
-    };
-    lingering.let_out(&clock, socket);
+    let_out(&lingering, &clock, 1, &closed);
     clock.set(seconds);
     Ok(task.enter(|cx| lingering.linger(&clock, cx)))
 }
@@ -99,11 +96,7 @@ fn closed_of<R: Wait + AllocGlobal>(rt: &R, count: u64) -> Result<u64, AllocErro
     let lingering = Lingering::new(rt.alloc())?;
     for before in 0..count {
         clock.set(before);
-        let socket = Silent {
-            number: before.wrapping_add(1),
-            closed: &closed,
-        };
-        lingering.let_out(&clock, socket);
+        let_out(&lingering, &clock, before.wrapping_add(1), &closed);
     }
     Ok(closed.load(Ordering::SeqCst))
 }
@@ -125,11 +118,7 @@ fn is_over_after<R: ServerMachine>(rt: &R, seconds: u64) -> Result<bool, AllocEr
     let timer = time.sleep(rt, Duration::ZERO).map_err(|_| AllocError)?;
     let task = MockTask::new(rt).map_err(|_| AllocError)?;
     let shared: Shared<(), Silent<'_>> = Shared::new(rt.alloc(), 0)?;
-    let socket = Silent {
-        number: 1,
-        closed: &closed,
-    };
-    shared.lingering.let_out(&clock, socket);
+    let_out(&shared.lingering, &clock, 1, &closed);
     shared.close(&clock, None);
     clock.set(seconds);
     Ok(is_over(&shared, &clock, timer, &task))
@@ -143,10 +132,7 @@ fn is_over<'a, 's, R: Wait>(
     task: &MockTask,
 ) -> bool {
     let mut ticker = Ticker::new(shared, clock, timer);
-    match task.enter(|cx| ticker.poll_over(cx)) {
-        Poll::Ready(()) => true,
-        Poll::Pending => false,
-    }
+    task.enter(|cx| ticker.poll_over(cx)).is_ready()
 }
 
 #[test]

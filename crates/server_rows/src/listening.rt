@@ -1,15 +1,11 @@
 // Servers that cannot be had, or not for long.
-
-use crate::machine::ServerMachine;
+use crate::machine::*;
 use crate::program::asking::Output;
 use crate::run::settings;
 use hub_listener::Bind;
 use hub_server::serve_at;
-use session_hash::First24;
-use std::io;
-use std::net::{Ipv4Addr, Net, SocketAddr, SocketAddrV4, TcpListener, TcpStream};
+use std::net::{TcpListener, TcpStream};
 use std::os::fd::OwnedFd;
-use std::sync::Arc;
 use tokio::reactor::Handle;
 
 /// A socket that is connected already, so that it accepts nobody.
@@ -39,45 +35,26 @@ enum Trouble {
     Connected,
 }
 
-/// The end of a server, and what it said.
-#[derive(Drop)]
-struct Ended {
-    status: u8,
-    output: Vec<u8>,
-    errors: Vec<u8>,
-}
-
-/// Runs a server at this address.
+/// Runs a server at this address, and gives its status, its output and what it said on standard error.
 fn at<R: ServerMachine + Net<Stream = TcpStream, Listener = TcpListener>, A: Bind>(
     rt: &R,
     address: A,
     is_broken: bool,
-) -> io::Result<Ended> {
+) -> io::Result<(u8, Vec<u8>, Vec<u8>)> {
     let settings = settings(rt.alloc(), "hash = \"first24\"\nmax_users = 4\n")?;
     let hash = Arc::new(rt.alloc(), First24)?;
     let mut output = Output::new(rt.alloc(), is_broken)?;
     let mut errors = Vec::with_capacity(rt.alloc(), 64)?;
-    let status = serve_at(
-        rt,
-        &settings,
-        hash,
-        [0; 32],
-        address,
-        &mut output,
-        &mut errors,
-    );
-    Ok(Ended {
-        status,
-        output: output.got,
-        errors,
-    })
+    let said = &mut errors;
+    let status = serve_at(rt, &settings, hash, [0; 32], address, &mut output, said);
+    Ok((status, output.got, errors))
 }
 
 /// Runs a server in this trouble.
 fn in_trouble<R: ServerMachine + Net<Stream = TcpStream, Listener = TcpListener>>(
     rt: &R,
     trouble: Trouble,
-) -> io::Result<Ended> {
+) -> io::Result<(u8, Vec<u8>, Vec<u8>)> {
     let here = TcpListener::bind(rt, "127.0.0.1:0")?;
     let local = here.local_addr()?;
     let any = SocketAddrV4::new(Ipv4Addr::LOCALHOST, 0);
@@ -89,11 +66,8 @@ fn in_trouble<R: ServerMachine + Net<Stream = TcpStream, Listener = TcpListener>
         (Trouble::Mute, _) => at(rt, any, true),
         (Trouble::Connected, local) => {
             let stream = TcpStream::connect(rt, local)?;
-            at(
-                rt,
-                Connected(TcpListener::from(OwnedFd::from(stream))),
-                false,
-            )
+            let connected = TcpListener::from(OwnedFd::from(stream));
+            at(rt, Connected(connected), false)
         }
     }
 }
@@ -107,14 +81,12 @@ fn ends<R: ServerMachine + Net<Stream = TcpStream, Listener = TcpListener>>(
     errors: &[u8],
 ) {
     for _ in 0..2 {
-        if let Ok(ended) = in_trouble(rt, trouble)
-            && ended.status != 4
+        if let Ok((ended, got, said)) = in_trouble(rt, trouble)
+            && ended != 4
         {
-            assert!(rt; ended.status == status, "{}", ended.status);
-            assert!(rt;
-                ended.output.starts_with(output) && output.is_empty() == ended.output.is_empty()
-            );
-            assert!(rt; ended.errors.as_slice() == errors);
+            assert!(rt; ended == status, "{ended}");
+            assert!(rt; got.starts_with(output) && output.is_empty() == got.is_empty());
+            assert!(rt; said.as_slice() == errors);
             return;
         }
     }
@@ -125,20 +97,11 @@ fn ends<R: ServerMachine + Net<Stream = TcpStream, Listener = TcpListener>>(
 fn an_address_that_cannot_be_had(rt: HostRuntime) {
     ends(&rt, Trouble::NotHere, 3, b"", b"adc_hub: address\n");
     ends(&rt, Trouble::InUse, 3, b"", b"adc_hub: address\n");
-}
-
-#[test]
-fn an_output_that_fails(rt: HostRuntime) {
     ends(&rt, Trouble::Mute, 5, b"", b"adc_hub: input or output\n");
 }
 
 #[test]
 fn a_listener_that_fails_is_given_up(rt: HostRuntime) {
-    ends(
-        &rt,
-        Trouble::Connected,
-        3,
-        b"listening 127.0.0.1:",
-        b"adc_hub: address\n",
-    );
+    let (output, errors) = (b"listening 127.0.0.1:", b"adc_hub: address\n");
+    ends(&rt, Trouble::Connected, 3, output, errors);
 }

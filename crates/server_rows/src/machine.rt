@@ -1,12 +1,19 @@
-// The machines that tests of a server need.
-use second_try::Machine;
+// The machines that tests of a server need, and what most of them use.
+pub(crate) use futures::task::{Context, Poll};
+pub(crate) use futures::test::MockTask;
+pub(crate) use second_try::{Machine, again};
+pub(crate) use session_hash::First24;
+pub(crate) use std::alloc::{AllocError, AllocGlobal, Global};
 use std::env::Env;
 use std::fs::Files;
-use std::net::Net;
-use std::random::RandomSource;
-use std::sync::Wait;
+pub(crate) use std::io;
+pub(crate) use std::net::{Ipv4Addr, Net, SocketAddr, SocketAddrV4};
+pub(crate) use std::process::Abort;
+pub(crate) use std::random::RandomSource;
+pub(crate) use std::sync::{Arc, Wait};
 use std::thread::Threads;
-use std::time::Clock;
+pub(crate) use std::time::{Clock, Duration};
+pub(crate) use tokio::io::{AsyncRead, AsyncWrite};
 
 /// The machine of a server. One whose sockets are known says so beside it, since a supertrait that names types is more than a test can be proved
 /// to meet.

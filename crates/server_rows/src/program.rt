@@ -8,31 +8,25 @@ const GREETING: &[u8] =
 
 const USAGE: &[u8] = b"adc_hub: usage: adc_hub stdin | adc_hub serve SETTINGS\n";
 
+const FAILED: &[u8] = b"adc_hub: input or output\n";
+
 #[test]
 fn says_how_it_ended(rt: HostRuntime) {
-    let rows: [(&[&str], u8, &[u8], &[u8]); 7] = [
-        (&["stdin"], 0, GREETING, b""),
-        (&[], 1, b"", USAGE),
-        (&["STDIN"], 1, b"", USAGE),
-        (&["stdin", "stdin"], 1, b"", USAGE),
-        (&[""], 1, b"", USAGE),
-        (&["serve"], 1, b"", USAGE),
-        (&["serve", "hub.toml", "hub.toml"], 1, b"", USAGE),
+    let hub = "hub.toml";
+    let rows: [(&[&str], Broken, u8, &[u8], &[u8]); 11] = [
+        (&["stdin"], Broken::Nothing, 0, GREETING, b""),
+        (&[], Broken::Nothing, 1, b"", USAGE),
+        (&["STDIN"], Broken::Nothing, 1, b"", USAGE),
+        (&["stdin", "stdin"], Broken::Nothing, 1, b"", USAGE),
+        (&[""], Broken::Nothing, 1, b"", USAGE),
+        (&["serve"], Broken::Nothing, 1, b"", USAGE),
+        (&["serve", hub, hub], Broken::Nothing, 1, b"", USAGE),
+        (&["stdin"], Broken::Input, 5, b"", FAILED),
+        (&["stdin"], Broken::Output, 5, b"", FAILED),
+        (&["serve"], Broken::Errors, 1, b"", b""),
+        (&["stdin"], Broken::Errors, 0, GREETING, b""),
     ];
-    for (words, status, output, errors) in rows {
-        asks(&rt, words, Broken::Nothing, status, output, errors);
+    for (words, broken, status, output, errors) in rows {
+        asks(&rt, words, broken, status, output, errors);
     }
-}
-
-#[test]
-fn says_that_input_or_output_failed(rt: HostRuntime) {
-    let said = b"adc_hub: input or output\n";
-    asks(&rt, &["stdin"], Broken::Input, 5, b"", said);
-    asks(&rt, &["stdin"], Broken::Output, 5, b"", said);
-}
-
-#[test]
-fn ends_alike_where_nobody_hears_why(rt: HostRuntime) {
-    asks(&rt, &["serve"], Broken::Errors, 1, b"", b"");
-    asks(&rt, &["stdin"], Broken::Errors, 0, GREETING, b"");
 }

@@ -1,16 +1,11 @@
 // Tests of what a listener does where no connection can be accepted.
-use crate::machine::ServerMachine;
+use crate::machine::*;
 use adc_sessions::Incoming;
 use connection_slots::Wakers;
-use futures::task::{Context, Poll};
-use futures::test::MockTask;
 use hub_listener::{Listener, Listens};
 use hub_warnings::Warnings;
 use log::sink::Discard;
 use log::{Level, Logged};
-use std::io;
-use std::net::{Ipv4Addr, SocketAddr, SocketAddrV4};
-use std::time::Duration;
 use tokio::net::TcpStream;
 use tokio::runtime::Runtime;
 
@@ -66,34 +61,20 @@ fn try_listener<R: ServerMachine>(rt: &R, number: i32) -> Option<Did> {
     Some(Did::Rested)
 }
 
-/// Stops the test unless a listener does this whose socket fails with that number.
-fn does<R: ServerMachine>(rt: &R, number: i32, did: Did) {
-    for _ in 0..2 {
-        if let Some(done) = try_listener(rt, number) {
-            assert!(rt; done == did, "{number}");
-            return;
+#[test]
+fn a_listener_rests_goes_on_or_fails(rt: HostRuntime) {
+    let gone = [4, 11, 64, 71, 92, 95, 100, 101, 103, 107, 112, 113];
+    let rows: [(Did, &[i32]); 3] = [
+        // Until a socket is closed.
+        (Did::Rested, &[12, 23, 24, 28, 105]),
+        // A connection that is gone is no fault.
+        (Did::Yielded, &gone),
+        (Did::Failed, &[9, 22]),
+    ];
+    for (wanted, numbers) in rows {
+        for number in numbers {
+            let did = again!(&rt; try_listener(&rt, *number).ok_or(AllocError));
+            assert!(&rt; did == wanted, "{number}");
         }
-    }
-    panic!(rt; "refused twice")
-}
-
-#[test]
-fn a_listener_rests_until_a_socket_is_closed(rt: HostRuntime) {
-    for number in [12, 23, 24, 28, 105] {
-        does(&rt, number, Did::Rested);
-    }
-}
-
-#[test]
-fn a_connection_that_is_gone_is_no_fault(rt: HostRuntime) {
-    for number in [4, 11, 64, 71, 92, 95, 100, 101, 103, 107, 112, 113] {
-        does(&rt, number, Did::Yielded);
-    }
-}
-
-#[test]
-fn a_listener_at_fault_fails(rt: HostRuntime) {
-    for number in [9, 22] {
-        does(&rt, number, Did::Failed);
     }
 }

@@ -2,16 +2,16 @@
 use crate::conversation::plays;
 use crate::flaky::Flaky;
 use crate::gate::GateHash;
-use crate::machine::ServerMachine;
+use crate::machine::*;
 use futures::spin::lock;
 use hub_server::{serve_at, serve_for_journal, serve_on};
 use hub_settings::{Settings, read_settings};
-use std::alloc::{AllocError, Global};
+use second_try::Step;
 use std::io::{self, Write};
-use std::net::{Net, SocketAddr, SocketAddrV4, TcpListener, TcpStream};
-use std::sync::{Arc, Mutex};
+use std::net::{TcpListener, TcpStream};
+use std::sync::Mutex;
+use std::sync::atomic::{AtomicBool, Ordering};
 use std::thread::join;
-use std::time::{Clock, Duration};
 
 /// The number of times that a thread looks for what another does, a millisecond or more apart.
 const LOOKS: u32 = 30_000;
@@ -19,8 +19,7 @@ const LOOKS: u32 = 30_000;
 /// The number of times that the clients look whether the server ends with them, before they come and go.
 const LAST_LOOKS: u32 = 10_000;
 
-/// The number of times that the server looks whether its clients have a thread. Where they have none, it is in vain: they
-/// would come after it.
+/// The number of times that the server looks whether its clients have a thread. Where they have none, it is in vain: they would come after it.
 const FIRST_LOOKS: u32 = 500;
 
 /// The seed of the challenges of each server.
@@ -31,9 +30,9 @@ const SEED: [u8; 32] = [1; 32];
 struct Heard {
     bytes: Mutex<Vec<u8>>,
     // The server has ended.
-    over: Mutex<bool>,
+    over: AtomicBool,
     // The clients have a thread.
-    begun: Mutex<bool>,
+    begun: AtomicBool,
 }
 
 /// The server's output, which all may read.
@@ -47,8 +46,8 @@ impl Heard {
     fn new(alloc: Global) -> Result<Heard, AllocError> {
         Ok(Heard {
             bytes: Mutex::new(Vec::with_capacity(alloc, 1024)?),
-            over: Mutex::new(false),
-            begun: Mutex::new(false),
+            over: AtomicBool::new(false),
+            begun: AtomicBool::new(false),
         })
     }
 
@@ -61,23 +60,13 @@ impl Heard {
         Some(SocketAddr::V4(address))
     }
 
-    fn is_over(&self) -> bool {
-        lock(&self.over).is_none_or(|over| *over)
-    }
-
-    fn end(&self) {
-        if let Some(mut over) = lock(&self.over) {
-            *over = true;
-        }
-    }
-
     /// Waits for the address.
     fn waits_for_address<R: Clock>(&self, rt: &R) -> Option<SocketAddr> {
         for _look in 0..LOOKS {
             if let Some(address) = self.address() {
                 return Some(address);
             }
-            if self.is_over() {
+            if self.over.load(Ordering::SeqCst) {
                 return None;
             }
             rt.sleep(Duration::from_millis(1));
@@ -85,39 +74,10 @@ impl Heard {
         None
     }
 
-    fn begin(&self) {
-        if let Some(mut begun) = lock(&self.begun) {
-            *begun = true;
-        }
-    }
-
-    /// Answers whether the clients have a thread, and do not wait for the server to end.
-    fn has_begun<R: Clock>(&self, rt: &R) -> bool {
-        for _look in 0..FIRST_LOOKS {
-            if lock(&self.begun).is_some_and(|begun| *begun) {
-                return true;
-            }
-            rt.sleep(Duration::from_millis(1));
-        }
-        false
-    }
-
-    /// Answers whether the server ends with its clients. It does not where a connection was dropped for want of memory, which
-    /// counts for nothing.
-    fn ends_with_them<R: Clock>(&self, rt: &R) -> bool {
-        for _look in 0..LAST_LOOKS {
-            if self.is_over() {
-                return true;
-            }
-            rt.sleep(Duration::from_millis(1));
-        }
-        false
-    }
-
     /// Comes and goes until the server has served enough.
     fn ends_soon<R: Clock + Net>(&self, rt: &R, address: SocketAddr) {
         for _look in 0..LOOKS {
-            if self.is_over() {
+            if self.over.load(Ordering::SeqCst) {
                 return;
             }
             let _ = TcpStream::connect(rt, address);
@@ -127,14 +87,15 @@ impl Heard {
 
     /// Plays a conversation, once the server listens. Answers whether the clients do all of this, and whether the server waited for
     /// others after them.
-    fn sees<R: Clock + Net>(&self, rt: &R, gate: &GateHash, text: &str) -> (bool, bool) {
-        self.begin();
+    fn sees<R: Clock + Net>(&self, rt: &R, gate: &GateHash, talk: &[Step<'_>]) -> (bool, bool) {
+        self.begun.store(true, Ordering::SeqCst);
         let Some(address) = self.waits_for_address(rt) else {
             return (false, false);
         };
-        let went_well = plays(rt, address, gate, text).is_some();
+        let went_well = plays(rt, address, gate, talk).is_some();
         gate.open();
-        let waited = went_well && !self.ends_with_them(rt);
+        // It does not end with its clients where a connection was dropped for want of memory, which counts for nothing.
+        let waited = went_well && !becomes_true(rt, &self.over, LAST_LOOKS);
         if !went_well || waited {
             self.ends_soon(rt, address);
         }
@@ -142,9 +103,20 @@ impl Heard {
     }
 }
 
+/// Waits until a flag is set, for so many looks at most.
+fn becomes_true<R: Clock>(rt: &R, flag: &AtomicBool, looks: u32) -> bool {
+    for _look in 0..looks {
+        if flag.load(Ordering::SeqCst) {
+            return true;
+        }
+        rt.sleep(Duration::from_millis(1));
+    }
+    false
+}
+
 impl<R: Clock> Write for Told<'_, R> {
     fn write(&mut self, buf: &[u8]) -> io::Result<usize> {
-        if !self.heard.has_begun(self.rt) {
+        if !becomes_true(self.rt, &self.heard.begun, FIRST_LOOKS) {
             return Err(io::ErrorKind::OutOfMemory.into());
         }
         match lock(&self.heard.bytes) {
@@ -181,12 +153,7 @@ impl Ran {
 
     /// Answers whether this word is said on standard error.
     pub fn says(&self, word: &[u8]) -> bool {
-        for start in 0..self.errors.len() {
-            if self.errors[start..].starts_with(word) {
-                return true;
-            }
-        }
-        false
+        (0..self.errors.len()).any(|start| self.errors[start..].starts_with(word))
     }
 }
 
@@ -214,36 +181,28 @@ fn attempt<R: ServerMachine + Net<Stream = TcpStream, Listener = TcpListener>>(
     text: &str,
     way: Way,
     hash: &Arc<GateHash>,
-    talk: &str,
+    talk: &[Step<'_>],
 ) -> Result<Ran, AllocError> {
-    let settings = settings(rt.alloc(), text)?;
-    let heard = Heard::new(rt.alloc())?;
-    let served = hash.clone()?;
-    let mut errors = Vec::with_capacity(rt.alloc(), 1024)?;
+    let (settings, heard) = (settings(rt.alloc(), text)?, Heard::new(rt.alloc())?);
+    let (served, mut errors) = (hash.clone()?, Vec::with_capacity(rt.alloc(), 1024)?);
     let ((went_well, waited), status) = {
         let (settings, heard, gate, errors) = (&settings, &heard, &**hash, &mut errors);
         join(
             rt,
             move || heard.sees(rt, gate, talk),
             move || {
-                let mut output = Told { rt, heard };
+                let (output, path) = (&mut Told { rt, heard }, "/etc/adc-hub/hub.toml");
                 let status = match way {
-                    Way::AsSet => serve_on(rt, settings, served, SEED, &mut output, errors),
-                    Way::Journal => serve_for_journal(
-                        rt,
-                        settings,
-                        "/etc/adc-hub/hub.toml",
-                        served,
-                        SEED,
-                        &mut output,
-                        errors,
-                    ),
+                    Way::AsSet => serve_on(rt, settings, served, SEED, output, errors),
+                    Way::Journal => {
+                        serve_for_journal(rt, settings, path, served, SEED, output, errors)
+                    }
                     Way::Flaky => {
                         let address = Flaky(settings.listen());
-                        serve_at(rt, settings, served, SEED, address, &mut output, errors)
+                        serve_at(rt, settings, served, SEED, address, output, errors)
                     }
                 };
-                heard.end();
+                heard.over.store(true, Ordering::SeqCst);
                 status
             },
         )
@@ -264,7 +223,7 @@ pub fn runs<R: ServerMachine + Net<Stream = TcpStream, Listener = TcpListener>>(
     text: &str,
     way: Way,
     hash: &Arc<GateHash>,
-    talk: &str,
+    talk: &[Step<'_>],
 ) -> Ran {
     if let Ok(ran) = attempt(rt, text, way, hash, talk)
         && !ran.met_memory()

@@ -3,26 +3,23 @@ mod bans;
 
 use crate::conversation::spelled;
 use crate::gate::GateHash;
-use crate::machine::ServerMachine;
+use crate::machine::*;
 use crate::run::{Ran, Way, runs};
 use crate::warnings::shape;
 use connection_slots::descriptor_limit;
-use second_try::again;
-use std::net::{Net, TcpListener, TcpStream};
-use std::sync::Arc;
+use second_try::steps_of;
+use std::net::{TcpListener, TcpStream};
 
 /// Ana connects, is greeted and logs in.
 const ANA_ENTERS: &str = "\
 ana is greeted AAAB
-ana says BINF AAAB ID<P0> PD<P0> NIana SS10 SF2 I40.0.0.0 SUTCP4,SEGA
-ana hears BINF AAAB ID<P0> NIana SS10 SF2 I4127.0.0.1 SUTCP4,SEGA
+ana says BINF AAAB ID<P0> PD<P0> NIana SS10 SF2 I40.0.0.0 SUTCP4,SEGA -> BINF AAAB ID<P0> NIana SS10 SF2 I4127.0.0.1 SUTCP4,SEGA
 ";
 
 /// Bob does so then, and Ana, who has sent nothing since, hears of it.
 const BOB_ENTERS: &str = "\
 bob is greeted AAAC
-bob says BINF AAAC ID<P1> PD<P1> NIbob SS5 SF1 SUTCP4
-bob hears BINF AAAB ID<P0> NIana SS10 SF2 I4127.0.0.1 SUTCP4,SEGA
+bob says BINF AAAC ID<P1> PD<P1> NIbob SS5 SF1 SUTCP4 -> BINF AAAB ID<P0> NIana SS10 SF2 I4127.0.0.1 SUTCP4,SEGA
 bob and ana hear BINF AAAC ID<P1> NIbob SS5 SF1 SUTCP4
 ";
 
@@ -30,8 +27,7 @@ const BOTH_LEAVE: &str = "ana and bob leave";
 
 /// Ana chats, whatever Bob does.
 const ANA_CHATS: &str = "\
-ana says BMSG AAAB still\\shere
-ana hears BMSG AAAB still\\shere
+ana says BMSG AAAB still\\shere -> BMSG AAAB still\\shere
 ";
 
 /// The settings of hubs for two connections, and for one.
@@ -58,7 +54,9 @@ fn ran<R: ServerMachine + Net<Stream = TcpStream, Listener = TcpListener>>(
     parts: &[&str],
     said: &[u8],
 ) -> Ran {
-    let ran = runs(rt, text, way, gate, &spelled(rt, parts));
+    let talk = spelled(rt, parts);
+    let talk = again!(rt; steps_of(rt.alloc(), &talk).ok_or(AllocError));
+    let ran = runs(rt, text, way, gate, &talk);
     assert!(rt; ran.went_well && !ran.waited);
     assert!(rt; ran.status == 0, "{}", ran.status);
     assert!(rt; ran.output.starts_with(b"listening 127.0.0.1:") && ran.output.ends_with(said));
@@ -144,8 +142,7 @@ fn one_who_never_reads_holds_up_nobody(rt: HostRuntime) {
         ana chats long BMSG AAAB
         bob hears a part
         ana hears IQUI AAAC
-        ana says BMSG AAAB still\shere
-        ana hears BMSG AAAB still\shere
+        ana says BMSG AAAB still\shere -> BMSG AAAB still\shere
         ana leaves
     "] }
 }
@@ -155,11 +152,8 @@ fn one_who_sends_byte_by_byte_holds_up_nobody(rt: HostRuntime) {
     scene! { rt, TWO, TWO_JOINED, [ANA_ENTERS, r"
         bob connects
         bob says slowly HSUP ADBASE ADTIGR
-        ana says BMSG AAAB still\shere
-        ana hears BMSG AAAB still\shere
-        bob hears ISUP ADBASE ADTIGR ADPING ADUCMD
-        bob hears ISID AAAC
-        bob hears IINF CT32 NIHub VEadc-hub\s1.0
+        ana says BMSG AAAB still\shere -> BMSG AAAB still\shere
+        bob hears ISUP ADBASE ADTIGR ADPING ADUCMD | ISID AAAC | IINF CT32 NIHub VEadc-hub\s1.0
         bob says slowly BINF AAAC ID<P1> PD<P1> NIbob SS5 SF1 SUTCP4
         bob hears BINF AAAB ID<P0> NIana SS10 SF2 I4127.0.0.1 SUTCP4,SEGA
         bob and ana hear BINF AAAC ID<P1> NIbob SS5 SF1 SUTCP4
@@ -177,13 +171,10 @@ const WITH_OPERATOR: &str =
 /// answer is the password and the challenge behind it, of which the stand-in for a hash takes 24 bytes, in base32.
 const OPERATOR_AND_BOB_ENTER: &str = "\
 ana is greeted AAAB
-ana says BINF AAAB ID<P0> PD<P0> NIop
-ana hears IGPA AI7TOIB2ER3MIJLGUYOMKXB4VB25XNGMIHAN5NY
-ana says HPAS ONSXGYLNMUBD6NZAHISHNRBFM2TBZRK4HSUHLWY
-ana hears BINF AAAB ID<P0> NIop CT4
+ana says BINF AAAB ID<P0> PD<P0> NIop -> IGPA AI7TOIB2ER3MIJLGUYOMKXB4VB25XNGMIHAN5NY
+ana says HPAS ONSXGYLNMUBD6NZAHISHNRBFM2TBZRK4HSUHLWY -> BINF AAAB ID<P0> NIop CT4
 bob is greeted AAAC
-bob says BINF AAAC ID<P1> PD<P1> NIbob SS5 SF1 SUTCP4
-bob hears BINF AAAB ID<P0> NIop CT4
+bob says BINF AAAC ID<P1> PD<P1> NIbob SS5 SF1 SUTCP4 -> BINF AAAB ID<P0> NIop CT4
 bob and ana hear BINF AAAC ID<P1> NIbob SS5 SF1 SUTCP4
 ";
 
@@ -193,8 +184,7 @@ fn an_operator_kicks_a_user(rt: HostRuntime) {
         ana says HMSG !kick\sbob\sbe\skind
         bob hears IQUI AAAC IDAAAB MSbe\skind
         bob hears the end
-        ana hears IQUI AAAC IDAAAB MSbe\skind
-        ana hears ISTA 000 Done
+        ana hears IQUI AAAC IDAAAB MSbe\skind | ISTA 000 Done
         ana leaves
     "] }
 }
@@ -206,9 +196,7 @@ fn a_last_line_arrives(rt: HostRuntime) {
         scene! { rt, WITH_OPERATOR, TWO_JOINED, [OPERATOR_AND_BOB_ENTER, r"
             ana whispers DMSG AAAB AAAC
             bob says
-            ana says HMSG !kick\sbob\sbe\skind
-            ana hears IQUI AAAC IDAAAB MSbe\skind
-            ana hears ISTA 000 Done
+            ana says HMSG !kick\sbob\sbe\skind -> IQUI AAAC IDAAAB MSbe\skind | ISTA 000 Done
             bob says
             bob hears whispers DMSG AAAB AAAC
             bob hears IQUI AAAC IDAAAB MSbe\skind
@@ -226,13 +214,8 @@ const WITH_MENU: &str =
 fn who_enters_gets_the_menu(rt: HostRuntime) {
     scene! { rt, WITH_MENU, ONE_JOINED, [r"
         ana connects
-        ana says HSUP ADBAS0 ADTIGR ADUCM0
-        ana hears ISUP ADBASE ADTIGR ADPING ADUCMD
-        ana hears ISID AAAB
-        ana hears IINF CT32 NIHub VEadc-hub\s1.0
-        ana says BINF AAAB ID<P0> PD<P0> NIop
-        ana hears BINF AAAB ID<P0> NIop
-        ana hears ICMD Help CT1 TTHMSG\s!help\n
+        ana says HSUP ADBAS0 ADTIGR ADUCM0 -> ISUP ADBASE ADTIGR ADPING ADUCMD | ISID AAAB | IINF CT32 NIHub VEadc-hub\s1.0
+        ana says BINF AAAB ID<P0> PD<P0> NIop -> BINF AAAB ID<P0> NIop | ICMD Help CT1 TTHMSG\s!help\n
         ana leaves
     "] }
 }
@@ -310,8 +293,7 @@ ana is greeted AAAB
 ana says BINF AAAB ID<P0> PD<P0> NIana SS10 SF2 I40.0.0.0 SUTCP4,SEGA
 a digest begins
 bob connects
-bob says HSUP ADBASE ADTIGR
-bob hears ISUP ADBASE ADTIGR ADPING ADUCMD
+bob says HSUP ADBASE ADTIGR -> ISUP ADBASE ADTIGR ADPING ADUCMD
 the digest may end
 ana hears BINF AAAB ID<P0> NIana SS10 SF2 I4127.0.0.1 SUTCP4,SEGA
 ";

@@ -1,9 +1,6 @@
 // Sessions of any kind.
+use crate::machine::*;
 use adc_sessions::{Bell, End, Port, Session, SessionRefused};
-use futures::task::Poll;
-use futures::test::MockTask;
-use std::alloc::Global;
-use tokio::io::{AsyncRead, AsyncWrite};
 
 /// The number of times that a session is polled at most.
 const POLLS: u32 = 1_000;

@@ -1,14 +1,9 @@
 // Warnings: what stands in each line, what the journal has of them, and the queue by which nobody waits.
+use crate::machine::*;
 use hub_warnings::{Cause, Dropped, End, Journal, Moment, Start, Warning, Warnings, queue};
 use log::{Level, Logged};
-use second_try::{Machine, again};
-use std::alloc::{AllocError, AllocGlobal, Global};
 use std::fmt::Display;
 use std::io::{self, Write};
-use std::net::{Ipv4Addr, SocketAddr, SocketAddrV4};
-use std::process::Abort;
-use std::sync::Wait;
-use std::time::Clock;
 
 const HOME: Ipv4Addr = Ipv4Addr::LOCALHOST;
 
@@ -90,17 +85,20 @@ fn lines_have_time_address_and_cause(rt: HostRuntime) {
     for (cause, text) in causes {
         shows(&rt, &cause, text);
     }
+    let peer = Some(SocketAddrV4::new(Ipv4Addr::new(192, 0, 2, 7), 40_112));
+    let cause = Cause::ReadFailed;
     let warning = Warning {
         moment,
-        peer: Some(SocketAddrV4::new(Ipv4Addr::new(192, 0, 2, 7), 40_112)),
-        cause: Cause::ReadFailed,
+        peer,
+        cause,
     };
     let text = "2026-11-25T13:07:11Z 192.0.2.7:40112 a session ended by ReadFailed";
     shows(&rt, &warning, text);
+    let (peer, cause) = (None, Cause::Lost);
     let warning = Warning {
         moment,
-        peer: None,
-        cause: Cause::Lost,
+        peer,
+        cause,
     };
     let text = "2026-11-25T13:07:11Z a connection was lost by Memory";
     shows(&rt, &warning, text);

@@ -1,12 +1,7 @@
 use crate::identities::key;
-use crate::rows::{
-    Part, Row, byte, number, pair, play, rows, say, say_bytes, say_next, say_number,
-    say_refused_memory, say_whether, small, twice, unknown,
-};
+use crate::rows::*;
 use adc_ids::{Cid, Nick};
 use operator_acts::{Act, ActFault, BanRefused, Bans, FreeText, Left};
-use second_try::Machine;
-use std::process::Abort;
 
 /// The texts that operators write.
 #[derive(Drop)]
@@ -14,14 +9,10 @@ pub(crate) struct Acts;
 
 impl Part for Acts {
     fn call(&mut self, rt: &impl Machine, row: Row<'_>, said: &mut Vec<u8>) {
-        if row.name != "read" {
-            unknown(rt, row.name);
-        }
         match twice!(rt; "operator_acts::Act::parse", ActFault::Memory, Act::parse(rt.alloc(), row.text))
         {
             Ok(act) => say_act(rt, said, act),
-            Err(ActFault::Bad) => say(rt, said, "Bad"),
-            Err(ActFault::Memory) => say(rt, said, "Memory"),
+            Err(fault) => say_shown(rt, said, &fault),
         }
     }
 }
@@ -31,7 +22,6 @@ fn say_act(rt: &impl Machine, said: &mut Vec<u8>, act: Act<'_>) {
         Act::Kick { nick, reason } => {
             say_whom(rt, said, "kick ", &nick);
             say_text(rt, said, &reason);
-            drop(nick);
         }
         Act::Ban {
             nick,
@@ -41,7 +31,6 @@ fn say_act(rt: &impl Machine, said: &mut Vec<u8>, act: Act<'_>) {
             say_whom(rt, said, "ban ", &nick);
             say_number(rt, said, seconds as u128);
             say_text(rt, said, &reason);
-            drop(nick);
         }
         Act::Unban(cid) => {
             say(rt, said, "unban ");
@@ -55,10 +44,8 @@ fn say_act(rt: &impl Machine, said: &mut Vec<u8>, act: Act<'_>) {
 }
 
 fn say_whom(rt: &impl Machine, said: &mut Vec<u8>, act: &str, nick: &Nick) {
-    let key = key(rt, nick);
     say(rt, said, act);
-    say(rt, said, &key);
-    drop(key);
+    say(rt, said, &key(rt, nick));
 }
 
 fn say_text(rt: &impl Abort, said: &mut Vec<u8>, text: &FreeText<'_>) {
@@ -103,21 +90,14 @@ fn cid_between(first: u8, last: u8) -> Cid {
 fn say_what_is_left(rt: &impl Machine, text: &str, said: &mut Vec<u8>) {
     let (seconds, rest) = pair(text, ' ');
     let (from, now) = pair(rest, ' ');
-    let now = number(rt, now);
+    let (now, cid) = (number(rt, now), cid_between(7, 7));
     let mut bans = Bans::new(rt.alloc());
-    say_left(rt, said, bans.left(cid_between(7, 7), now));
-    let added = add(
-        rt,
-        &mut bans,
-        cid_between(7, 7),
-        small(rt, seconds),
-        number(rt, from),
-    );
+    say_left(rt, said, bans.left(cid, now));
+    let added = add(rt, &mut bans, cid, small(rt, seconds), number(rt, from));
     assert!(rt; added == "ok", "not added");
     for (first, last) in [(7, 7), (7, 8), (8, 7)] {
         say_left(rt, said, bans.left(cid_between(first, last), now));
     }
-    drop(bans);
 }
 
 fn on_one<R: Machine>(rt: &R, bans: &mut Bans, name: &str, text: &str, said: &mut Vec<u8>) {
@@ -136,16 +116,9 @@ fn on_one<R: Machine>(rt: &R, bans: &mut Bans, name: &str, text: &str, said: &mu
 
 /// Adds a ban, and gives what is answered. Where memory is refused all is as before, and the ban is added again.
 fn add(rt: &impl Machine, bans: &mut Bans, cid: Cid, seconds: u32, now: u64) -> &'static str {
-    let before = view_of(bans, cid, now);
-    let answer = match bans.add(cid, seconds, now) {
-        Err(BanRefused::Memory) => {
-            let same = view_of(bans, cid, now) == before;
-            say_refused_memory(rt, "operator_acts::Bans::add", same);
-            bans.add(cid, seconds, now)
-        }
-        answer => answer,
-    };
-    match answer {
+    let call = "operator_acts::Bans::add";
+    match twice!(rt; call, BanRefused::Memory, view_of(bans, cid, now), bans.add(cid, seconds, now))
+    {
         Ok(()) => "ok",
         Err(BanRefused::Full) => "Full",
         Err(BanRefused::Memory) => "Memory",
@@ -186,28 +159,16 @@ fn say_left(rt: &impl Machine, said: &mut Vec<u8>, left: Left) {
 fn acts_are_read(rt: HostRuntime) {
     rows! { rt, Acts, "
         == reads kicks ==
-        read !kick bob | !kick bob<x20> -> kick bob
-        read !kick bob rude -> kick bob: rude
-        read !kick bob  rude -> kick bob:  rude
-        read !kick bob very rude<x20> -> kick bob: very rude<x20>
-        read !kick bob line<x0a>line -> kick bob: line<x0a>line
+        read !kick bob | !kick bob<x20> -> kick bob | !kick bob rude -> kick bob: rude | !kick bob  rude -> kick bob:  rude
+        read !kick bob very rude<x20> -> kick bob: very rude<x20> | !kick bob line<x0a>line -> kick bob: line<x0a>line
         read !kick e\u{301} \u{e9} -> kick \u{e9}: \u{e9}
         == reads bans ==
-        read !ban bob 0 -> ban bob 0
-        read !ban bob 60 | !ban bob 60<x20> -> ban bob 60
-        read !ban bob 60 rude -> ban bob 60: rude
-        read !ban bob 60  7 -> ban bob 60:  7
-        read !ban bob 0000000060 rude -> ban bob 60: rude
-        read !ban bob 4294967295 -> ban bob 4294967295
+        read !ban bob 0 -> ban bob 0 | !ban bob 60 | !ban bob 60<x20> -> ban bob 60 | !ban bob 60 rude -> ban bob 60: rude
+        read !ban bob 60  7 -> ban bob 60:  7 | !ban bob 0000000060 rude -> ban bob 60: rude | !ban bob 4294967295 -> ban bob 4294967295
         == reads unbans ==
-        read !unban <39*A> -> unban <24*x00>
-        read !unban <38*A>I -> unban <23*x00><x01>
-        read !unban <38*A>Y -> unban <23*x00><x03>
+        read !unban <39*A> -> unban <24*x00> | !unban <38*A>I -> unban <23*x00><x01> | !unban <38*A>Y -> unban <23*x00><x03>
         == reads topics ==
-        read !topic | !topic<x20> -> topic
-        read !topic new one -> topic: new one
-        read !topic  x -> topic:  x
-        read !topic x<x20> -> topic: x<x20>
+        read !topic | !topic<x20> -> topic | !topic new one -> topic: new one | !topic  x -> topic:  x | !topic x<x20> -> topic: x<x20>
         read !topic !kick bob -> topic: !kick bob
         == refuses other texts ==
         read <> | ! | <x20> | hello | !dance | !dance bob | kick bob | !KICK bob | <x20>!kick bob | !kickbob | !kick | !kick<x20> -> Bad
@@ -223,7 +184,6 @@ pub(crate) fn play_bans<R: Machine>(rt: &R, rows: &str) {
         bans: Bans::new(rt.alloc()),
     };
     play(rt, &mut list, rows);
-    drop(list);
 }
 
 #[test]
@@ -232,36 +192,22 @@ fn bans_are_kept(rt: HostRuntime) {
         == tells what is left ==
         // For how many seconds somebody is banned, from which moment, and at which moment it is looked: what is left before, what then, and what
         // of two others.
-        alone 60 100 100 -> free 60 free free
-        alone 60 100 159 -> free 1 free free
-        alone 60 100 160 -> free free free free
-        alone 60 100 99 -> free 61 free free
-        alone 60 100 18446744073709551615 -> free free free free
-        alone 0 100 100 | 0 100 0 | 0 100 18446744073709551615 -> free ever free free
-        alone 1 0 0 -> free 1 free free
-        alone 1 0 1 -> free free free free
-        alone 5 18446744073709551614 18446744073709551614 -> free 1 free free
+        alone 60 100 100 -> free 60 free free | 60 100 159 -> free 1 free free | 60 100 160 -> free free free free
+        alone 60 100 99 -> free 61 free free | 60 100 18446744073709551615 -> free free free free
+        alone 0 100 100 | 0 100 0 | 0 100 18446744073709551615 -> free ever free free | 1 0 0 -> free 1 free free
+        alone 1 0 1 -> free free free free | 5 18446744073709551614 18446744073709551614 -> free 1 free free
         alone 5 18446744073709551614 18446744073709551615 -> free free free free
-        alone 4294967295 18446744073709551615 0 -> free 18446744073709551615 free free
-        alone 4294967295 0 0 -> free 4294967295 free free
+        alone 4294967295 18446744073709551615 0 -> free 18446744073709551615 free free | 4294967295 0 0 -> free 4294967295 free free
         == keeps the last act on each ==
         remove 1 1 -> no
         add 1 1 60 100 | 0 2 0 100 | 1 1 5 10 -> ok
         count -> 2
-        left 1 1 12 -> 3
-        left 1 1 100 -> free
-        remove 1 1 -> yes
-        remove 1 1 -> no
-        left 1 1 12 -> free
-        left 0 2 12 -> ever
+        left 1 1 12 -> 3 | 1 1 100 -> free
+        remove 1 1 -> yes | 1 1 -> no
+        left 1 1 12 -> free | 0 2 12 -> ever
         count -> 1
-    " }
-}
-
-#[test]
-fn holds_no_more_than_1024(rt: HostRuntime) {
-    // Each of the first has run out, and counts.
-    rows! { play_bans(rt) "
+        == holds no more than 1024 ==
+        // Each of the first has run out, and counts.
         fill 1024 -> ok
         left 3 255 100 -> free
         count -> 1024

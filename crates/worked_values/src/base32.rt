@@ -1,10 +1,5 @@
-use crate::rows::{
-    Part, Row, number, pair, rows, say, say_bytes, say_number, small, twice, unknown,
-};
+use crate::rows::*;
 use adc_base32::{B32, Sid, decode, decode24, encode, encode24};
-use second_try::Machine;
-use std::alloc::Global;
-use std::process::Abort;
 
 /// Identifiers and bytes in base32.
 #[derive(Drop)]
@@ -13,29 +8,28 @@ pub(crate) struct Base32;
 impl Part for Base32 {
     fn call(&mut self, rt: &impl Machine, row: Row<'_>, said: &mut Vec<u8>) {
         match row.name {
-            "sid" => say_sid(rt, said, Sid::from_u32(small(rt, row.text))),
-            "number" => say_sid_number(rt, said, Sid::parse(row.bytes)),
+            "sid" => match Sid::from_u32(small(rt, row.text)) {
+                Some(sid) => say_bytes(rt, said, &sid.text()),
+                None => say_any(rt, said, None),
+            },
+            "number" => match Sid::parse(row.bytes) {
+                Some(sid) => say_number(rt, said, sid.number() as u128),
+                None => say_any(rt, said, None),
+            },
             "next" => next(rt, row.text, said),
-            "encode" => say_encoding(rt, row.bytes, said),
-            "decode" => say_decoding(rt, row.text, said),
+            "encode" => {
+                let text =
+                    got!(rt; "adc_base32::encode", B32::Memory, encode(rt.alloc(), row.bytes));
+                say_bytes(rt, said, text.as_bytes());
+            }
+            "decode" => decoded(rt, row.text, said),
             "encode24" => encoded24(rt, row.bytes, said),
-            "decode24" => decoded24(rt, row.bytes, said),
+            "decode24" => match decode24(row.bytes) {
+                Ok(bytes) => say_bytes(rt, said, &bytes),
+                Err(fault) => say_shown(rt, said, &fault),
+            },
             _ => unknown(rt, row.name),
         }
-    }
-}
-
-fn say_sid(rt: &impl Abort, said: &mut Vec<u8>, sid: Option<Sid>) {
-    match sid {
-        Some(sid) => say_bytes(rt, said, &sid.text()),
-        None => say(rt, said, "none"),
-    }
-}
-
-fn say_sid_number(rt: &impl Machine, said: &mut Vec<u8>, sid: Option<Sid>) {
-    match sid {
-        Some(sid) => say_number(rt, said, sid.number() as u128),
-        None => say(rt, said, "none"),
     }
 }
 
@@ -48,7 +42,7 @@ fn next(rt: &impl Machine, text: &str, said: &mut Vec<u8>) {
     if last > 1_048_575 || taken.len() > 1_048_574 {
         unknown(rt, text);
     }
-    say_sid_number(rt, said, Some(Sid::next_free(last, &taken)));
+    say_number(rt, said, Sid::next_free(last, &taken).number() as u128);
 }
 
 fn sids_between(rt: &impl Abort, alloc: Global, from: u32, to: u32) -> Vec<Sid> {
@@ -63,19 +57,12 @@ fn sids_between(rt: &impl Abort, alloc: Global, from: u32, to: u32) -> Vec<Sid> 
     taken
 }
 
-fn say_encoding(rt: &impl Machine, bytes: &[u8], said: &mut Vec<u8>) {
-    match twice!(rt; "adc_base32::encode", B32::Memory, encode(rt.alloc(), bytes)) {
-        Ok(text) => say(rt, said, &text),
-        Err(fault) => say_fault(rt, said, fault),
-    }
-}
-
-fn say_decoding(rt: &impl Machine, text: &str, said: &mut Vec<u8>) {
+fn decoded(rt: &impl Machine, text: &str, said: &mut Vec<u8>) {
     let (count, digits) = pair(text, ' ');
     let (count, digits) = (number(rt, count) as usize, digits.as_bytes());
     match twice!(rt; "adc_base32::decode", B32::Memory, decode(rt.alloc(), digits, count)) {
         Ok(bytes) => say_bytes(rt, said, &bytes),
-        Err(fault) => say_fault(rt, said, fault),
+        Err(fault) => say_shown(rt, said, &fault),
     }
 }
 
@@ -86,91 +73,32 @@ fn encoded24(rt: &impl Abort, bytes: &[u8], said: &mut Vec<u8>) {
     }
 }
 
-fn decoded24(rt: &impl Abort, text: &[u8], said: &mut Vec<u8>) {
-    match decode24(text) {
-        Ok(bytes) => say_bytes(rt, said, &bytes),
-        Err(fault) => say_fault(rt, said, fault),
-    }
-}
-
-fn say_fault(rt: &impl Abort, said: &mut Vec<u8>, fault: B32) {
-    say(
-        rt,
-        said,
-        match fault {
-            B32::Length => "Length",
-            B32::Digit => "Digit",
-            B32::LowBits => "LowBits",
-            B32::Memory => "Memory",
-        },
-    );
-}
-
 #[test]
 fn identifiers_and_bytes_are_spelled(rt: HostRuntime) {
     rows! { rt, Base32, "
         == spells identifiers ==
         // The first, one past a digit, and the last.
-        sid 0 -> AAAA
-        sid 1 -> AAAB
-        sid 33 -> AABB
-        sid 1048575 -> 7777
-        sid 1048576 -> none
-        number AAAA -> 0
-        number AAAB -> 1
-        number AABB -> 33
-        number 7777 -> 1048575
+        sid 0 -> AAAA | 1 -> AAAB | 33 -> AABB | 1048575 -> 7777 | 1048576 -> none
+        number AAAA -> 0 | AAAB -> 1 | AABB -> 33 | 7777 -> 1048575
         == refuses what is no identifier ==
         number <> | AAA | AAAAA | aaab | AA1A | AA8A | AAA= | AAA<x20> -> none
         == spells bytes ==
         // The test vectors of RFC 4648, section 10, without padding; a password; the highest bits.
-        encode <> -> <>
-        encode f -> MY
-        encode fo -> MZXQ
-        encode foo -> MZXW6
-        encode foob -> MZXW6YQ
-        encode fooba -> MZXW6YTB
-        encode foobar -> MZXW6YTBOI
-        encode secre -> ONSWG4TF
-        encode <6*xff> -> 7777777774
-        decode 0 <> -> <>
-        decode 1 MY -> f
-        decode 2 MZXQ -> fo
-        decode 3 MZXW6 -> foo
-        decode 4 MZXW6YQ -> foob
-        decode 5 MZXW6YTB -> fooba
-        decode 6 MZXW6YTBOI -> foobar
-        decode 5 ONSWG4TF -> secre
-        decode 6 7777777774 -> <6*xff>
+        encode <> -> <> | f -> MY | fo -> MZXQ | foo -> MZXW6 | foob -> MZXW6YQ | fooba -> MZXW6YTB | foobar -> MZXW6YTBOI
+        encode secre -> ONSWG4TF | <6*xff> -> 7777777774
+        decode 0 <> -> <> | 1 MY -> f | 2 MZXQ -> fo | 3 MZXW6 -> foo | 4 MZXW6YQ -> foob | 5 MZXW6YTB -> fooba | 6 MZXW6YTBOI -> foobar
+        decode 5 ONSWG4TF -> secre | 6 7777777774 -> <6*xff>
         == names the first fault ==
-        decode 1 AAA | 0 A | 1 <> | 2 11 | 18446744073709551615 AA -> Length
-        decode 1 A1 | 1 a1 | 1 1B | 1 A= -> Digit
+        decode 1 AAA | 0 A | 1 <> | 2 11 | 18446744073709551615 AA -> Length | 1 A1 | 1 a1 | 1 1B | 1 A= -> Digit
         decode 1 AB | 2 AAAB | 3 AAAAB | 4 AAAAAAB -> LowBits
         == reads 24 bytes ==
-        decode24 <39*A> -> <24*x00>
-        decode24 <38*A>Y -> <23*x00><x03>
-        decode24 <39*7> -> LowBits
-        decode24 <38*7>Y -> <24*xff>
-        decode24 <38*A>B -> LowBits
-        decode24 <37*A>1B -> Digit
-        decode24 <38*A> | <> -> Length
+        decode24 <39*A> -> <24*x00> | <38*A>Y -> <23*x00><x03> | <39*7> -> LowBits | <38*7>Y -> <24*xff> | <38*A>B -> LowBits
+        decode24 <37*A>1B -> Digit | <38*A> | <> -> Length
         == spells 24 bytes ==
-        encode24 <24*x00> -> <39*A>
-        encode24 <23*x00><x03> -> <38*A>Y
-        encode24 <24*xff> -> <38*7>Y
-        encode24 <4*foobar> -> MZXW6YTBOJTG633CMFZGM33PMJQXEZTPN5RGC4Q
+        encode24 <24*x00> -> <39*A> | <23*x00><x03> -> <38*A>Y | <24*xff> -> <38*7>Y | <4*foobar> -> MZXW6YTBOJTG633CMFZGM33PMJQXEZTPN5RGC4Q
         == gives the next identifier ==
         // Taken are the numbers from the second up to the third, and identifier 0.
-        next 0 1 1 -> 1
-        next 33 1 1 -> 34
-        next 1048575 1 2 -> 2
-        next 1048575 1 1 -> 1
-        next 1048574 1 1 -> 1048575
-        next 1048574 1048575 1048576 -> 1
-        next 0 1 901 -> 901
-        next 0 2 901 -> 1
-        next 500 501 1401 -> 1401
-        next 0 1 2051 -> 2051
-        next 1048000 1047000 1048576 | 0 0 0 -> 1
+        next 0 1 1 -> 1 | 33 1 1 -> 34 | 1048575 1 2 -> 2 | 1048575 1 1 -> 1 | 1048574 1 1 -> 1048575 | 1048574 1048575 1048576 -> 1
+        next 0 1 901 -> 901 | 0 2 901 -> 1 | 500 501 1401 -> 1401 | 0 1 2051 -> 2051 | 1048000 1047000 1048576 | 0 0 0 -> 1
     " }
 }

@@ -1,7 +1,5 @@
-use crate::rows::{Part, Row, number, rows, say, say_bytes, twice, unknown};
-use second_try::Machine;
+use crate::rows::*;
 use session_hash::{First24, SessionHash, TableTiger, TablesFault};
-use std::alloc::AllocGlobal;
 
 /// The hashes of sessions.
 #[derive(Drop)]
@@ -13,11 +11,9 @@ impl Part for Hashes {
             "first24" => say_bytes(rt, said, &First24.digest(row.bytes)),
             "tables" => match tables(rt, number(rt, row.text) as usize) {
                 Ok(_) => say(rt, said, "ok"),
-                Err(TablesFault::Length) => say(rt, said, "Length"),
-                Err(TablesFault::Memory) => say(rt, said, "Memory"),
+                Err(fault) => say_shown(rt, said, &fault),
             },
-            "equal" => equal(rt, said),
-            _ => unknown(rt, row.name),
+            _ => equal(rt, said),
         }
     }
 }
@@ -36,26 +32,15 @@ fn equal(rt: &impl Machine, said: &mut Vec<u8>) {
     let (Ok(one), Ok(other)) = (tables(rt, 8192), tables(rt, 8192)) else {
         unknown(rt, "tables")
     };
-    say(
-        rt,
-        said,
-        if one.digest(b"abc") == other.digest(b"abc") {
-            "yes"
-        } else {
-            "no"
-        },
-    );
+    say_whether(rt, said, one.digest(b"abc") == other.digest(b"abc"));
 }
 
 #[test]
 fn hashes_are_made(rt: HostRuntime) {
     rows! { rt, Hashes, "
         == first bytes and zeros ==
-        first24 <> -> <24*x00>
-        first24 abc -> abc<21*x00>
-        first24 ABCDEFGHIJKLMNOPQRSTUVWX | ABCDEFGHIJKLMNOPQRSTUVWXYZ -> ABCDEFGHIJKLMNOPQRSTUVWX
+        first24 <> -> <24*x00> | abc -> abc<21*x00> | ABCDEFGHIJKLMNOPQRSTUVWX | ABCDEFGHIJKLMNOPQRSTUVWXYZ -> ABCDEFGHIJKLMNOPQRSTUVWX
         == tables have 8192 bytes ==
-        tables 8191 | 8193 -> Length
-        tables 8192 -> ok
+        tables 8191 | 8193 -> Length | 8192 -> ok
     " }
 }

@@ -1,8 +1,5 @@
-use crate::rows::{Part, Row, pair, rows, say, say_bytes, say_whether, twice, unknown};
+use crate::rows::*;
 use adc_ids::{Cid, Nick, NickFault, Pid};
-use second_try::Machine;
-use std::alloc::AllocError;
-use std::process::Abort;
 
 /// Identifiers of clients, and nicks.
 #[derive(Drop)]
@@ -12,37 +9,25 @@ impl Part for Identities {
     fn call(&mut self, rt: &impl Machine, row: Row<'_>, said: &mut Vec<u8>) {
         match row.name {
             "identifier" => identifier(rt, row.bytes, said),
-            "nick" => say_nick(rt, row.text, said),
+            "nick" => match parse_nick(rt, row.text) {
+                Ok(nick) => say(rt, said, &key(rt, &nick)),
+                Err(fault) => say_shown(rt, said, &fault),
+            },
             "alike" => alike(rt, row.text, said),
             _ => unknown(rt, row.name),
         }
     }
 }
 
-fn say_nick(rt: &impl Machine, text: &str, said: &mut Vec<u8>) {
-    match parse_nick(rt, text) {
-        Ok(nick) => say_key(rt, said, nick),
-        Err(NickFault::Invalid) => say(rt, said, "Invalid"),
-        Err(NickFault::Memory) => say(rt, said, "Memory"),
-    }
-}
-
-fn say_key(rt: &impl Machine, said: &mut Vec<u8>, nick: Nick) {
-    let key = key(rt, &nick);
-    say(rt, said, &key);
-    drop(key);
-    drop(nick);
-}
-
 /// Says what a text says as a client identifier, and the same as a private one.
 fn identifier(rt: &impl Abort, text: &[u8], said: &mut Vec<u8>) {
-    match (cid_bytes(text), pid_bytes(text)) {
-        (Some(bytes), Some(private)) => {
-            assert!(rt; private == bytes && is_text_of(bytes, text), "they differ");
-            say_bytes(rt, said, &bytes);
-        }
-        (None, None) => say(rt, said, "none"),
-        _ => say(rt, said, "they differ"),
+    let bytes = cid_bytes(text);
+    assert!(rt; pid_bytes(text) == bytes, "they differ");
+    if let Some(bytes) = bytes {
+        assert!(rt; is_text_of(bytes, text), "they differ");
+        say_any(rt, said, Some(&bytes));
+    } else {
+        say_any(rt, said, None);
     }
 }
 
@@ -73,10 +58,7 @@ pub(crate) fn nick(rt: &impl Machine, text: &str) -> Nick {
 }
 
 pub(crate) fn key(rt: &impl Machine, nick: &Nick) -> String {
-    match twice!(rt; "adc_ids::Nick::key", AllocError, nick.key(rt.alloc())) {
-        Ok(key) => key,
-        Err(_) => unknown(rt, "key"),
-    }
+    got!(rt; "adc_ids::Nick::key", AllocError, nick.key(rt.alloc()))
 }
 
 /// Says whether two nicks have one key.
@@ -84,37 +66,22 @@ fn alike(rt: &impl Machine, text: &str, said: &mut Vec<u8>) {
     let (one, other) = pair(text, ' ');
     let (one, other) = (key_of(rt, one), key_of(rt, other));
     say_whether(rt, said, one.as_str() == other.as_str());
-    drop(one);
-    drop(other);
 }
 
 pub(crate) fn key_of(rt: &impl Machine, text: &str) -> String {
-    let nick = nick(rt, text);
-    let key = key(rt, &nick);
-    drop(nick);
-    key
+    key(rt, &nick(rt, text))
 }
 
 #[test]
 fn identifiers_and_nicks_are_read(rt: HostRuntime) {
     rows! { rt, Identities, "
         == reads identifiers ==
-        identifier <39*A> -> <24*x00>
-        identifier <38*A>Y -> <23*x00><x03>
-        identifier MZXW6YTBOJTG633CMFZGM33PMJQXEZTPN5RGC4Q -> <4*foobar>
+        identifier <39*A> -> <24*x00> | <38*A>Y -> <23*x00><x03> | MZXW6YTBOJTG633CMFZGM33PMJQXEZTPN5RGC4Q -> <4*foobar>
         identifier <> | <38*A> | <38*A>B | <38*A>a | <40*A> -> none
         == takes nicks ==
-        nick a -> a
-        nick ! -> !
-        nick ana -> ana
-        nick \u{e9} -> \u{e9}
-        nick a\u{a0}b -> a\u{a0}b
-        nick <> | <x20> | a b | ana<x20> | a<x0a>b | <x00> -> Invalid
-        nick <64*\u{1F600}> -> <64*\u{1F600}>
-        nick <65*\u{1F600}> -> Invalid
+        nick a -> a | ! -> ! | ana -> ana | \u{e9} -> \u{e9} | a\u{a0}b -> a\u{a0}b
+        nick <> | <x20> | a b | ana<x20> | a<x0a>b | <x00> -> Invalid | <64*\u{1F600}> -> <64*\u{1F600}> | <65*\u{1F600}> -> Invalid
         == compares nicks by their key ==
-        alike \u{e9} e\u{301} -> yes
-        alike \u{e9} e | Ana ana -> no
-        alike \u{212b} \u{c5} -> yes
+        alike \u{e9} e\u{301} -> yes | \u{e9} e | Ana ana -> no | \u{212b} \u{c5} -> yes
     " }
 }

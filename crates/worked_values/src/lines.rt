@@ -1,13 +1,8 @@
-use crate::rows::{
-    Part, Row, rows, say, say_bytes, say_refused_memory, say_whether, twice, unknown,
-};
+use crate::rows::*;
 use adc_line::{
-    FrameFault, Framer, Kind, Line, LineFault, Next, UnescapeFault, escape, is_feature_name,
+    FrameFault, Framer, Line, LineFault, Next, UnescapeFault, escape, is_feature_name,
     is_feature_word, unescape,
 };
-use second_try::{Machine, again};
-use std::alloc::{AllocError, AllocGlobal};
-use std::process::Abort;
 
 /// Lines and their words.
 #[derive(Drop)]
@@ -18,9 +13,12 @@ impl Part for Lines {
         match row.name {
             "read" => match parse_line(rt, row.bytes) {
                 Ok(line) => say_line(rt, said, &line, row.text),
-                Err(fault) => say(rt, said, fault_name(fault)),
+                Err(fault) => say_shown(rt, said, &fault),
             },
-            "escape" => say_escape(rt, row.text, said),
+            "escape" => {
+                let word = got!(rt; "adc_line::escape", AllocError, escape(rt.alloc(), row.text));
+                say(rt, said, &word);
+            }
             "unescape" => say_unescape(rt, row.text, said),
             "name" => say_whether(rt, said, is_feature_name(row.bytes)),
             "word" => say_whether(rt, said, is_feature_word(row.bytes)),
@@ -37,68 +35,36 @@ fn parse_line(rt: &impl Machine, bytes: &[u8]) -> Result<Line, LineFault> {
 pub(crate) fn line(rt: &impl Machine, bytes: &[u8]) -> Line {
     match parse_line(rt, bytes) {
         Ok(line) => line,
-        Err(fault) => unknown(rt, fault_name(fault)),
+        Err(_) => unknown(rt, "line"),
     }
 }
 
-fn fault_name(fault: LineFault) -> &'static str {
-    match fault {
-        LineFault::TooLong => "TooLong",
-        LineFault::NotUtf8 => "NotUtf8",
-        LineFault::Header => "Header",
-        LineFault::Parameter => "Parameter",
-        LineFault::Escape => "Escape",
-        LineFault::Memory => "Memory",
-    }
-}
-
-/// Says the kind, command, sender, target and features of a line, `-` for each that it has not, and `;` before each
-/// parameter.
-fn say_line(rt: &impl Abort, said: &mut Vec<u8>, line: &Line, text: &str) {
+/// Says the kind, command, sender, target and features of a line, `-` for each that it has not, and `;` before each parameter.
+fn say_line(rt: &impl Machine, said: &mut Vec<u8>, line: &Line, text: &str) {
     assert!(rt; line.text() == text, "{text}");
-    say(rt, said, kind_name(line.kind()));
+    say_shown(rt, said, &line.kind());
     say(rt, said, " ");
     say_bytes(rt, said, &line.command());
     for sid in [line.from(), line.target()] {
-        say(rt, said, " ");
         match sid {
-            Some(sid) => say_bytes(rt, said, &sid.text()),
-            None => say(rt, said, "-"),
+            Some(sid) => {
+                say(rt, said, " ");
+                say_bytes(rt, said, &sid.text());
+            }
+            None => say(rt, said, " -"),
         }
     }
-    say(rt, said, " ");
-    say(rt, said, line.features().unwrap_or("-"));
+    say_next(rt, said, line.features().unwrap_or("-"));
     for word in line.params() {
         say(rt, said, ";");
         say(rt, said, word);
     }
 }
 
-fn kind_name(kind: Kind) -> &'static str {
-    match kind {
-        Kind::Broadcast => "Broadcast",
-        Kind::Client => "Client",
-        Kind::Direct => "Direct",
-        Kind::Echo => "Echo",
-        Kind::Feature => "Feature",
-        Kind::Hub => "Hub",
-        Kind::Info => "Info",
-        Kind::Udp => "Udp",
-    }
-}
-
-fn say_escape(rt: &impl Machine, text: &str, said: &mut Vec<u8>) {
-    match twice!(rt; "adc_line::escape", AllocError, escape(rt.alloc(), text)) {
-        Ok(word) => say(rt, said, &word),
-        Err(_) => say(rt, said, "Memory"),
-    }
-}
-
 fn say_unescape(rt: &impl Machine, word: &str, said: &mut Vec<u8>) {
     match twice!(rt; "adc_line::unescape", UnescapeFault::Memory, unescape(rt.alloc(), word)) {
         Ok(text) => say(rt, said, &text),
-        Err(UnescapeFault::Escape) => say(rt, said, "Escape"),
-        Err(UnescapeFault::Memory) => say(rt, said, "Memory"),
+        Err(fault) => say_shown(rt, said, &fault),
     }
 }
 
@@ -114,7 +80,7 @@ impl Part for Frames {
         match row.name {
             "feed" => self.feed(rt, row.bytes),
             "next" => self.next(rt, said),
-            "pieces" => self.pieces(rt, row.bytes, said),
+            "pieces" => pieces(rt, row.bytes, said),
             _ => unknown(rt, row.name),
         }
     }
@@ -122,48 +88,25 @@ impl Part for Frames {
 
 impl Frames {
     fn feed(&mut self, rt: &impl Machine, piece: &[u8]) {
-        let answer = match self.framer.feed(piece) {
-            Err(FrameFault::Memory) => {
-                say_refused_memory(rt, "adc_line::Framer::feed", true);
-                self.framer.feed(piece)
-            }
-            answer => answer,
-        };
-        assert!(rt; answer.is_ok(), "not fed");
+        let call = "adc_line::Framer::feed";
+        got!(rt; call, FrameFault::Memory, self.framer.feed(piece));
     }
 
     fn next(&mut self, rt: &impl Machine, said: &mut Vec<u8>) {
         let before = again!(rt; self.line.clone());
-        let answer = match self.framer.next(&mut self.line) {
-            Err(FrameFault::Memory) => {
-                say_refused_memory(rt, "adc_line::Framer::next", self.line == before);
-                self.framer.next(&mut self.line)
-            }
-            answer => answer,
-        };
+        let call = "adc_line::Framer::next";
+        let answer =
+            twice!(rt; call, FrameFault::Memory, self.line == before, self.framer.next(&mut self.line));
         match answer {
             Ok(Next::Line) => {
                 say(rt, said, "line ");
-                say_bytes(rt, said, &self.line);
-                return;
+                return say_bytes(rt, said, &self.line);
             }
             Ok(Next::More) => say(rt, said, "more"),
             Ok(Next::TooLong) => say(rt, said, "too long"),
             Err(_) => say(rt, said, "fault"),
         }
         assert!(rt; self.line == before, "no line, and it changed");
-    }
-
-    /// Feeds pieces of each of some sizes of the stream, and takes all lines after each piece.
-    fn pieces(&mut self, rt: &impl Machine, stream: &[u8], said: &mut Vec<u8>) {
-        for size in [1, 2, 7, 19, 20, 64] {
-            let mut frames = new_frames(rt);
-            for piece in stream.chunks(size) {
-                frames.feed(rt, piece);
-                frames.lines(rt, said);
-            }
-            say(rt, said, "; ");
-        }
     }
 
     fn lines(&mut self, rt: &impl Machine, said: &mut Vec<u8>) {
@@ -179,11 +122,21 @@ impl Frames {
     }
 }
 
-pub(crate) fn new_frames(rt: &impl AllocGlobal) -> Frames {
-    Frames {
-        framer: Framer::new(rt.alloc()),
-        line: Vec::new(rt.alloc()),
+/// Feeds pieces of each of some sizes of the stream, and takes all lines after each piece.
+fn pieces(rt: &impl Machine, stream: &[u8], said: &mut Vec<u8>) {
+    for size in [1, 2, 7, 19, 20, 64] {
+        let mut frames = new_frames(rt);
+        for piece in stream.chunks(size) {
+            frames.feed(rt, piece);
+            frames.lines(rt, said);
+        }
+        say(rt, said, "; ");
     }
+}
+
+pub(crate) fn new_frames(rt: &impl AllocGlobal) -> Frames {
+    let (framer, line) = (Framer::new(rt.alloc()), Vec::new(rt.alloc()));
+    Frames { framer, line }
 }
 
 #[test]
@@ -194,44 +147,22 @@ fn lines_are_read(rt: HostRuntime) {
         read BMSG  AAAB hi | UMSG | UMSG AB1 hi | FSCH AAAB ANx | FSCH AAAB +TCP ANx | FSCH AAAB TCP4 ANx | FSCH AAAB +tcp4 ANx -> Header
         read FSCH AAAB +TCP4- ANx | FSCH AAAB | DMSG AAAB | DMSG AAAB hi -> Header
         read BMSG AAAB<x20> | BMSG AAAB  hi | BMSG AAAB h<x0a>i | HSUP  ADBASE | BMSG AAAB a\xb<x20> -> Parameter
-        read EMSG AAAB AAAC \ | BMSG AAAB a\xb | BMSG AAAB \\\ -> Escape
-        read BMSG AAAB <xff> | <xff> | BMSG AAAB <xc3> -> NotUtf8
-        read BMSG AAAB <65527*a> -> TooLong
-        read BMSG AAAB <65526*a> -> Broadcast MSG AAAB - -;<65526*a>
+        read EMSG AAAB AAAC \ | BMSG AAAB a\xb | BMSG AAAB \\\ -> Escape | BMSG AAAB <xff> | <xff> | BMSG AAAB <xc3> -> NotUtf8
+        read BMSG AAAB <65527*a> -> TooLong | BMSG AAAB <65526*a> -> Broadcast MSG AAAB - -;<65526*a>
         == reads each type ==
-        read BMSG AAAB -> Broadcast MSG AAAB - -
-        read BMSG AAAB hi\sthere <xc3><xa9> PM<x0d> -> Broadcast MSG AAAB - -;hi\sthere;<xc3><xa9>;PM<x0d>
-        read BM1G AAAB x -> Broadcast M1G AAAB - -;x
-        read CSTA 000 ok -> Client STA - - -;000;ok
-        read DMSG AAAB AAAC yo -> Direct MSG AAAB AAAC -;yo
-        read EMSG AAAB 7777 \\ -> Echo MSG AAAB 7777 -;\\
-        read FSCH AAAB +TCP4-NAT0 ANx TO1 -> Feature SCH AAAB - +TCP4-NAT0;ANx;TO1
-        read HSUP ADBASE ADTIGR -> Hub SUP - - -;ADBASE;ADTIGR
-        read ISID AAAB -> Info SID - - -;AAAB
-        read UMSG ABC hi -> Udp MSG - - -;hi
+        read BMSG AAAB -> Broadcast MSG AAAB - - | BMSG AAAB hi\sthere <xc3><xa9> PM<x0d> -> Broadcast MSG AAAB - -;hi\sthere;<xc3><xa9>;PM<x0d>
+        read BM1G AAAB x -> Broadcast M1G AAAB - -;x | CSTA 000 ok -> Client STA - - -;000;ok
+        read DMSG AAAB AAAC yo -> Direct MSG AAAB AAAC -;yo | EMSG AAAB 7777 \\ -> Echo MSG AAAB 7777 -;\\
+        read FSCH AAAB +TCP4-NAT0 ANx TO1 -> Feature SCH AAAB - +TCP4-NAT0;ANx;TO1 | HSUP ADBASE ADTIGR -> Hub SUP - - -;ADBASE;ADTIGR
+        read ISID AAAB -> Info SID - - -;AAAB | UMSG ABC hi -> Udp MSG - - -;hi
         == escapes and back ==
-        escape <> -> <>
-        escape hi -> hi
-        escape adc-hub 1.0 -> adc-hub\s1.0
-        escape a<x0a>b -> a\nb
-        escape \ -> \\
-        escape <x20><x0a>\ -> \s\n\\
-        escape \s -> \\s
+        escape <> -> <> | hi -> hi | adc-hub 1.0 -> adc-hub\s1.0 | a<x0a>b -> a\nb | \ -> \\ | <x20><x0a>\ -> \s\n\\ | \s -> \\s
         escape <xc3><xa9> <xf0><x9f><x98><x80> -> <xc3><xa9>\s<xf0><x9f><x98><x80>
-        unescape <> -> <>
-        unescape hi -> hi
-        unescape adc-hub\s1.0 -> adc-hub 1.0
-        unescape a\nb -> a<x0a>b
-        unescape \\ -> \
-        unescape \s\n\\ -> <x20><x0a>\
-        unescape \\s -> \s
-        unescape <xc3><xa9>\s<xf0><x9f><x98><x80> -> <xc3><xa9> <xf0><x9f><x98><x80>
-        unescape \ | a\x | \S | a b | a<x0a>b | \\\ -> Escape
+        unescape <> -> <> | hi -> hi | adc-hub\s1.0 -> adc-hub 1.0 | a\nb -> a<x0a>b | \\ -> \ | \s\n\\ -> <x20><x0a>\ | \\s -> \s
+        unescape <xc3><xa9>\s<xf0><x9f><x98><x80> -> <xc3><xa9> <xf0><x9f><x98><x80> | \ | a\x | \S | a b | a<x0a>b | \\\ -> Escape
         == knows the names of features ==
-        name TCP4 | NAT0 | A000 | ZZZZ -> yes
-        name <> | TCP | TCP4X | tcp4 | 0TCP | TCP- | +TCP4 -> no
-        word +TCP4 | -NAT0 | +TCP4-NAT0 | +SEGA-SEGA -> yes
-        word <> | TCP4 | +tcp4 | +TCP | +TCP4- | +TCP4,NAT0 -> no
+        name TCP4 | NAT0 | A000 | ZZZZ -> yes | <> | TCP | TCP4X | tcp4 | 0TCP | TCP- | +TCP4 -> no
+        word +TCP4 | -NAT0 | +TCP4-NAT0 | +SEGA-SEGA -> yes | <> | TCP4 | +tcp4 | +TCP | +TCP4- | +TCP4,NAT0 -> no
     " }
 }
 

@@ -2,12 +2,9 @@ mod asks;
 pub(crate) mod denials;
 pub(crate) mod supports;
 
-use crate::rows::{Part, Row, rows, say, say_bytes, say_next, twenty_four, twice, unknown};
+use crate::rows::*;
 use adc_line::Kind;
-use login_state::{Check, Deny, Request, Stage, check_pass};
-use second_try::Machine;
-use std::alloc::AllocError;
-use std::process::Abort;
+use login_state::{Check, Deny, Stage, check_pass};
 
 /// Says how a check ends: the line of the denial, if any.
 fn say_check(rt: &impl Machine, said: &mut Vec<u8>, check: Check) {
@@ -19,9 +16,7 @@ fn say_check(rt: &impl Machine, said: &mut Vec<u8>, check: Check) {
 
 /// Says the line of a denial without its line feed. It is fatal where the first digit of its code is 2.
 fn say_denial(rt: &impl Machine, said: &mut Vec<u8>, deny: Deny) {
-    let Ok(line) = twice!(rt; "login_state::Deny::line", AllocError, deny.line(rt.alloc())) else {
-        unknown(rt, "line")
-    };
+    let line = got!(rt; "login_state::Deny::line", AllocError, deny.line(rt.alloc()));
     let Some((last, text)) = line.split_last() else {
         unknown(rt, "line")
     };
@@ -34,11 +29,19 @@ fn say_denial(rt: &impl Machine, said: &mut Vec<u8>, deny: Deny) {
 #[derive(Drop)]
 struct Stages;
 
+const STAGES: [Stage; 5] = [
+    Stage::Protocol,
+    Stage::Identify,
+    Stage::Verify,
+    Stage::Normal,
+    Stage::Gone,
+];
+
 impl Part for Stages {
     fn call(&mut self, rt: &impl Machine, row: Row<'_>, said: &mut Vec<u8>) {
         match row.name {
             "pass" => pass(rt, row.bytes, said),
-            _ => say_requests(rt, stage(rt, row.name), row.text, said),
+            name => say_requests(rt, named(rt, name, &STAGES), row.text, said),
         }
     }
 }
@@ -49,66 +52,41 @@ fn pass(rt: &impl Machine, bytes: &[u8], said: &mut Vec<u8>) {
     say_check(rt, said, check_pass(digest, twenty_four(bytes)));
 }
 
-fn stage(rt: &impl Abort, name: &str) -> Stage {
-    match name {
-        "Protocol" => Stage::Protocol,
-        "Identify" => Stage::Identify,
-        "Verify" => Stage::Verify,
-        "Normal" => Stage::Normal,
-        "Gone" => Stage::Gone,
-        _ => unknown(rt, name),
+/// Tells the kind of a line by its head, as `BMSG`.
+fn kind(rt: &impl Abort, head: &str) -> Kind {
+    match head.as_bytes().first() {
+        Some(b'B') => Kind::Broadcast,
+        Some(b'C') => Kind::Client,
+        Some(b'D') => Kind::Direct,
+        Some(b'E') => Kind::Echo,
+        Some(b'F') => Kind::Feature,
+        Some(b'H') => Kind::Hub,
+        Some(b'I') => Kind::Info,
+        Some(b'U') => Kind::Udp,
+        _ => unknown(rt, head),
     }
 }
 
-fn kind(rt: &impl Abort, letter: &str) -> Kind {
-    match letter {
-        "B" => Kind::Broadcast,
-        "C" => Kind::Client,
-        "D" => Kind::Direct,
-        "E" => Kind::Echo,
-        "F" => Kind::Feature,
-        "H" => Kind::Hub,
-        "I" => Kind::Info,
-        "U" => Kind::Udp,
-        _ => unknown(rt, letter),
+fn command(rt: &impl Abort, head: &str) -> [u8; 3] {
+    match head.as_bytes() {
+        [_, a, b, c] => [*a, *b, *c],
+        _ => unknown(rt, head),
     }
 }
 
-fn command(rt: &impl Abort, word: &str) -> [u8; 3] {
-    match word.as_bytes() {
-        [a, b, c] => [*a, *b, *c],
-        _ => unknown(rt, word),
-    }
-}
-
-/// Says of each of some heads of lines, as `BMSG`, what it asks for at a stage, or with which code it is denied.
+/// Says of each of some heads of lines what it asks for at a stage, or with which code it is denied.
 fn say_requests(rt: &impl Machine, stage: Stage, heads: &str, said: &mut Vec<u8>) {
     for head in heads.split(' ') {
-        let (Some(letter), Some(word)) = (head.get(..1), head.get(1..)) else {
-            unknown(rt, head)
-        };
-        match stage.request(kind(rt, letter), command(rt, word)) {
-            Ok(request) => say_next(rt, said, request_name(request)),
-            Err(Deny::Protocol) => say_next(rt, said, "140"),
-            Err(Deny::BadStage(first)) if first.as_slice() == head.as_bytes() => say_next(
-                rt, said, "144",
-            ),
+        say_next(rt, said, "");
+        match stage.request(kind(rt, head), command(rt, head)) {
+            Ok(request) => say_shown(rt, said, &request),
+            Err(Deny::Protocol) => say(rt, said, "140"),
+            Err(Deny::BadStage(first)) => {
+                assert!(rt; first.as_slice() == head.as_bytes(), "{head}");
+                say(rt, said, "144");
+            }
             Err(_) => unknown(rt, head),
         }
-    }
-}
-
-fn request_name(request: Request) -> &'static str {
-    match request {
-        Request::Greeting => "Greeting",
-        Request::Login => "Login",
-        Request::Password => "Password",
-        Request::Update => "Update",
-        Request::Support => "Support",
-        Request::Act => "Act",
-        Request::Search => "Search",
-        Request::Message => "Message",
-        Request::Nothing => "Nothing",
     }
 }
 
@@ -116,8 +94,7 @@ fn request_name(request: Request) -> &'static str {
 fn stages_ask(rt: HostRuntime) {
     rows! { rt, Stages, r"
         == lets in with the password ==
-        pass secret<18*x00> -> Go
-        pass <24*x00> | <> -> ISTA 223 Invalid\spassword
+        pass secret<18*x00> -> Go | <24*x00> | <> -> ISTA 223 Invalid\spassword
         == asks by stage ==
         Protocol HSUP HSTA HPAS HINF HMSG HQUI -> Greeting Nothing 144 144 144 144
         Protocol BINF BMSG BSUP DMSG EMSG FSCH CSUP ISUP UMSG -> 144 144 144 144 144 144 140 140 140

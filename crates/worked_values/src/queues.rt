@@ -1,16 +1,10 @@
 ghost use Rattle.std.specs.Prelude.{◌≤◌};
 
-use crate::rows::{
-    Part, Row, number, pair, play, rows, say, say_bytes, say_number, say_refused_memory, small,
-    twice, unknown,
-};
+use crate::rows::*;
 use adc_base32::Sid;
 use bytes::Bytes;
 use outboxes::{Batch, Outbox, OutboxRefused, PLACE_BYTES, TakeRefused, Taken, quit_line};
-use second_try::{Machine, again};
-use std::alloc::{AllocError, Global};
 use std::mem::size_of;
-use std::process::Abort;
 
 /// An outbox, and all that was taken out of it.
 #[derive(Drop)]
@@ -52,11 +46,7 @@ fn room(rt: &impl Machine, text: &str) -> Outbox {
 }
 
 pub(crate) fn outbox(rt: &impl Machine, cap: usize, bytes: usize) -> Outbox {
-    match twice!(rt; "outboxes::Outbox::new", OutboxRefused::Memory, Outbox::new(rt.alloc(), cap, bytes))
-    {
-        Ok(outbox) => outbox,
-        Err(_) => unknown(rt, "room"),
-    }
+    got!(rt; "outboxes::Outbox::new", OutboxRefused::Memory, Outbox::new(rt.alloc(), cap, bytes))
 }
 
 /// Makes a batch of lines, each with its line feed, between `;`.
@@ -89,20 +79,11 @@ fn push(rt: &impl Machine, batch: &mut Batch, line: &Bytes) {
 
 /// Makes a batch of the same lines, by way of another.
 fn copy_of(rt: &impl Machine, batch: &Batch) -> Batch {
-    let shared = shared(rt, batch);
+    let shared = got!(rt; "outboxes::Batch::share", AllocError, batch.share());
     let mut copy = Batch::new(rt.alloc());
-    if copy.push_all(&shared).is_err() {
-        say_refused_memory(rt, "outboxes::Batch::push_all", copy.is_empty());
-        assert!(rt; copy.push_all(&shared).is_ok(), "not pushed");
-    }
+    let call = "outboxes::Batch::push_all";
+    got!(rt; call, _, copy.is_empty(), copy.push_all(&shared));
     copy
-}
-
-fn shared(rt: &impl Machine, batch: &Batch) -> Batch {
-    match twice!(rt; "outboxes::Batch::share", AllocError, batch.share()) {
-        Ok(shared) => shared,
-        Err(_) => unknown(rt, "shares_again"),
-    }
 }
 
 impl Queue {
@@ -117,10 +98,8 @@ impl Queue {
     fn shows(&self, rt: &impl Machine, count: usize, said: &mut Vec<u8>) {
         let count = count.min(self.outbox.waiting() as usize);
         let mut shown = Vec::new(rt.alloc());
-        if self.outbox.write(count, &mut shown).is_err() {
-            say_refused_memory(rt, "outboxes::Outbox::write", shown.is_empty());
-            assert!(rt; self.outbox.write(count, &mut shown).is_ok(), "not written");
-        }
+        let call = "outboxes::Outbox::write";
+        got!(rt; call, _, shown.is_empty(), self.outbox.write(count, &mut shown));
         say_bytes(rt, said, &shown);
     }
 
@@ -146,27 +125,10 @@ impl Queue {
         requires some { 1 ≤ count }
         requires few { count ≤ 256 }
     {
-        let (waiting, lagging, length) = (
-            self.outbox.waiting(),
-            self.outbox.lagging(),
-            self.taken.len(),
-        );
-        let answer = match self.outbox.take(count, &mut self.taken) {
-            Err(TakeRefused::Memory) => {
-                let same = self.outbox.waiting() == waiting && self.outbox.lagging() == lagging;
-                say_refused_memory(
-                    rt,
-                    "outboxes::Outbox::take",
-                    same && self.taken.len() == length,
-                );
-                self.outbox.take(count, &mut self.taken)
-            }
-            answer => answer,
-        };
-        match answer {
-            Ok(taken) => taken,
-            Err(_) => unknown(rt, "takes"),
-        }
+        let call = "outboxes::Outbox::take";
+        got!(rt; call, TakeRefused::Memory,
+            (self.outbox.waiting(), self.outbox.lagging(), self.taken.len()),
+            self.outbox.take(count, &mut self.taken))
     }
 
     /// Gives a line of so many bytes, letters and a line feed, so many times, to an outbox for 1,024 lines of 1,048,576 bytes.
@@ -195,12 +157,10 @@ impl Queue {
 }
 
 /// Says the lines of a batch.
-fn writes(rt: &impl Machine, batch: &Batch, said: &mut Vec<u8>) {
+pub(crate) fn writes(rt: &impl Machine, batch: &Batch, said: &mut Vec<u8>) {
     let mut written = Vec::new(rt.alloc());
-    if batch.write(&mut written).is_err() {
-        say_refused_memory(rt, "outboxes::Batch::write", written.is_empty());
-        assert!(rt; batch.write(&mut written).is_ok(), "not written");
-    }
+    let call = "outboxes::Batch::write";
+    got!(rt; call, _, written.is_empty(), batch.write(&mut written));
     say_bytes(rt, said, &written);
 }
 
@@ -212,12 +172,8 @@ fn letters(alloc: Global, length: usize) -> Result<Bytes, AllocError> {
 }
 
 pub(crate) fn play_queue<R: Machine>(rt: &R, rows: &str) {
-    let outbox = outbox(rt, 1, 1);
-    let mut queue = Queue {
-        outbox,
-        taken: Vec::new(rt.alloc()),
-    };
-    play(rt, &mut queue, rows);
+    let (outbox, taken) = (outbox(rt, 1, 1), Vec::new(rt.alloc()));
+    play(rt, &mut Queue { outbox, taken }, rows);
 }
 
 #[test]
@@ -225,51 +181,40 @@ fn lines_wait_and_are_taken(rt: HostRuntime) {
     rows! { play_queue(rt) "
         == adds a share whole or not at all ==
         room 2 1000 -> 0
-        shares BMSG AAAB a -> 1
-        shares BMSG AAAB b;BMSG AAAB c | BMSG AAAB d | <> -> 1 lagging
+        shares BMSG AAAB a -> 1 | BMSG AAAB b;BMSG AAAB c | BMSG AAAB d | <> -> 1 lagging
         quits 1 -> 1 lagging
         takes 1 -> 1 last;BMSG AAAB a<x0a>
         shares <> -> 0 lagging
         == writes quits as lines ==
         line 1 -> IQUI AAAB<x0a>
         room 4 1000 -> 0
-        quits 1 -> 1
-        quits 2 -> 2
+        quits 1 -> 1 | 2 -> 2
         shares BMSG AAAB hi;ISTA 000 Done -> 4
-        takes 1 -> 1;IQUI AAAB<x0a>
-        takes 2 -> 2;IQUI AAAB<x0a>IQUI AAAC<x0a>BMSG AAAB hi<x0a>
+        takes 1 -> 1;IQUI AAAB<x0a> | 2 -> 2;IQUI AAAB<x0a>IQUI AAAC<x0a>BMSG AAAB hi<x0a>
         takes 256 -> 1;IQUI AAAB<x0a>IQUI AAAC<x0a>BMSG AAAB hi<x0a>ISTA 000 Done<x0a>
         takes 256 -> 0;IQUI AAAB<x0a>IQUI AAAC<x0a>BMSG AAAB hi<x0a>ISTA 000 Done<x0a>
         == shows lines and keeps them ==
         room 4 1000 -> 0
         shares BMSG AAAB a;BMSG AAAB b -> 2
         quits 1 -> 3
-        shows 2 -> BMSG AAAB a<x0a>BMSG AAAB b<x0a>
-        shows 256 -> BMSG AAAB a<x0a>BMSG AAAB b<x0a>IQUI AAAB<x0a>
+        shows 2 -> BMSG AAAB a<x0a>BMSG AAAB b<x0a> | 256 -> BMSG AAAB a<x0a>BMSG AAAB b<x0a>IQUI AAAB<x0a>
         takes 1 -> 1;BMSG AAAB a<x0a>
         shows 1 -> BMSG AAAB b<x0a>
         writes BMSG AAAB a;BMSG AAAB b -> BMSG AAAB a<x0a>BMSG AAAB b<x0a>
         == counts ten bytes for a quit ==
         // A row has how many lines and bytes may wait, and how many of three quits do.
         room 2 10 -> 0
-        quits 1 -> 1
-        quits 1 | 1 -> 1 lagging
+        quits 1 -> 1 | 1 | 1 -> 1 lagging
         room 2 9 -> 0
         quits 1 | 1 | 1 -> 0 lagging
         room 2 19 -> 0
-        quits 1 -> 1
-        quits 1 | 1 -> 1 lagging
+        quits 1 -> 1 | 1 | 1 -> 1 lagging
         room 2 20 -> 0
-        quits 1 -> 1
-        quits 1 -> 2
-        quits 1 -> 2 lagging
+        quits 1 -> 1 | 1 -> 2 | 1 -> 2 lagging
         room 1 20 -> 0
-        quits 1 -> 1
-        quits 1 | 1 -> 1 lagging
+        quits 1 -> 1 | 1 | 1 -> 1 lagging
         room 3 30 -> 0
-        quits 1 -> 1
-        quits 1 -> 2
-        quits 1 -> 3
+        quits 1 -> 1 | 1 -> 2 | 1 -> 3
         == has room again after a take ==
         room 2 24 -> 0
         shares BMSG AAAB a;BMSG AAAB b -> 2

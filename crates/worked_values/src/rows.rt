@@ -1,13 +1,14 @@
 //! Rows that are told as text: a call, ` -> ` and what it answers. Blank lines, blanks around a row, and lines that begin with `//` say
-//! nothing. A row whose answer is
-//! another stops the test.
+//! nothing. A row whose answer is another stops the test.
 //!
-//! A call is a name and what it is given; calls that are answered alike may stand in one row, with ` | ` between what they are given.
-//! What is given and what is answered are spelled as in conversations: `second_try::spell` tells how.
+//! A call is a name and what it is given. Calls of one name may stand in one row, as `sid 0 -> AAAA | 1 -> AAAB`; one without an answer is answered
+//! like the next. What is given and what is answered are spelled as in conversations: `second_try::spell` tells how.
 
-use second_try::{Machine, again, tell};
-use std::alloc::{AllocError, Global};
-use std::process::Abort;
+use second_try::tell;
+pub(crate) use second_try::{Machine, again};
+pub(crate) use std::alloc::{AllocError, AllocGlobal, Global};
+use std::fmt::Debug;
+pub(crate) use std::process::Abort;
 
 /// A call of a row: its name, and what it is given as bytes, and as text where it is UTF-8, else "".
 #[derive(Clone, Copy)]
@@ -59,19 +60,26 @@ pub(crate) fn play<R: Machine, P: Part>(rt: &R, part: &mut P, rows: &str) {
 }
 
 fn play_row<R: Machine, P: Part>(rt: &R, part: &mut P, row: &str) {
-    let Some((calls, answer)) = row.split_once(" -> ") else {
-        unknown(rt, row)
-    };
-    let wanted = spell(rt, rt.alloc(), answer);
-    let (name, all) = pair(calls, ' ');
-    for given in all.split(" | ") {
-        let said = answer_to(rt, part, name, given);
-        if said != wanted {
+    let (name, calls) = pair(row, ' ');
+    for (place, call) in calls.split(" | ").enumerate() {
+        let (given, _) = call.split_once("-> ").unwrap_or((call, ""));
+        let said = answer_to(rt, part, name, given.strip_suffix(' ').unwrap_or(given));
+        if said != spell(rt, rt.alloc(), answer_of(rt, calls, place)) {
             is_another(rt, row, &said);
         }
-        drop(said);
     }
-    drop(wanted);
+}
+
+/// Gives the answer of a call of a row: its own, or that of the next that has one.
+fn answer_of<'a>(rt: &impl Abort, calls: &'a str, place: usize) -> &'a str {
+    for (number, call) in calls.split(" | ").enumerate() {
+        if number >= place
+            && let Some((_, answer)) = call.split_once("-> ")
+        {
+            return answer;
+        }
+    }
+    unknown(rt, calls)
 }
 
 /// Makes a call, and gives what it answers.
@@ -84,7 +92,6 @@ fn answer_to<R: Machine, P: Part>(rt: &R, part: &mut P, name: &str, given: &str)
         bytes: &bytes,
     };
     part.call(rt, row, &mut said);
-    drop(bytes);
     said
 }
 
@@ -101,10 +108,7 @@ fn is_another(rt: &impl Abort, row: &str, said: &[u8]) -> ! {
 
 /// Splits a text at the first such letter; nothing is behind it where it does not stand there.
 pub(crate) fn pair(text: &str, at: char) -> (&str, &str) {
-    match text.split_once(at) {
-        Some(both) => both,
-        None => (text, ""),
-    }
+    text.split_once(at).unwrap_or((text, ""))
 }
 
 /// Gives the bytes that a text spells.
@@ -142,10 +146,7 @@ pub(crate) fn byte(rt: &impl Abort, text: &str) -> u8 {
 }
 
 pub(crate) fn twenty_four(bytes: &[u8]) -> Option<[u8; 24]> {
-    match bytes.try_into() {
-        Ok(bytes) => Some(bytes),
-        Err(_) => None,
-    }
+    bytes.try_into().ok()
 }
 
 pub(crate) fn say_bytes(rt: &impl Abort, said: &mut Vec<u8>, bytes: &[u8]) {
@@ -171,13 +172,34 @@ pub(crate) fn say_next(rt: &impl Abort, said: &mut Vec<u8>, text: &str) {
 }
 
 pub(crate) fn say_number(rt: &impl Machine, said: &mut Vec<u8>, number: u128) {
-    let digits = again!(rt; decimal(rt.alloc(), number));
+    let digits = again!(rt; shown(rt.alloc(), &number));
     say_next(rt, said, &digits);
-    drop(digits);
 }
 
-fn decimal(alloc: Global, number: u128) -> Result<String, AllocError> {
-    format!(in alloc; "{number}")
+/// Says a value by its name in the code.
+pub(crate) fn say_shown<T: Debug>(rt: &impl Machine, said: &mut Vec<u8>, value: &T) {
+    let text = again!(rt; shown(rt.alloc(), value));
+    say(rt, said, &text);
+}
+
+fn shown<T: Debug>(alloc: Global, value: &T) -> Result<String, AllocError> {
+    format!(in alloc; "{value:?}")
+}
+
+/// Says the bytes, or that there are none.
+pub(crate) fn say_any(rt: &impl Abort, said: &mut Vec<u8>, bytes: Option<&[u8]>) {
+    say_bytes(rt, said, bytes.unwrap_or(b"none"));
+}
+
+/// Finds the value that has this name in the code.
+pub(crate) fn named<T: Copy + Debug>(rt: &impl Machine, name: &str, values: &[T]) -> T {
+    for value in values {
+        let shown = again!(rt; shown(rt.alloc(), value));
+        if shown.as_str() == name {
+            return *value;
+        }
+    }
+    unknown(rt, name)
 }
 
 /// Tells that a call was refused memory, and stops the test where that changed something.
@@ -186,17 +208,34 @@ pub(crate) fn say_refused_memory(rt: &impl Machine, call: &str, is_unchanged: bo
     assert!(rt; is_unchanged, "{call}: a refusal changed something");
 }
 
-/// Makes a call once more where memory was refused. Whatever else it answers stands.
+/// Makes a call once more where memory was refused, which changes nothing that is seen. Whatever else it answers stands.
 macro_rules! twice {
     ($rt:expr; $name:expr, $memory:pat, $call:expr) => {
+        crate::rows::twice!($rt; $name, $memory, true, $call)
+    };
+    ($rt:expr; $name:expr, $memory:pat, $seen:expr, $call:expr) => {{
+        let before = $seen;
         match $call {
             Err($memory) => {
-                crate::rows::say_refused_memory($rt, $name, true);
+                let seen = $seen;
+                crate::rows::say_refused_memory($rt, $name, seen == before);
                 $call
             }
             answer => answer,
         }
-    };
+    }};
 }
 
 pub(crate) use twice;
+
+/// Makes a call that has to succeed, as [`twice`] does.
+macro_rules! got {
+    ($rt:expr; $name:expr, $memory:pat, $($rest:expr),+) => {
+        match crate::rows::twice!($rt; $name, $memory, $($rest),+) {
+            Ok(value) => value,
+            Err(_) => crate::rows::unknown($rt, $name),
+        }
+    };
+}
+
+pub(crate) use got;

@@ -1,9 +1,7 @@
-use crate::rows::{Part, Row, number, pair, rows, say_whether};
+use crate::rows::*;
 use search_pass::may_search;
-use second_try::Machine;
 
-/// The rows of whether a user may search: each has the moment of the last search, the present moment and the interval, all
-/// in seconds.
+/// The rows of whether a user may search: each has the moment of the last search, the present moment and the interval, all in seconds.
 #[derive(Drop)]
 struct Searches;
 
@@ -14,11 +12,8 @@ impl Part for Searches {
             "never" => None,
             _ => Some(number(rt, row.name)),
         };
-        say_whether(
-            rt,
-            said,
-            may_search(last, number(rt, now), number(rt, interval)),
-        );
+        let (now, interval) = (number(rt, now), number(rt, interval));
+        say_whether(rt, said, may_search(last, now, interval));
     }
 }
 
@@ -26,10 +21,7 @@ impl Part for Searches {
 fn keeps_searches_apart(rt: HostRuntime) {
     rows! { rt, Searches, "
         never 0 10 -> yes
-        5 14 10 -> no
-        5 15 10 -> yes
-        5 3 10 -> no
-        5 3 0 -> yes
+        5 14 10 -> no | 15 10 -> yes | 3 10 -> no | 3 0 -> yes
         0 9 10 -> no
         18446744073709551614 18446744073709551615 1 -> yes
         18446744073709551615 0 18446744073709551615 -> no

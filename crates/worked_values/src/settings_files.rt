@@ -1,11 +1,5 @@
-use crate::rows::{
-    Part, Row, pair, play, rows, say, say_number, say_whether, small, twice, unknown,
-};
-use hub_settings::{HashName, Settings, SettingsFault, read_settings};
-use second_try::{Machine, again};
-use std::alloc::{AllocError, Global};
-use std::net::{Ipv4Addr, SocketAddrV4};
-use std::process::Abort;
+use crate::rows::*;
+use hub_settings::{Settings, SettingsFault, read_settings};
 
 /// The settings that a file says, which is read at the moment 7.
 #[derive(Drop)]
@@ -19,7 +13,8 @@ impl Part for File {
             "read" => self.read(rt, row.text, said),
             "list" => self.list(rt, row.text, said),
             "hub" => self.say_hub(rt, row.text, said),
-            _ => self.say_program(rt, row.name, said),
+            "program" => self.say_program(rt, row.text, said),
+            _ => unknown(rt, row.name),
         }
     }
 }
@@ -27,13 +22,8 @@ impl Part for File {
 /// Reads a text, in which `;` stands for the end of a line.
 fn read(rt: &impl Machine, text: &str) -> Result<Settings, SettingsFault> {
     let mut lines = again!(rt; String::with_capacity(rt.alloc(), text.len()));
-    let mut is_first = true;
-    for line in text.split(';') {
-        if !is_first {
-            again!(rt; lines.push_str("\n"));
-        }
-        is_first = false;
-        again!(rt; lines.push_str(line));
+    for c in text.chars() {
+        again!(rt; lines.push(if c == ';' { '\n' } else { c }));
     }
     twice!(rt; "hub_settings::read_settings", SettingsFault::Memory, read_settings(rt.alloc(), &lines, 7))
 }
@@ -57,8 +47,7 @@ impl File {
     /// Reads so many accounts or commands, which have numbers for names.
     fn list(&mut self, rt: &impl Machine, text: &str, said: &mut Vec<u8>) {
         let (count, what) = pair(text, ' ');
-        let count = small(rt, count);
-        let text = again!(rt; write_entries(rt.alloc(), count, what));
+        let text = again!(rt; write_entries(rt.alloc(), small(rt, count), what));
         self.read(rt, &text, said);
     }
 
@@ -79,29 +68,19 @@ impl File {
         }
     }
 
-    fn say_program(&self, rt: &impl Machine, name: &str, said: &mut Vec<u8>) {
-        match name {
-            "listen" => say_address(rt, said, self.settings.listen()),
-            "hash" => match self.settings.hash() {
-                HashName::Tiger => say(rt, said, "Tiger"),
-                HashName::First24 => say(rt, said, "First24"),
-            },
+    fn say_program(&self, rt: &impl Machine, text: &str, said: &mut Vec<u8>) {
+        match text {
+            "listen" => {
+                let address = self.settings.listen();
+                say(rt, said, &again!(rt; format!(in rt.alloc(); "{address}")));
+            }
+            "hash" => say_shown(rt, said, &self.settings.hash()),
             "tables" => say(rt, said, self.settings.tables()),
             "threads" => say_number(rt, said, self.settings.threads() as u128),
             "stop_after" => say_number(rt, said, self.settings.stop_after() as u128),
             "seed_file" => say(rt, said, self.settings.seed_file()),
-            _ => unknown(rt, name),
+            _ => unknown(rt, text),
         }
-    }
-}
-
-fn say_address(rt: &impl Abort, said: &mut Vec<u8>, address: SocketAddrV4) {
-    if address == SocketAddrV4::new(Ipv4Addr::new(127, 0, 0, 1), 4111) {
-        say(rt, said, "127.0.0.1:4111");
-    } else if address == SocketAddrV4::new(Ipv4Addr::new(0, 0, 0, 0), 65535) {
-        say(rt, said, "0.0.0.0:65535");
-    } else {
-        say(rt, said, "another");
     }
 }
 
@@ -126,57 +105,36 @@ pub(crate) fn play_file<R: Machine>(rt: &R, rows: &str) {
 }
 
 #[test]
-fn an_empty_text_gives_the_defaults(rt: HostRuntime) {
+fn settings_are_read(rt: HostRuntime) {
     rows! { play_file(rt) r#"
+        == an empty text gives the defaults ==
         read <> -> ok
-        listen -> 127.0.0.1:4111
-        hash -> Tiger
-        tables -> tiger.bin
-        threads -> 2
-        stop_after -> 0
-        seed_file -> /dev/urandom
-        hub name -> Hub
-        hub topic -> <>
-        hub max_users -> 512
-        hub search_interval -> 0
-        hub registered_only -> no
-        hub opening -> 7
-    "# }
-}
-
-#[test]
-fn a_text_that_is_no_toml(rt: HostRuntime) {
-    rows! { play_file(rt) r#"
-        read a = <> | name | name = "a";name = "b" -> Text
+        program listen -> 127.0.0.1:4111 | hash -> Tiger | tables -> tiger.bin | threads -> 2 | stop_after -> 0 | seed_file -> /dev/urandom
+        hub name -> Hub | topic -> <> | max_users -> 512 | search_interval -> 0 | registered_only -> no | opening -> 7
+        == every key is read ==
+        read name = "My hub";topic = "All";listen = "0.0.0.0:65535";hash = "first24";tables = "t";registered_only = true;search_interval = 4294967295;max_users = 900;threads = 64;stop_after = 65536;seed_file = "s";[[account]];nick = "op";password = "secret";operator = true;[[account]];nick = "reg";password = "x";[[command]];name = "Help";context = 15;text = "HMSG !help";separator = false;[[command]];name = "Sep";context = 2;separator = true -> ok
+        program listen -> 0.0.0.0:65535 | hash -> First24 | tables -> t | seed_file -> s | threads -> 64 | stop_after -> 65536
+        hub name -> My hub | topic -> All | max_users -> 900 | search_interval -> 4294967295 | registered_only | operator op -> yes
+        hub operator reg -> no
     "# }
 }
 
 #[test]
 fn each_fault_is_named_by_its_key(rt: HostRuntime) {
     rows! { play_file(rt) r#"
-        read name = "" | name = 1 -> key name
-        read topic = [] -> key topic
+        == no TOML ==
+        read a = <> | name | name = "a";name = "b" -> Text
+        == keys ==
+        read name = "" | name = 1 -> key name | topic = [] -> key topic
         read listen = "127.0.0.1" | listen = "localhost:4111" | listen = "127.0.0.1:65536" | listen = "256.0.0.1:4111" -> key listen
-        read listen = "[::1]:4111" | listen = 4111 -> key listen
-        read hash = "md5" | hash = "Tiger" | hash = true -> key hash
-        read tables = 1 -> key tables
-        read registered_only = "yes" | registered_only = 1 -> key registered_only
+        read listen = "[::1]:4111" | listen = 4111 -> key listen | hash = "md5" | hash = "Tiger" | hash = true -> key hash
+        read tables = 1 -> key tables | registered_only = "yes" | registered_only = 1 -> key registered_only
         read search_interval = -1 | search_interval = 4294967296 | search_interval = "10" -> key search_interval
-        read max_users = 0 | max_users = 901 | max_users = 1.0 -> key max_users
-        read threads = 0 | threads = 65 -> key threads
-        read stop_after = -1 | stop_after = 65537 -> key stop_after
-        read seed_file = 1 -> key seed_file
-        read nam = "x" -> key nam
-        read b = 1;a = 1;B = 1 -> key B
-        read max_users = 901;threads = 65;name = "" -> key name
-        read stop_after = -1;hash = 1;a = 1 -> key hash
+        read max_users = 0 | max_users = 901 | max_users = 1.0 -> key max_users | threads = 0 | threads = 65 -> key threads
+        read stop_after = -1 | stop_after = 65537 -> key stop_after | seed_file = 1 -> key seed_file | nam = "x" -> key nam
+        read b = 1;a = 1;B = 1 -> key B | max_users = 901;threads = 65;name = "" -> key name | stop_after = -1;hash = 1;a = 1 -> key hash
         read a = 1;seed_file = 1 -> key seed_file
-    "# }
-}
-
-#[test]
-fn each_fault_of_a_list_is_named_by_its_key(rt: HostRuntime) {
-    rows! { play_file(rt) r#"
+        == lists ==
         read account = 1 | account = [1] | [account];nick = "a";password = "p" | [[account]];nick = "a" | [[account]];password = "p" -> key account
         read [[account]];nick = "a";password = "" | [[account]];nick = "";password = "p" | [[account]];nick = "a b";password = "p" -> key account
         read [[account]];nick = "a";password = 1 | [[account]];nick = "a";password = "p";operator = 1 -> key account
@@ -187,42 +145,7 @@ fn each_fault_of_a_list_is_named_by_its_key(rt: HostRuntime) {
         read [[command]];name = "n";context = 16;text = "t" | [[command]];name = "n";context = 1 -> key command
         read [[command]];name = "n";context = 1;separator = false | [[command]];name = "n";context = 1;text = "t";separator = true -> key command
         read [[command]];name = "n";context = 1;text = 1 | [[command]];name = "n";context = 1;text = "t";key = 1 -> key command
-        read command = 1;[[account]];nick = "a b";password = "p" -> key account
-        read a = 1;command = 1 -> key command
-    "# }
-}
-
-#[test]
-fn accounts_have_a_limit(rt: HostRuntime) {
-    rows! { play_file(rt) r#"
-        list 32 accounts -> ok
-        list 33 accounts -> key account
-    "# }
-}
-
-#[test]
-fn commands_have_a_limit(rt: HostRuntime) {
-    rows! { play_file(rt) r#"
-        list 64 commands -> ok
-        list 65 commands -> key command
-    "# }
-}
-
-#[test]
-fn every_key_is_read(rt: HostRuntime) {
-    rows! { play_file(rt) r#"
-        read name = "My hub";topic = "All";listen = "0.0.0.0:65535";hash = "first24";tables = "t";registered_only = true;search_interval = 4294967295;max_users = 900;threads = 64;stop_after = 65536;seed_file = "s";[[account]];nick = "op";password = "secret";operator = true;[[account]];nick = "reg";password = "x";[[command]];name = "Help";context = 15;text = "HMSG !help";separator = false;[[command]];name = "Sep";context = 2;separator = true -> ok
-        listen -> 0.0.0.0:65535
-        hash -> First24
-        tables -> t
-        seed_file -> s
-        threads -> 64
-        stop_after -> 65536
-        hub name -> My hub
-        hub topic -> All
-        hub max_users -> 900
-        hub search_interval -> 4294967295
-        hub registered_only | operator op -> yes
-        hub operator reg -> no
+        read command = 1;[[account]];nick = "a b";password = "p" -> key account | a = 1;command = 1 -> key command
+        list 32 accounts -> ok | 33 accounts -> key account | 64 commands -> ok | 65 commands -> key command
     "# }
 }

@@ -2,15 +2,12 @@ pub(crate) mod given;
 pub(crate) mod prepared;
 pub(crate) mod texts;
 
-use crate::rows::{say_bytes, twice, unknown};
+use crate::rows::*;
 use bytes::Bytes;
 use hub_setup::{
     Account, Accounts, ListRefused, Menu, MenuEntry, MenuItem, Options, PlainOptions, Setup,
     SetupRefused,
 };
-use second_try::Machine;
-use std::alloc::AllocError;
-use std::process::Abort;
 
 /// Gives the options of a hub of this name, with no accounts and no menu, for one connection.
 fn options<'a>(name: &'a str) -> Options<'a> {
@@ -51,27 +48,17 @@ fn setup(rt: &impl Machine, options: &Options<'_>) -> Setup {
 /// Makes a setup of lists that have no fault.
 fn of_lists(rt: &impl Machine, accounts: &[Account<'_>], commands: &[MenuEntry<'_>]) -> Setup {
     let options = Options::named("Hub");
-    match twice!(rt; "hub_setup::Setup::with_lists", AllocError,
+    got!(rt; "hub_setup::Setup::with_lists", AllocError,
         Setup::with_lists(rt.alloc(), &options, accounts_of(rt, accounts), menu_of(rt, commands)))
-    {
-        Ok(setup) => setup,
-        Err(AllocError) => unknown(rt, "lists"),
-    }
 }
 
 fn accounts_of(rt: &impl Machine, accounts: &[Account<'_>]) -> Accounts {
-    match twice!(rt; "hub_setup::Accounts::new", ListRefused::Memory, Accounts::new(rt.alloc(), accounts))
-    {
-        Ok(accounts) => accounts,
-        Err(_) => unknown(rt, "accounts"),
-    }
+    let call = "hub_setup::Accounts::new";
+    got!(rt; call, ListRefused::Memory, Accounts::new(rt.alloc(), accounts))
 }
 
 fn menu_of(rt: &impl Machine, commands: &[MenuEntry<'_>]) -> Menu {
-    match twice!(rt; "hub_setup::Menu::new", ListRefused::Memory, Menu::new(rt.alloc(), commands)) {
-        Ok(menu) => menu,
-        Err(_) => unknown(rt, "menu"),
-    }
+    got!(rt; "hub_setup::Menu::new", ListRefused::Memory, Menu::new(rt.alloc(), commands))
 }
 
 /// Says a line without its line feed.

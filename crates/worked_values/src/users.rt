@@ -6,15 +6,9 @@ pub(crate) mod samples;
 use self::samples::{number_of, say_totals, say_user, say_users, sid, user};
 use crate::fields::update;
 use crate::identities::nick;
-use crate::rows::{
-    Part, Row, byte, number, pair, play, rows, say, say_bytes, say_number, say_refused_memory,
-    say_whether, small, unknown,
-};
+use crate::rows::*;
 use adc_ids::{Cid, Nick};
 use plain_users::PlainUsers;
-use second_try::Machine;
-use std::alloc::AllocGlobal;
-use std::process::Abort;
 use user_table::{IndexedUsers, TableRefused, User, Users, takes_update};
 
 /// The users who are present.
@@ -43,31 +37,20 @@ fn entering(rt: &impl Machine, text: &str) -> User {
     user(rt, small(rt, number), byte(rt, cid), name, line)
 }
 
-fn say_entering(rt: &impl Machine, text: &str, said: &mut Vec<u8>) {
-    let user = entering(rt, text);
-    say_user(rt, said, &user);
-    drop(user);
-}
-
 /// Reads a nick, unless the text is empty.
 pub(crate) fn nick_unless_empty(rt: &impl Machine, text: &str) -> Option<Nick> {
     if text.is_empty() {
-        return None;
+        None
+    } else {
+        Some(nick(rt, text))
     }
-    Some(nick(rt, text))
 }
 
-fn say_answer(rt: &impl Abort, said: &mut Vec<u8>, refused: Option<TableRefused>) {
-    say(
-        rt,
-        said,
-        match refused {
-            None => "ok",
-            Some(TableRefused::NickTaken) => "NickTaken",
-            Some(TableRefused::CidTaken) => "CidTaken",
-            Some(TableRefused::Memory) => "Memory",
-        },
-    );
+fn say_answer(rt: &impl Machine, said: &mut Vec<u8>, refused: Option<TableRefused>) {
+    match refused {
+        None => say(rt, said, "ok"),
+        Some(refused) => say_shown(rt, said, &refused),
+    }
 }
 
 fn say_found(rt: &impl Machine, said: &mut Vec<u8>, user: Option<&User>) {
@@ -84,8 +67,8 @@ impl<U: Users> UserTable<U> {
             "takes" => self.takes(rt, text, said),
             "order" => self.order(rt, said),
             "totals" => say_totals(rt, said, &self.users),
-            "user" => say_entering(rt, text, said),
-            "all" => self.all(rt, said),
+            "user" => say_user(rt, said, &entering(rt, text)),
+            "all" => say_bytes(rt, said, &say_users(rt, &self.users)),
             _ => self.looks(rt, name, text, said),
         }
     }
@@ -93,21 +76,16 @@ impl<U: Users> UserTable<U> {
     /// Enters a user. Each refusal changes nothing, and one for memory is not repeated.
     fn enters(&mut self, rt: &impl Machine, text: &str, said: &mut Vec<u8>) {
         let before = say_users(rt, &self.users);
-        let user = entering(rt, text);
-        let answer = match self.inserts(rt, user) {
-            Err((TableRefused::Memory, user)) => {
-                let same = self.is_said(rt, &before) && self.is_absent(&user);
-                say_refused_memory(rt, "user_table::Users::insert", same);
-                self.inserts_last(rt, user)
-            }
-            Err((refused, user)) => {
-                drop(user);
-                Some(refused)
-            }
-            Ok(()) => None,
-        };
-        self.answers(rt, answer, &before, said);
-        drop(before);
+        let mut answer = self.inserts(rt, entering(rt, text));
+        if let Err((TableRefused::Memory, user)) = answer {
+            let same = self.is_said(rt, &before) && self.is_absent(&user);
+            say_refused_memory(rt, "user_table::Users::insert", same);
+            answer = self.inserts(rt, user);
+        }
+        match answer {
+            Ok(()) => say_answer(rt, said, None),
+            Err((refused, _)) => self.answers(rt, Some(refused), &before, said),
+        }
     }
 
     /// Says an answer. Each refusal changes nothing.
@@ -118,19 +96,14 @@ impl<U: Users> UserTable<U> {
         before: &[u8],
         said: &mut Vec<u8>,
     ) {
-        if answer.is_some() {
-            let same = self.is_said(rt, before);
-            assert!(rt; same, "a refusal changed something");
-        }
+        let same = answer.is_none() || self.is_said(rt, before);
+        assert!(rt; same, "a refusal changed something");
         say_answer(rt, said, answer);
     }
 
     /// Answers whether this is said of the users.
     fn is_said(&self, rt: &impl Machine, before: &[u8]) -> bool {
-        let text = say_users(rt, &self.users);
-        let same = text.as_slice() == before;
-        drop(text);
-        same
+        say_users(rt, &self.users).as_slice() == before
     }
 
     fn is_absent(&self, user: &User) -> bool {
@@ -146,38 +119,14 @@ impl<U: Users> UserTable<U> {
         self.users.insert(user)
     }
 
-    /// Inserts a user, who is let go where that is refused.
-    fn inserts_last(&mut self, rt: &impl Abort, user: User) -> Option<TableRefused> {
-        match self.inserts(rt, user) {
-            Ok(()) => None,
-            Err((refused, user)) => {
-                drop(user);
-                Some(refused)
-            }
-        }
-    }
-
-    fn all(&self, rt: &impl Machine, said: &mut Vec<u8>) {
-        let text = say_users(rt, &self.users);
-        say_bytes(rt, said, &text);
-        drop(text);
-    }
-
     /// Says a line for the user with a number, who gets a nick unless that is empty. Each refusal changes nothing, and one
     /// for memory is not repeated.
     fn says(&mut self, rt: &impl Machine, text: &str, name: &str, said: &mut Vec<u8>) {
         let before = say_users(rt, &self.users);
-        let holder = self.holder(name);
-        let answer = match self.merges(rt, text, name) {
-            Some(TableRefused::Memory) => {
-                let same = self.is_said(rt, &before) && self.holder(name) == holder;
-                say_refused_memory(rt, "user_table::Users::merge_info", same);
-                self.merges(rt, text, name)
-            }
-            answer => answer,
-        };
-        self.answers(rt, answer, &before, said);
-        drop(before);
+        let call = "user_table::Users::merge_info";
+        let answer = twice!(rt; call, TableRefused::Memory,
+            (say_users(rt, &self.users), self.holder(name)), self.merges(rt, text, name));
+        self.answers(rt, answer.err(), &before, said);
     }
 
     /// Gives the number of who has a nick.
@@ -185,16 +134,14 @@ impl<U: Users> UserTable<U> {
         number_of(self.users.by_nick(name))
     }
 
-    fn merges(&mut self, rt: &impl Machine, text: &str, name: &str) -> Option<TableRefused> {
+    fn merges(&mut self, rt: &impl Machine, text: &str, name: &str) -> Result<(), TableRefused> {
         let (number, line) = pair(text, ' ');
         let (sid, update) = (sid(rt, small(rt, number)), update(rt, line));
         if !takes_update(&self.users, sid, &update) {
             unknown(rt, "no room");
         }
         let given = nick_unless_empty(rt, name);
-        let answer = self.users.merge_info(sid, &update, given).err();
-        drop(update);
-        answer
+        self.users.merge_info(sid, &update, given)
     }
 
     /// Says for a user the line behind a nick, which the user gets.
@@ -206,14 +153,12 @@ impl<U: Users> UserTable<U> {
     fn leaves(&mut self, rt: &impl Machine, number: u32, said: &mut Vec<u8>) {
         let left = self.users.remove(sid(rt, number));
         say_found(rt, said, left.as_ref());
-        drop(left);
     }
 
     fn takes(&self, rt: &impl Machine, text: &str, said: &mut Vec<u8>) {
         let (number, line) = pair(text, ' ');
         let (sid, update) = (sid(rt, small(rt, number)), update(rt, line));
         say_whether(rt, said, takes_update(&self.users, sid, &update));
-        drop(update);
     }
 
     /// Says the numbers of the users in order of entry.
@@ -240,124 +185,64 @@ impl<U: Users> UserTable<U> {
 
 /// Makes the calls on both tables, in which ana is with SID 1, bob with 2 and eva with 3.
 pub(crate) fn play_users<R: Machine>(rt: &R, rows: &str) {
-    play_three::<PlainUsers>(rt, rows);
-    play_three::<IndexedUsers>(rt, rows);
-}
-
-fn play_three<U: Users>(rt: &impl Machine, rows: &str) {
-    let mut users: UserTable<U> = table(rt);
-    rows! { rt, users, "
-        enters 1 1 ana NIana SS100 SF2 | 2 2 bob NIbob SS20 SFx | 3 3 eva NIeva SF3 -> ok
-    " }
-    play(rt, &mut users, rows);
-}
-
-/// Makes a table with nobody.
-pub(crate) fn table<U: Users>(rt: &impl AllocGlobal) -> UserTable<U> {
-    let users = U::new(rt.alloc());
-    UserTable { users }
+    let three = "enters 1 1 ana NIana SS100 SF2 | 2 2 bob NIbob SS20 SFx | 3 3 eva NIeva SF3 -> ok";
+    play_table::<PlainUsers>(rt, &[three, rows]);
+    play_table::<IndexedUsers>(rt, &[three, rows]);
 }
 
 /// Makes the calls on both tables, in which there is nobody.
 pub(crate) fn play_nobody<R: Machine>(rt: &R, rows: &str) {
-    play_table::<PlainUsers>(rt, rows);
-    play_table::<IndexedUsers>(rt, rows);
+    play_table::<PlainUsers>(rt, &[rows]);
+    play_table::<IndexedUsers>(rt, &[rows]);
 }
 
-/// Makes the calls on a table in which there is nobody.
-pub(crate) fn play_table<U: Users>(rt: &impl Machine, rows: &str) {
-    let mut users: UserTable<U> = table(rt);
-    play(rt, &mut users, rows);
-}
-
-#[test]
-fn lists_users_in_order_of_entry(rt: HostRuntime) {
-    play_users(&rt, "order -> 1 2 3 end");
-}
-
-#[test]
-fn reads_a_user(rt: HostRuntime) {
-    play_nobody(
-        &rt,
-        "user 5 7 e\u{301}va NIe\u{301}va SS9 -> 5 7 \u{e9}va NIe\u{301}va SS9;",
-    );
+/// Makes the calls of all rows on a table in which there is nobody.
+pub(crate) fn play_table<U: Users>(rt: &impl Machine, all: &[&str]) {
+    let users = U::new(rt.alloc());
+    let mut table = UserTable { users };
+    for rows in all {
+        play(rt, &mut table, rows);
+    }
 }
 
 #[test]
-fn finds_users(rt: HostRuntime) {
+fn users_are_kept(rt: HostRuntime) {
     rows! { play_users(rt) "
-        sid 1 -> 1
-        cid 1 -> 1
-        nick ana -> 1
-        sid 2 -> 2
-        cid 2 -> 2
-        nick bob -> 2
-        sid 3 -> 3
-        cid 3 -> 3
-        nick eva -> 3
-        sid 4 -> nobody
-        cid 4 -> nobody
-        nick Ana -> nobody
-    " }
-}
-
-#[test]
-fn refuses_a_nick_before_a_client_identifier(rt: HostRuntime) {
-    rows! { play_users(rt) "
-        enters 4 1 ana SS1 | 4 9 bob SS1 -> NickTaken
-        enters 4 3 dan SS1 -> CidTaken
-        enters 4 9 dan SS1 -> ok
+        == lists users in order of entry ==
+        order -> 1 2 3 end
+        == finds users ==
+        sid 1 -> 1 | 2 -> 2 | 3 -> 3 | 4 -> nobody
+        cid 1 -> 1 | 2 -> 2 | 3 -> 3 | 4 -> nobody
+        nick ana -> 1 | bob -> 2 | eva -> 3 | Ana -> nobody
+        == refuses a nick before a client identifier ==
+        enters 4 1 ana SS1 | 4 9 bob SS1 -> NickTaken | 4 3 dan SS1 -> CidTaken | 4 9 dan SS1 -> ok
         order -> 1 2 3 4 end
-    " }
-}
-
-#[test]
-fn closes_up_where_a_user_leaves(rt: HostRuntime) {
-    rows! { play_users(rt) "
-        leaves 2 -> 2
-        leaves 2 -> nobody
+        == closes up where a user leaves ==
+        leaves 2 -> 2 | 2 -> nobody
         order -> 1 3 end
         nick bob -> nobody
         cid 2 -> nobody
         totals -> 2 100 5
         enters 2 2 bob NIbob -> ok
         order -> 1 3 2 end
-    " }
-}
-
-#[test]
-fn renames_a_user_in_place(rt: HostRuntime) {
-    rows! { play_users(rt) "
-        renames rob 2 NIrob SS21 -> ok
-        renames eva 1 NIeva SS1 -> NickTaken
-        renames eva 3 NIeva SS4 -> ok
+        == renames a user in place ==
+        renames rob 2 NIrob SS21 -> ok | eva 1 NIeva SS1 -> NickTaken | eva 3 NIeva SS4 -> ok
         says 1 DEx SS99 -> ok
         order -> 1 2 3 end
-        nick bob -> nobody
-        nick rob -> 2
-        nick ana -> 1
+        nick bob -> nobody | rob -> 2 | ana -> 1
         totals -> 3 124 5
-    " }
-}
-
-#[test]
-fn asks_for_room(rt: HostRuntime) {
-    rows! { play_users(rt) "
-        takes 2 NIrob -> yes
-        takes 4 NIrob -> no
-    " }
-}
-
-#[test]
-fn sums_what_is_shared(rt: HostRuntime) {
-    rows! { play_nobody(rt) "
-        enters 1 1 dan SS18446744073709551615 | 2 2 leo SS18446744073709551615 -> ok
-        totals -> 2 36893488147419103230 0
-    " }
-    // 120 and 5, and twice 2^64 - 1
-    rows! { play_users(rt) "
+        == asks for room ==
+        takes 2 NIrob -> yes | 4 NIrob -> no
+        == sums what is shared: 120 and 5, and twice 2^64 - 1 ==
         totals -> 3 120 5
         enters 4 4 dan SS18446744073709551615 SF18446744073709551615 | 5 5 leo SS18446744073709551615 SF18446744073709551615 -> ok
         totals -> 5 36893488147419103350 36893488147419103235
+    " }
+    rows! { play_nobody(rt) "
+        == sums what is shared ==
+        enters 1 1 dan SS18446744073709551615 | 2 2 leo SS18446744073709551615 -> ok
+        totals -> 2 36893488147419103230 0
+        == reads a user ==
+        user 5 7 e\u{301}va NIe\u{301}va SS9 -> 5 7 \u{e9}va NIe\u{301}va SS9;
     " }
 }

@@ -1,13 +1,8 @@
 ghost use Rattle.std.specs.Prelude.{⊤};
 
-use super::running::new_task;
+use super::*;
 use adc_sessions::{Accept, AcceptEnd, Incoming, Peer, Starter};
-use futures::task::{Context, Poll};
-use futures::test::MockTask;
-use std::alloc::AllocGlobal;
 use std::io;
-use std::process::Abort;
-use std::random::RandomSource;
 use std::sync::atomic::{AtomicU32, Ordering};
 
 /// A script that brings so many faults, then so many streams, and both again, and then lets wait.
@@ -68,31 +63,16 @@ impl Starter<()> for Count<'_> {
     }
 }
 
-/// Tells how it ends, and how many streams are started.
-fn starts(
-    rt: &impl Abort,
-    task: &MockTask,
-    script: Script,
-    stop_after: Option<u64>,
-) -> (Option<AcceptEnd>, u32) {
-    let count = AtomicU32::new(0);
-    let mut accept = Accept::new(script, Count { started: &count }, stop_after);
-    let told = polls(rt, task, &mut accept, &count);
-    drop(accept);
-    told
-}
-
-/// Polls until it is over, at most so often, and tells how it ended and how many streams were started; at most 16 streams come
-/// of one poll.
+/// Polls until it is over, at most so often, and tells how it ended and how many streams were started; at most 16 streams come of one poll.
 fn polls<I: Incoming, T: Starter<I::Stream>>(
     rt: &impl Abort,
-    task: &MockTask,
+    bench: &Bench,
     accept: &mut Accept<I, T>,
     count: &AtomicU32,
 ) -> (Option<AcceptEnd>, u32) {
     for _ in 0..1_000 {
         let before = count.load(Ordering::Relaxed);
-        let polled = task.poll(accept);
+        let polled = bench.task.poll(accept);
         let started = count.load(Ordering::Relaxed);
         are_few(rt, before, started);
         if let Poll::Ready(end) = polled {
@@ -103,47 +83,42 @@ fn polls<I: Incoming, T: Starter<I::Stream>>(
 }
 
 fn are_few(rt: &impl Abort, before: u32, started: u32) {
-    assert!(rt;
-        started <= before.saturating_add(16),
-        "{before} and then {started}"
-    );
+    let are_few = started <= before.saturating_add(16);
+    assert!(rt; are_few, "{before} and then {started}");
 }
 
 /// Stops the test unless it ends like this, or not within a thousand polls, once so many streams were started.
-fn accepts<R: Abort + RandomSource + AllocGlobal>(
-    rt: &R,
+fn accepts(
+    rt: &impl Abort,
+    bench: &Bench,
     script: Script,
     stop_after: Option<u64>,
     end: Option<AcceptEnd>,
-    count: u32,
+    wanted: u32,
 ) {
-    let task = new_task(rt);
-    let (ended, started) = starts(rt, &task, script, stop_after);
-    assert!(rt; ended == end && started == count, "{ended:?}, {started}");
-    drop(task);
+    let count = AtomicU32::new(0);
+    let mut accept = Accept::new(script, Count { started: &count }, stop_after);
+    let (ended, started) = polls(rt, bench, &mut accept, &count);
+    assert!(rt; ended == end && started == wanted, "{ended:?}, {started}");
 }
 
+/// Tests that 64 faults in a row are too many, and 63 and a stream are not; and that as many streams are accepted as are to be, without a number all.
 #[test]
-fn sixty_four_faults_in_a_row_are_too_many(rt: HostRuntime) {
-    let end = Some(AcceptEnd::AcceptFailed);
-    accepts(&rt, Script::twice(64, 1), Some(2), end, 0);
-}
-
-#[test]
-fn sixty_three_faults_and_a_stream_are_not(rt: HostRuntime) {
-    let end = Some(AcceptEnd::Stopped);
-    accepts(&rt, Script::twice(63, 1), Some(2), end, 2);
-}
-
-#[test]
-fn the_set_number_of_streams_is_accepted(rt: HostRuntime) {
-    let end = Some(AcceptEnd::Stopped);
-    for number in [0, 1, 16, 17, 40] {
-        accepts(&rt, Script::twice(1, 50), Some(number), end, number as u32);
+fn streams_are_accepted_until_an_end(rt: HostRuntime) {
+    let bench = Bench::new(&rt);
+    let (failed, stopped) = (Some(AcceptEnd::AcceptFailed), Some(AcceptEnd::Stopped));
+    accepts(&rt, &bench, Script::twice(64, 1), Some(2), failed, 0);
+    accepts(&rt, &bench, Script::twice(63, 1), Some(2), stopped, 2);
+    for number in [0, 1, 16, 17, 40u32] {
+        let stop_after = Some(u64::from(number));
+        accepts(
+            &rt,
+            &bench,
+            Script::twice(1, 50),
+            stop_after,
+            stopped,
+            number,
+        );
     }
-}
-
-#[test]
-fn no_number_is_no_end(rt: HostRuntime) {
-    accepts(&rt, Script::twice(3, 50), None, None, 100);
+    accepts(&rt, &bench, Script::twice(3, 50), None, None, 100);
 }

@@ -1,5 +1,5 @@
-use adc_sessions::Bell;
-use futures::task::{Context, Poll, Source, Waker};
+use super::*;
+use futures::task::{Source, Waker};
 
 /// A bell that is always rung, or that never is.
 #[derive(Clone, Copy)]

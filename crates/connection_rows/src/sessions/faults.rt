@@ -1,21 +1,10 @@
-use super::bells::Rung;
-use super::hub_port::meet;
-use super::running::new_task;
-use super::wire::{Trouble, Wire};
-use crate::checks::{are_same, are_so_many, begins, refused_twice};
-use crate::texts::told;
-use adc_sessions::End;
-use futures::test::MockTask;
-use second_try::{Machine, Transcript};
-use std::alloc::Global;
-use std::process::Abort;
-use std::random::RandomSource;
+use super::*;
+use second_try::Machine;
 
 /// Bob is there; ana enters and says hi, and leaves.
 const VISIT: &str = r"
 ana is greeted AAAC
-ana says BINF AAAC ID<P0> PD<P0> NIana SS10 SF2 I40.0.0.0 SUTCP4,SEGA
-ana hears BINF AAAB ID<P1> NIbob SS5 SF1 SUTCP4
+ana says BINF AAAC ID<P0> PD<P0> NIana SS10 SF2 I40.0.0.0 SUTCP4,SEGA -> BINF AAAB ID<P1> NIbob SS5 SF1 SUTCP4
 ana and bob hear BINF AAAC ID<P0> NIana SS10 SF2 I4127.0.0.1 SUTCP4,SEGA
 ana says BMSG AAAC hi
 ana and bob hear BMSG AAAC hi
@@ -24,8 +13,7 @@ bob hears IQUI AAAC
 
 /// Ana does not say anything, as far as bob is told.
 const LOGIN_ALONE: &str = r"
-bob hears BINF AAAC ID<P0> NIana SS10 SF2 I4127.0.0.1 SUTCP4,SEGA
-bob hears IQUI AAAC
+bob hears BINF AAAC ID<P0> NIana SS10 SF2 I4127.0.0.1 SUTCP4,SEGA | IQUI AAAC
 ";
 
 const BOBS_LOGIN: &str = "bob says BINF AAAB ID<P1> PD<P1> NIbob SS5 SF1 SUTCP4";
@@ -65,27 +53,24 @@ impl Visit {
     }
 
     /// Plays a visit: bob is there; ana enters and says hi, byte by byte, and something goes wrong. Compares what both got, and tells how it ended.
-    fn play(&self, rt: &impl Abort, alloc: Global, task: &MockTask, trouble: Trouble) -> End {
-        let wire = Wire::new(rt, alloc, &self.ana.said, 1).with_trouble(trouble);
+    fn play(&self, rt: &impl Abort, bench: &Bench, trouble: Trouble) -> End {
+        let wire = Wire::new(rt, bench.alloc, &self.ana.said, 1).with_trouble(trouble);
         let login = self.bobs_login.said.strip_suffix(b"\n".as_slice());
-        let (end, ana, mut left) = meet(rt, alloc, task, login, wire, Rung::Never);
-        let bob = left.heard(rt, alloc);
-        drop(left);
-        begins(rt, ana.sent_bytes(), &self.ana.heard);
+        let (end, ana, mut left) = meet(rt, bench, login, wire, Rung::Never);
+        let bob = left.heard(rt, bench.alloc);
+        begins(rt, &ana.written, &self.ana.heard);
         assert!(rt; self.is_told(&bob), "{bob:?}");
         if end == End::Closed {
-            are_same(rt, ana.sent_bytes(), &self.ana.heard);
+            are_same(rt, &ana.written, &self.ana.heard);
             are_same(rt, &bob, &self.bob.heard);
         }
-        drop(bob);
-        drop(ana);
         end
     }
 
     /// Plays a visit, once more where memory was refused, and tells how it ended.
-    fn ends(&self, rt: &impl Abort, alloc: Global, task: &MockTask, trouble: Trouble) -> End {
+    fn ends(&self, rt: &impl Abort, bench: &Bench, trouble: Trouble) -> End {
         for _ in 0..2 {
-            let end = self.play(rt, alloc, task, trouble);
+            let end = self.play(rt, bench, trouble);
             if end != End::Memory {
                 return end;
             }
@@ -97,33 +82,23 @@ impl Visit {
 /// Makes the first call go wrong, then the second, and so on, up to a visit in which nothing does. It has to be as far behind all that ana
 /// says, or hears, as this.
 fn visits<R: Machine + RandomSource>(rt: &R, kind: Kind, end: End, behind: usize) {
-    let task = new_task(rt);
     let visit = Visit::new(rt, rt.alloc());
     let bytes = match kind {
         Kind::Read => visit.ana.said.len(),
         _ => visit.ana.heard.len(),
     };
-    let calls = calls_of(rt, rt.alloc(), &task, &visit, kind, end);
+    let calls = calls_of(rt, &Bench::new(rt), &visit, kind, end);
     are_so_many(rt, 0, calls as usize, bytes.saturating_add(behind));
-    drop(visit);
-    drop(task);
 }
 
-fn calls_of(
-    rt: &impl Abort,
-    alloc: Global,
-    task: &MockTask,
-    visit: &Visit,
-    kind: Kind,
-    end: End,
-) -> u32 {
+fn calls_of(rt: &impl Abort, bench: &Bench, visit: &Visit, kind: Kind, end: End) -> u32 {
     for call in 1..1_000u32 {
         let trouble = match kind {
             Kind::Read => Trouble::Read(call),
             Kind::Write => Trouble::Write(call),
             Kind::Full => Trouble::Full(call),
         };
-        let ended = visit.ends(rt, alloc, task, trouble);
+        let ended = visit.ends(rt, bench, trouble);
         if ended == End::Closed {
             return call;
         }

@@ -1,15 +1,6 @@
 ghost use Rattle.std.specs.Prelude.{⊤};
 
-use super::bells::Rung;
-use super::running::{hold, new_task};
-use super::wire::Wire;
-use crate::checks::refused_twice;
-use adc_sessions::{End, Port};
-use futures::test::MockTask;
-use hub_core::{LineRefused, TakeRefused, Taken, Verdict};
-use second_try::again;
-use std::alloc::Global;
-use std::process::Abort;
+use super::*;
 
 /// A port that notes how long its lines are.
 #[derive(Clone, Copy)]
@@ -47,16 +38,15 @@ impl Port for Ledger {
 
 /// Hands these bytes to a session, once more where memory was refused. Tells how it ended, what its port noted, and how many
 /// polls came before the last.
-fn hands(rt: &impl Abort, alloc: Global, task: &MockTask, input: &[u8]) -> (End, Ledger, u32) {
+fn hands(rt: &impl Abort, bench: &Bench, input: &[u8]) -> (End, Ledger, u32) {
     let port = Ledger {
         lines: 0,
         longest: 0,
         takes: 0,
     };
     for _ in 0..2 {
-        let wire = Wire::new(rt, alloc, input, 4_096);
-        let (end, wire, noted, polls) = hold(rt, alloc, task, wire, port, Rung::Never);
-        drop(wire);
+        let wire = Wire::new(rt, bench.alloc, input, 4_096);
+        let (end, _, noted, polls) = hold(rt, bench, wire, port, Rung::Never);
         if end != End::Memory {
             return (end, noted, polls);
         }
@@ -65,60 +55,39 @@ fn hands(rt: &impl Abort, alloc: Global, task: &MockTask, input: &[u8]) -> (End,
 }
 
 /// Reads so many letters, with a line feed behind them or without.
-fn reads(
-    rt: &impl Abort,
-    alloc: Global,
-    task: &MockTask,
-    length: usize,
-    is_ended: bool,
-) -> (End, u32, usize) {
-    let mut input = Vec::new(alloc);
+fn reads(rt: &impl Abort, bench: &Bench, length: usize, is_ended: bool) -> (End, u32, usize) {
+    let mut input = Vec::new(bench.alloc);
     again!(rt; input.resize(length, b'x'));
     if is_ended {
         again!(rt; input.push(b'\n'));
     }
-    let (end, noted, _polls) = hands(rt, alloc, task, &input);
-    drop(input);
+    let (end, noted, _polls) = hands(rt, bench, &input);
     (end, noted.lines, noted.longest)
 }
 
+/// Tests that the longest line is handed over, a longer one ends the session, and a rest without a line feed is no line.
 #[test]
-fn the_longest_line_is_handed_over(rt: HostRuntime) {
-    let task = new_task(&rt);
-    let read = reads(&rt, rt.alloc(), &task, 65_536, true);
-    assert!(&rt; read == (End::Closed, 1, 65_536), "{read:?}");
-    drop(task);
-}
-
-#[test]
-fn a_longer_line_ends_the_session(rt: HostRuntime) {
-    let task = new_task(&rt);
-    for is_ended in [false, true] {
-        let read = reads(&rt, rt.alloc(), &task, 65_537, is_ended);
-        assert!(&rt; read == (End::TooLong, 0, 0), "{read:?}");
+fn lines_have_65_536_bytes_at_most(rt: HostRuntime) {
+    let bench = Bench::new(&rt);
+    for (length, is_ended, wanted) in [
+        (65_536, true, (End::Closed, 1, 65_536)),
+        (65_537, false, (End::TooLong, 0, 0)),
+        (65_537, true, (End::TooLong, 0, 0)),
+        (65_536, false, (End::Closed, 0, 0)),
+    ] {
+        let read = reads(&rt, &bench, length, is_ended);
+        assert!(&rt; read == wanted, "{read:?}");
     }
-    drop(task);
-}
-
-#[test]
-fn a_rest_without_line_feed_is_no_line(rt: HostRuntime) {
-    let task = new_task(&rt);
-    let read = reads(&rt, rt.alloc(), &task, 65_536, false);
-    assert!(&rt; read == (End::Closed, 0, 0), "{read:?}");
-    drop(task);
 }
 
 /// Tests that each poll takes: it hands over at most 64 lines, so 1,000 lines take 16 polls or more.
 #[test]
 fn each_poll_takes(rt: HostRuntime) {
-    let task = new_task(&rt);
     let mut input = Vec::new(rt.alloc());
     for _ in 0..1_000 {
         again!(&rt; input.extend_from_slice(b"hi\n"));
     }
-    let (end, Ledger { lines, takes, .. }, polls) = hands(&rt, rt.alloc(), &task, &input);
+    let (end, Ledger { lines, takes, .. }, polls) = hands(&rt, &Bench::new(&rt), &input);
     assert!(&rt; end == End::Closed && lines == 1_000, "{end:?} {lines}");
     assert!(&rt; 15 <= polls && polls < takes, "{polls} {takes}");
-    drop(input);
-    drop(task);
 }

@@ -1,16 +1,7 @@
 ghost use Rattle.std.specs.Prelude.{⊤};
 
-use super::bells::Silent;
-use super::running::{make_session, new_task};
-use crate::checks::are_same;
-use adc_sessions::{Bell, End, Port, Session};
-use futures::task::Poll;
-use futures::test::MockTask;
-use hub_core::{LineRefused, TakeRefused, Taken, Verdict};
-use second_try::again;
-use std::alloc::Global;
-use std::process::Abort;
-use tokio::io::{AsyncRead, AsyncWrite, duplex, read_exact};
+use super::*;
+use tokio::io::{duplex, read_exact};
 
 /// The number of lines that wait: more than three takes give.
 const LINES: usize = 1_000;
@@ -80,45 +71,30 @@ fn rests<S: AsyncRead + AsyncWrite, P: Port, B: Bell>(
     panic!(rt; "polled a thousand times")
 }
 
-/// Reads so many bytes, which are there.
-fn hears<S: AsyncRead>(rt: &impl Abort, alloc: Global, client: &MockTask, far: S) -> Vec<u8> {
-    let room = again!(rt; vec![in alloc; 0; LINES * 3]);
-    let Poll::Ready(Ok((_, heard))) = client.poll(&mut read_exact(far, room)) else {
+/// Compares what a client gets with the lines that waited.
+fn hears_lines<S: AsyncRead>(rt: &impl Abort, client: &Bench, far: S) {
+    let room = again!(rt; vec![in client.alloc; 0; LINES * 3]);
+    let Poll::Ready(Ok((_, heard))) = client.task.poll(&mut read_exact(far, room)) else {
         panic!(rt; "it rests while lines wait");
     };
-    heard
+    are_same(rt, &heard, &Store::new(rt, client.alloc).bytes);
 }
 
 /// Lets a session rest, and compares what its client gets; not where memory was refused.
-fn hears_all(rt: &impl Abort, alloc: Global, task: &MockTask, client: &MockTask) -> bool {
+fn hears_all(rt: &impl Abort, bench: &Bench, client: &Bench) -> bool {
+    let alloc = bench.alloc;
     let (near, far) = again!(rt; duplex(alloc, 4_096));
     let mut session = make_session(rt, alloc, near, Store::new(rt, alloc), Silent::new());
-    let has_rested = rests(rt, task, &mut session);
+    let has_rested = rests(rt, &bench.task, &mut session);
     if has_rested {
-        hears_lines(rt, alloc, client, far);
-    } else {
-        drop(far);
+        hears_lines(rt, client, far);
     }
-    drop(session);
     has_rested
-}
-
-/// Compares what a client gets with the lines that waited.
-fn hears_lines<S: AsyncRead>(rt: &impl Abort, alloc: Global, client: &MockTask, far: S) {
-    let heard = hears(rt, alloc, client, far);
-    let store = Store::new(rt, alloc);
-    are_same(rt, &heard, &store.bytes);
-    drop(store);
-    drop(heard);
 }
 
 #[test]
 fn a_session_rests_only_once_no_line_waits(rt: HostRuntime) {
-    let task = new_task(&rt);
-    let client = new_task(&rt);
-    let has_heard = hears_all(&rt, rt.alloc(), &task, &client)
-        || hears_all(&rt, rt.alloc(), &task, &client);
+    let (bench, client) = (Bench::new(&rt), Bench::new(&rt));
+    let has_heard = hears_all(&rt, &bench, &client) || hears_all(&rt, &bench, &client);
     assert!(&rt; has_heard, "refused twice");
-    drop(client);
-    drop(task);
 }

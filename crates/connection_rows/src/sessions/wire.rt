@@ -1,11 +1,7 @@
 ghost use Rattle.std.specs.Prelude.{⊤};
 
-use crate::checks::refused_twice;
-use futures::task::{Context, Poll};
-use std::alloc::Global;
+use super::*;
 use std::io;
-use std::process::Abort;
-use tokio::io::{AsyncRead, AsyncWrite};
 
 /// The call of a stream that goes wrong, counted from 1.
 #[derive(Clone, Copy)]
@@ -31,10 +27,10 @@ pub(crate) struct Wire {
     is_slow: bool,
     reads: u32,
     // The number of bytes that the first read asked for, and the most that one did.
-    first_room: usize,
-    most_room: usize,
-    writes: u32,
-    written: Vec<u8>,
+    pub(crate) first_room: usize,
+    pub(crate) most_room: usize,
+    pub(crate) writes: u32,
+    pub(crate) written: Vec<u8>,
 }
 
 impl Wire {
@@ -63,24 +59,9 @@ impl Wire {
         self
     }
 
-    /// Gives what the client was sent.
-    pub(crate) fn sent_bytes(&self) -> &[u8] {
-        &self.written
-    }
-
     /// Gives how many bytes the client has sent and nobody read.
     pub(crate) fn unread(&self) -> usize {
         self.input.len().saturating_sub(self.at)
-    }
-
-    /// Gives how many bytes the first read asked for, and the most that one did.
-    pub(crate) fn rooms(&self) -> (usize, usize) {
-        (self.first_room, self.most_room)
-    }
-
-    /// Gives how many times it was written to.
-    pub(crate) fn writes(&self) -> u32 {
-        self.writes
     }
 }
 

@@ -21,8 +21,7 @@ pub struct Line {
     pub reply: u64,
 }
 
-// The lock is about what the counter starts from. Each reply is the sum at that point, and the
-// counter has the sum of all.
+// The lock is about what the counter starts from. Each reply is the sum at that point, and the counter has the sum of all.
 impl Recorded<Line, u64> for Counter {
     ghost use Rattle.std.specs.Prelude.{◌≡◌, ◌+◌, List, ◌∷◌};
     ghost use Rattle.one_history.specs.Histories.{Begins, total};

@@ -202,9 +202,9 @@ pub fn leave(lock: &Counters, host: &mut CountersHost, worker: Worker) -> Told
 {
     let Worker {
         seat,
-        caller: _,
         amount,
         replies,
+        ..
     } = worker;
     host.gather(lock, seat);
     Told { amount, replies }
@@ -214,12 +214,7 @@ impl Seated<Counter, Line, u64> for Worker {
     ghost seat = { λ w. w.seat };
 
     fn into_seat(self) -> CountersSeat {
-        let Worker {
-            seat,
-            caller: _,
-            amount: _,
-            replies: _,
-        } = self;
+        let Worker { seat, .. } = self;
         seat
     }
 }

@@ -1,14 +1,12 @@
 use crate::hub::{Hub, shared_setup};
-use crate::refusal::{holds, spell};
-use crate::refused::halls::LOGINS;
-use hub_core::{
-    Answer, Ask, Asked, Conn, Core, Options, PlainOptions, Setup, Totals, Verdict, run_calls,
-};
-use second_try::{again, tell};
-use std::alloc::Global;
-use std::io::Print;
-use std::process::Abort;
-use std::sync::Arc;
+use crate::refusal::*;
+
+/// The lines of those who log in, in this order.
+const LOGINS: [&str; 3] = [
+    "BINF AAAB ID<P0> PD<P0> NIana SS10",
+    "BINF AAAC ID<P1> PD<P1> NIbob SS20",
+    "BINF AAAD ID<P2> PD<P2> NIcy SS30",
+];
 
 fn options() -> Options<'static> {
     Options {
@@ -65,26 +63,22 @@ fn a_line_to_three(rt: HostRuntime) {
     let mut hub = open(&rt, rt.alloc());
     three_talk(&rt, rt.alloc(), &mut hub);
     tells(&rt, &hub);
-    drop(hub);
 }
 
 fn three_talk(rt: &impl Abort, alloc: Global, hub: &mut Hub) {
-    let ana = enters(rt, alloc, hub, LOGINS[0]);
-    let bob = enters(rt, alloc, hub, LOGINS[1]);
-    let cy = enters(rt, alloc, hub, LOGINS[2]);
-    let greeting = b"?ISUP ADBASE ADTIGR ADPING ADUCMD\nISID AAA".as_slice();
-    hears(rt, hub, ana, greeting);
-    hears(rt, hub, bob, greeting);
-    hears(rt, hub, cy, greeting);
+    let [ana, bob, cy] = LOGINS;
+    let ana = enters(rt, alloc, hub, ana);
+    let bob = enters(rt, alloc, hub, bob);
+    let cy = enters(rt, alloc, hub, cy);
+    for who in [ana, bob, cy] {
+        hears(rt, hub, who, b"?ISUP ADBASE ADTIGR ADPING ADUCMD\nISID AAA");
+    }
     says(rt, hub, ana, b"BMSG AAAB hi");
-    hears_hi(rt, hub, ana);
-    hears_hi(rt, hub, bob);
-    hears_hi(rt, hub, cy);
-    let totals = Totals {
-        users: 3,
-        ss: 60,
-        sf: 0,
-    };
+    for who in [ana, bob, cy] {
+        hears_hi(rt, hub, who);
+    }
+    let (users, ss, sf) = (3, 60, 0);
+    let totals = Totals { users, ss, sf };
     holds(rt, hub.counts() == (totals, 3), "other counts");
 }
 
@@ -96,11 +90,8 @@ fn asks<'a>(rt: &impl Abort, alloc: Global) -> Vec<Asked<'a>> {
 }
 
 fn asks_for<'a>(rt: &impl Abort, asks: &mut Vec<Asked<'a>>, ask: Ask<'a>) {
-    holds(
-        rt,
-        asks.push(Asked { caller: 1, ask }).is_ok(),
-        "refused where there is room",
-    );
+    let is_pushed = asks.push(Asked { caller: 1, ask }).is_ok();
+    holds(rt, is_pushed, "refused where there is room");
 }
 
 /// Makes the calls once; nothing where memory was refused before the first.
@@ -108,8 +99,7 @@ fn run(rt: &impl Abort, alloc: Global, setup: &Arc<Setup>) -> Option<(Core, Vec<
     run_calls(alloc, again!(rt; setup.clone()), asks(rt, alloc)).ok()
 }
 
-/// Tests that a call is answered with `Memory`, and a take of nobody is not made, where memory is refused later than for
-/// the answers.
+/// Tests that a call is answered with `Memory`, and a take of nobody is not made, where memory is refused later than for the answers.
 #[test]
 fn calls(rt: HostRuntime) {
     let setup = shared_setup(&rt, rt.alloc(), &options());
@@ -117,7 +107,6 @@ fn calls(rt: HostRuntime) {
         tells_of_calls(&rt);
         holds(&rt, are_made(&rt, rt.alloc(), &setup), "refused twice");
     }
-    drop(setup);
 }
 
 fn tells_of_calls(rt: &(impl Abort + Print)) {
@@ -137,7 +126,5 @@ fn are_made(rt: &(impl Abort + Print), alloc: Global, setup: &Arc<Setup>) -> boo
         let is_right = matches!(answers.as_slice(), [Answer::Memory, Answer::Skipped]);
         holds(rt, is_right, "no memory, and skipped");
     }
-    drop(answers);
-    drop(core);
     true
 }

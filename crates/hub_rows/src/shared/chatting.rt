@@ -1,13 +1,8 @@
 // Guests in threads of their own.
 ghost use Rattle.std.specs.Prelude.{◌≡◌};
 
+use crate::refusal::*;
 use crate::shared::guests::{Guest, Hall, hears, looks, says, sends, takes};
-use hub_core::Verdict;
-use second_try::again;
-use std::alloc::Global;
-use std::io::Print;
-use std::process::Abort;
-use std::sync::Wait;
 use std::thread::{Threads, join};
 
 /// The number of lines that each guest says.
@@ -19,7 +14,6 @@ const LENGTH: usize = 13;
 /// Plays Ana, who says a line in one thread, while Bob looks about in another.
 pub(crate) fn speaks_apart<R: Threads + Wait + Abort + Print + Sync>(
     rt: &R,
-    alloc: Global,
     hall: &Hall,
     ana: Guest,
     bob: Guest,
@@ -36,7 +30,7 @@ pub(crate) fn speaks_apart<R: Threads + Wait + Abort + Print + Sync>(
             ensures { result.pass.home ≡ hall.entry.now.hub.home }
         {
             let mut ana = ana;
-            says(rt, alloc, hall, &mut ana, b"BMSG AAAB hi", Verdict::Kept);
+            says(rt, hall, &mut ana, b"BMSG AAAB hi");
             ana
         },
         move || -> Guest
@@ -53,7 +47,6 @@ pub(crate) fn speaks_apart<R: Threads + Wait + Abort + Print + Sync>(
 /// Plays both, who say their lines, each in a thread of its own, and hear what is said; then each hears the rest.
 pub(crate) fn chats_of_two<R: Threads + Wait + Abort + Print + Sync>(
     rt: &R,
-    alloc: Global,
     hall: &Hall,
     ana: Guest,
     bob: Guest,
@@ -68,15 +61,15 @@ pub(crate) fn chats_of_two<R: Threads + Wait + Abort + Print + Sync>(
         move || -> (Guest, Vec<u8>)
             requires { ana.pass.home ≡ hall.now.hub.home }
             ensures { result.0.pass.home ≡ hall.entry.now.hub.home }
-        { chats(rt, alloc, hall, ana, b'B') },
+        { chats(rt, hall, ana, b'B') },
         move || -> (Guest, Vec<u8>)
             requires { bob.pass.home ≡ hall.now.hub.home }
             ensures { result.0.pass.home ≡ hall.entry.now.hub.home }
-        { chats(rt, alloc, hall, bob, b'C') },
+        { chats(rt, hall, bob, b'C') },
     );
-    let rest = hears(rt, alloc, hall, &mut ana);
+    let rest = hears(rt, hall, &mut ana);
     again!(rt; one.extend_from_slice(&rest));
-    let rest = hears(rt, alloc, hall, &mut bob);
+    let rest = hears(rt, hall, &mut bob);
     again!(rt; other.extend_from_slice(&rest));
     ((ana, one), (bob, other))
 }
@@ -92,39 +85,27 @@ fn numbered_line(letter: u8, number: u8) -> [u8; 12] {
 
 /// Says a line, and hears what is there. Where memory is refused, nothing is asked of what the guest then sees, since the other may have
 /// said something.
-fn chats_once<R: Wait + Abort>(
-    rt: &R,
-    alloc: Global,
-    hall: &Hall,
-    guest: &mut Guest,
-    line: &[u8],
-) -> Vec<u8>
+fn chats_once<R: Wait + Abort>(rt: &R, hall: &Hall, guest: &mut Guest, line: &[u8]) -> Vec<u8>
     requires { guest.old.pass.home ≡ hall.now.hub.home }
     ensures { guest.new.pass.home ≡ hall.now.hub.home }
 {
-    let said = again!(rt; sends(rt, alloc, hall, guest, line));
+    let said = again!(rt; sends(rt, hall, guest, line));
     assert!(rt; said == Verdict::Kept, "{said:?}");
-    let mut heard = Vec::new(alloc);
+    let mut heard = Vec::new(hall.alloc);
     again!(rt; takes(rt, hall, guest, &mut heard));
     heard
 }
 
 // Says a hundred lines, and hears after each what is there.
-fn chats<R: Wait + Abort + Print>(
-    rt: &R,
-    alloc: Global,
-    hall: &Hall,
-    guest: Guest,
-    letter: u8,
-) -> (Guest, Vec<u8>)
+fn chats<R: Wait + Abort + Print>(rt: &R, hall: &Hall, guest: Guest, letter: u8) -> (Guest, Vec<u8>)
     requires { guest.pass.home ≡ hall.now.hub.home }
     ensures { result.0.pass.home ≡ hall.now.hub.home }
 {
     let mut guest = guest;
-    let mut heard = Vec::new(alloc);
+    let mut heard = Vec::new(hall.alloc);
     for number in 0..LINES {
         let line = numbered_line(letter, number);
-        let more = chats_once(rt, alloc, hall, &mut guest, &line);
+        let more = chats_once(rt, hall, &mut guest, &line);
         again!(rt; heard.extend_from_slice(&more));
     }
     (guest, heard)

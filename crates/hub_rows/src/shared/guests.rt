@@ -5,22 +5,23 @@ ghost use Rattle.hub_rules.specs.Prepared.{prepared_line};
 ghost use Rattle.session_hash.specs.First24.{first_24};
 
 use crate::hub::shared_setup;
-use crate::refusal::spell;
-use hub_core::{
-    JoinRefused, LineRefused, Look, Options, PlainOptions, Prepared, Setup, Stage, TakeRefused,
-    Taken, Verdict, prepare,
-};
+use crate::refusal::*;
+use hub_core::{LineRefused, Look, TakeRefused, Taken};
 use hub_shared::{Host, Hub, Pass, Visitor};
-use second_try::{GREETS, again, once, tell};
-use session_hash::First24;
-use std::alloc::Global;
-use std::io::Print;
-use std::process::Abort;
-use std::sync::{Arc, Wait};
+use second_try::{GREETS, once};
+
+/// The lines of those who log in, in this order.
+pub(crate) const ENTERS: [&str; 4] = [
+    "BINF AAAB ID<P0> PD<P0> NIana",
+    "BINF AAAC ID<P1> PD<P1> NIbob",
+    "BINF AAAD ID<P2> PD<P2> NIcy",
+    "BINF AAAE ID<P3> PD<P3> NIdan",
+];
 
 /// A hub with its setup.
 #[derive(Drop)]
 pub(crate) struct Hall {
+    pub(crate) alloc: Global,
     pub(crate) setup: Arc<Setup>,
     pub(crate) hub: Hub<First24>,
     pub(crate) ghost set: { hub.setup ≡ arc_value setup },
@@ -34,15 +35,6 @@ pub(crate) struct Guest {
     pub(crate) ghost challenged: { pass.challenge ≡ challenge },
 }
 
-/// Makes a hub's setup for so many users.
-pub(crate) fn setup_for(rt: &impl Abort, alloc: Global, max_users: u32) -> Arc<Setup> {
-    let options = Options {
-        plain: PlainOptions::for_users(max_users),
-        ..Options::named("Hub")
-    };
-    shared_setup(rt, alloc, &options)
-}
-
 pub(crate) fn open_hall(
     rt: &(impl Abort + Print),
     alloc: Global,
@@ -50,7 +42,11 @@ pub(crate) fn open_hall(
 ) -> (Hall, Host<First24>)
     ensures { result.1 ≡ record { home = result.0.hub.home; admitted = 0 } }
 {
-    let setup = setup_for(rt, alloc, max_users);
+    let options = Options {
+        plain: PlainOptions::for_users(max_users),
+        ..Options::named("Hub")
+    };
+    let setup = shared_setup(rt, alloc, &options);
     let shared = again!(rt; setup.clone());
     let (hub, host) = match Hub::open(alloc, shared, &First24) {
         Ok(all) => all,
@@ -59,13 +55,12 @@ pub(crate) fn open_hall(
             again!(rt; Hub::open(alloc, again!(rt; setup.clone()), &First24))
         }
     };
-    (Hall { setup, hub }, host)
+    (Hall { alloc, setup, hub }, host)
 }
 
-/// Joins, and where memory is refused, once more with the visitor that came back.
-pub(crate) fn join<R: Wait + Abort + Print>(
+/// Joins once.
+fn join_once<R: Wait>(
     rt: &R,
-    alloc: Global,
     hall: &Hall,
     visitor: Visitor<First24>,
 ) -> Result<Guest, (JoinRefused, Visitor<First24>)>
@@ -76,23 +71,29 @@ pub(crate) fn join<R: Wait + Abort + Print>(
     let challenge = [0; 24];
     match hall
         .hub
-        .join(rt, alloc, visitor, [127, 0, 0, 1], challenge, 0)
+        .join(rt, hall.alloc, visitor, [127, 0, 0, 1], challenge, 0)
     {
         Ok(pass) => Ok(Guest { pass, challenge }),
+        Err(refused) => Err(refused),
+    }
+}
+
+/// Joins, and where memory is refused, once more with the visitor that came back.
+pub(crate) fn join<R: Wait + Abort + Print>(
+    rt: &R,
+    hall: &Hall,
+    visitor: Visitor<First24>,
+) -> Result<Guest, (JoinRefused, Visitor<First24>)>
+    requires here { visitor.home ≡ hall.now.hub.home }
+    ensures guest { IfOk result (λ guest. guest.pass.home ≡ hall.now.hub.home) }
+    ensures back { IfErr result (λ r. r.1.home ≡ hall.now.hub.home) }
+{
+    match join_once(rt, hall, visitor) {
         Err((JoinRefused::Memory, visitor)) => {
             assert!(rt; tell(rt, "hub_shared::Hub::join"), "not written");
-            match hall
-                .hub
-                .join(rt, alloc, visitor, [127, 0, 0, 1], challenge, 0)
-            {
-                Ok(pass) => Ok(Guest { pass, challenge }),
-                Err((why, visitor)) => {
-                    assert!(rt; why != JoinRefused::Memory, "refused twice");
-                    Err((why, visitor))
-                }
-            }
+            join_once(rt, hall, visitor)
         }
-        Err((why, visitor)) => Err((why, visitor)),
+        answer => answer,
     }
 }
 
@@ -121,7 +122,6 @@ fn view_of<R: Wait>(rt: &R, hall: &Hall, guest: &mut Guest) -> (Stage, u64, u64)
 /// Makes a line ready and sends it once.
 pub(crate) fn sends<R: Wait + Abort>(
     rt: &R,
-    alloc: Global,
     hall: &Hall,
     guest: &mut Guest,
     bytes: &[u8],
@@ -129,28 +129,19 @@ pub(crate) fn sends<R: Wait + Abort>(
     requires { guest.old.pass.home ≡ hall.now.hub.home }
     ensures { guest.new.pass.home ≡ hall.now.hub.home }
 {
-    let line = prepare_line(rt, alloc, &hall.setup, guest.challenge, bytes);
-    let said = hall.hub.line(rt, alloc, &mut guest.pass, &line, 0);
-    drop(line);
-    said
+    let line = prepare_line(rt, hall.alloc, &hall.setup, guest.challenge, bytes);
+    hall.hub.line(rt, hall.alloc, &mut guest.pass, &line, 0)
 }
 
-/// Sends a line, and where memory is refused, once more: the speaker then sees what it saw.
-pub(crate) fn says<R: Wait + Abort + Print>(
-    rt: &R,
-    alloc: Global,
-    hall: &Hall,
-    guest: &mut Guest,
-    bytes: &[u8],
-    verdict: Verdict,
-)
+/// Sends a line that is kept, and where memory is refused, once more: the speaker then sees what it saw.
+pub(crate) fn says<R: Wait + Abort + Print>(rt: &R, hall: &Hall, guest: &mut Guest, bytes: &[u8])
     requires { guest.old.pass.home ≡ hall.now.hub.home }
     ensures { guest.new.pass.home ≡ hall.now.hub.home }
 {
     let call = "hub_shared::Hub::line";
     let said =
-        once!(rt; call, LineRefused::Memory, view_of(rt, hall, guest), sends(rt, alloc, hall, guest, bytes));
-    assert!(rt; said == verdict, "{said:?}, not {verdict:?}");
+        once!(rt; call, LineRefused::Memory, view_of(rt, hall, guest), sends(rt, hall, guest, bytes));
+    assert!(rt; said == Verdict::Kept, "{said:?}");
 }
 
 /// Takes what waits, up to 256 lines, once.
@@ -167,16 +158,11 @@ pub(crate) fn takes<R: Wait>(
 }
 
 /// Takes what waits, up to 256 lines; where memory is refused, as much waits as before.
-pub(crate) fn hears<R: Wait + Abort + Print>(
-    rt: &R,
-    alloc: Global,
-    hall: &Hall,
-    guest: &mut Guest,
-) -> Vec<u8>
+pub(crate) fn hears<R: Wait + Abort + Print>(rt: &R, hall: &Hall, guest: &mut Guest) -> Vec<u8>
     requires { guest.old.pass.home ≡ hall.now.hub.home }
     ensures { guest.new.pass.home ≡ hall.now.hub.home }
 {
-    let mut heard = Vec::new(alloc);
+    let mut heard = Vec::new(hall.alloc);
     let call = "hub_shared::Hub::take";
     once!(rt; call, TakeRefused::Memory, (view_of(rt, hall, guest), heard.len()), takes(rt, hall, guest, &mut heard));
     heard
@@ -192,7 +178,6 @@ pub(crate) fn looks<R: Wait>(rt: &R, hall: &Hall, guest: &mut Guest) -> Look
 /// Joins and logs in.
 pub(crate) fn join_and_login<R: Wait + Abort + Print>(
     rt: &R,
-    alloc: Global,
     hall: &Hall,
     visitor: Visitor<First24>,
     login: &str,
@@ -200,20 +185,30 @@ pub(crate) fn join_and_login<R: Wait + Abort + Print>(
     requires { visitor.home ≡ hall.now.hub.home }
     ensures { result.pass.home ≡ hall.now.hub.home }
 {
-    let Ok(mut guest) = join(rt, alloc, hall, visitor) else {
+    let Ok(mut guest) = join(rt, hall, visitor) else {
         panic!(rt; "not admitted")
     };
-    says(
-        rt,
-        alloc,
-        hall,
-        &mut guest,
-        GREETS.as_bytes(),
-        Verdict::Kept,
-    );
-    let login = spell(rt, alloc, login, 0);
-    says(rt, alloc, hall, &mut guest, &login, Verdict::Kept);
+    says(rt, hall, &mut guest, GREETS.as_bytes());
+    says(rt, hall, &mut guest, &spell(rt, hall.alloc, login, 0));
     guest
+}
+
+/// Opens a hub for so many, where ana and bob enter and hear of that.
+pub(crate) fn open_for_two<R: Wait + Abort + Print>(
+    rt: &R,
+    alloc: Global,
+    max_users: u32,
+) -> (Hall, Host<First24>, Guest, Guest)
+    ensures host { result.1 ≡ record { home = result.0.hub.home; admitted = 2 } }
+    ensures ana { result.2.pass.home ≡ result.0.hub.home }
+    ensures bob { result.3.pass.home ≡ result.0.hub.home }
+{
+    let (hall, mut host) = open_hall(rt, alloc, max_users);
+    let mut ana = join_and_login(rt, &hall, host.admit(&hall.hub), ENTERS[0]);
+    let mut bob = join_and_login(rt, &hall, host.admit(&hall.hub), ENTERS[1]);
+    hears(rt, &hall, &mut ana);
+    hears(rt, &hall, &mut bob);
+    (hall, host, ana, bob)
 }
 
 /// Leaves.
@@ -238,25 +233,11 @@ pub(crate) fn compare(hall: &Hall, left: Guest, right: Guest) -> (Guest, Guest)
         challenge: other_challenge,
     } = right;
     let (pass, other_pass) = hall.hub.meet(pass, other_pass);
-    let left = Guest { pass, challenge };
-    let right = Guest {
+    let other = Guest {
         pass: other_pass,
         challenge: other_challenge,
     };
-    (left, right)
-}
-
-/// Puts one visitor in a vector.
-pub(crate) fn only(
-    rt: &impl Abort,
-    alloc: Global,
-    visitor: Visitor<First24>,
-) -> Vec<Visitor<First24>>
-    ensures { result.items ≡ visitor ∷ [] }
-{
-    let mut all = again!(rt; Vec::with_capacity(alloc, 1));
-    all.push_reserved(visitor);
-    all
+    (Guest { pass, challenge }, other)
 }
 
 /// Puts two visitors in a vector.

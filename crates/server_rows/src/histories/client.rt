@@ -2,22 +2,17 @@
 ghost use Rattle.std.specs.Prelude.{◌≡◌, Some, ⊤};
 
 use crate::histories::clock::StillClock;
-use crate::histories::play::{Act, Step};
 use crate::histories::record::Desk;
+use crate::machine::*;
 use crate::sessions::begin;
 use adc_sessions::{Port, Session};
-use futures::task::{Context, Poll};
-use history_check::Call;
+use history_check::{Call, Reply};
 use hub_core::{JoinRefused, LineRefused, TakeRefused, Taken, Verdict};
 use hub_server::{Connection, OfHub, Server, SlotBell};
 use hub_shared::{Hub, Visitor};
-use session_hash::First24;
-use std::alloc::Global;
-use std::io;
+use second_try::{Deed, Step};
 use std::marker::PhantomData;
-use std::sync::Wait;
 use std::thread::yield_now;
-use tokio::io::{AsyncRead, AsyncWrite};
 
 const CHALLENGE: [u8; 24] = [0; 24];
 
@@ -26,35 +21,42 @@ const CHALLENGE: [u8; 24] = [0; 24];
 pub(crate) struct Wire<'a, R> {
     desk: &'a Desk<R>,
     steps: &'a [Step<'a>],
-    who: u64,
+    who: &'a str,
     next: usize,
     rest: &'a [u8],
+    // A line feed is owed behind the rest.
+    owes_feed: bool,
     is_over: bool,
 }
 
-impl<R: Wait> Wire<'_, R> {
+impl<'a, R: Wait> Wire<'a, R> {
+    fn new(desk: &'a Desk<R>, steps: &'a [Step<'a>], who: &'a str) -> Wire<'a, R> {
+        Wire {
+            desk,
+            steps,
+            who,
+            next: 0,
+            rest: b"",
+            owes_feed: false,
+            is_over: false,
+        }
+    }
+
     /// Goes on to what the client says or does next, if its turn has come.
     fn goes_on(&mut self) {
-        let turn = self.desk.turn();
-        for place in self.next..turn {
+        for place in self.next..self.desk.turn() {
             let Some(step) = self.steps.get(place) else {
                 return;
             };
             self.next = place.wrapping_add(1);
-            if step.who != self.who {
-                continue;
-            }
-            match step.act {
-                Act::Joins(_) => {}
-                Act::Says(line) => {
+            if step.who == self.who && step.deed != Deed::Joins {
+                self.is_over = step.deed != Deed::Says;
+                if !self.is_over {
                     self.desk.set_clock(step.moment);
-                    self.rest = line;
-                    return;
+                    self.rest = step.line.as_bytes();
+                    self.owes_feed = true;
                 }
-                Act::Leaves => {
-                    self.is_over = true;
-                    return;
-                }
+                return;
             }
         }
     }
@@ -72,8 +74,12 @@ impl<R: Wait> AsyncRead for Wire<'_, R> {
     fn poll_read(&mut self, cx: &mut Context<'_>, buf: &mut [u8]) -> Poll<io::Result<usize>> {
         // So that clients on other threads have their say between its lines.
         yield_now();
-        if self.rest.is_empty() && !self.is_over {
+        if self.rest.is_empty() && !self.owes_feed && !self.is_over {
             self.goes_on();
+        }
+        if self.rest.is_empty() && self.owes_feed {
+            self.rest = b"\n";
+            self.owes_feed = false;
         }
         if self.rest.is_empty() && !self.is_over {
             return cx.yield_now();
@@ -147,7 +153,7 @@ impl<P: Port, R: Wait> Port for Recorder<'_, P, R> {
         } = self;
         let mut record = desk.record();
         let left = port.quit();
-        record.note_quit(caller, connection);
+        record.note(caller, Call::Quit(connection), Reply::Left);
         left
     }
 }
@@ -179,7 +185,8 @@ impl<B: OfHub<First24>> Guest<B> {
     }
 }
 
-/// Makes a step that is a join. The client gets no session where the hub is full; nothing is given where memory was refused.
+/// Makes a step that is a join, of the caller of this number. The client gets no session where the hub is full; nothing is given where memory
+/// was refused.
 pub(crate) fn joins<'a, B: OfHub<First24>, S: AsyncRead + AsyncWrite, R: Wait>(
     alloc: Global,
     hub: &Hub<First24>,
@@ -187,54 +194,33 @@ pub(crate) fn joins<'a, B: OfHub<First24>, S: AsyncRead + AsyncWrite, R: Wait>(
     desk: &'a Desk<R>,
     steps: &'a [Step<'a>],
     step: Step<'a>,
+    caller: u64,
     guest: Guest<B>,
 ) -> Option<Option<Talk<'a, B, S, R>>>
     requires { B.home ≡ Some hub.now.home }
 {
-    let Act::Joins(address) = step.act else {
-        return None;
-    };
+    let address = Ipv4Addr::parse_ascii(step.line.as_bytes()).ok()?.octets();
     let Guest { visitor, .. } = guest;
     let call = Call::Join(address, CHALLENGE, step.moment);
     let mut record = desk.record();
     match hub.join(&desk.clock, alloc, visitor, address, CHALLENGE, step.moment) {
         Ok(pass) => {
-            let number = record.note_join(step.who, call);
-            let slot = number.wrapping_sub(1) as usize;
+            let connection = record.note_join(caller, call);
+            let slot = connection.wrapping_sub(1) as usize;
             let port = Connection::new(server, pass, CHALLENGE, slot);
-            begins(alloc, desk, steps, port, step.who, number).map(Some)
+            let (bell, wire) = (port.bell(), Wire::new(desk, steps, step.who));
+            let port = Recorder {
+                port,
+                desk,
+                caller,
+                connection,
+            };
+            begin(alloc, wire, port, bell).map(Some)
         }
         Err((JoinRefused::Full, _)) => {
-            record.note_full(step.who, call);
+            record.note(caller, call, Reply::Full);
             Some(None)
         }
         Err(_) => None,
     }
-}
-
-/// Begins the session of a client that joined.
-fn begins<'a, B: OfHub<First24>, S: AsyncRead + AsyncWrite, R: Wait>(
-    alloc: Global,
-    desk: &'a Desk<R>,
-    steps: &'a [Step<'a>],
-    port: Connection<'a, B, S, First24, StillClock<R>>,
-    who: u64,
-    number: u64,
-) -> Option<Talk<'a, B, S, R>> {
-    let wire = Wire {
-        desk,
-        steps,
-        who,
-        next: 0,
-        rest: b"",
-        is_over: false,
-    };
-    let bell = port.bell();
-    let port = Recorder {
-        port,
-        desk,
-        caller: who,
-        connection: number,
-    };
-    begin(alloc, wire, port, bell)
 }

@@ -1,9 +1,7 @@
 // A clock that stands where a conversation has set it.
-use std::io;
+use crate::machine::*;
 use std::marker::PhantomData;
-use std::sync::Wait;
 use std::sync::atomic::{AtomicU64, Ordering};
-use std::time::{Clock, Duration};
 
 /// A clock that stands until it is set, for code that may wait as the runtime `R` may.
 #[derive(Drop)]

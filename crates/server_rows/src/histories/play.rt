@@ -5,44 +5,18 @@ use crate::histories::client::{Guest, Talk, joins};
 use crate::histories::clock::StillClock;
 use crate::histories::polls::{are_over, go_round, goes_to_end};
 use crate::histories::record::Desk;
-use crate::machine::ServerMachine;
-use futures::test::MockTask;
+use crate::machine::*;
 use history_check::Entry;
 use hub_core::Setup;
 use hub_server::{OfHub, Server};
 use hub_shared::{Host, Hub};
-use second_try::Deed;
-use session_hash::First24;
-use std::alloc::{AllocGlobal, Global};
+use second_try::{Deed, Step, steps_of};
 use std::marker::Brand;
-use std::net::Ipv4Addr;
-use std::random::RandomSource;
-use std::sync::{Arc, Wait};
 use std::thread::{Threads, for_each_mut};
-use tokio::io::{AsyncRead, AsyncWrite};
 use tokio::net::TcpStream;
 
 /// The number of clients of a conversation at most.
 const CLIENTS: usize = 4;
-
-/// What a client does in a step.
-#[derive(Clone, Copy)]
-pub(crate) enum Act<'a> {
-    /// Joins from this address.
-    Joins([u8; 4]),
-    /// Says this line, with its line feed.
-    Says(&'a [u8]),
-    /// Leaves.
-    Leaves,
-}
-
-/// A step of a conversation: who does what, and at which moment.
-#[derive(Clone, Copy)]
-pub(crate) struct Step<'a> {
-    pub(crate) moment: u64,
-    pub(crate) who: u64,
-    pub(crate) act: Act<'a>,
-}
 
 /// The threads on which the clients are.
 #[derive(Clone, Copy)]
@@ -53,48 +27,6 @@ pub(crate) enum Way {
     Apart,
 }
 
-/// Reads a conversation, a step a line, of who joins from an address, says a line, or leaves. Clients have the numbers from 1 on, in the order
-/// in which they join.
-fn read_steps(alloc: Global, text: &str) -> Option<Vec<Step<'_>>> {
-    let mut names = Vec::new(alloc);
-    let mut steps = Vec::new(alloc);
-    for line in text.split_inclusive('\n') {
-        if line == "\n" {
-            continue;
-        }
-        let told = second_try::Step::read(line.trim_end())?;
-        for name in told.who.split(" and ") {
-            if told.deed == Deed::Joins {
-                names.push(name).ok()?;
-            }
-            let place = names.iter().position(|known| *known == name)?;
-            steps
-                .push(Step {
-                    moment: told.moment,
-                    who: place.wrapping_add(1) as u64,
-                    act: act_of(told, line)?,
-                })
-                .ok()?;
-        }
-    }
-    Some(steps)
-}
-
-fn act_of<'a>(told: second_try::Step<'a>, line: &'a str) -> Option<Act<'a>> {
-    match told.deed {
-        Deed::Leaves => Some(Act::Leaves),
-        Deed::Joins => {
-            let address = Ipv4Addr::parse_ascii(told.line.as_bytes()).ok()?;
-            Some(Act::Joins(address.octets()))
-        }
-        Deed::Says => {
-            let start = line.len().checked_sub(told.line.len().wrapping_add(1))?;
-            Some(Act::Says(line.as_bytes().get(start..)?))
-        }
-        _ => None,
-    }
-}
-
 /// Plays a conversation on a hub of its own, and gives the history that was recorded; nothing where memory was refused.
 pub(crate) fn plays<R: ServerMachine>(
     rt: &R,
@@ -102,7 +34,7 @@ pub(crate) fn plays<R: ServerMachine>(
     setup: &Arc<Setup>,
     way: Way,
 ) -> Option<Vec<Entry>> {
-    let steps = read_steps(rt.alloc(), text)?;
+    let steps = steps_of(rt.alloc(), text)?;
     let desk = Desk::new(rt.alloc());
     let (hub, mut host) = Hub::open(rt.alloc(), setup.clone().ok()?, &First24).ok()?;
     converses::<Brand, TcpStream, R>(rt, &hub, &mut host, setup, &desk, &steps, way)?;
@@ -180,16 +112,19 @@ fn make_steps<
 {
     let mut guests = guests;
     let task = MockTask::new(rt).ok()?;
-    let mut talks = Vec::new(rt.alloc());
+    // Clients have the numbers from 1 on, in the order in which they join.
+    let (mut names, mut talks) = (Vec::new(rt.alloc()), Vec::new(rt.alloc()));
     for (place, step) in steps.iter().enumerate() {
-        if let Act::Joins(_) = step.act {
-            let guest = guests.pop()?;
-            let talk = joins(rt.alloc(), hub, server, desk, steps, *step, guest)?;
+        if step.deed == Deed::Joins {
+            names.push(step.who).ok()?;
+            let (guest, caller) = (guests.pop()?, names.len() as u64);
+            let talk = joins(rt.alloc(), hub, server, desk, steps, *step, caller, guest)?;
             talks.push(talk).ok()?;
         }
         if let Way::Alone = way {
             desk.allow(place.wrapping_add(1));
-            go_round(&task, desk, &mut talks, step.who.wrapping_sub(1) as usize);
+            let client = names.iter().position(|name| *name == step.who)?;
+            go_round(&task, desk, &mut talks, client);
         }
     }
     if let Way::Apart = way {

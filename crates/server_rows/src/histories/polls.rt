@@ -1,12 +1,7 @@
 // Sessions that are polled until they are over, on one thread or on threads of their own.
 use crate::histories::record::Desk;
+use crate::machine::*;
 use adc_sessions::{Bell, End, Port, Session};
-use futures::task::Poll;
-use futures::test::MockTask;
-use std::alloc::AllocGlobal;
-use std::random::RandomSource;
-use std::sync::Wait;
-use tokio::io::{AsyncRead, AsyncWrite};
 
 /// The number of times that a session is polled at most.
 const POLLS: u32 = 1_000;
@@ -22,7 +17,7 @@ pub(crate) fn goes_on<S: AsyncRead + AsyncWrite, P: Port, B: Bell, R: Wait>(
     };
     if let Poll::Ready((end, _stream, _left)) = task.poll(session) {
         if end == End::Memory {
-            desk.record().lose();
+            desk.record().is_lost = true;
         }
         *talk = None;
     }

@@ -17,7 +17,7 @@ pub(crate) struct Record {
     entries: Vec<Entry>,
     joins: u64,
     // A note was refused memory, or a session.
-    is_lost: bool,
+    pub(crate) is_lost: bool,
 }
 
 /// The things that the clients of a hub share: its clock, its record, and how far their conversation may go.
@@ -29,7 +29,8 @@ pub(crate) struct Desk<R> {
 }
 
 impl Record {
-    fn note(&mut self, caller: u64, call: Call, reply: Reply) {
+    /// Notes a call with its reply.
+    pub(crate) fn note(&mut self, caller: u64, call: Call, reply: Reply) {
         let entry = Entry {
             caller,
             call,
@@ -40,21 +41,11 @@ impl Record {
         }
     }
 
-    /// Notes that memory was refused, so that the history is not whole.
-    pub(crate) fn lose(&mut self) {
-        self.is_lost = true;
-    }
-
     /// Notes a join that was accepted, and gives the number of its connection.
     pub(crate) fn note_join(&mut self, caller: u64, join: Call) -> u64 {
         self.joins = self.joins.wrapping_add(1);
         self.note(caller, join, Reply::Joined(self.joins));
         self.joins
-    }
-
-    /// Notes a join for which there was no room.
-    pub(crate) fn note_full(&mut self, caller: u64, join: Call) {
-        self.note(caller, join, Reply::Full);
     }
 
     /// Notes a line of a connection, and what the hub said of it.
@@ -91,11 +82,6 @@ impl Record {
             }
             _ => self.is_lost = true,
         }
-    }
-
-    /// Notes that a connection left.
-    pub(crate) fn note_quit(&mut self, caller: u64, connection: u64) {
-        self.note(caller, Call::Quit(connection), Reply::Left);
     }
 }
 

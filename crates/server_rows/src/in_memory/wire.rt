@@ -2,13 +2,8 @@
 ghost use Rattle.std.specs.Prelude.{◌≡◌, ◌<◌, ◌≤◌, ◌++◌, length};
 
 use crate::in_memory::desk::Desk;
-use futures::task::{Context, Poll};
+use crate::machine::*;
 use hub_listener::{Bind, Listens, Socket};
-use std::alloc::Global;
-use std::io;
-use std::net::{Ipv4Addr, Net, SocketAddr, SocketAddrV4};
-use std::time::{Clock, Duration};
-use tokio::io::{AsyncRead, AsyncWrite};
 use tokio::reactor::Handle;
 
 /// The number of times that a client looks whether its turn has come, a millisecond or more apart.
@@ -71,7 +66,29 @@ pub(crate) struct Wire<'a, R: Clock> {
     sent: Vec<u8>,
 }
 
-impl<R: Clock> Wire<'_, R> {
+impl<'a, R: Clock> Wire<'a, R> {
+    /// Makes the socket of a client at a place, with room for what it is sent.
+    pub(crate) fn new(
+        rt: &'a R,
+        alloc: Global,
+        desk: &'a Desk,
+        client: &'a Client<'a>,
+        place: usize,
+    ) -> Result<Wire<'a, R>, AllocError> {
+        Ok(Wire {
+            rt,
+            desk,
+            client,
+            place,
+            rest: client.says,
+            line: 0,
+            is_within: false,
+            looks: LOOKS,
+            has_entered: false,
+            sent: Vec::with_capacity(alloc, ROOM)?,
+        })
+    }
+
     /// Answers whether the client says its next line now. It never does where who is to be waited for is gone.
     fn turn(&self) -> Turn {
         let cue = self.client.cues.get(self.line).copied();
@@ -90,10 +107,6 @@ impl<R: Clock> Wire<'_, R> {
         }
         Turn::Later
     }
-}
-
-fn here() -> SocketAddr {
-    SocketAddr::V4(SocketAddrV4::new(Ipv4Addr::LOCALHOST, PORT))
 }
 
 /// Gives the address from which the client at this place comes: 127.0.0.2, 127.0.0.3 and so on.
@@ -281,27 +294,15 @@ impl<'a, R: Clock> Listens for Lobby<'a, R> {
         let Some(client) = self.clients.get(place) else {
             return cx.yield_now();
         };
-        let sent = match Vec::with_capacity(self.alloc, ROOM) {
-            Ok(sent) => sent,
+        let wire = match Wire::new(self.rt, self.alloc, self.desk, client, place) {
+            Ok(wire) => wire,
             Err(error) => return Poll::Ready(Err(io::Error::from(error))),
         };
         self.came = place.wrapping_add(1);
-        let wire = Wire {
-            rt: self.rt,
-            desk: self.desk,
-            client,
-            place,
-            rest: client.says,
-            line: 0,
-            is_within: false,
-            looks: LOOKS,
-            has_entered: false,
-            sent,
-        };
         Poll::Ready(Ok((wire, home_of(place))))
     }
 
     fn address(&self) -> io::Result<SocketAddr> {
-        Ok(here())
+        Ok(SocketAddr::V4(SocketAddrV4::new(Ipv4Addr::LOCALHOST, PORT)))
     }
 }

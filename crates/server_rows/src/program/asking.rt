@@ -1,10 +1,7 @@
 // The program over memory: what it is asked for, and what it leaves.
-use crate::machine::ProgramMachine;
+use crate::machine::*;
 use hub_program::{Counting, program};
-use second_try::again;
-use std::alloc::{AllocError, Global};
 use std::io::{self, Read, Write};
-use std::process::Abort;
 
 /// The file of the program that fails at each call.
 #[derive(Clone, Copy, Debug, PartialEq)]
@@ -126,27 +123,13 @@ pub(crate) fn asks<T: ProgramMachine>(
     errors: &[u8],
 ) {
     let left = run(rt, words, broken);
-    let asked = Asked { words, broken };
-    asked.holds(rt, left.status == status, "status");
-    asked.holds(
-        rt,
-        left.output.get_ref().got.as_slice() == output,
-        "standard output",
-    );
-    asked.holds(rt, left.errors.got.as_slice() == errors, "standard error");
-    asked.holds(rt, status != 0 || left.errors.calls == 0, "calls");
-}
-
-/// The words that the program is asked by, and its file that fails.
-#[derive(Clone, Copy)]
-struct Asked<'a> {
-    words: &'a [&'a str],
-    broken: Broken,
-}
-
-impl Asked<'_> {
-    /// Stops the test unless this is as it should be.
-    fn holds(&self, rt: &impl Abort, is_so: bool, what: &str) {
-        assert!(rt; is_so, "{what} of {:?}, {:?}", self.words, self.broken);
+    let got = left.output.get_ref().got.as_slice();
+    for (is_so, what) in [
+        (left.status == status, "status"),
+        (got == output, "standard output"),
+        (left.errors.got.as_slice() == errors, "standard error"),
+        (status != 0 || left.errors.calls == 0, "calls"),
+    ] {
+        assert!(rt; is_so, "{what} of {words:?}, {broken:?}");
     }
 }

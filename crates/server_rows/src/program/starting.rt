@@ -1,11 +1,7 @@
 // A server that is not started, and why.
-use crate::machine::ProgramMachine;
+use crate::machine::*;
 use crate::program::asking::{Broken, asks};
-use second_try::again;
-use std::alloc::AllocGlobal;
 use std::fs::{self, Files};
-use std::process::Abort;
-use std::random::RandomSource;
 
 /// A file that no other run of these tests has.
 #[derive(Drop)]
@@ -46,32 +42,18 @@ impl Scratch {
 
     /// Stops the test unless the program, asked to serve the hub of this file, ends by this status, and says just this.
     fn refuses<R: ProgramMachine>(&self, rt: &R, status: u8, said: &[u8]) {
-        asks(
-            rt,
-            &["serve", self.path.as_str()],
-            Broken::Nothing,
-            status,
-            b"",
-            said,
-        );
+        refuses(rt, self.path.as_str(), status, said);
     }
 }
 
-#[test]
-fn settings_that_are_not_there(rt: HostRuntime) {
-    let words = ["serve", "/nowhere/hub.toml"];
-    asks(
-        &rt,
-        &words,
-        Broken::Nothing,
-        1,
-        b"",
-        b"adc_hub: settings: file\n",
-    );
+/// Stops the test unless the program, asked to serve the hub of the file there, ends by this status, and says just this.
+fn refuses<R: ProgramMachine>(rt: &R, path: &str, status: u8, said: &[u8]) {
+    asks(rt, &["serve", path], Broken::Nothing, status, b"", said);
 }
 
 #[test]
-fn settings_that_are_no_text(rt: HostRuntime) {
+fn settings_that_are_not_there_or_no_text(rt: HostRuntime) {
+    refuses(&rt, "/nowhere/hub.toml", 1, b"adc_hub: settings: file\n");
     let rows: [(&[u8], &[u8]); 4] = [
         (b"name = \"\xff\"\n", b"adc_hub: settings: text\n"),
         (b"name = \n", b"adc_hub: settings: text\n"),

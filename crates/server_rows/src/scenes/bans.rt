@@ -12,12 +12,10 @@ const BAN: &str = "\
 ana says HMSG !ban\\sbob\\s1
 bob hears IQUI AAAC IDAAAB TL1
 bob hears the end
-ana hears IQUI AAAC IDAAAB TL1
-ana hears ISTA 000 Done
+ana hears IQUI AAAC IDAAAB TL1 | ISTA 000 Done
 a second passes
 bob is greeted AAAD
-bob says BINF AAAD ID<P1> PD<P1> NIbob
-bob hears BINF AAAB ID<P0> NIop CT4
+bob says BINF AAAD ID<P1> PD<P1> NIbob -> BINF AAAB ID<P0> NIop CT4
 bob and ana hear BINF AAAD ID<P1> NIbob
 ";
 

@@ -91,6 +91,12 @@ fn who_does_not_move_is_waited_for_no_longer(rt: HostRuntime) {
     assert!(&rt; !backlog.is_behind(far.plus(lines(1))));
     backlog.count_taken(far.plus(lines(1)), lines(1), true);
     assert!(&rt; backlog.is_behind(far.plus(lines(2))));
+    // Ticks do not count where little waits.
+    let mut backlog = Backlog::new(Amount::NONE);
+    for _tick in 0..10 * PATIENCE {
+        backlog.tick(FAR_BEHIND, 1);
+    }
+    assert!(&rt; backlog.is_behind(FAR_BEHIND.plus(lines(1))));
 }
 
 /// Counts for how many ticks a client that takes nothing more is waited for.
@@ -138,15 +144,6 @@ fn who_reads_is_waited_for_at_its_pace(rt: HostRuntime) {
         }
         backlog.count_written(85_000);
     }
-}
-
-#[test]
-fn ticks_do_not_count_where_little_waits(rt: HostRuntime) {
-    let mut backlog = Backlog::new(Amount::NONE);
-    for _tick in 0..10 * PATIENCE {
-        backlog.tick(FAR_BEHIND, 1);
-    }
-    assert!(&rt; backlog.is_behind(FAR_BEHIND.plus(lines(1))));
 }
 
 #[test]

@@ -22,13 +22,11 @@ fn each_end_by_a_fault_has_its_cause(rt: HostRuntime) {
 
 #[test]
 fn want_of_room_is_no_fault_of_the_listener(rt: HostRuntime) {
+    let gone = [4, 11, 64, 71, 92, 95, 100, 101, 103, 107, 112, 113];
     let rows: [(AcceptError, &[i32]); 4] = [
         (AcceptError::Memory, &[12]),
         (AcceptError::Room, &[23, 24, 28, 105]),
-        (
-            AcceptError::Gone,
-            &[4, 11, 64, 71, 92, 95, 100, 101, 103, 107, 112, 113],
-        ),
+        (AcceptError::Gone, &gone),
         (AcceptError::Listener, &[1, 9, 13, 14, 22, 88]),
     ];
     for (wanted, numbers) in rows {

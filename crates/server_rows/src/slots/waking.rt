@@ -1,13 +1,9 @@
 // Tests of who is woken, and who gives way.
+use crate::machine::*;
 use adc_base32::Sid;
 use adc_sessions::Bell;
 use connection_slots::{Amount, BURST, FAR_BEHIND, LITTLE, PATIENCE, Wakers};
-use futures::test::MockTask;
 use hub_server::SlotBell;
-use second_try::again;
-use std::alloc::{AllocError, AllocGlobal};
-use std::process::Abort;
-use std::random::RandomSource;
 
 /// The number of sessions.
 const COUNT: usize = 4;
@@ -70,6 +66,12 @@ impl Waiters {
         }
     }
 
+    /// Wakes two by a call of the first session.
+    fn wakes_two(&self, rt: &impl Abort, one: u32, other: u32) {
+        let (one, other) = (sid(rt, one), sid(rt, other));
+        self.wakers.wake_two(one, other, 0, LINE, SECOND);
+    }
+
     /// Stops the test unless exactly these are woken, and hear that they were.
     fn are_woken(&self, rt: &impl Abort, wanted: [bool; COUNT]) {
         for (task, woken) in self.tasks.iter().zip(wanted) {
@@ -88,17 +90,18 @@ fn those_are_woken_whom_a_call_concerned(rt: HostRuntime) {
     waiters.are_woken(&rt, [false; COUNT]);
     waiters.wakers.wake_one(sid(&rt, 3), 0, LINE, SECOND);
     waiters.are_woken(&rt, [false, false, true, false]);
-    waiters
-        .wakers
-        .wake_two(sid(&rt, 2), sid(&rt, 4), 0, LINE, SECOND);
+    waiters.wakes_two(&rt, 2, 4);
     waiters.are_woken(&rt, [false, true, false, true]);
     waiters.wakers.wake_everybody(1, Amount::NONE, SECOND);
     waiters.are_woken(&rt, [true, false, true, true]);
     // A session is not woken by its own call.
-    waiters
-        .wakers
-        .wake_two(sid(&rt, 1), sid(&rt, 2), 0, LINE, SECOND);
+    waiters.wakes_two(&rt, 1, 2);
     waiters.are_woken(&rt, [false, true, false, false]);
+    // A wake that nobody waits for is heard.
+    waiters.wakers.wake_everybody(0, Amount::NONE, SECOND);
+    waiters.wakers.wake_everybody(1, Amount::NONE, SECOND);
+    waiters.wakers.wake_one(sid(&rt, 2), 0, LINE, SECOND);
+    waiters.are_woken(&rt, [true, true, true, true]);
 }
 
 #[test]
@@ -111,15 +114,6 @@ fn who_left_is_not_woken_alone(rt: HostRuntime) {
     waiters.wakers.name(2, sid(&rt, 9));
     waiters.wakers.wake_one(sid(&rt, 9), 0, LINE, SECOND);
     waiters.are_woken(&rt, [false, false, true, false]);
-}
-
-#[test]
-fn a_wake_that_nobody_waits_for_is_heard(rt: HostRuntime) {
-    let waiters = Waiters::new(&rt);
-    waiters.wakers.wake_everybody(0, Amount::NONE, SECOND);
-    waiters.wakers.wake_everybody(1, Amount::NONE, SECOND);
-    waiters.wakers.wake_one(sid(&rt, 2), 0, LINE, SECOND);
-    waiters.are_woken(&rt, [true, true, true, true]);
 }
 
 #[test]
@@ -145,34 +139,43 @@ fn says(waiters: &Waiters, count: u64) {
 
 /// Takes all that waits for the session of this slot.
 fn takes_all(waiters: &Waiters, slot: usize) {
-    let said = waiters.wakers.broadcasts();
-    waiters
-        .wakers
-        .count_taken(slot, said, Amount::of_line(LINE), false);
+    let wakers = &waiters.wakers;
+    wakers.count_taken(slot, wakers.broadcasts(), Amount::of_line(LINE), false);
 }
 
 /// Takes one line of all that wait, so that as much waits as before once another is said.
 fn moves(waiters: &Waiters, slot: usize) {
-    let said = waiters.wakers.broadcasts();
-    waiters
-        .wakers
-        .count_taken(slot, said, Amount::of_line(LINE), true);
+    let wakers = &waiters.wakers;
+    wakers.count_taken(slot, wakers.broadcasts(), Amount::of_line(LINE), true);
 }
 
 /// Lets the session of this slot give so many bytes, of which all have heard.
 fn gives(rt: &impl Abort, waiters: &Waiters, slot: usize, bytes: u64) {
-    waiters
-        .wakers
-        .wake_everybody(slot, Amount { lines: 0, bytes }, SECOND);
+    let given = Amount { lines: 0, bytes };
+    waiters.wakers.wake_everybody(slot, given, SECOND);
     waiters.all_wait(rt);
+}
+
+/// The sessions where the first gave more than little, and so many lines were said since.
+fn much_given<R: Abort + RandomSource + AllocGlobal>(rt: &R, lines: u64) -> Waiters {
+    let waiters = Waiters::new(rt);
+    gives(rt, &waiters, 0, LITTLE + 1);
+    says(&waiters, lines);
+    waiters
+}
+
+/// Stops the test unless so many lines may be handed over, and no more.
+fn hands_a_burst(rt: &impl Abort, bell: &mut SlotBell<'_>) {
+    for _line in 0..BURST {
+        assert!(rt; bell.may_hand(60));
+    }
+    assert!(rt; !bell.may_hand(60));
 }
 
 #[test]
 fn who_gives_much_gives_way_to_who_is_behind(rt: HostRuntime) {
-    let waiters = Waiters::new(&rt);
+    let waiters = much_given(&rt, FAR_BEHIND.lines);
     let mut bell = SlotBell::new(&waiters.wakers, 0);
-    gives(&rt, &waiters, 0, LITTLE + 1);
-    says(&waiters, FAR_BEHIND.lines);
     assert!(&rt; bell.may_hand(60));
     says(&waiters, BURST);
     // All are behind. It gives way, and is rung for once nobody is.
@@ -204,18 +207,13 @@ fn who_says_little_does_not_give_way(rt: HostRuntime) {
         says(&waiters, 1);
         waiters.wakers.tick(SECOND, 1);
     }
-    for _line in 0..BURST {
-        assert!(&rt; bell.may_hand(60));
-    }
-    assert!(&rt; !bell.may_hand(60));
+    hands_a_burst(&rt, &mut bell);
 }
 
 #[test]
 fn much_is_little_two_seconds_later(rt: HostRuntime) {
-    let waiters = Waiters::new(&rt);
+    let waiters = much_given(&rt, FAR_BEHIND.lines + BURST);
     let mut bell = SlotBell::new(&waiters.wakers, 0);
-    gives(&rt, &waiters, 0, LITTLE + 1);
-    says(&waiters, FAR_BEHIND.lines + BURST);
     assert!(&rt; !bell.may_hand(60));
     waiters.wakers.tick(SECOND + 1, 1);
     assert!(&rt; !bell.may_hand(60));
@@ -225,10 +223,8 @@ fn much_is_little_two_seconds_later(rt: HostRuntime) {
 
 #[test]
 fn who_gives_much_waits_for_who_reads(rt: HostRuntime) {
-    let waiters = Waiters::new(&rt);
+    let waiters = much_given(&rt, FAR_BEHIND.lines + BURST);
     let mut bell = SlotBell::new(&waiters.wakers, 0);
-    gives(&rt, &waiters, 0, LITTLE + 1);
-    says(&waiters, FAR_BEHIND.lines + BURST);
     waiters.wakers.tick(SECOND, CREDIT);
     for _tick in 0..10 * PATIENCE {
         assert!(&rt; !bell.may_hand(60));
@@ -245,10 +241,8 @@ fn who_gives_much_waits_for_who_reads(rt: HostRuntime) {
 
 #[test]
 fn who_gives_much_gives_way_for_a_while_to_who_hardly_moves(rt: HostRuntime) {
-    let waiters = Waiters::new(&rt);
+    let waiters = much_given(&rt, FAR_BEHIND.lines + 100);
     let mut bell = SlotBell::new(&waiters.wakers, 0);
-    gives(&rt, &waiters, 0, LITTLE + 1);
-    says(&waiters, FAR_BEHIND.lines + 100);
     waiters.wakers.tick(SECOND, CREDIT);
     for _tick in 0..PATIENCE {
         assert!(&rt; !bell.may_hand(60));
@@ -258,18 +252,13 @@ fn who_gives_much_gives_way_for_a_while_to_who_hardly_moves(rt: HostRuntime) {
         waiters.are_woken(&rt, [true, false, false, false]);
     }
     // It has waited for long, and may hand over some.
-    for _line in 0..BURST {
-        assert!(&rt; bell.may_hand(60));
-    }
-    assert!(&rt; !bell.may_hand(60));
+    hands_a_burst(&rt, &mut bell);
 }
 
 #[test]
 fn who_never_moves_holds_up_nobody(rt: HostRuntime) {
-    let waiters = Waiters::new(&rt);
+    let waiters = much_given(&rt, 2 * FAR_BEHIND.lines);
     let mut bell = SlotBell::new(&waiters.wakers, 0);
-    gives(&rt, &waiters, 0, LITTLE + 1);
-    says(&waiters, 2 * FAR_BEHIND.lines);
     waiters.wakers.tick(SECOND, CREDIT);
     for slot in 0..COUNT {
         moves(&waiters, slot);

@@ -1,13 +1,11 @@
 use super::say_check;
-use crate::rows::{Part, Row, number, rows, unknown};
+use crate::rows::*;
 use login_state::{
     Account, Address, Admission, Ban, CHECKED, Claim, EntryAsk, Identity, InfAsk, Required, Size,
     UpdateAsk, Validity, check_entry, check_inf, check_update,
 };
-use second_try::Machine;
-use std::process::Abort;
 
-/// A login with which everything is wrong at first; each row but the first mends something and asks again.
+/// A login with which everything is wrong at first; each call mends something and asks again.
 #[derive(Drop)]
 struct Login {
     ask: InfAsk,
@@ -15,28 +13,21 @@ struct Login {
 
 impl Part for Login {
     fn call(&mut self, rt: &impl Machine, row: Row<'_>, said: &mut Vec<u8>) {
-        match row.name {
-            "asks" => {}
+        let (what, how) = pair(row.text, ' ');
+        match what {
+            "nothing" => {}
             "words" => self.ask.words = Validity::Good,
-            "id" => self.ask.id = required_of(rt, row.text),
-            "pid" => self.ask.pid = required_of(rt, row.text),
-            "nick" => self.ask.nick = required_of(rt, row.text),
+            "id" => self.ask.id = required(how == "good"),
+            "pid" => self.ask.pid = required(how == "good"),
+            "nick" => self.ask.nick = required(how == "good"),
             "share_size" => self.ask.values[0] = Validity::Good,
             "shared_files" => self.ask.values[1] = Validity::Good,
             "identity" => self.ask.identity = Identity::Own,
             "address" => self.ask.address = Address::Right,
             "admission" => self.ask.admission = Admission::Admitted,
-            _ => self.ask.entry = entry(rt, row.name, row.text),
+            _ => self.ask.entry = entry(rt, what, how),
         }
         say_check(rt, said, check_inf(&self.ask));
-    }
-}
-
-fn required_of(rt: &impl Abort, text: &str) -> Required {
-    match text {
-        "bad" => Required::Bad,
-        "good" => Required::Good,
-        _ => unknown(rt, text),
     }
 }
 
@@ -57,6 +48,14 @@ fn claim(is_taken: bool) -> Claim {
     if is_taken { Claim::Taken } else { Claim::Free }
 }
 
+fn required(is_good: bool) -> Required {
+    if is_good {
+        Required::Good
+    } else {
+        Required::Bad
+    }
+}
+
 #[test]
 fn checks_a_login_in_order(rt: HostRuntime) {
     let ask = InfAsk {
@@ -71,27 +70,16 @@ fn checks_a_login_in_order(rt: HostRuntime) {
         entry: entry(&rt, "ever", "both"),
     };
     rows! { rt, Login { ask }, r"
-        asks -> ISTA 140 Protocol\serror
-        words -> ISTA 243 INF\sfield\smissing FMID
-        id bad -> ISTA 243 INF\sfield\smissing FMPD
-        pid bad -> ISTA 243 INF\sfield\smissing FMNI
-        nick bad -> ISTA 243 INF\sfield\sbad FBID
-        id good -> ISTA 243 INF\sfield\sbad FBPD
-        pid good -> ISTA 243 INF\sfield\sbad FBSS
-        share_size -> ISTA 243 INF\sfield\sbad FBSF
-        shared_files -> ISTA 227 Invalid\sPID
-        identity -> ISTA 221 Invalid\snick
-        nick good -> ISTA 231 Banned
-        60 both -> ISTA 232 Banned TL60
-        free both -> ISTA 246 Wrong\saddress I410.0.0.1
-        address -> ISTA 226 Registered\susers\sonly
-        admission -> ISTA 222 Nick\staken
-        free cid -> ISTA 224 CID\staken
-        free none -> Go
+        mends nothing -> ISTA 140 Protocol\serror | words -> ISTA 243 INF\sfield\smissing FMID | id bad -> ISTA 243 INF\sfield\smissing FMPD
+        mends pid bad -> ISTA 243 INF\sfield\smissing FMNI | nick bad -> ISTA 243 INF\sfield\sbad FBID
+        mends id good -> ISTA 243 INF\sfield\sbad FBPD | pid good -> ISTA 243 INF\sfield\sbad FBSS
+        mends share_size -> ISTA 243 INF\sfield\sbad FBSF | shared_files -> ISTA 227 Invalid\sPID | identity -> ISTA 221 Invalid\snick
+        mends nick good -> ISTA 231 Banned | 60 both -> ISTA 232 Banned TL60 | free both -> ISTA 246 Wrong\saddress I410.0.0.1
+        mends address -> ISTA 226 Registered\susers\sonly | admission -> ISTA 222 Nick\staken | free cid -> ISTA 224 CID\staken | free none -> Go
     " }
 }
 
-/// An update with which everything is wrong at first; each row but the first mends something and asks again.
+/// An update with which everything is wrong at first; each call mends something and asks again.
 #[derive(Drop)]
 struct Renewal {
     ask: UpdateAsk,
@@ -99,8 +87,8 @@ struct Renewal {
 
 impl Part for Renewal {
     fn call(&mut self, rt: &impl Machine, row: Row<'_>, said: &mut Vec<u8>) {
-        match row.name {
-            "asks" => {}
+        match row.text {
+            "nothing" => {}
             "words" => self.ask.words = Validity::Good,
             "identity" => self.ask.identity = Identity::Own,
             "share_size" => self.ask.values[0] = Validity::Good,
@@ -110,7 +98,7 @@ impl Part for Renewal {
             "address" => self.ask.address = Address::Right,
             "size" => self.ask.size = Size::Fits,
             "nick_claim" => self.ask.nick_claim = Claim::Free,
-            _ => unknown(rt, row.name),
+            _ => unknown(rt, row.text),
         }
         say_check(rt, said, check_update(&self.ask));
     }
@@ -129,16 +117,9 @@ fn checks_an_update_in_order(rt: HostRuntime) {
         nick_claim: Claim::Taken,
     };
     rows! { rt, Renewal { ask }, r"
-        asks -> ISTA 140 Protocol\serror
-        words -> ISTA 143 INF\sfield\sbad FBID
-        identity -> ISTA 143 INF\sfield\sbad FBSS
-        share_size -> ISTA 143 INF\sfield\sbad FBSF
-        shared_files -> ISTA 121 Invalid\snick
-        nick -> ISTA 125 Access\sdenied FCBINF
-        account -> ISTA 146 Wrong\saddress I410.0.0.1
-        address -> ISTA 140 Protocol\serror
-        size -> ISTA 122 Nick\staken
-        nick_claim -> Go
+        mends nothing -> ISTA 140 Protocol\serror | words -> ISTA 143 INF\sfield\sbad FBID | identity -> ISTA 143 INF\sfield\sbad FBSS
+        mends share_size -> ISTA 143 INF\sfield\sbad FBSF | shared_files -> ISTA 121 Invalid\snick | nick -> ISTA 125 Access\sdenied FCBINF
+        mends account -> ISTA 146 Wrong\saddress I410.0.0.1 | address -> ISTA 140 Protocol\serror | size -> ISTA 122 Nick\staken | nick_claim -> Go
     " }
 }
 
@@ -148,17 +129,15 @@ struct LastAsk;
 
 impl Part for LastAsk {
     fn call(&mut self, rt: &impl Machine, row: Row<'_>, said: &mut Vec<u8>) {
-        say_check(rt, said, check_entry(&entry(rt, row.name, row.text)));
+        let (ban, taken) = pair(row.text, ' ');
+        say_check(rt, said, check_entry(&entry(rt, ban, taken)));
     }
 }
 
 #[test]
 fn checks_once_more_at_entry(rt: HostRuntime) {
     rows! { rt, LastAsk, r"
-        ever both -> ISTA 231 Banned
-        7 both -> ISTA 232 Banned TL7
-        free both -> ISTA 222 Nick\staken
-        free cid -> ISTA 224 CID\staken
-        free none -> Go
+        asks ever both -> ISTA 231 Banned | 7 both -> ISTA 232 Banned TL7 | free both -> ISTA 222 Nick\staken
+        asks free cid -> ISTA 224 CID\staken | free none -> Go
     " }
 }

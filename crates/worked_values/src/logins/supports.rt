@@ -1,12 +1,7 @@
 use super::say_check;
 use crate::lines::line;
-use crate::rows::{
-    Part, Row, pair, play, rows, say, say_bytes, say_refused_memory, say_whether, small, unknown,
-};
+use crate::rows::*;
 use login_state::{Feature, Features, SupFault, check_sup};
-use second_try::{Machine, again};
-use std::alloc::{AllocError, Global};
-use std::process::Abort;
 
 /// The features that a client says it supports.
 #[derive(Drop)]
@@ -17,12 +12,15 @@ pub(crate) struct Supports {
 impl Part for Supports {
     fn call(&mut self, rt: &impl Machine, row: Row<'_>, said: &mut Vec<u8>) {
         match row.name {
+            "greets" => self.greets(rt, row.text, said),
             "none" => self.features = Features::new(rt.alloc()),
             "says" => self.says(rt, row.text, said),
             "many" => self.says(rt, &many(rt, row.text), said),
-            "ends" => say_check(rt, said, check_sup(&self.features)),
             "has" => say_whether(rt, said, self.features.has(feature(rt, row.text))),
-            "named" => say_feature(rt, said, find_feature(row.text)),
+            "named" => match find_feature(row.text) {
+                Some(feature) => say_bytes(rt, said, &feature.name()),
+                None => say_any(rt, said, None),
+            },
             "known" => say_bytes(rt, said, &feature_of(rt, row.text).name()),
             _ => unknown(rt, row.name),
         }
@@ -30,23 +28,24 @@ impl Part for Supports {
 }
 
 impl Supports {
+    /// Applies lines SUP, with ` and ` between, to no features, and says how they are answered.
+    fn greets(&mut self, rt: &impl Machine, lines: &str, said: &mut Vec<u8>) {
+        self.features = Features::new(rt.alloc());
+        for line in lines.split(" and ") {
+            self.says(rt, line, said);
+        }
+        say_check(rt, said, check_sup(&self.features));
+    }
+
     /// Applies another line SUP. Where it is refused, the features are those before.
     fn says(&mut self, rt: &impl Machine, text: &str, said: &mut Vec<u8>) {
         let line = line(rt, text.as_bytes());
-        let base = self.features.has(Feature::base());
-        let answer = match self.features.apply(rt.alloc(), line.params()) {
-            Err(SupFault::Memory) => {
-                let same = self.features.has(Feature::base()) == base;
-                say_refused_memory(rt, "login_state::Features::apply", same);
-                self.features.apply(rt.alloc(), line.params())
-            }
-            answer => answer,
-        };
+        let call = "login_state::Features::apply";
+        let answer = twice!(rt; call, SupFault::Memory, self.features.has(Feature::base()),
+            self.features.apply(rt.alloc(), line.params()));
         match answer {
             Ok(features) => self.features = features,
-            Err(SupFault::Bad) => say(rt, said, "Bad"),
-            Err(SupFault::TooMany) => say(rt, said, "TooMany"),
-            Err(SupFault::Memory) => say(rt, said, "Memory"),
+            Err(fault) => say_shown(rt, said, &fault),
         }
     }
 }
@@ -95,83 +94,35 @@ fn feature_of(rt: &impl Abort, text: &str) -> Feature {
     }
 }
 
-fn say_feature(rt: &impl Abort, said: &mut Vec<u8>, feature: Option<Feature>) {
-    match feature {
-        Some(feature) => say_bytes(rt, said, &feature.name()),
-        None => say(rt, said, "none"),
-    }
-}
-
 pub(crate) fn play_supports<R: Machine>(rt: &R, rows: &str) {
-    play(
-        rt,
-        &mut Supports {
-            features: Features::new(rt.alloc()),
-        },
-        rows,
-    );
+    let features = Features::new(rt.alloc());
+    play(rt, &mut Supports { features }, rows);
 }
 
 #[test]
 fn features_are_counted(rt: HostRuntime) {
     rows! { play_supports(rt) r"
         == greets who supports base and tiger ==
-        says HSUP ADBASE ADTIGR -> <>
-        ends -> Go
-        none -> <>
-        says HSUP ADBASE -> <>
-        ends -> ISTA 247 No\scommon\shash
-        none -> <>
-        says HSUP ADTIGR -> <>
-        ends -> ISTA 245 Feature\smissing FCBASE
-        none -> <>
-        says HSUP -> <>
-        ends -> ISTA 245 Feature\smissing FCBASE
-        none -> <>
-        says HSUP ADBAS0 ADTIGR ADUCM0 ADZLIF -> <>
-        ends -> Go
-        none -> <>
-        says HSUP ADBASE ADTIGR RMBAS0 -> <>
-        ends -> ISTA 245 Feature\smissing FCBASE
-        none -> <>
-        says HSUP RMBASE ADTIGR ADBASE RMTIGR ADTIGR -> <>
-        ends -> Go
-        none -> <>
-        says HSUP ADBASE ADTIGR | HSUP RMTIGR -> <>
-        ends -> ISTA 247 No\scommon\shash
-        none -> <>
-        says HSUP ADTIGR | HSUP ADBASE ADPING | HSUP RMPING -> <>
-        ends -> Go
-        none -> <>
-        says HSUP ADBASE ADTIGR | HSUP RMBASE | HSUP ADBASE -> <>
-        ends -> Go
+        greets HSUP ADBASE ADTIGR -> Go | HSUP ADBASE -> ISTA 247 No\scommon\shash
+        greets HSUP ADTIGR | HSUP | HSUP ADBASE ADTIGR RMBAS0 -> ISTA 245 Feature\smissing FCBASE
+        greets HSUP ADBAS0 ADTIGR ADUCM0 ADZLIF | HSUP RMBASE ADTIGR ADBASE RMTIGR ADTIGR -> Go
+        greets HSUP ADBASE ADTIGR and HSUP RMTIGR -> ISTA 247 No\scommon\shash
+        greets HSUP ADTIGR and HSUP ADBASE ADPING and HSUP RMPING | HSUP ADBASE ADTIGR and HSUP RMBASE and HSUP ADBASE -> Go
         == refuses words that mention nothing ==
         says HSUP ADBASE TIGR | HSUP AD | HSUP ADBAS | HSUP ADBASEX | HSUP ADbase | HSUP AD1ASE | HSUP XXBASE | HSUP adBASE -> Bad
         says HSUP DABASE | HSUP AMBASE | HSUP ADBA\s -> Bad
         == counts after the whole line ==
-        many 65 -> TooMany
-        many 64 -> <>
+        many 65 -> TooMany | 64 -> <>
         has X000 | X063 -> yes
-        says HSUP ADBASE -> TooMany
-        says HSUP ADX001 -> <>
+        says HSUP ADBASE -> TooMany | HSUP ADX001 -> <>
         none -> <>
         many 66 RMX000 RMX065 RMX001 -> <>
-        has X000 -> no
-        has X063 -> yes
+        has X000 -> no | X063 -> yes
         says HSUP ADX000 -> <>
         has X000 | X063 -> yes
         == names features ==
-        known base -> BASE
-        known tigr -> TIGR
-        known ping -> PING
-        known ucmd -> UCMD
-        named BASE -> BASE
-        named TIGR -> TIGR
-        named PING -> PING
-        named UCMD -> UCMD
-        named BAS0 -> BASE
-        named UCM0 -> UCMD
-        named bas0 -> none
+        known base -> BASE | tigr -> TIGR | ping -> PING | ucmd -> UCMD
+        named BASE -> BASE | TIGR -> TIGR | PING -> PING | UCMD -> UCMD | BAS0 -> BASE | UCM0 -> UCMD | bas0 -> none
         has BASE | TIGR | PING | UCMD -> no
         says HSUP ADBAS0 ADTIGR ADUCM0 ADPING -> <>
         has BASE | TIGR | PING | UCMD -> yes

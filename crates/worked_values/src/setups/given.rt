@@ -1,11 +1,7 @@
 use super::*;
-use crate::queues::outbox;
-use crate::rows::{Part, Row, byte, pair, rows, say, say_number, say_whether, small};
+use crate::queues::{batch, writes};
+use crate::rows::*;
 use hub_rules::Topic;
-use hub_setup::done_line;
-use outboxes::{Batch, Outbox};
-use second_try::{Machine, again};
-use std::alloc::{AllocError, Global};
 
 /// The things that a hub is set up with.
 #[derive(Drop)]
@@ -16,7 +12,7 @@ impl Part for Given {
         match row.name {
             "tells" => tells(rt, row.text, said),
             "menu" => menu(rt, said),
-            "listed" => say_entries(rt, said),
+            "listed" => listed(rt, said),
             "topic" => topic(rt, row.text, said),
             _ => refusal(rt, row.name, row.text, said),
         }
@@ -37,23 +33,9 @@ fn refusal<R: Machine>(rt: &R, name: &str, text: &str, said: &mut Vec<u8>) {
 
 /// Says why the options are refused.
 fn say_refusal(rt: &impl Machine, said: &mut Vec<u8>, options: &Options<'_>) {
-    let word = match set_up(rt, options) {
-        Ok(setup) => {
-            drop(setup);
-            "ok"
-        }
-        Err(refused) => refusal_name(refused),
-    };
-    say(rt, said, word);
-}
-
-fn refusal_name(refused: SetupRefused) -> &'static str {
-    match refused {
-        SetupRefused::Limit => "Limit",
-        SetupRefused::Name => "Name",
-        SetupRefused::Account => "Account",
-        SetupRefused::Command => "Command",
-        SetupRefused::Memory => "Memory",
+    match set_up(rt, options) {
+        Ok(_) => say(rt, said, "ok"),
+        Err(refused) => say_shown(rt, said, &refused),
     }
 }
 
@@ -65,17 +47,27 @@ fn max_users(rt: &impl Machine, max_users: u32, said: &mut Vec<u8>) {
     say_refusal(rt, said, &options);
 }
 
+/// Says the answer to options with these lists.
+fn say_of_lists(
+    rt: &impl Machine,
+    said: &mut Vec<u8>,
+    accounts: &[Account<'_>],
+    commands: &[MenuEntry<'_>],
+) {
+    let options = Options {
+        accounts,
+        commands,
+        ..options("Hub")
+    };
+    say_refusal(rt, said, &options);
+}
+
 /// Says the answer to options with an account for each letter, and so many lines between menu entries.
 fn lists(rt: &impl Machine, text: &str, said: &mut Vec<u8>) {
     let (nicks, count) = pair(text, ' ');
     let accounts = again!(rt; accounts_called(rt.alloc(), nicks));
     let commands = again!(rt; separators(rt.alloc(), small(rt, count)));
-    let options = Options {
-        accounts: &accounts,
-        commands: &commands,
-        ..options("Hub")
-    };
-    say_refusal(rt, said, &options);
+    say_of_lists(rt, said, &accounts, &commands);
 }
 
 fn accounts_called<'a>(alloc: Global, nicks: &'a str) -> Result<Vec<Account<'a>>, AllocError> {
@@ -99,63 +91,51 @@ fn accounts(rt: &impl Machine, text: &str, said: &mut Vec<u8>) {
     let (first, second) = pair(text, ';');
     let ((nick, password), (other, word)) = (pair(first, '='), pair(second, '='));
     let accounts = [account(nick, password, true), account(other, word, true)];
-    let options = Options {
-        accounts: &accounts,
-        ..options("Hub")
-    };
-    say_refusal(rt, said, &options);
+    say_of_lists(rt, said, &accounts, &[]);
 }
 
 fn command(rt: &impl Machine, text: &str, said: &mut Vec<u8>) {
     let (context, name) = pair(text, ' ');
-    let commands = [entry(name, byte(rt, context), MenuItem::Text("HMSG !help\n"))];
-    let options = Options {
-        commands: &commands,
-        ..options("Hub")
-    };
-    say_refusal(rt, said, &options);
+    let item = MenuItem::Text("HMSG !help\n");
+    say_of_lists(rt, said, &[], &[entry(name, byte(rt, context), item)]);
 }
 
 /// Says the answer to options with some of the faults.
 fn faults(rt: &impl Machine, text: &str, said: &mut Vec<u8>) {
-    let bad_accounts = [account("a b", "secret", true)];
-    let bad_commands = [entry("", 0, MenuItem::Separator)];
+    let accounts = [account("a b", "secret", true)];
+    let commands = [entry("", 0, MenuItem::Separator)];
     let name = if text.contains("name") { "" } else { "Hub" };
-    let options = Options {
-        accounts: if text.contains("account") {
-            &bad_accounts
-        } else {
-            &[]
-        },
-        commands: if text.contains("command") {
-            &bad_commands
-        } else {
-            &[]
-        },
-        plain: PlainOptions::for_users(if text.contains("limit") { 0 } else { 1 }),
-        ..options(name)
-    };
+    let mut options = options(name);
+    if text.contains("account") {
+        options.accounts = &accounts;
+    }
+    if text.contains("command") {
+        options.commands = &commands;
+    }
+    if text.contains("limit") {
+        options.plain.max_users = 0;
+    }
     say_refusal(rt, said, &options);
 }
 
-/// Says what a setup tells of what it was given.
+/// Says what a setup tells of what it was given, or of who has a nick.
 fn tells(rt: &impl Machine, text: &str, said: &mut Vec<u8>) {
     let setup = of_two(rt);
     match text {
         "name" => say(rt, said, setup.name()),
         "topic" => say(rt, said, setup.topic()),
         "registered_only" => say_whether(rt, said, setup.registered_only()),
-        _ => tells_number(rt, &setup, text, said),
+        "search_interval" => say_number(rt, said, setup.search_interval() as u128),
+        "max_users" => say_number(rt, said, setup.max_users() as u128),
+        "opening" => say_number(rt, said, setup.opening() as u128),
+        nick => say(rt, said, kind_of(&setup, nick)),
     }
-    drop(setup);
 }
 
 /// Makes a setup with two accounts.
 fn of_two(rt: &impl Machine) -> Setup {
-    let accounts = [
-        account("\u{e9}", "secret", true),
-        account("bob", "another", false),
-    ];
+    let bob = account("bob", "another", false);
+    let accounts = [account("\u{e9}", "secret", true), bob];
     let options = Options {
         topic: "new one",
         accounts: &accounts,
@@ -170,17 +150,6 @@ fn of_two(rt: &impl Machine) -> Setup {
     setup(rt, &options)
 }
 
-/// Says what a setup tells of a number, or of who has a nick.
-fn tells_number(rt: &impl Machine, setup: &Setup, text: &str, said: &mut Vec<u8>) {
-    let number = match text {
-        "search_interval" => setup.search_interval() as u128,
-        "max_users" => setup.max_users() as u128,
-        "opening" => setup.opening() as u128,
-        nick => return say(rt, said, kind_of(setup, nick)),
-    };
-    say_number(rt, said, number);
-}
-
 fn kind_of(setup: &Setup, nick: &str) -> &'static str {
     match setup.account(nick) {
         Some(account) if account.is_operator() => "an operator",
@@ -189,126 +158,58 @@ fn kind_of(setup: &Setup, nick: &str) -> &'static str {
     }
 }
 
-const COMMANDS: [MenuEntry<'static>; 2] = [
-    MenuEntry {
-        name: "Help",
-        context: 1,
-        item: MenuItem::Text("HMSG !help\n"),
-    },
-    MenuEntry {
-        name: "Sep",
-        context: 2,
-        item: MenuItem::Separator,
-    },
-];
+fn commands() -> [MenuEntry<'static>; 2] {
+    let help = MenuItem::Text("HMSG !help\n");
+    [entry("Help", 1, help), entry("Sep", 2, MenuItem::Separator)]
+}
 
 /// Says the menu of a setup of options.
 fn menu(rt: &impl Machine, said: &mut Vec<u8>) {
+    let commands = commands();
     let options = Options {
-        commands: &COMMANDS,
+        commands: &commands,
         ..options("Hub")
     };
-    let setup = setup(rt, &options);
-    say_menu(rt, &setup, said);
-    drop(setup);
+    say_menu(rt, &setup(rt, &options), said);
 }
 
 /// Says the menu of a setup of lists.
-fn say_entries(rt: &impl Machine, said: &mut Vec<u8>) {
-    let setup = of_lists(rt, &[account("ana", "secret", true)], &COMMANDS);
+fn listed(rt: &impl Machine, said: &mut Vec<u8>) {
+    let setup = of_lists(rt, &[account("ana", "secret", true)], &commands());
     say_menu(rt, &setup, said);
-    drop(setup);
 }
 
-/// Says the lines of a menu of two entries behind another line, each with its line feed.
+/// Says the lines of a menu behind another line, each with its line feed.
 fn say_menu(rt: &impl Machine, setup: &Setup, said: &mut Vec<u8>) {
-    let mut queue = outbox(rt, 8, 1000);
-    give(&mut queue, menu_lines(rt, setup));
-    if !takes_eight(&mut queue, said) && !takes_eight(&mut queue, said) {
-        unknown(rt, "refused twice");
-    }
-    drop(queue);
-}
-
-fn menu_lines(rt: &impl Machine, setup: &Setup) -> Batch {
-    match twice!(rt; "hub_setup::Setup::menu", AllocError, setup.menu(done_batch(rt))) {
-        Ok(lines) => lines,
-        Err(_) => unknown(rt, "menu"),
-    }
-}
-
-fn give(queue: &mut Outbox, lines: Batch) {
-    queue.give(lines);
-}
-
-fn takes_eight(queue: &mut Outbox, said: &mut Vec<u8>) -> bool {
-    queue.take(8, said).is_ok()
-}
-
-fn done_batch(rt: &impl Machine) -> Batch {
-    let mut batch = Batch::new(rt.alloc());
-    if !is_pushed(&mut batch, done(rt)) && !is_pushed(&mut batch, done(rt)) {
-        unknown(rt, "refused twice");
-    }
-    batch
-}
-
-fn done(rt: &impl Machine) -> Bytes {
-    again!(rt; done_line(rt.alloc()))
-}
-
-fn is_pushed(batch: &mut Batch, line: Bytes) -> bool {
-    batch.push(line).is_ok()
+    let call = "hub_setup::Setup::menu";
+    let lines = got!(rt; call, AllocError, setup.menu(batch(rt, "ISTA 000 Done")));
+    writes(rt, &lines, said);
 }
 
 fn topic(rt: &impl Machine, text: &str, said: &mut Vec<u8>) {
-    match twice!(rt; "hub_rules::Topic::new", AllocError, Topic::new(rt.alloc(), text)) {
-        Ok(topic) => {
-            say(rt, said, topic.as_str());
-            drop(topic);
-        }
-        Err(_) => unknown(rt, "topic"),
-    }
-}
-
-#[test]
-fn takes_32_accounts_and_64_commands(rt: HostRuntime) {
-    rows! { rt, Given, r"
-        lists a,b,c,d,e,f,g,h,i,j,k,l,m,n,o,p,q,r,s,t,u,v,w,x,y,z,A,B,C,D,E,F 64 -> ok
-        lists a,b,c,d,e,f,g,h,i,j,k,l,m,n,o,p,q,r,s,t,u,v,w,x,y,z,A,B,C,D,E,F,G 64 -> Limit
-        lists a,b,c,d,e,f,g,h,i,j,k,l,m,n,o,p,q,r,s,t,u,v,w,x,y,z,A,B,C,D,E,F 65 -> Limit
-    " }
+    let topic = got!(rt; "hub_rules::Topic::new", AllocError, Topic::new(rt.alloc(), text));
+    say(rt, said, topic.as_str());
 }
 
 #[test]
 fn setups_tell_what_they_were_given(rt: HostRuntime) {
     rows! { rt, Given, r"
         == has room for 1 to 900 users ==
-        max_users 0 -> Limit
-        max_users 1 | 900 -> ok
-        max_users 901 -> Limit
+        max_users 0 -> Limit | 1 | 900 -> ok | 901 -> Limit
+        == takes 32 accounts and 64 commands ==
+        lists a,b,c,d,e,f,g,h,i,j,k,l,m,n,o,p,q,r,s,t,u,v,w,x,y,z,A,B,C,D,E,F 64 -> ok
+        lists a,b,c,d,e,f,g,h,i,j,k,l,m,n,o,p,q,r,s,t,u,v,w,x,y,z,A,B,C,D,E,F,G 64 -> Limit
+        lists a,b,c,d,e,f,g,h,i,j,k,l,m,n,o,p,q,r,s,t,u,v,w,x,y,z,A,B,C,D,E,F 65 -> Limit
         == refuses accounts ==
         accounts ana=secret;bob=secret | Ana=secret;ana=secret -> ok
-        accounts ana=secret;a b=secret | =secret;ana=secret | ana=secret;bob= | op=secret;op=another -> Account
-        accounts é=secret;é=secret -> Account
+        accounts ana=secret;a b=secret | =secret;ana=secret | ana=secret;bob= | op=secret;op=another -> Account | é=secret;é=secret -> Account
         == refuses commands ==
-        command 1 Help | 15 Help -> ok
-        command 1 | 0 Help | 16 Help -> Command
+        command 1 Help | 15 Help -> ok | 1 | 0 Help | 16 Help -> Command
         == looks for faults in order ==
-        faults limit name account command -> Limit
-        faults name account command -> Name
-        faults account command -> Account
-        faults command -> Command
+        faults limit name account command -> Limit | name account command -> Name | account command -> Account | command -> Command
         == tells what it was given ==
-        tells name -> Hub
-        tells topic -> new one
-        tells registered_only -> yes
-        tells search_interval -> 7
-        tells max_users -> 512
-        tells opening -> 1000
-        tells é -> an operator
-        tells bob -> a user
-        tells Bob | é -> nobody
+        tells name -> Hub | topic -> new one | registered_only -> yes | search_interval -> 7 | max_users -> 512 | opening -> 1000
+        tells é -> an operator | bob -> a user | Bob | é -> nobody
         == tells of the menu ==
         menu -> ISTA 000 Done<x0a>ICMD Help CT1 TTHMSG\s!help\n<x0a>ICMD Sep CT2 SP1<x0a>
     " }

@@ -1,9 +1,8 @@
 use super::*;
-use crate::rows::{Part, Row, play, rows, say};
+use crate::rows::*;
 use hub_rules::LineRefused;
 use hub_setup::{Prepared, Says, prepare};
 use inf_fields::FieldName;
-use second_try::Machine;
 use session_hash::First24;
 
 /// Lines that are made ready for a hub where ana has the password `secret` and \u{e9} has `another`.
@@ -26,16 +25,11 @@ impl Part for Lines {
             "password" | "challenged" => say_digest(rt, said, line.password()),
             _ => unknown(rt, row.name),
         }
-        drop(line);
     }
 }
 
 fn prepare_line(rt: &impl Machine, setup: &Setup, challenge: [u8; 24], bytes: &[u8]) -> Prepared {
-    match twice!(rt; "hub_setup::prepare", LineRefused::Memory, prepare(rt.alloc(), setup, &First24, challenge, bytes))
-    {
-        Ok(line) => line,
-        Err(_) => unknown(rt, "prepare"),
-    }
+    got!(rt; "hub_setup::prepare", LineRefused::Memory, prepare(rt.alloc(), setup, &First24, challenge, bytes))
 }
 
 fn say_command(rt: &impl Abort, said: &mut Vec<u8>, line: &Prepared) {
@@ -64,80 +58,41 @@ fn say_digest(rt: &impl Abort, said: &mut Vec<u8>, digest: Option<[u8; 24]>) {
 }
 
 fn hub(rt: &impl Machine) -> Setup {
-    let accounts = [
-        account("ana", "secret", true),
-        account("\u{e9}", "another", true),
-    ];
-    setup(
-        rt,
-        &Options {
-            accounts: &accounts,
-            ..options("Hub")
-        },
-    )
+    let ana = account("ana", "secret", true);
+    let accounts = [ana, account("\u{e9}", "another", true)];
+    let options = Options {
+        accounts: &accounts,
+        ..options("Hub")
+    };
+    setup(rt, &options)
 }
 
 pub(crate) fn play_lines<R: Machine>(rt: &R, rows: &str) {
-    let mut lines = Lines { setup: hub(rt) };
-    play(rt, &mut lines, rows);
-    drop(lines);
+    play(rt, &mut Lines { setup: hub(rt) }, rows);
 }
 
 #[test]
 fn reads_lines(rt: HostRuntime) {
     rows! { play_lines(rt) r"
-        says <> -> nothing
-        nick <> -> no update
-        says <x20> -> no message
-        nick <x20> -> no update
-        says BINF -> no message
-        nick BINF -> no update
-        says BINF AAAB NIa\b -> no message
-        nick BINF AAAB NIa\b -> no update
-        says HSUP ADBASE ADTIGR -> SUP
-        nick HSUP ADBASE ADTIGR -> no update
-        says BMSG AAAB NIana -> MSG
-        nick BMSG AAAB NIana -> no update
-        says DINF AAAB AAAC NIana -> INF
-        nick DINF AAAB AAAC NIana -> no update
-        says BINF AAAB 1Iana -> INF
-        nick BINF AAAB 1Iana -> no update
-        says BINF AAAB NIana SS10 -> INF
-        nick BINF AAAB NIana SS10 -> update ana
-        says BINF AAAB SS10 -> INF
-        nick BINF AAAB SS10 -> update <>
-    " }
-}
-
-#[test]
-fn makes_digests(rt: HostRuntime) {
-    rows! { play_lines(rt) "
-        owner BINF AAAB NIana -> none
-        password BINF AAAB NIana -> secret<18*x00>
-        owner BINF AAAB NIbob -> none
-        password BINF AAAB NIbob -> none
-        owner BINF AAAB NI<xc3><xa9> -> none
-        password BINF AAAB NI<xc3><xa9> -> another<17*x00>
-        owner BINF AAAB NIe<xcc><x81> -> none
-        password BINF AAAB NIe<xcc><x81> -> another<17*x00>
-        owner BINF AAAB SS10 -> none
-        password BINF AAAB SS10 -> none
-        owner BINF AAAB PDMZXW6YTBOJTG633CMFZGM33PMJQXEZTPN5RGC4Q NIbob -> <4*foobar>
+        == reads lines ==
+        says <> -> nothing | <x20> -> no message | BINF -> no message | BINF AAAB NIa\b -> no message | HSUP ADBASE ADTIGR -> SUP
+        says BMSG AAAB NIana -> MSG | DINF AAAB AAAC NIana -> INF | BINF AAAB 1Iana -> INF | BINF AAAB NIana SS10 -> INF | BINF AAAB SS10 -> INF
+        nick <> -> no update | <x20> -> no update | BINF -> no update | BINF AAAB NIa\b -> no update | HSUP ADBASE ADTIGR -> no update
+        nick BMSG AAAB NIana -> no update | DINF AAAB AAAC NIana -> no update | BINF AAAB 1Iana -> no update
+        nick BINF AAAB NIana SS10 -> update ana | BINF AAAB SS10 -> update <>
+        == makes digests ==
+        owner BINF AAAB NIana -> none | BINF AAAB NIbob -> none | BINF AAAB NI<xc3><xa9> -> none | BINF AAAB NIe<xcc><x81> -> none
+        owner BINF AAAB SS10 -> none | BINF AAAB PDMZXW6YTBOJTG633CMFZGM33PMJQXEZTPN5RGC4Q NIbob -> <4*foobar>
+        owner BINF AAAB PDMZXW6YTBOJTG633CMFZGM33PMJQXEZTPN5RGC4Q NIana -> <4*foobar> | BINF AAAB PDMZXW6YTB NIana -> none
+        owner DINF AAAB AAAC PDMZXW6YTBOJTG633CMFZGM33PMJQXEZTPN5RGC4Q NIana -> none | <> -> none
+        password BINF AAAB NIana -> secret<18*x00> | BINF AAAB NIbob -> none | BINF AAAB NI<xc3><xa9> -> another<17*x00>
+        password BINF AAAB NIe<xcc><x81> -> another<17*x00> | BINF AAAB SS10 -> none
         password BINF AAAB PDMZXW6YTBOJTG633CMFZGM33PMJQXEZTPN5RGC4Q NIbob -> none
-        owner BINF AAAB PDMZXW6YTBOJTG633CMFZGM33PMJQXEZTPN5RGC4Q NIana -> <4*foobar>
-        password BINF AAAB PDMZXW6YTBOJTG633CMFZGM33PMJQXEZTPN5RGC4Q NIana -> secret<18*x00>
-        owner BINF AAAB PDMZXW6YTB NIana -> none
-        password BINF AAAB PDMZXW6YTB NIana -> secret<18*x00>
-        owner DINF AAAB AAAC PDMZXW6YTBOJTG633CMFZGM33PMJQXEZTPN5RGC4Q NIana -> none
-        password DINF AAAB AAAC PDMZXW6YTBOJTG633CMFZGM33PMJQXEZTPN5RGC4Q NIana -> none
-        owner <> -> none
-        password <> -> none
+        password BINF AAAB PDMZXW6YTBOJTG633CMFZGM33PMJQXEZTPN5RGC4Q NIana -> secret<18*x00> | BINF AAAB PDMZXW6YTB NIana -> secret<18*x00>
+        password DINF AAAB AAAC PDMZXW6YTBOJTG633CMFZGM33PMJQXEZTPN5RGC4Q NIana -> none | <> -> none
+        == hashes the password before the challenge ==
+        challenged BINF AAAB NIana -> secret<3*foobar>
     " }
-}
-
-#[test]
-fn hashes_the_password_before_the_challenge(rt: HostRuntime) {
-    play_lines(&rt, "challenged BINF AAAB NIana -> secret<3*foobar>");
 }
 
 fn is_shared<T: Send + Sync>(_value: &T) -> bool {

@@ -2,13 +2,9 @@
 use super::commands::{Draws, command, renewal};
 use super::samples::{say_users, sid};
 use super::{entering, say_answer};
-use crate::rows::{
-    Part, Row, number, pair, play, say, say_number, say_refused_memory, small, unknown,
-};
+use crate::rows::*;
 use adc_ids::Cid;
 use plain_users::{Answer, Command, PlainUsers, RunRefused, run_users};
-use second_try::{Machine, again};
-use std::process::Abort;
 use user_table::{IndexedUsers, TableRefused, Totals, Users};
 
 const COUNT: usize = 2_000;
@@ -51,7 +47,7 @@ pub(crate) fn keep(rt: &impl Abort, commands: &mut Vec<Command>, command: Comman
     }
 }
 
-fn kind_of(answer: &Answer) -> u32 {
+fn kind_of(answer: &Answer) -> usize {
     match answer {
         Answer::Skipped => 0,
         Answer::Done => 1,
@@ -63,15 +59,8 @@ fn kind_of(answer: &Answer) -> u32 {
     }
 }
 
-fn count(answers: &[Answer], kind: u32) -> u32 {
-    let mut count = 0u32;
-    for answer in answers {
-        if kind_of(answer) == kind {
-            count = count.saturating_add(1);
-        }
-    }
-    count
-}
+/// How often each kind of answer comes at least.
+const LEAST: [usize; 7] = [100, 200, 20, 50, 100, 50, 20];
 
 #[test]
 fn answer_2000_commands_alike(rt: HostRuntime) {
@@ -79,35 +68,25 @@ fn answer_2000_commands_alike(rt: HostRuntime) {
     let (other_users, other_answers) = run_and_say::<IndexedUsers>(&rt);
     assert!(rt; answers.len() == COUNT && answers == other_answers);
     assert!(rt; users == other_users);
-    come_often(&rt, &answers);
+    for (kind, least) in LEAST.into_iter().enumerate() {
+        let count = count(&answers, kind);
+        assert!(rt; count > least, "{count} of {kind}");
+    }
+    // A command is seldom skipped.
+    assert!(rt; count(&answers, 0) < 1_000);
+}
+
+fn count(answers: &[Answer], kind: usize) -> usize {
+    answers
+        .iter()
+        .filter(|answer| kind_of(answer) == kind)
+        .count()
 }
 
 /// Runs the commands, and gives what is said of the users then, and the answers.
 fn run_and_say<U: Users>(rt: &impl Machine) -> (Vec<u8>, Vec<Answer>) {
     let (users, answers): (U, Vec<Answer>) = run(rt);
-    let said = say_users(rt, &users);
-    drop(users);
-    (said, answers)
-}
-
-/// How often each kind of answer comes at least.
-const LEAST: [(u32, u32); 7] = [
-    (0, 100),
-    (1, 200),
-    (2, 20),
-    (3, 50),
-    (4, 100),
-    (5, 50),
-    (6, 20),
-];
-
-/// Tests that each kind of answer comes often, and a command is seldom skipped.
-fn come_often(rt: &impl Abort, answers: &[Answer]) {
-    for (kind, least) in LEAST {
-        let count = count(answers, kind);
-        assert!(rt; count > least, "{count} of {kind}");
-    }
-    assert!(rt; count(answers, 0) < 1_000);
+    (say_users(rt, &users), answers)
 }
 
 /// Users on whom commands are run, one at a time.
@@ -191,22 +170,11 @@ fn play_runs<U: Users>(rt: &impl Machine, rows: &str) {
 #[test]
 fn answer_each_command(rt: HostRuntime) {
     let rows = r"
-        insert 1 1 ana NIana SS100 SF2 -> done
-        insert 2 2 bob NIbob SS20 SFx -> done
-        insert 3 3 eva NIeva SF3 -> done
-        insert 2 9 dan NIdan -> skipped
-        insert 4 9 bob NIbob -> NickTaken
-        insert 4 2 dan NIdan -> CidTaken
-        insert 4 4 dan NIdan SS5 -> done
-        merge 9 SS1 -> skipped
-        merge 4 NIa\\b SS6;a\b -> done
-        merge 4 NIdan;leo -> skipped
-        merge 4 SS7;leo -> skipped
-        merge 4 NIana;ana -> NickTaken
-        remove 1 -> 1
-        remove 1 -> nobody
-        at 0 -> 2
-        at 3 -> nobody
+        insert 1 1 ana NIana SS100 SF2 | 2 2 bob NIbob SS20 SFx | 3 3 eva NIeva SF3 -> done | 2 9 dan NIdan -> skipped
+        insert 4 9 bob NIbob -> NickTaken | 4 2 dan NIdan -> CidTaken | 4 4 dan NIdan SS5 -> done
+        merge 9 SS1 -> skipped | 4 NIa\\b SS6;a\b -> done | 4 NIdan;leo | 4 SS7;leo -> skipped | 4 NIana;ana -> NickTaken
+        remove 1 -> 1 | 1 -> nobody
+        at 0 -> 2 | 3 -> nobody
         sid 4 -> 4
         cid 3 -> 3
         count -> 3 26 3

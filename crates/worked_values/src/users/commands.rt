@@ -2,11 +2,9 @@
 use super::nick_unless_empty;
 use super::samples::{sid, user};
 use crate::fields::update;
+use crate::rows::*;
 use adc_ids::Cid;
 use plain_users::Command;
-use second_try::{Machine, again};
-use std::alloc::{AllocError, Global};
-use std::process::Abort;
 
 /// A linear congruential generator with Knuth's constants; the high bits are used.
 #[derive(Drop)]
@@ -33,24 +31,15 @@ pub(crate) fn command(rt: &impl Machine, draws: &mut Draws) -> Command {
     let name = again!(rt; name(rt.alloc(), which));
     let cid = (draws.byte() % 48) as u8;
     let amount = draws.byte();
+    let line = again!(rt; text(rt.alloc(), &name, amount));
     match kind % 16 {
-        0..=5 => insertion(rt, number, cid, &name, amount),
-        8 | 9 => whole_renewal(rt, number, &name, amount),
+        0..=5 => Command::Insert(user(rt, number, cid, &name, &line)),
+        8 | 9 => renewal(rt, number, &line, &name),
         10 => renewal(rt, number, "SS7 SF7 DEhere", ""),
         11 => renewal(rt, number, "NIother", &name),
         14 => Command::ByNick(name),
         kind => look(rt, kind, number, cid, amount),
     }
-}
-
-fn insertion(rt: &impl Machine, number: u32, cid: u8, name: &str, amount: u32) -> Command {
-    let line = again!(rt; text(rt.alloc(), name, amount));
-    Command::Insert(user(rt, number, cid, name, &line))
-}
-
-fn whole_renewal(rt: &impl Machine, number: u32, name: &str, amount: u32) -> Command {
-    let line = again!(rt; text(rt.alloc(), name, amount));
-    renewal(rt, number, &line, name)
 }
 
 /// Reads the update that a line says, with a nick unless that is empty.

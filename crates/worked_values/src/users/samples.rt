@@ -1,11 +1,9 @@
 // Users for tests.
 use crate::fields::{fields_of_line, say_fields};
 use crate::identities::key_of;
-use crate::rows::{say, say_number, unknown};
+use crate::rows::*;
 use adc_base32::Sid;
 use adc_ids::Cid;
-use second_try::Machine;
-use std::process::Abort;
 use user_table::{User, Users};
 
 pub(crate) fn sid(rt: &impl Abort, number: u32) -> Sid {
@@ -18,12 +16,8 @@ pub(crate) fn sid(rt: &impl Abort, number: u32) -> Sid {
 /// Makes a user whose client identifier is so many equal bytes, and who said a line.
 pub(crate) fn user(rt: &impl Machine, number: u32, cid: u8, name: &str, line: &str) -> User {
     let key = key_of(rt, name);
-    User::new(
-        sid(rt, number),
-        Cid::from_bytes([cid; 24]),
-        key,
-        fields_of_line(rt, line),
-    )
+    let (sid, cid) = (sid(rt, number), Cid::from_bytes([cid; 24]));
+    User::new(sid, cid, key, fields_of_line(rt, line))
 }
 
 /// Says the users in order of entry, a line for each: numbers, the nick's key and the fields; and what they share together.
@@ -69,10 +63,7 @@ fn is_found<U: Users>(rt: &impl Abort, users: &U, user: &User) {
 
 /// Gives the number of the session identifier.
 pub(crate) fn number_of(user: Option<&User>) -> Option<u32> {
-    match user {
-        Some(user) => Some(user.sid().number()),
-        None => None,
-    }
+    Some(user?.sid().number())
 }
 
 pub(crate) fn say_totals<U: Users>(rt: &impl Machine, said: &mut Vec<u8>, users: &U) {
