@@ -7,5 +7,6 @@ mod LastField
 mod Messages
 mod OneField
 mod OneWord
+mod Speaking
 mod Supporting
 mod Telling

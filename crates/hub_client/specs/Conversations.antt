@@ -10,7 +10,7 @@ use Rattle.hub_client.specs.declared.fault.ClientFault.{ClientFault}
 use Rattle.hub_client.specs.declared.fault.ClientFault.TheVariants.{Memory, Unsayable, TimedOut, Unanswered, Closed, Broken, NotAdc, Refused}
 use Rattle.hub_client.specs.declared.status.Status.{Status}
 use Rattle.hub_client.specs.Entries.{IsInfo, IsEntry, IsAnswer, IsBadStatus, IsSentAway, IsSuccess, is_user_line, is_quit_line}
-use Rattle.hub_client.specs.Users.{IsTold}
+use Rattle.hub_client.specs.Users.{IsTold, IsUntold}
 use Rattle.hub_client.specs.declared.user.Who.{Who}
 use Rattle.hub_client.specs.Talks.{HasFailed, Hears, IsJunk, IsOver, IsSpent, Sends, gone_of, unheard, users_of}
 
@@ -125,6 +125,12 @@ abbrev pub IsWelcome : {S : Type 0} → (S → Option (List ℕ)) → (S → Opt
 IsWelcome remaining contents before after text welcome =
     (heard : List Reading) × (left : Option (List ℕ)) × Waits remaining contents before text heard left × All IsPrelude heard
     × Hears left (unheard remaining after) (welcome.hub ∷ []) × IsHub welcome.hub × IsGiven heard (Some welcome.sid)
+
+-- the first departure that names this operator has a user of whom the messages tell what spells no text
+abbrev pub IsNotAway : List Reading → List Reading → ℕ → Type 0
+IsNotAway gone users operator =
+    (front : List Reading) × (line : Reading) × (behind : List Reading) × (sid : ℕ) × (gone ≡ front ++ line ∷ behind)
+    × All (λ earlier. (other : ℕ) → IsSentAway earlier other operator → ⊥) front × IsSentAway line sid operator × IsUntold users sid
 
 -- what is known of a user whom an operator sent away, by the first departure that names both
 abbrev pub IsAway : List Reading → List Reading → ℕ → Option Who → Type 0

@@ -12,7 +12,7 @@ use Rattle.hub_client.specs.declared.fault.ClientFault.{ClientFault}
 use Rattle.hub_client.specs.declared.fault.ClientFault.TheVariants as faults
 use Rattle.hub_client.specs.declared.status.Status.{Status}
 use Rattle.hub_client.specs.Fields.{IsField}
-use Rattle.hub_client.specs.Statuses.{IsStatus, is_well}
+use Rattle.hub_client.specs.Statuses.{IsNoStatus, IsStatus, is_well}
 
 -- a message that only a hub sends, with this command
 abbrev pub IsInfo : Reading → List ℕ → Type 0
@@ -65,11 +65,15 @@ abbrev pub IsAnswer : Reading → Option Status → Type 0
 IsAnswer line (Some status) = IsSuccess line status
 IsAnswer line None = IsInfo line (codes "STA") → ⊥
 
--- memory ran out, or the line is a status of a failure, or it is one of ADC in name alone
+-- the first parameter spells no challenge
+abbrev pub IsNoChallenge : Reading → Type 0
+IsNoChallenge line = spelled_bytes 24 (get_or line.params 0 []) ≡ None
+
+-- memory ran out, or the line is a status of a failure, or a status or a request for the password in name alone
 abbrev pub IsRefusal : Reading → ClientFault → Type 0
 IsRefusal line faults.Memory = Unit {0}
 IsRefusal line (faults.Refused status) = IsFailure line status
-IsRefusal line faults.NotAdc = IsInfo line (codes "STA") ⊎ IsInfo line (codes "GPA")
+IsRefusal line faults.NotAdc = (IsInfo line (codes "STA") × IsNoStatus line.params) ⊎ (IsInfo line (codes "GPA") × IsNoChallenge line)
 IsRefusal line faults.Unsayable = ⊥
 IsRefusal line faults.TimedOut = ⊥
 IsRefusal line faults.Unanswered = ⊥

@@ -22,6 +22,10 @@ spelt_text None = Some []
 abbrev pub IsFieldText : List ℕ → List (List ℕ) → List ℕ → Type 0
 IsFieldText name words text = (value : Option (List ℕ)) × IsField name words value × (spelt_text value ≡ Some text)
 
+-- the first of these parameters that has the name spells no text
+abbrev pub IsMisspelt : List ℕ → List (List ℕ) → Type 0
+IsMisspelt name words = (value : Option (List ℕ)) × IsField name words value × (spelt_text value ≡ None)
+
 -- the value of the first of these fields that the parameters have, if they have one
 abbrev pub IsFirstField : List (List ℕ) → List (List ℕ) → Option (List ℕ) → Type 0
 IsFirstField [] words value = value ≡ None

@@ -1,5 +1,6 @@
 -- The messages that a client sends, as they are written.
-use Rattle.std.specs.Prelude.{ℕ, Bool, List, ◌∷◌, ◌++◌, codes, if◌then◌else◌}
+use Rattle.std.specs.Prelude.{◌≡◌, ℕ, Bool, List, length, ◌∷◌, ◌++◌, codes, if◌then◌else◌}
+use Rattle.adc_base32.specs.Bits.{AreDigits}
 use Rattle.adc_base32.specs.Sids.{sid_text}
 use Rattle.adc_base32.specs.Spelled.{spelling}
 use Rattle.adc_line.specs.Escapes.{escaped_text}
@@ -7,6 +8,10 @@ use Rattle.adc_line.specs.Escapes.{escaped_text}
 -- the first message of a client, or of a hub list's pinger
 abbrev pub support_text : Bool → List ℕ
 support_text is_pinger = if is_pinger then codes "HSUP ADBASE ADTIGR ADPING" else codes "HSUP ADBASE ADTIGR"
+
+-- 24 bytes are spelt with 39 digits
+abbrev pub IsSpelt : List ℕ → Type 0
+IsSpelt bytes = (length (spelling bytes) ≡ 39) × AreDigits (spelling bytes)
 
 -- the front of a login: the session identifier of a client, its client identifier and its private one
 abbrev pub identifiers_text : ℕ → List ℕ → List ℕ → List ℕ

@@ -1,8 +1,8 @@
 -- The status messages of a hub (ADC 1.0, "STA").
-use Rattle.std.specs.Prelude.{◌≡◌, ℕ, ◌==◌, ◌&&◌, ◌||◌, Bool, List, [], ◌∷◌, ◌++◌, codes, drop, get_or, slice_index, Option, Some, if◌then◌else◌}
+use Rattle.std.specs.Prelude.{◌≡◌, ◌≢◌, ◌⊎◌, ℕ, ◌==◌, ◌&&◌, ◌||◌, Bool, List, [], ◌∷◌, ◌++◌, codes, drop, get_or, length, slice_index, Option, None, Some, if◌then◌else◌}
 use Rattle.std.specs.String.{string_bytes}
 use Rattle.adc_line.specs.Escapes.{unescaped_text}
-use Rattle.hub_client.specs.Fields.{IsFieldText, IsFirstField, spelt_text}
+use Rattle.hub_client.specs.Fields.{IsFieldText, IsFirstField, IsMisspelt, spelt_text}
 use Rattle.hub_client.specs.declared.status.Refusal.{Refusal}
 use Rattle.hub_client.specs.declared.status.Refusal.TheVariants.{Password, Banned, Other}
 use Rattle.hub_client.specs.declared.status.Status.{Status}
@@ -12,12 +12,22 @@ abbrev pub IsSubject : List (List ℕ) → List ℕ → Type 0
 IsSubject words text =
     (value : Option (List ℕ)) × IsFirstField (codes "I4" ∷ codes "FB" ∷ codes "FM" ∷ codes "FC" ∷ []) words value × (spelt_text value ≡ Some text)
 
+-- that value spells no text
+abbrev pub IsMisspeltSubject : List (List ℕ) → Type 0
+IsMisspeltSubject words =
+    (value : Option (List ℕ)) × IsFirstField (codes "I4" ∷ codes "FB" ∷ codes "FM" ∷ codes "FC" ∷ []) words value × (spelt_text value ≡ None)
+
 -- the parameters are those of this status: its number, its text, its subject, and the seconds that it lasts
 pub record IsStatus (params : List (List ℕ)) (status : Status) : Type 0 where
   pub number : get_or params 0 [] ≡ status.number
   pub text : unescaped_text (get_or params 1 []) ≡ Some (string_bytes status.text)
   pub about : IsSubject (drop 2 params) (string_bytes status.about)
   pub seconds : IsFieldText (codes "TL") (drop 2 params) (string_bytes status.seconds)
+
+-- the parameters are those of no status: the number has not three digits, or one of the others spells no text
+abbrev pub IsNoStatus : List (List ℕ) → Type 0
+IsNoStatus params =
+    (length (get_or params 0 []) ≢ 3) ⊎ (unescaped_text (get_or params 1 []) ≡ None) ⊎ IsMisspeltSubject (drop 2 params) ⊎ IsMisspelt (codes "TL") (drop 2 params)
 
 -- the first digit of a status is its severity: 0 is success
 abbrev pub is_well : List ℕ → Bool

@@ -1,10 +1,10 @@
 -- A user, by the parameters of a message of the type INF (ADC 1.0, "INF").
-use Rattle.std.specs.Prelude.{◌≡◌, ℕ, ◌<◌, ◌^◌, List, ◌∷◌, ◌++◌, codes, Option, Some, None}
+use Rattle.std.specs.Prelude.{◌≡◌, ◌⊎◌, ℕ, ◌<◌, ◌^◌, List, ◌∷◌, ◌++◌, codes, Option, Some, None}
 use Rattle.std.specs.List.{All}
 use Rattle.std.specs.Str.Parse.{IsNumeral, digits_value, without_leading_plus}
 use Rattle.std.specs.String.{string_bytes}
 use Rattle.adc_line.specs.Escapes.{unescaped_text}
-use Rattle.hub_client.specs.Fields.{IsField, IsFieldText, spelt_text}
+use Rattle.hub_client.specs.Fields.{IsField, IsFieldText, IsMisspelt, spelt_text}
 use Rattle.hub_client.specs.Roles.{role_of}
 use Rattle.hub_client.specs.declared.role.Role.{Role}
 use Rattle.hub_client.specs.declared.user.User.{User}
@@ -31,6 +31,10 @@ IsAddressBeside params None text = IsFieldText (codes "I6") params text
 abbrev pub IsAddress : List (List ℕ) → List ℕ → Type 0
 IsAddress params text = (value : Option (List ℕ)) × IsField (codes "I4") params value × IsAddressBeside params value text
 
+-- the value from which the address is taken spells no text
+abbrev pub IsMisspeltAddress : List (List ℕ) → Type 0
+IsMisspeltAddress params = IsMisspelt (codes "I4") params ⊎ (IsField (codes "I4") params None × IsMisspelt (codes "I6") params)
+
 pub record IsUser (params : List (List ℕ)) (user : User) : Type 0 where
   pub nick : IsFieldText (codes "NI") params (string_bytes user.nick)
   pub cid : IsFieldText (codes "ID") params (string_bytes user.cid)
@@ -38,6 +42,12 @@ pub record IsUser (params : List (List ℕ)) (user : User) : Type 0 where
   pub address : IsAddress params (string_bytes user.address)
   pub share : IsFieldText (codes "SS") params (string_bytes user.share)
   pub description : IsFieldText (codes "DE") params (string_bytes user.description)
+
+-- a field of the user spells no text
+abbrev pub IsNoUser : List (List ℕ) → Type 0
+IsNoUser params =
+    IsMisspelt (codes "NI") params ⊎ IsMisspelt (codes "ID") params ⊎ IsMisspeltAddress params ⊎ IsMisspelt (codes "SS") params
+    ⊎ IsMisspelt (codes "DE") params
 
 -- a message does not have this field, or tells of another user
 abbrev pub IsSilentOn : List ℕ → ℕ → Reading → Type 0
@@ -54,7 +64,15 @@ IsLastField name sid lines (Some value) =
 abbrev pub IsSaidLast : List ℕ → ℕ → List Reading → List ℕ → Type 0
 IsSaidLast name sid lines text = (value : Option (List ℕ)) × IsLastField name sid lines value × (spelt_text value ≡ Some text)
 
+-- the value that a message had last spells no text
+abbrev pub IsMisspeltLast : List ℕ → ℕ → List Reading → Type 0
+IsMisspeltLast name sid lines = (value : Option (List ℕ)) × IsLastField name sid lines value × (spelt_text value ≡ None)
+
 -- what messages tell last of the user with this session identifier
 pub record IsTold (lines : List Reading) (sid : ℕ) (who : Who) : Type 0 where
   pub nick : IsSaidLast (codes "NI") sid lines (string_bytes who.nick)
   pub cid : IsSaidLast (codes "ID") sid lines (string_bytes who.cid)
+
+-- the nick or the identifier that they tell last spells no text
+abbrev pub IsUntold : List Reading → ℕ → Type 0
+IsUntold lines sid = IsMisspeltLast (codes "NI") sid lines ⊎ IsMisspeltLast (codes "ID") sid lines

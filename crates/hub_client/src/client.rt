@@ -4,9 +4,9 @@ ghost use Rattle.std.specs.Io.KnownBytes.{Keeps, prepend_known};
 ghost use Rattle.std.specs.List.{cons_option};
 ghost use Rattle.adc_line.specs.Lines.{Reading};
 ghost use Rattle.hub_client.specs.declared.status.Status.{Status};
-ghost use Rattle.hub_client.specs.Conversations.{Comes, Concludes, Fails, HearsAnswer, HearsEntry, IsAnswered, IsAway};
+ghost use Rattle.hub_client.specs.Conversations.{Comes, Concludes, Fails, HearsAnswer, HearsEntry, IsAnswered, IsAway, IsNotAway};
 ghost use Rattle.hub_client.specs.Conversations.{IsEcho, IsNoWelcome, IsPrelude, IsWelcome};
-ghost use Rattle.hub_client.specs.Entries.{Enters, IsAnswer, IsBadStatus, IsEntry, IsInfo, IsRefusal, IsSuccess};
+ghost use Rattle.hub_client.specs.Entries.{Enters, IsAnswer, IsBadStatus, IsEntry, IsInfo, IsNoChallenge, IsRefusal, IsSuccess};
 ghost use Rattle.hub_client.specs.Entries.{IsUserLine, TellsOf, is_quit_line, is_user_line};
 ghost use Rattle.hub_client.specs.Sayings.{support_text};
 ghost use Rattle.hub_client.specs.Talks.{FailsAt, HasFailed, Hears, HearsNone, ReadsNone, gone_of, said_by, turns_of, unheard, users_of};
@@ -180,6 +180,7 @@ impl<S: Read + Write> Client<S> {
     pub fn sent_away(&self, operator: Sid) -> Result<Option<Who>, ClientFault>
         ensures away { IfOk result (λ who. IsAway (gone_of self.now) (users_of self.now) operator who) }
         ensures refused { IfErr result (λ fault. (fault ≡ ClientFault.Memory) ⊎ (fault ≡ ClientFault.NotAdc)) }
+        ensures untold { IfErr result (λ fault. fault ≡ ClientFault.NotAdc → IsNotAway (gone_of self.now) (users_of self.now) operator) }
     {
         for line in &self.gone {
             if let Some(sid) = sent_away_by(line, operator) {
@@ -368,6 +369,7 @@ fn challenge_in(line: &Line) -> Result<Entry, ClientFault>
     requires { IsInfo line.now (codes "GPA") }
     ensures challenge { IfOk result (λ entry. (sid : ℕ) → Enters line.now sid entry) }
     ensures refused { IfErr result (λ fault. fault ≡ ClientFault.NotAdc) }
+    ensures none { IfErr result (λ _. IsNoChallenge line.now) }
 {
     let word = line.params().next().unwrap_or("");
     match decode24(word.as_bytes()) {

@@ -1,7 +1,7 @@
-ghost use Rattle.std.specs.Prelude.{◌≡◌, ◌≢◌, ◌⊎◌, true};
+ghost use Rattle.std.specs.Prelude.{◌≡◌, ◌≢◌, true};
 ghost use Rattle.adc_line.specs.declared.fault.LineFault.TheVariants as lines;
 ghost use Rattle.std.specs.IoError.{error_kind};
-ghost use Rattle.hub_client.specs.Broken.{fault_by};
+ghost use Rattle.hub_client.specs.Broken.{fault_by, fault_of_word};
 ghost use Rattle.hub_client.specs.Unanswered.{unanswered};
 ghost use Rattle.hub_client.specs.declared.fault.ClientFault.TheVariants.{Memory, NotAdc, Unsayable};
 
@@ -99,7 +99,7 @@ pub(crate) fn not_adc(fault: LineFault) -> ClientFault
 }
 
 impl From<UnescapeFault> for ClientFault {
-    ghost from_gives = { λ _ fault. (fault ≡ Memory) ⊎ (fault ≡ NotAdc) };
+    ghost from_gives = { λ given fault. fault ≡ fault_of_word given };
 
     fn from(fault: UnescapeFault) -> ClientFault {
         match fault {

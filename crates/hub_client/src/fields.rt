@@ -2,7 +2,7 @@ ghost use Rattle.std.specs.Prelude.{◌≡◌, ◌⊎◌, IfErr, IfOk};
 ghost use Rattle.std.specs.Option.{option_copied};
 ghost use Rattle.std.specs.String.{string_bytes};
 ghost use Rattle.adc_line.specs.WordsLeft.{words_left};
-ghost use Rattle.hub_client.specs.Fields.{IsField, IsFieldText};
+ghost use Rattle.hub_client.specs.Fields.{IsField, IsFieldText, IsMisspelt};
 
 use crate::fault::ClientFault;
 use adc_line::{Line, Words, unescape};
@@ -31,6 +31,7 @@ pub(crate) fn field_among<'a>(mut words: Words<'a>, name: &str) -> Option<&'a st
 pub fn field_text(alloc: Global, line: &Line, name: &str) -> Result<String, ClientFault>
     ensures text { IfOk result (λ text. IsFieldText name.now line.now.params (string_bytes text)) }
     ensures refused { IfErr result (λ fault. (fault ≡ ClientFault.Memory) ⊎ (fault ≡ ClientFault.NotAdc)) }
+    ensures misspelt { IfErr result (λ fault. fault ≡ ClientFault.NotAdc → IsMisspelt name.now line.now.params) }
 {
     field_text_among(alloc, line.params(), name)
 }
@@ -43,6 +44,7 @@ pub(crate) fn field_text_among(
 ) -> Result<String, ClientFault>
     ensures text { IfOk result (λ text. IsFieldText name.now (words_left words.entry) (string_bytes text)) }
     ensures refused { IfErr result (λ fault. (fault ≡ ClientFault.Memory) ⊎ (fault ≡ ClientFault.NotAdc)) }
+    ensures misspelt { IfErr result (λ fault. fault ≡ ClientFault.NotAdc → IsMisspelt name.now (words_left words.entry)) }
 {
     match field_among(words, name) {
         Some(value) => Ok(unescape(alloc, value)?),

@@ -1,8 +1,9 @@
-ghost use Rattle.std.specs.Prelude.{◌≡◌, ◌⊎◌, IfOk, IfErr};
+ghost use Rattle.std.specs.Prelude.{◌≡◌, ◌⊎◌, ◌<◌, [], length, IfOk, IfErr};
+ghost use Rattle.adc_line.specs.Frames.{max_line};
 ghost use Rattle.adc_line.specs.Grammar.{Reads};
 ghost use Rattle.adc_line.specs.Lines.{Reading};
 ghost use Rattle.hub_client.specs.Requests.{nick_bytes};
-ghost use Rattle.hub_client.specs.Sayings.{chat_text, identifiers_text, login_text, password_text, support_text};
+ghost use Rattle.hub_client.specs.Sayings.{IsSpelt, chat_text, identifiers_text, login_text, password_text, support_text};
 
 use crate::fault::{ClientFault, unsayable};
 use crate::nick_text::NickText;
@@ -11,6 +12,9 @@ use adc_ids::Cid;
 use adc_line::{Line, escape};
 use session_hash::SessionHash;
 use std::alloc::{AllocError, Global};
+
+/// The number of session identifiers.
+const SIDS: u32 = 1_048_576;
 
 /// The identity of a client: a private identifier and the client identifier that is its hash.
 #[derive(Clone, Copy)]
@@ -46,7 +50,7 @@ pub fn support_line(alloc: Global, pinger: bool) -> Result<Line, ClientFault>
     message_of(alloc, text.as_bytes())
 }
 
-/// Makes the message by which a client that shares nothing logs in.
+/// Makes the message by which a client that shares nothing logs in. Refused only when memory runs out.
 pub fn login_line(
     alloc: Global,
     sid: Sid,
@@ -54,8 +58,9 @@ pub fn login_line(
     nick: &NickText<'_>,
 ) -> Result<Line, ClientFault>
     ensures exact { IfOk result (λ line. line.text ≡ login_text sid identity.now.cid identity.now.private (nick_bytes nick.now)) }
-    ensures refused { IfErr result (λ fault. (fault ≡ ClientFault.Memory) ⊎ (fault ≡ ClientFault.Unsayable)) }
+    ensures refused { IfErr result (λ fault. fault ≡ ClientFault.Memory) }
 {
+    prove!(sid.number() < SIDS);
     let mut line = identifiers(alloc, sid, identity)?;
     line.extend_from_slice(b" NI")?;
     line.extend_from_slice(escape(alloc, nick.as_str())?.as_bytes())?;
@@ -65,7 +70,9 @@ pub fn login_line(
 
 /// Makes the front of a login, with the three identifiers of the client.
 fn identifiers(alloc: Global, sid: Sid, identity: &Identity) -> Result<Vec<u8>, AllocError>
-    ensures { IfOk result (λ line. line.items ≡ identifiers_text sid identity.now.cid identity.now.private) }
+    ensures exact { IfOk result (λ line. line.items ≡ identifiers_text sid identity.now.cid identity.now.private) }
+    ensures cid { IfOk result (λ _. IsSpelt identity.now.cid) }
+    ensures private { IfOk result (λ _. IsSpelt identity.now.private) }
 {
     let mut line = Vec::new(alloc);
     line.extend_from_slice(b"BINF ")?;
@@ -77,7 +84,7 @@ fn identifiers(alloc: Global, sid: Sid, identity: &Identity) -> Result<Vec<u8>, 
     Ok(line)
 }
 
-/// Makes the answer to a challenge: the digest of the password with the challenge behind it.
+/// Makes the answer to a challenge: the digest of the password with the challenge behind it. Refused only when memory runs out.
 pub fn password_line<H: SessionHash>(
     alloc: Global,
     hash: &H,
@@ -85,7 +92,7 @@ pub fn password_line<H: SessionHash>(
     challenge: &[u8; 24],
 ) -> Result<Line, ClientFault>
     ensures exact { IfOk result (λ line. line.text ≡ password_text (H.digest_of hash.now) password.now challenge.now) }
-    ensures refused { IfErr result (λ fault. (fault ≡ ClientFault.Memory) ⊎ (fault ≡ ClientFault.Unsayable)) }
+    ensures refused { IfErr result (λ fault. fault ≡ ClientFault.Memory) }
 {
     let mut secret = Vec::new(alloc);
     secret.extend_from_slice(password.as_bytes())?;
@@ -96,11 +103,14 @@ pub fn password_line<H: SessionHash>(
     message_of(alloc, &line)
 }
 
-/// Makes the message that says a text to all who are present. Refused: `Unsayable` if the text is empty or too long; `Memory`.
+/// Makes the message that says a text to all who are present. Refused: `Unsayable` if the text is empty, or the
+/// message has more than 65,536 bytes; `Memory`.
 pub fn chat_line(alloc: Global, sid: Sid, text: &str) -> Result<Line, ClientFault>
     ensures exact { IfOk result (λ line. line.text ≡ chat_text sid text.now) }
     ensures refused { IfErr result (λ fault. (fault ≡ ClientFault.Memory) ⊎ (fault ≡ ClientFault.Unsayable)) }
+    ensures unsayable { IfErr result (λ fault. fault ≡ ClientFault.Unsayable → (text.now ≡ []) ⊎ (max_line < length (chat_text sid text.now))) }
 {
+    prove!(sid.number() < SIDS);
     let mut line = Vec::new(alloc);
     line.extend_from_slice(b"BMSG ")?;
     line.extend_from_slice(&sid.text())?;

@@ -4,7 +4,7 @@ ghost use Rattle.std.specs.String.{string_bytes};
 ghost use Rattle.adc_line.specs.WordsLeft.{words_left};
 ghost use Rattle.hub_client.specs.Fields.{IsFirstField};
 ghost use Rattle.std.specs.Fmt.{WritesOnOk};
-ghost use Rattle.hub_client.specs.Statuses.{IsStatus, IsSubject, is_well, refusal_by, seconds_text, status_text, subject_text};
+ghost use Rattle.hub_client.specs.Statuses.{IsMisspeltSubject, IsNoStatus, IsStatus, IsSubject, is_well, refusal_by, seconds_text, status_text, subject_text};
 
 use crate::fault::ClientFault;
 use crate::fields::{field_among, field_text_among};
@@ -39,6 +39,7 @@ impl Status {
     pub(crate) fn read(alloc: Global, line: &Line) -> Result<Status, ClientFault>
         ensures status { IfOk result (λ status. IsStatus line.now.params status) }
         ensures refused { IfErr result (λ fault. (fault ≡ ClientFault.Memory) ⊎ (fault ≡ ClientFault.NotAdc)) }
+        ensures none { IfErr result (λ fault. fault ≡ ClientFault.NotAdc → IsNoStatus line.now.params) }
     {
         let mut words = line.params();
         let Some([severity, tens, ones]) = words.next().map(|word| word.as_bytes()) else {
@@ -76,6 +77,7 @@ impl Status {
 fn about(alloc: Global, words: Words<'_>) -> Result<String, ClientFault>
     ensures subject { IfOk result (λ text. IsSubject (words_left words.entry) (string_bytes text)) }
     ensures refused { IfErr result (λ fault. (fault ≡ ClientFault.Memory) ⊎ (fault ≡ ClientFault.NotAdc)) }
+    ensures misspelt { IfErr result (λ fault. fault ≡ ClientFault.NotAdc → IsMisspeltSubject (words_left words.entry)) }
 {
     match first_field(words, &["I4", "FB", "FM", "FC"]) {
         Some(value) => Ok(unescape(alloc, value)?),

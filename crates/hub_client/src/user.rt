@@ -2,7 +2,8 @@ ghost use Rattle.std.specs.Prelude.{◌≡◌, ◌⊎◌, Some, IfErr, IfNone, I
 ghost use Rattle.std.specs.Option.{option_copied};
 ghost use Rattle.std.specs.String.{string_bytes};
 ghost use Rattle.hub_client.specs.Fields.{IsField};
-ghost use Rattle.hub_client.specs.Users.{AreBits, IsAddress, IsLastField, IsRole, IsSaidLast, IsSilentOn, IsTold, IsUser};
+ghost use Rattle.hub_client.specs.Users.{AreBits, IsAddress, IsLastField, IsMisspeltAddress, IsMisspeltLast, IsNoUser, IsRole};
+ghost use Rattle.hub_client.specs.Users.{IsSaidLast, IsSilentOn, IsTold, IsUntold, IsUser};
 
 use crate::fault::ClientFault;
 use crate::fields::{field, field_text};
@@ -33,6 +34,7 @@ impl User {
     pub fn read(alloc: Global, line: &Line) -> Result<User, ClientFault>
         ensures user { IfOk result (λ user. IsUser line.now.params user) }
         ensures refused { IfErr result (λ fault. (fault ≡ ClientFault.Memory) ⊎ (fault ≡ ClientFault.NotAdc)) }
+        ensures none { IfErr result (λ fault. fault ≡ ClientFault.NotAdc → IsNoUser line.now.params) }
     {
         Ok(User {
             nick: field_text(alloc, line, "NI")?,
@@ -48,6 +50,7 @@ impl User {
 fn address(alloc: Global, line: &Line) -> Result<String, ClientFault>
     ensures text { IfOk result (λ text. IsAddress line.now.params (string_bytes text)) }
     ensures refused { IfErr result (λ fault. (fault ≡ ClientFault.Memory) ⊎ (fault ≡ ClientFault.NotAdc)) }
+    ensures misspelt { IfErr result (λ fault. fault ≡ ClientFault.NotAdc → IsMisspeltAddress line.now.params) }
 {
     match field(line, "I4") {
         Some(value) => Ok(unescape(alloc, value)?),
@@ -85,6 +88,7 @@ impl Who {
     pub fn in_lines(alloc: Global, lines: &[Line], sid: Sid) -> Result<Who, ClientFault>
         ensures told { IfOk result (IsTold lines.now sid) }
         ensures refused { IfErr result (λ fault. (fault ≡ ClientFault.Memory) ⊎ (fault ≡ ClientFault.NotAdc)) }
+        ensures none { IfErr result (λ fault. fault ≡ ClientFault.NotAdc → IsUntold lines.now sid) }
     {
         Ok(Who {
             nick: said_last(alloc, lines, sid, "NI")?,
@@ -96,6 +100,7 @@ impl Who {
 fn said_last(alloc: Global, lines: &[Line], sid: Sid, name: &str) -> Result<String, ClientFault>
     ensures text { IfOk result (λ text. IsSaidLast name.now sid lines.now (string_bytes text)) }
     ensures refused { IfErr result (λ fault. (fault ≡ ClientFault.Memory) ⊎ (fault ≡ ClientFault.NotAdc)) }
+    ensures misspelt { IfErr result (λ fault. fault ≡ ClientFault.NotAdc → IsMisspeltLast name.now sid lines.now) }
 {
     match last_field(lines, sid, name) {
         Some(value) => Ok(unescape(alloc, value)?),

@@ -2,7 +2,7 @@ ghost use Rattle.std.specs.Prelude.{◌≡◌, true, false, IfOk};
 ghost use Rattle.futures.specs.Task.{IsArmed, Keeps};
 ghost use Rattle.futures.specs.Poll.{IfReady, OnPending};
 ghost use Rattle.adc_sessions.specs.Arrivals.{arrival_of};
-ghost use Rattle.hub_listener.specs.Peers.{IsAt, IsNamed};
+ghost use Rattle.hub_listener.specs.Peers.{IsAt, IsBrought, IsNamed};
 ghost use Rattle.hub_listener.specs.Rests.{EndOfRest, IsFault, rests, socket_of, Rests, GoesOn};
 
 use crate::socket::Socket;
@@ -180,12 +180,12 @@ fn end_of_rest(now: Option<Instant>) -> Option<Instant>
 impl<R: Wait + WallClock + Ticks, L: Log, I: Listens> Incoming for Listener<'_, R, L, I> {
     type Stream = I::Socket;
 
-    ghost use Rattle.std.specs.Prelude.{⊤};
+    // Which calls of the socket there were in between is not said.
+    ghost brings = { λ _ arrival _. IsBrought I.accepts arrival };
 
-    // The contract of a listening socket says nothing of who comes, so nothing is said of whom a listener brings.
-    ghost brings = { λ _ _ _. ⊤ };
-
+    #[tactic(auto, using(crate::proofs::Bringing::brought))]
     fn poll_incoming(&mut self, cx: &mut Context<'_>) -> Poll<io::Result<(I::Socket, Peer)>>
+        ensures brings { IsBrought I.accepts (arrival_of result) }
         ensures named { IfReady result (λ r. IfOk r (λ came. IsNamed I.accepts came.0 came.1.address)) }
         ensures registered { OnPending result (IsArmed cx.new) }
         ensures kept { Keeps cx.old cx.new }

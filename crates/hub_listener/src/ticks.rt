@@ -14,10 +14,11 @@ pub trait Ticks {
 }
 
 impl<R: Clock> Ticks for R {
-    ghost use Rattle.std.specs.Prelude.{⊤};
+    ghost use Rattle.std.specs.Prelude.{IfSome};
+    ghost use Rattle.std.specs.Time.{FitsClock, instant_nanos};
 
-    // The contract of a clock says nothing of what it gives, so any reading may be one of it.
-    ghost ticks = { λ _ _. ⊤ };
+    // The contract of a clock says only that a time which it gives is in its range.
+    ghost ticks = { λ _ reading. IfSome reading (λ time. FitsClock (instant_nanos time)) };
 
     fn instant(&self) -> Option<Instant> {
         Instant::now(self).ok()

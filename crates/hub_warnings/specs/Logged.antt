@@ -26,3 +26,7 @@ level_of entry = metadata_level (record_metadata entry)
 -- what a journal waits for its lock with
 abbrev pub runtime_of : {R W : Type 0} → Journal R W → R
 runtime_of journal = journal.rt
+
+-- its lines begin with their priority
+abbrev pub is_prioritised : {R W : Type 0} → Journal R W → Bool
+is_prioritised journal = journal.has_priorities

@@ -2,7 +2,7 @@ ghost use Rattle.std.specs.Prelude.{◌≡◌, true, false, [], Some, IfSome};
 ghost use Rattle.std.specs.Io.KnownBytes.{Appends};
 ghost use Rattle.log.specs.Record.{record_args};
 ghost use Rattle.hub_warnings.specs.Texts.{journal_line, priority_text};
-ghost use Rattle.hub_warnings.specs.Logged.{priority_if, level_of, runtime_of};
+ghost use Rattle.hub_warnings.specs.Logged.{is_prioritised, level_of, priority_if, runtime_of};
 
 use log::kv::Source;
 use log::span::Spans;
@@ -16,61 +16,64 @@ use std::sync::{Mutex, Wait};
 /// ended before the next.
 pub struct Journal<R: Wait, W> {
     rt: R,
+    has_priorities: bool,
     out: Mutex<Out<W>>,
 }
 
 impl<R: Wait + Drop, W: Drop> Drop for Journal<R, W> {
     fn drop(self) {
-        let Journal { rt, out } = self;
+        let Journal {
+            rt,
+            has_priorities: _,
+            out,
+        } = self;
         drop(rt);
         drop(out);
     }
 }
 
-// A writer, whether lines begin with their priority, and that the last line stopped part way.
+// A writer, and that the last line stopped part way.
 #[derive(Drop)]
 struct Out<W> {
     writer: W,
-    has_priorities: bool,
     is_torn: bool,
 }
 
 impl<R: Wait, W: Write> Journal<R, W> {
-    /// Makes a journal over this writer, which the lock of `rt` guards.
+    /// Makes a journal over this writer, which the lock of `rt` guards. Lines begin with their priority where that is asked for.
     pub fn new(rt: R, has_priorities: bool, writer: W) -> Journal<R, W>
-        ensures { runtime_of result ≡ rt }
+        ensures runtime { runtime_of result ≡ rt }
+        ensures priorities { is_prioritised result ≡ has_priorities }
     {
         Journal {
             rt,
-            out: Mutex::new(Out::new(has_priorities, writer)),
+            has_priorities,
+            out: Mutex::new(Out::new(writer)),
         }
     }
 }
 
 impl<W: Write> Out<W> {
-    fn new(has_priorities: bool, writer: W) -> Out<W>
+    fn new(writer: W) -> Out<W>
         ensures writer { result.writer ≡ writer }
-        ensures priorities { result.has_priorities ≡ has_priorities }
         ensures torn { result.is_torn ≡ false }
     {
         Out {
             writer,
-            has_priorities,
             is_torn: false,
         }
     }
 
     // A line that was written whole stands behind the end of the one that was torn.
-    fn line<D: Display, K, S>(&mut self, entry: &Record<'_, D, K, S>)
+    fn line<D: Display, K, S>(&mut self, has_priorities: bool, entry: &Record<'_, D, K, S>)
         ensures whole { self.new.is_torn ≡ false → IfSome (D.output (record_args entry.now)) (λ words.
             Appends (W.contents self.old.writer) (W.contents self.new.writer)
-            (journal_line self.old.is_torn (priority_if self.old.has_priorities (level_of entry.now)) words)) }
-        ensures priorities { self.new.has_priorities ≡ self.old.has_priorities }
+            (journal_line self.old.is_torn (priority_if has_priorities (level_of entry.now)) words)) }
     {
         if self.is_torn && self.writer.write_all(b"\n").is_err() {
             return;
         }
-        let priority = priority(self.has_priorities, entry.level());
+        let priority = priority(has_priorities, entry.level());
         let text = entry.args();
         self.is_torn = writeln!(self.writer, "{priority}{text}").is_err();
     }
@@ -102,7 +105,7 @@ impl<R: Wait, W: Write> Log for Journal<R, W> {
     }
 
     fn log<D: Display, K: Source, S: Spans>(&self, record: &Record<'_, D, K, S>) {
-        self.out.lock(&self.rt).line(record);
+        self.out.lock(&self.rt).line(self.has_priorities, record);
     }
 
     fn flush(&self) {

@@ -7,3 +7,4 @@ mod Contained
 mod Shown
 mod Told
 mod Unknown
+mod Menu

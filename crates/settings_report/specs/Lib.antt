@@ -8,3 +8,4 @@ pub mod Printed
 pub mod Reports
 pub mod Statements
 pub mod Summaries
+pub mod Warned

@@ -11,6 +11,7 @@ use Rattle.hub_settings.specs.declared.fault.SettingsFault.TheVariants as faults
 use Rattle.settings_report.specs.Faults.{Shows}
 use Rattle.settings_report.specs.Places.{IsBehind}
 use Rattle.settings_report.specs.Summaries.{Summarizes}
+use Rattle.settings_report.specs.Warned.{WarnsOfMenu, menu_in}
 use Rattle.settings_report.specs.declared.report.Report.{Report}
 use Rattle.settings_report.specs.declared.report.Report.TheVariants.{Well, Faulty}
 
@@ -41,11 +42,17 @@ Counts text (Well summary warnings) =
     × (summary.commands ≡ entries_of (get_member (codes "command") document))
 Counts text (Faulty fault) = Unit {0}
 
+-- the warnings are those of the document's menu
+abbrev pub Warns : List ℕ → Report → Type 0
+Warns text (Well summary warnings) = (document : Members) × (parse_document text ≡ Some document) × WarnsOfMenu (menu_in document) warnings.items
+Warns text (Faulty fault) = Unit {0}
+
 -- all that is told of the bytes of a text
 pub record Reports (text : List ℕ) (report : Report) : Type 0 where
   pub tells : Tells text report
   pub shows : Shows text report
   pub counts : Counts text report
+  pub warns : Warns text report
 
 -- the fault of bytes that are no text: no key, and the place behind the text with which they begin
 abbrev pub IsNoText : List ℕ → Report → Type 0

@@ -3,7 +3,7 @@ ghost use Rattle.toml.specs.Parse.{parse_document};
 ghost use Rattle.std.specs.Option.{option_map};
 ghost use Rattle.toml.specs.View.{table_view, view};
 ghost use Rattle.settings_report.specs.Faults.{Shows};
-ghost use Rattle.settings_report.specs.Reports.{Counts, ReportsFile, Tells, entries_of};
+ghost use Rattle.settings_report.specs.Reports.{Counts, ReportsFile, Tells, Warns, entries_of};
 ghost use Rattle.settings_report.specs.declared.report.Report.TheVariants.{Faulty};
 
 use crate::entries::finding_at;
@@ -49,6 +49,7 @@ pub fn report_settings(alloc: Global, text: &str) -> Result<Report, AllocError>
     ensures tells { IfOk result (λ report. Tells text.now report) }
     ensures shows { IfOk result (Shows text.now) }
     ensures counts { IfOk result (Counts text.now) }
+    ensures warns { IfOk result (Warns text.now) }
 {
     match read_settings(alloc, text, 0) {
         Ok(settings) => {

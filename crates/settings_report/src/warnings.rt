@@ -1,8 +1,13 @@
-ghost use Rattle.std.specs.Prelude.{Some};
+ghost use Rattle.std.specs.Prelude.{◌≡◌, ◌++◌, List, IfOk, OnOk, Some};
+ghost use Rattle.std.specs.Option.{option_map};
+ghost use Rattle.toml.specs.View.{items_view, table_view, view};
+ghost use Rattle.settings_report.specs.Places.{after};
 ghost use Rattle.settings_report.specs.Printed.{warning_text};
+ghost use Rattle.settings_report.specs.Warned.{WarnsOf, WarnsOfEntry, WarnsOfItems, WarnsOfMenu, menu_in, text_in};
+ghost use Rattle.settings_report.specs.declared.warnings.Warning.{Warning};
 
 use crate::allowed::TEXT;
-use crate::findings::{Finding, Found};
+use crate::findings::{Finding, Found, value_at};
 use crate::menu_texts::{TextFlaw, has_flaw};
 use crate::places::{Place, place_of};
 use std::alloc::{AllocError, Global};
@@ -30,51 +35,89 @@ impl fmt::Display for Warning {
     }
 }
 
-const FLAWS: [TextFlaw; 3] = [
-    TextFlaw::Unended,
-    TextFlaw::CarriageReturn,
-    TextFlaw::NoMessage,
-];
-
 /// Lists the warnings of the menu of settings in which nothing is at fault, in the order of the entries.
 pub(crate) fn warnings_of(
     alloc: Global,
     text: &str,
     table: &Table,
-) -> Result<Vec<Warning>, AllocError> {
-    let mut found = Vec::new(alloc);
-    let Some(items) = table.get("command").and_then(Value::as_array) else {
-        return Ok(found);
+) -> Result<Vec<Warning>, AllocError>
+    ensures { IfOk result (λ warnings. WarnsOfMenu (menu_in (table_view table.now)) warnings.items) }
+{
+    let Some(list) = value_at(table, "command") else {
+        return Ok(Vec::new(alloc));
     };
-    for (entry, item) in items.iter().enumerate() {
-        let Some(value) = item.get("text") else {
-            continue;
-        };
-        for flaw in FLAWS {
-            if has_flaw(alloc, value.as_str().unwrap_or("\n"), flaw)? {
-                found.push(warning_of(alloc, text, entry, value, flaw)?)?;
-            }
-        }
+    match list.as_array() {
+        Some(items) => warnings_of_items(alloc, text, items),
+        None => Ok(Vec::new(alloc)),
+    }
+}
+
+fn warnings_of_items(alloc: Global, text: &str, items: &[Value]) -> Result<Vec<Warning>, AllocError>
+    ensures { IfOk result (λ warnings. WarnsOfItems 0 (items_view items.now) warnings.items) }
+{
+    let mut found = Vec::new(alloc);
+    for (before, item) in items.iter().enumerate() {
+        push_warnings(alloc, text, before, item.get("text"), &mut found)?;
     }
     Ok(found)
+}
+
+/// Adds the warnings of the entry behind so many others, whose text this is.
+fn push_warnings(
+    alloc: Global,
+    text: &str,
+    before: usize,
+    value: Option<&Value>,
+    found: &mut Vec<Warning>,
+) -> Result<(), AllocError>
+    ensures { OnOk result ((own : List Warning) × (found.new.items ≡ found.old.items ++ own)
+        × WarnsOfEntry (after before) (option_map (λ value. view value.now) value.entry) own) }
+{
+    let Some(value) = value else {
+        return Ok(());
+    };
+    push_warning(alloc, text, before, value, TextFlaw::Unended, found)?;
+    push_warning(alloc, text, before, value, TextFlaw::CarriageReturn, found)?;
+    push_warning(alloc, text, before, value, TextFlaw::NoMessage, found)
+}
+
+/// Adds the warning of this flaw, where the text of the entry has it.
+fn push_warning(
+    alloc: Global,
+    text: &str,
+    before: usize,
+    value: &Value,
+    flaw: TextFlaw,
+    found: &mut Vec<Warning>,
+) -> Result<(), AllocError>
+    ensures { OnOk result ((own : List Warning) × (found.new.items ≡ found.old.items ++ own)
+        × WarnsOf (after before) (text_in (view value.now)) flaw own) }
+{
+    if has_flaw(alloc, value.as_str().unwrap_or("\n"), flaw)? {
+        found.push(warning_of(alloc, text, before, value, flaw)?)?;
+    }
+    Ok(())
 }
 
 fn warning_of(
     alloc: Global,
     text: &str,
-    entry: usize,
+    before: usize,
     value: &Value,
     flaw: TextFlaw,
-) -> Result<Warning, AllocError> {
+) -> Result<Warning, AllocError>
+    ensures entry { IfOk result (λ warning. warning.entry ≡ after before) }
+    ensures flaw { IfOk result (λ warning. warning.flaw ≡ flaw) }
+{
     let finding = Finding {
         key: "command",
-        entry: Some(entry),
+        entry: Some(before),
         inner: Some("text"),
         found: Found::Value(value),
         allowed: TEXT,
     };
     Ok(Warning {
-        entry: entry.saturating_add(1),
+        entry: before.saturating_add(1),
         place: place_of(alloc, text, &finding)?,
         flaw,
     })

@@ -3,9 +3,11 @@ use Rattle.std.specs.List.{All}
 use Rattle.std.proofs.lemmas.List.{take_all}
 use Rattle.std.proofs.lemmas.List.Elements.{All-append, All-cons, All-nil}
 use Rattle.adc_line.specs.Lines.{Reading}
+use Rattle.hub_client.specs.declared.fault.ClientFault.TheVariants.{NotAdc}
+use Rattle.hub_client.specs.Conversations.{IsNotAway}
 use Rattle.hub_client.specs.Entries.{IsSentAway}
 use Rattle.hub_client.specs.Talks.{gone_of, users_of}
-use Rattle.hub_client.specs.Users.{IsTold}
+use Rattle.hub_client.specs.Users.{IsTold, IsUntold}
 use Rattle.hub_client.proofs.LastField.{one-more, parted}
 use Rattle.hub_client.proofs.client.Client.sent_away.Goals as goal
 
@@ -36,3 +38,24 @@ returns-clause-away g c =
     let gone = gone_of c.args.self.now in
     let all : take c.loop-line.line-index gone ≡ gone = take_all c.loop-line.line-index gone (search rules) in
     subst (λ (lines : List Reading). All (Stays c.args.operator) lines) all c.loop-line.invariant
+
+pub returns-in_err-in_lines-clause-untold : goal.returns-in_err-in_lines-clause-untold
+returns-in_err-in_lines-clause-untold g c =
+    let gone = gone_of c.args.self.now in
+    let users = users_of c.args.self.now in
+    let i = c.loop-line.line-index in
+    let within : i < length gone = search rules in
+    let is = rw c.deref-line-items.ensures.value at c.line-item.is in
+    let untold : c.in_err-in_lines.field-0.0 ≡ NotAdc → IsUntold users c.in-Some.sid = rw c.deref.ensures.value at c.in_err-in_lines.ensures.none in
+    let away : c.in_err-in_lines.field-0.0 ≡ NotAdc → IsNotAway gone users c.args.operator =
+    λ not. (
+      take i gone,
+      c.line-item.result,
+      drop (i + 1) gone,
+      c.in-Some.sid,
+      parted gone i c.line-item.result within is,
+      c.loop-line.invariant,
+      c.in-Some.ensures.some,
+      untold not,
+    ) in
+    search (rules, away)
