@@ -15,10 +15,10 @@ Released held old left new =
     × (new.rings ≡ old.rings)
     × SameSlots old new
 
-last_there : (slot : ℕ) (slots : List ℕ) → IsTrue (is_among slot (slots ++ slot ∷ []))
+pub last_there : (slot : ℕ) (slots : List ℕ) → IsTrue (is_among slot (slots ++ slot ∷ []))
 last_there slot slots = grind (arith, list_any-append (λ other. other == slot) slots (slot ∷ []))
 
-there_too : (slot last : ℕ) (slots : List ℕ) → IsTrue (is_among slot slots) → IsTrue (is_among slot (slots ++ last ∷ []))
+pub there_too : (slot last : ℕ) (slots : List ℕ) → IsTrue (is_among slot slots) → IsTrue (is_among slot (slots ++ last ∷ []))
 there_too slot last slots there = grind (arith, there, list_any-append (λ other. other == slot) slots (last ∷ []))
 
 there_still : (slot last : ℕ) (slots : List ℕ) → slot ≢ last → IsTrue (is_among slot (slots ++ last ∷ [])) → IsTrue (is_among slot slots)

@@ -1,7 +1,7 @@
 pub mod Places
 pub mod Silent
 pub mod Heard
-pub mod Everybody
+pub mod Portions
 pub mod Each
 pub mod LetGo
 pub mod Forgotten

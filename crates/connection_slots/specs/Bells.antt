@@ -1,5 +1,5 @@
 -- The bells of the slots: what is true of each, whatever was rung.
-use Rattle.std.specs.Prelude.{◌≡◌, ◌≢◌, ◌≤◌, ◌==◌, ◌||◌, ℕ, Bool, not, List, Some, IsTrue, is_some, slice_get}
+use Rattle.std.specs.Prelude.{◌≡◌, ◌≤◌, ◌==◌, ◌||◌, ◌-◌, if◌then◌else◌, ℕ, Bool, true, false, not, List, Some, None, IsTrue, is_some, slice_get, take}
 use Rattle.std.specs.List.{list_any}
 use Rattle.connection_slots.specs.declared.bells.Bell.{Bell}
 
@@ -19,12 +19,20 @@ AreBells bells waiting rings =
     × (IsTrue (is_some bell.waker) → IsTrue (is_among slot waiting))
     × (bell.heard ≤ rings)
 
--- whoever waits or has left a waker, but for one slot, is among these
-abbrev pub AreFoundBut : ℕ → List Bell → List ℕ → Type 0
-AreFoundBut own bells waiting =
-    (slot : ℕ) (bell : Bell) → slice_get bells slot ≡ Some bell → slot ≢ own →
-    (IsTrue bell.waits → IsTrue (is_among slot waiting)) × (IsTrue (is_some bell.waker) → IsTrue (is_among slot waiting))
+-- Whoever has left a waker, and has a ring that it has not heard, is due: it is among the first of those that wait.
+abbrev pub AreDue : List Bell → List ℕ → ℕ → ℕ → Type 0
+AreDue bells waiting due rings =
+    (slot : ℕ) (bell : Bell) → slice_get bells slot ≡ Some bell → IsTrue (is_some bell.waker) → is_unheard rings bell ≡ true →
+    IsTrue (is_among slot (take due waiting))
 
--- no more than so many rings were heard
-abbrev pub HaveHeard : List Bell → ℕ → Type 0
-HaveHeard bells rings = (slot : ℕ) (bell : Bell) → slice_get bells slot ≡ Some bell → bell.heard ≤ rings
+-- nobody waits at it any more
+abbrev pub woken : Bell → Bell
+woken bell = record bell { waker = None; waits = false }
+
+-- the bell, where who has a ring that it has not heard is woken
+abbrev pub woken_if_rung : ℕ → Bell → Bell
+woken_if_rung rings bell = if is_unheard rings bell then woken bell else bell
+
+-- the bell, where the last of so many rings of everybody is left out
+abbrev pub passed_over : ℕ → Bell → Bell
+passed_over rings bell = record bell { heard = if bell.heard == rings - 1 then rings else bell.heard }

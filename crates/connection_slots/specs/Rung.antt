@@ -1,6 +1,6 @@
 -- When the session of a slot has a ring that it has not heard yet.
-use Rattle.std.specs.Prelude.{◌≡◌, ◌≢◌, ◌⊎◌, ℕ, true, false, Some, None, length, IsTrue, IsSomeAnd, slice_get}
-use Rattle.connection_slots.specs.Bells.{is_among, is_unheard}
+use Rattle.std.specs.Prelude.{◌≡◌, ◌≢◌, ◌⊎◌, ℕ, true, false, Some, None, length, IsTrue, IsSomeAnd, slice_get, take}
+use Rattle.connection_slots.specs.Bells.{is_among, is_unheard, woken}
 use Rattle.connection_slots.specs.declared.bells.Bell.{Bell}
 use Rattle.connection_slots.specs.declared.bells.Bells.{Bells}
 use Rattle.futures.specs.Task.{Wakes}
@@ -21,6 +21,10 @@ HasHeard bells slot = At bells slot (λ bell. is_unheard bells.rings bell ≡ fa
 -- nothing of it is left that could be woken: whoever rested was woken
 abbrev pub IsAwake : Bells → ℕ → Type 0
 IsAwake bells slot = At bells slot (λ bell. bell.waker ≡ None)
+
+-- it is among those for whom a ring of everybody has come, and who are woken next
+abbrev pub IsDue : Bells → ℕ → Type 0
+IsDue bells slot = IsTrue (is_among slot (take bells.due bells.waiting.items))
 
 -- The waker of this context's task is there, where a ring of everybody finds it. Where none could be made, the task was woken.
 abbrev pub Rests : Bells → ℕ → Context → Context → Type 0
@@ -43,3 +47,10 @@ OthersStay old new slot =
 -- the slot is rung exactly where it was
 abbrev pub StaysRung : Bells → Bells → ℕ → Type 0
 StaysRung old new slot = At old slot (λ was. At new slot (λ bell. is_unheard new.rings bell ≡ is_unheard old.rings was))
+
+-- the bell of the slot is as it was, or the session had a ring that it had not heard, and was woken
+abbrev pub StaysOrIsWoken : Bells → Bells → ℕ → Type 0
+StaysOrIsWoken old new slot =
+    At old slot (λ was.
+    (slice_get new.bells.items slot ≡ Some was)
+    ⊎ ((is_unheard old.rings was ≡ true) × (slice_get new.bells.items slot ≡ Some (woken was))))

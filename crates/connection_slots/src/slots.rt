@@ -4,7 +4,7 @@ ghost use Rattle.connection_slots.specs.Becomes.{OneBecomes};
 ghost use Rattle.connection_slots.specs.Clients.{newcomer_in, with_line_for, is_behind_at};
 ghost use Rattle.connection_slots.specs.Bells.{is_among};
 ghost use Rattle.connection_slots.specs.Named.{IsSetAt, IsNamed, OthersStayNamed, SameIndex, slot_at};
-ghost use Rattle.connection_slots.specs.Rung.{IsRung, HasHeard, IsAwake, Rests, OthersStay, SameSlots, StaysRung};
+ghost use Rattle.connection_slots.specs.Rung.{IsRung, HasHeard, IsAwake, IsDue, Rests, OthersStay, SameSlots, StaysRung};
 
 use crate::accept_waker::AcceptWaker;
 use crate::amount::Amount;
@@ -241,7 +241,8 @@ impl Slots {
         ensures accept { self.new.accept ≡ self.old.accept }
         ensures clients { self.new.slots ≡ self.old.slots }
         ensures rung { (slot : ℕ) → slot ≢ own → IsRung self.new.bells slot }
-        ensures woken { (slot : ℕ) → slot ≢ own → IsAwake self.new.bells slot }
+        ensures woken { (slot : ℕ) → slot ≢ own → IsAwake self.new.bells slot ⊎ IsDue self.new.bells slot }
+        ensures crier { 0 < self.new.bells.due → self.new.bells.crier ≡ None }
         ensures own { StaysRung self.old.bells self.new.bells own }
         ensures slots { SameSlots self.old.bells self.new.bells }
         ensures index { SameIndex self.old self.new }
@@ -310,7 +311,8 @@ impl Slots {
     pub(crate) fn call_for_help(&mut self, own: usize) -> Receipt
         ensures word { result.deed ≡ Deed.CalledForHelp own }
         ensures task { self.new.accept.waker ≡ None }
-        ensures everybody { self.old.accept.is_gone ≡ true → (slot : ℕ) → slot ≢ own → IsRung self.new.bells slot × IsAwake self.new.bells slot }
+        ensures everybody { self.old.accept.is_gone ≡ true → (slot : ℕ) → slot ≢ own
+            → IsRung self.new.bells slot × (IsAwake self.new.bells slot ⊎ IsDue self.new.bells slot) }
         ensures nobody { self.old.accept.is_gone ≡ false → self.new.bells ≡ self.old.bells }
         ensures index { SameIndex self.old self.new }
     {

@@ -20,7 +20,7 @@ const TICK: u64 = 5;
 const MOST_DUE: u64 = 20;
 
 /// The task that keeps time while somebody gives way or lingers: every 5 ms it wakes those who give way, and closes the
-/// sockets that have lingered for long. Otherwise it rests.
+/// sockets that have lingered for long. Where everybody was woken, it wakes one portion after the other. Otherwise it rests.
 pub struct Ticker<'a, T, S, R> {
     shared: &'a Shared<T, S>,
     rt: &'a R,
@@ -66,8 +66,10 @@ impl<'a, T, S: AsyncRead + AsyncWrite, R: Wait + Clock> Ticker<'a, T, S, R> {
         ensures registered { OnPending result (IsArmed cx.new) }
         ensures kept { Keeps cx.old cx.new }
     {
+        let has_more = self.shared.wakers.cry(cx);
         match self.poll_end(cx) {
             Poll::Ready(_) => Poll::Ready(()),
+            Poll::Pending if has_more => cx.yield_now(),
             Poll::Pending => Poll::Pending,
         }
     }

@@ -272,6 +272,18 @@ impl Wakers {
         Ok(receipt)
     }
 
+    /// Wakes the next of those for whom everybody was woken, 32 at once. Answers whether some are left. Where none are, the task is
+    /// woken once some will be.
+    pub fn cry(&self, cx: &mut Context<'_>) -> bool
+        ensures registered { result ≡ false → IsArmed cx.new }
+        ensures kept { Keeps cx.old cx.new }
+    {
+        match lock(&self.slots) {
+            Some(mut slots) => slots.bells.cry_on(cx, &self.source),
+            None => true,
+        }
+    }
+
     /// Answers whether somebody gives way. Where nobody does, the task is woken once somebody will.
     pub fn has_held(&self, cx: &mut Context<'_>) -> bool
         ensures registered { result ≡ false → IsArmed cx.new }

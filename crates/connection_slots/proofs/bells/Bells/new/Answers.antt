@@ -15,4 +15,7 @@ invariant_of-result c =
     record {
       are_bells = λ slot bell got. let silent : IsSilent bell = c.loop-slot.invariant slot bell got in
           (λ no. grind (arith, no, silent.1), λ no. grind (arith, no, silent.2), omega (arith, silent.0));
+      are_due = λ slot bell got left _. let silent : IsSilent bell = c.loop-slot.invariant slot bell got in absurd (grind (arith, left, silent.2));
+      within = omega arith;
+      crier_wakes = λ _. refl;
     }

@@ -8,7 +8,12 @@ pub invariant_of-self : goal.invariant_of-self
 invariant_of-self c =
     let here : slice_get c.args.self.now.bells.items c.args.slot ≡ Some c.in-Some.bell.now = slice_get_read c.args.self.now.bells.items _ c.args.slot c.in-Some.bell.now refl (grind (arith, c.in-Some.ensures.variant)) c.in-Some.ensures.value in
     let was : _ = c.args.self.now.are_bells _ _ here in
-    record { are_bells = each_set _ _ _ _ c.args.self.now.are_bells (was.0, λ no. grind (arith, no), omega arith) }
+    record {
+      are_bells = each_set _ _ _ _ c.args.self.now.are_bells (was.0, λ no. grind (arith, no), omega arith);
+      are_due = each_set _ _ _ _ c.args.self.now.are_due (λ no _. absurd (grind (arith, no)));
+      within = c.args.self.now.within;
+      crier_wakes = c.args.self.now.crier_wakes;
+    }
 
 pub returns-in-Some-clause-heard : goal.returns-in-Some-clause-heard
 returns-in-Some-clause-heard c = at_set _ c.args.self.now.bells.items c.args.slot (record c.in-Some.bell.now { heard = c.args.self.now.rings; is_called = false; waker = None }) (heard_all _)

@@ -7,7 +7,12 @@ pub invariant_of-self : goal.invariant_of-self
 invariant_of-self c =
     let here : slice_get c.args.self.now.bells.items c.args.slot ≡ Some c.in-Some.bell.now = slice_get_read c.args.self.now.bells.items _ c.args.slot c.in-Some.bell.now refl (grind (arith, c.in-Some.ensures.variant)) c.in-Some.ensures.value in
     let was : _ = c.args.self.now.are_bells _ _ here in
-    record { are_bells = each_set _ _ _ _ c.args.self.now.are_bells (was.0, λ no. grind (arith, no), was.2) }
+    record {
+      are_bells = each_set _ _ _ _ c.args.self.now.are_bells (was.0, λ no. grind (arith, no), was.2);
+      are_due = each_set _ _ _ _ c.args.self.now.are_due (λ no _. absurd (grind (arith, no)));
+      within = c.args.self.now.within;
+      crier_wakes = c.args.self.now.crier_wakes;
+    }
 
 pub returns-in-Some-clause-rung : goal.returns-in-Some-clause-rung
 returns-in-Some-clause-rung c = at_set _ c.args.self.now.bells.items c.args.slot (record c.in-Some.bell.now { is_called = true; waker = None }) refl

@@ -1,7 +1,8 @@
-use Rattle.std.proofs.Common.{◌≡◌, true, false, refl, arith, slice_get, length-set, Some, IsTrue}
+use Rattle.std.proofs.Common.{◌≡◌, ◌≤◌, length, true, false, refl, arith, slice_get, length-set, Some, IsTrue}
 use Rattle.std.proofs.lemmas.Option.{slice_get_read}
-use Rattle.connection_slots.specs.Bells.{AreBells, is_among}
+use Rattle.connection_slots.specs.Bells.{AreBells, AreDue, is_among, is_unheard}
 use Rattle.connection_slots.proofs.Heard.{heard_all, grown, quiet}
+use Rattle.connection_slots.proofs.Portions.{due_grown}
 use Rattle.connection_slots.proofs.Places.{each_set, at_set, get_set_other, only_there}
 use Rattle.connection_slots.proofs.bells.Bells.was_rung.Goals as goal
 
@@ -9,7 +10,12 @@ pub invariant_of-self-then-bell : goal.invariant_of-self-then-bell
 invariant_of-self-then-bell c =
     let here : slice_get c.args.self.now.bells.items c.args.slot ≡ Some c.in-Some.bell.now = slice_get_read c.args.self.now.bells.items _ c.args.slot c.in-Some.bell.now refl (grind (arith, c.in-Some.ensures.variant)) c.in-Some.ensures.value in
     let was : _ = c.args.self.now.are_bells _ _ here in
-    record { are_bells = each_set _ _ _ _ c.args.self.now.are_bells (was.0, was.1, omega arith) }
+    record {
+      are_bells = each_set _ _ _ _ c.args.self.now.are_bells (was.0, was.1, omega arith);
+      are_due = each_set _ _ _ _ c.args.self.now.are_due (λ _ unheard. absurd (grind (arith, unheard, heard_all c.args.self.now.rings)));
+      within = c.args.self.now.within;
+      crier_wakes = c.args.self.now.crier_wakes;
+    }
 
 pub returns-then-bell-clause-heard : goal.returns-then-bell-clause-heard
 returns-then-bell-clause-heard c = at_set _ c.args.self.now.bells.items c.args.slot (record c.in-Some.bell.now { heard = c.args.self.now.rings; is_called = false }) (heard_all _)
@@ -26,7 +32,15 @@ pub invariant_of-self-then-not-put_among : goal.invariant_of-self-then-not-put_a
 invariant_of-self-then-not-put_among c =
     let here : slice_get c.args.self.now.bells.items c.args.slot ≡ Some c.in-Some.bell.now = slice_get_read c.args.self.now.bells.items _ c.args.slot c.in-Some.bell.now refl (grind (arith, c.in-Some.ensures.variant)) c.in-Some.ensures.value in
     let more : AreBells c.args.self.now.bells.items c.put_among.new.slots.items c.args.self.now.rings = grown _ _ _ _ c.if-not-put_among.ensures.others c.args.self.now.are_bells in
-    record { are_bells = each_set _ _ _ _ more (more _ _ here) }
+    let due : AreDue c.args.self.now.bells.items c.put_among.new.slots.items c.args.self.now.due c.args.self.now.rings = due_grown _ _ _ _ _ (c.if-not-put_among.ensures.first _ c.args.self.now.within) c.args.self.now.are_due in
+    let longer : length c.args.self.now.waiting.items ≤ length c.put_among.new.slots.items = c.if-not-put_among.ensures.length in
+    let le : c.args.self.now.due ≤ length c.args.self.now.waiting.items = c.args.self.now.within in
+    record {
+      are_bells = each_set _ _ _ _ more (more _ _ here);
+      are_due = each_set _ _ _ _ due (due _ _ here);
+      within = omega (arith, le, longer);
+      crier_wakes = c.args.self.now.crier_wakes;
+    }
 
 pub returns-then-not-put_among-clause-heard : goal.returns-then-not-put_among-clause-heard
 returns-then-not-put_among-clause-heard c = at_set _ c.args.self.now.bells.items c.args.slot c.in-Some.bell.now (quiet _ c.in-Some.bell.now c.if-bell.false c.if-bell-self.false)
@@ -39,7 +53,16 @@ invariant_of-self-2 c =
     let here : slice_get c.args.self.now.bells.items c.args.slot ≡ Some c.in-Some.bell.now = slice_get_read c.args.self.now.bells.items _ c.args.slot c.in-Some.bell.now refl (grind (arith, c.in-Some.ensures.variant)) c.in-Some.ensures.value in
     let more : AreBells c.args.self.now.bells.items c.put_among.new.slots.items c.args.self.now.rings = grown _ _ _ _ c.if-not-put_among.ensures.others c.args.self.now.are_bells in
     let there : IsTrue (is_among c.args.slot c.put_among.new.slots.items) = c.if-not-put_among.ensures.there refl in
-    record { are_bells = each_set _ _ _ _ more (λ _. there, λ _. there, (more _ _ here).2) }
+    let due : AreDue c.args.self.now.bells.items c.put_among.new.slots.items c.args.self.now.due c.args.self.now.rings = due_grown _ _ _ _ _ (c.if-not-put_among.ensures.first _ c.args.self.now.within) c.args.self.now.are_due in
+    let longer : length c.args.self.now.waiting.items ≤ length c.put_among.new.slots.items = c.if-not-put_among.ensures.length in
+    let le : c.args.self.now.due ≤ length c.args.self.now.waiting.items = c.args.self.now.within in
+    let heard : is_unheard c.args.self.now.rings c.in-Some.bell.now ≡ false = quiet _ c.in-Some.bell.now c.if-bell.false c.if-bell-self.false in
+    record {
+      are_bells = each_set _ _ _ _ more (λ _. there, λ _. there, (more _ _ here).2);
+      are_due = each_set _ _ _ _ due (λ _ unheard. absurd (grind (arith, unheard, heard)));
+      within = omega (arith, le, longer);
+      crier_wakes = c.args.self.now.crier_wakes;
+    }
 
 pub returns-clause-seen : goal.returns-clause-seen
 returns-clause-seen c _ =
