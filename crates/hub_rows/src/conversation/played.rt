@@ -101,7 +101,10 @@ impl<'t> Played<'t> {
             let line = spell(rt, self.alloc, self.stands_for(step.line), self.round);
             match step.deed {
                 Deed::IsConcerned => self.concerns(rt, step.who),
-                Deed::ComeAndGo => self.hub.pass(rt, self.number(rt, step.who)),
+                Deed::ComeAndGo => {
+                    let count = self.number(rt, step.who);
+                    self.hub.pass(rt, count);
+                }
                 _ => self.does(rt, step.who, step.deed, &line),
             }
         }
@@ -127,7 +130,10 @@ impl<'t> Played<'t> {
             Deed::Enters => self.enters(rt, who, line),
             Deed::Says => self.says(rt, who, line, Verdict::Kept),
             Deed::IsEndedBy => self.says(rt, who, line, Verdict::Ended),
-            Deed::Quits => self.hub.quit(rt, self.connection(rt, who)),
+            Deed::Quits => {
+                let connection = self.connection(rt, who);
+                self.hub.quit(rt, connection);
+            }
             _ => self.gets(rt, who, deed, line),
         }
     }
