@@ -18,10 +18,7 @@ const SECOND: u64 = 1_000;
 const CREDIT: u64 = 1_200;
 
 fn sid(rt: &impl Abort, number: u32) -> Sid {
-    match Sid::from_u32(number) {
-        Some(sid) => sid,
-        None => panic!(rt; "a number of a session identifier"),
-    }
+    Sid::from_u32(number).expect(rt, "a number of a session identifier")
 }
 
 /// The tasks of sessions, all of which wait.
@@ -51,10 +48,8 @@ impl Waiters {
 
     /// Answers whether this one was woken; it waits now.
     fn hears(&self, rt: &impl Abort, slot: usize) -> bool {
-        match self.tasks.get(slot) {
-            Some(task) => task.enter(|cx| self.wakers.was_woken(slot, cx)),
-            None => panic!(rt; "a slot"),
-        }
+        let task = self.tasks.get(slot).expect(rt, "a slot");
+        task.enter(|cx| self.wakers.was_woken(slot, cx))
     }
 
     /// Lets all wait, twice where they heard something.
