@@ -24,10 +24,9 @@ fn requests_are_messages(rt: HostRuntime) {
     sends(&rt, &Request::topic(""), "HMSG !topic");
     let topic = Request::topic("Films of the week");
     sends(&rt, &topic, r"HMSG !topic\sFilms\sof\sthe\sweek");
-    let unban = Request::unban("ONSWG4TFOQAAAAAAAAAAAAAAAAAAAAAAAAAAAAA").expect(
-        &rt,
-        "an identifier",
-    );
+    let Some(unban) = Request::unban("ONSWG4TFOQAAAAAAAAAAAAAAAAAAAAAAAAAAAAA") else {
+        panic!(rt; "no client identifier");
+    };
     sends(
         &rt,
         &unban,
