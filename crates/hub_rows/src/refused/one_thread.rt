@@ -118,16 +118,13 @@ fn are_made(rt: &(impl Abort + Print), alloc: Global, setup: &Arc<Setup>) -> boo
     let Some((core, answers)) = run(rt, alloc, setup) else {
         return false;
     };
-    let answers = answers.as_slice();
+    let all = answers.as_slice();
     if core.joins() == 1 {
-        let is_right = matches!(
-            answers,
-            [Answer::Joined(_), Answer::Took(..) | Answer::Memory]
-        );
+        let is_right = matches!(all, [Answer::Joined(_), Answer::Took(..) | Answer::Memory]);
         holds(rt, is_right, "joined, and took, or had no memory to take");
     } else {
         tells_of_calls(rt);
-        let is_right = matches!(answers, [Answer::Memory, Answer::Skipped]);
+        let is_right = matches!(all, [Answer::Memory, Answer::Skipped]);
         holds(rt, is_right, "no memory, and skipped");
     }
     true
