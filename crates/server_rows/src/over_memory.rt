@@ -1,46 +1,114 @@
 // A session over memory, with a connection of the server.
-ghost use Rattle.std.specs.Prelude.{◌≡◌, Some, ℕ};
+ghost use Rattle.std.specs.Prelude.{◌≡◌, Some, ℕ, ⊤};
 
-use crate::in_memory::desk::{Desk, Gone};
-use crate::in_memory::wire::{Client, Wire};
-use crate::machine::*;
 use crate::sessions::hold;
 use adc_sessions::End;
+use futures::task::{Context, Poll};
+use futures::test::MockTask;
 use hub_core::{Options, Setup};
 use hub_server::{Connection, OfHub, Server};
 use hub_shared::{Host, Hub};
-use second_try::transcript_of;
+use second_try::{again, transcript_of};
+use session_hash::First24;
+use std::alloc::{AllocError, AllocGlobal};
+use std::io;
 use std::marker::Brand;
-use tokio::net::TcpStream;
+use std::random::RandomSource;
+use std::sync::{Arc, Wait};
+use std::time::Clock;
+use tokio::io::{AsyncRead, AsyncWrite};
 
 const CHALLENGE: [u8; 24] = [0; 24];
 
-/// Tells how the session of a hub's only connection over this socket ends; nothing where memory was refused.
-fn session<B: OfHub<First24>, R: Wait + Clock + RandomSource + AllocGlobal>(
+/// A stream: the bytes that a client sends, and those that it is sent.
+#[derive(Drop)]
+struct Wire<'a> {
+    rest: &'a [u8],
+    written: Vec<u8>,
+}
+
+impl AsyncRead for Wire<'_> {
+    ghost reads = { λ _ _ _. ⊤ };
+
+    ghost is_at_end = { λ _. ⊤ };
+
+    ghost reads_nothing = { λ _. tt };
+
+    ghost reads_in_order = { λ _ _ _ _ _ _ _. tt };
+
+    fn poll_read(&mut self, _cx: &mut Context<'_>, buf: &mut [u8]) -> Poll<io::Result<usize>> {
+        let count = self.rest.len().min(buf.len());
+        buf[..count].copy_from_slice(&self.rest[..count]);
+        self.rest = &self.rest[count..];
+        Poll::Ready(Ok(count))
+    }
+}
+
+impl AsyncWrite for Wire<'_> {
+    ghost writes = { λ _ _ _. ⊤ };
+
+    ghost writes_nothing = { λ _. tt };
+
+    ghost writes_in_order = { λ _ _ _ _ _ _ _. tt };
+
+    fn poll_write(&mut self, _cx: &mut Context<'_>, buf: &[u8]) -> Poll<io::Result<usize>> {
+        Poll::Ready(match self.written.extend_from_slice(buf) {
+            Ok(()) => Ok(buf.len()),
+            Err(_) => Err(io::ErrorKind::OutOfMemory.into()),
+        })
+    }
+
+    fn poll_flush(&mut self, _cx: &mut Context<'_>) -> Poll<io::Result<()>> {
+        Poll::Ready(Ok(()))
+    }
+
+    fn poll_shutdown(&mut self, _cx: &mut Context<'_>) -> Poll<io::Result<()>> {
+        Poll::Ready(Ok(()))
+    }
+}
+
+/// Tells how the session of a hub's only connection ends, and what it writes; nothing where memory was refused.
+fn session<
+    B: OfHub<First24>,
+    S: AsyncRead + AsyncWrite,
+    R: Wait + Clock + RandomSource + AllocGlobal,
+>(
     rt: &R,
     hub: &Hub<First24>,
     host: &mut Host<First24>,
     setup: &Setup,
-    wire: Wire<'_, R>,
-) -> Option<End>
+    input: &[u8],
+) -> Option<(End, Vec<u8>)>
     requires here { B.home ≡ Some hub.now.home }
     requires timed { (moment : ℕ) → ∥ B.tells moment ∥₁ }
     requires host { host.old ≡ record { home = hub.now.home; admitted = 0 } }
     requires set { hub.now.setup ≡ setup.now }
 {
-    let (alloc, visitor) = (rt.alloc(), host.admit(hub));
-    let joined = hub.join(rt, alloc, visitor, [127, 0, 0, 1], CHALLENGE, 0);
+    let visitor = host.admit(hub);
+    let joined = hub.join(rt, rt.alloc(), visitor, [127, 0, 0, 1], CHALLENGE, 0);
     let Ok(pass) = joined else {
         return None;
     };
-    let free = Vec::new(alloc);
-    let server = Server::<B, TcpStream, First24, R>::new(alloc, rt, hub, &First24, setup, 1, free);
-    let server = server.ok()?;
+    let free = Vec::new(rt.alloc());
+    let server = Server::<B, S, First24, R>::new(
+        rt.alloc(),
+        rt,
+        hub,
+        &First24,
+        setup,
+        1,
+        free,
+    ).ok()?;
     let connection = Connection::new(&server, pass, CHALLENGE, 0);
     let bell = connection.bell();
+    let written = Vec::with_capacity(rt.alloc(), 1024).ok()?;
+    let wire = Wire {
+        rest: input,
+        written,
+    };
     let task = MockTask::new(rt).ok()?;
-    let (end, _wire) = hold(alloc, &task, wire, connection, bell)?;
-    Some(end)
+    let (end, wire) = hold(rt.alloc(), &task, wire, connection, bell)?;
+    Some((end, wire.written))
 }
 
 /// Makes the setup of a hub.
@@ -49,31 +117,21 @@ fn setup<R: AllocGlobal>(rt: &R) -> Option<Arc<Setup>> {
     Arc::new(rt.alloc(), setup).ok()
 }
 
-/// Tells how the session of a client ends that says this, and what it is sent; nothing where memory was refused.
 fn attempt<R: Wait + Clock + RandomSource + AllocGlobal>(
     rt: &R,
-    says: &[u8],
+    input: &[u8],
 ) -> Option<(End, Vec<u8>)> {
-    let (setup, desk) = (setup(rt)?, Desk::new(rt.alloc(), 1).ok()?);
+    let setup = setup(rt)?;
     let (hub, mut host) = Hub::open(rt.alloc(), setup.clone().ok()?, &First24).ok()?;
-    let client = Client {
-        says,
-        cues: &[],
-        enters: b"BINF ",
-    };
-    let wire = Wire::new(rt, rt.alloc(), &desk, &client, 0).ok()?;
-    let end = session::<Brand, R>(rt, &hub, &mut host, &setup, wire)?;
-    let Gone { sent, .. } = desk.into_gone().pop()?;
-    if end == End::Memory {
-        None
-    } else {
-        Some((end, sent))
+    match session::<Brand, Wire<'_>, R>(rt, &hub, &mut host, &setup, input) {
+        Some((End::Memory, _)) | None => None,
+        Some(ended) => Some(ended),
     }
 }
 
 #[test]
 fn a_session_over_memory_is_answered(rt: HostRuntime) {
-    let shut_out = r"ana says HSUP ADBASE -> ISTA 247 No\scommon\shash";
+    let shut_out = "ana says HSUP ADBASE\nana hears ISTA 247 No\\scommon\\shash";
     for (text, end) in [("ana is greeted AAAB", End::Closed), (shut_out, End::Ended)] {
         let ana = transcript_of(rt.alloc(), text, "ana").expect(&rt, text);
         let ran = again!(&rt; attempt(&rt, &ana.said).ok_or(AllocError));

@@ -44,6 +44,18 @@ fn gate<R: ServerMachine>(rt: &R, is_open: bool) -> Arc<GateHash> {
     again!(rt; Arc::new(rt.alloc(), GateHash::new(is_open)))
 }
 
+/// Runs a server of these settings, while the clients play what is told.
+fn plays<R: ServerMachine + Net<Stream = TcpStream, Listener = TcpListener>>(
+    rt: &R,
+    text: &str,
+    way: Way,
+    gate: &Arc<GateHash>,
+    told: &str,
+) -> Ran {
+    let talk = again!(rt; steps_of(rt.alloc(), told).ok_or(AllocError));
+    runs(rt, text, way, gate, &talk)
+}
+
 /// Runs a server of these settings, while the clients play these parts. Stops the test where they did not hear what they
 /// should, or it does not end well and as it is to.
 fn ran<R: ServerMachine + Net<Stream = TcpStream, Listener = TcpListener>>(
@@ -54,9 +66,7 @@ fn ran<R: ServerMachine + Net<Stream = TcpStream, Listener = TcpListener>>(
     parts: &[&str],
     said: &[u8],
 ) -> Ran {
-    let talk = spelled(rt, parts);
-    let talk = again!(rt; steps_of(rt.alloc(), &talk).ok_or(AllocError));
-    let ran = runs(rt, text, way, gate, &talk);
+    let ran = plays(rt, text, way, gate, &spelled(rt, parts));
     assert!(rt; ran.went_well && !ran.waited);
     assert!(rt; ran.status == 0, "{}", ran.status);
     assert!(rt; ran.output.starts_with(b"listening 127.0.0.1:") && ran.output.ends_with(said));
