@@ -37,7 +37,18 @@ def body_of(lines, at, indent):
     return closes and (opens, closes)
 
 
-def functions_of(module, lines):
+def homes_of(modules):
+    """The module in which each type is declared, of those whose names are declared once: its methods go by that, wherever they stand."""
+    found = {}
+    for module, lines in modules:
+        for line in lines:
+            declared = re.match(r"(pub(\([a-z]+\))? )?(struct|enum) (\w+)", line)
+            if declared:
+                found.setdefault(declared[4], []).append(module)
+    return {kind: at[0] for kind, at in found.items() if len(at) == 1}
+
+
+def functions_of(module, lines, homes):
     """The functions of a file that stand free or in an inherent impl, each with where its body opens and closes."""
     kind = None
     for at, line in enumerate(lines):
@@ -50,20 +61,23 @@ def functions_of(module, lines):
         if found and (kind if found[1] else True) and len(found[1]) in (0, 4):
             body = body_of(lines, at, found[1])
             if body:
-                yield "::".join([*module, *([kind] if found[1] else []), found[4]]), body
+                path = [*homes.get(kind, module), kind] if found[1] else module
+                yield "::".join([*path, found[4]]), body
 
 
 def hollow(room, crate, asked):
     """Does so in this copy of a crate, for all but the functions that are asked for."""
-    texts, places = {}, {}
+    texts, modules, places = {}, {}, {}
     for folder, _, names in os.walk(f"{room}/src"):
         for name in names:
             path = f"{folder}/{name}"
-            module = [it for it in os.path.relpath(path, f"{room}/src").removesuffix(".rt").split("/") if it not in ("lib", "main")]
+            modules[path] = [it for it in os.path.relpath(path, f"{room}/src").removesuffix(".rt").split("/") if it not in ("lib", "main")]
             with open(path, encoding="utf-8") as it:
                 texts[path] = it.read().split("\n")
-            for function, body in functions_of(module, texts[path]):
-                places.setdefault(function, []).append((path, *body))
+    homes = homes_of((modules[path], lines) for path, lines in texts.items())
+    for path, lines in texts.items():
+        for function, body in functions_of(modules[path], lines, homes):
+            places.setdefault(function, []).append((path, *body))
     # (of two with one name it is not clear whose proof is whose)
     taken = [(*found[0], function) for function, found in places.items() if function not in asked and len(found) == 1]
     # From below, so that those above stay where they are.

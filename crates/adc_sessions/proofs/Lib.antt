@@ -1,5 +1,5 @@
 pub mod Counts
-pub mod Pauses
+pub mod Polls
 pub mod Steps
 pub mod Takes
 pub mod Whole

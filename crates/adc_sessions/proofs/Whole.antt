@@ -10,7 +10,7 @@ use Rattle.adc_line.proofs.FrameLemmas.{lines-more, lines-too_long}
 use Rattle.adc_line.proofs.StreamLemmas.{lines-joined}
 use Rattle.adc_sessions.specs.declared.ending.End.{End}
 use Rattle.adc_sessions.specs.declared.ending.End.TheVariants as ends
-use Rattle.adc_sessions.specs.Events.{StreamCall, PortCall, Event, Happen, most_read, bytes_read, bytes_written, lines_handed, bytes_taken, met_by, told_by, owes_by, after, all_read, all_written, all_handed, all_taken, FallsSilent, waiting_by, CallsWhenWritten}
+use Rattle.adc_sessions.specs.Events.{StreamCall, PortCall, Event, on_stream, on_port, stream_calls, port_calls, Runs, Happen, most_read, bytes_read, bytes_written, lines_handed, bytes_taken, met_by, told_by, owes_by, after, all_read, all_written, all_handed, all_taken, FallsSilent, waiting_by, CallsWhenWritten}
 use Rattle.adc_sessions.specs.Machine.{State, Step, Moves, EndsAs, Gives}
 use Rattle.adc_sessions.specs.State.{fresh}
 use Rattle.adc_sessions.specs.Served.{handed_all, wrote_all, Cause, Served}
@@ -57,6 +57,18 @@ module _ {S P : Type 0} (told : S → StreamCall → S → Type 0) (calls : P �
   all_happened (event ∷ events) x y moves = (moves.0.stream, moves.0.port, moves.1.happened, all_happened events moves.0 y moves.2)
 
 module _ {S P : Type 0} (told : S → StreamCall → S → Type 0) (calls : P → PortCall → P → Type 0) where
+  -- the calls of the stream alone
+  streams_of : (events : List Event) (s : S) (p : P) (s' : S) (p' : P) → Happen told calls s p events s' p' → Runs told s (stream_calls events) s'
+  streams_of [] s p s' p' all = all.0
+  streams_of (on_stream call ∷ events) s p s' p' all = (all.0, all.2.0, streams_of events all.0 all.1 s' p' all.3)
+  streams_of (on_port call ∷ events) s p s' p' all = subst (λ t. Runs told t (stream_calls events) s') all.2.1 (streams_of events all.0 all.1 s' p' all.3)
+
+  -- the calls of the port alone
+  called_of : (events : List Event) (s : S) (p : P) (s' : S) (p' : P) → Happen told calls s p events s' p' → Runs calls p (port_calls events) p'
+  called_of [] s p s' p' all = all.1
+  called_of (on_stream call ∷ events) s p s' p' all = subst (λ q. Runs calls q (port_calls events) p') all.2.1 (called_of events all.0 all.1 s' p' all.3)
+  called_of (on_port call ∷ events) s p s' p' all = (all.1, all.2.0, called_of events all.0 all.1 s' p' all.3)
+
   falls_silent : (events : List Event) (x y : State S P) → Moves told calls x events y → FallsSilent x.over events
   falls_silent [] x y moves = tt {0}
   falls_silent (event ∷ events) x y moves = (moves.1.hears, subst (λ (over : Bool). FallsSilent over events) moves.1.over_kept (falls_silent events moves.0 y moves.2))
@@ -103,8 +115,8 @@ module _ {S P Left : Type 0} (told : S → StreamCall → S → Type 0) (calls :
   pub served : (stream : S) (port : P) (end : End) (stream' : S) (left : Left) → Gives told calls leaves (fresh stream port) end stream' left → Served told calls leaves stream port end stream' left
   served stream port end stream' left gives =
       let x = fresh stream port in
-      let port' = gives.1.0 in
-      let finish = gives.1.1 in
+      let port' = gives.1 in
+      let finish = gives.2 in
       let events = finish.0 in
       let y = finish.1 in
       let kept : all_read events ≡ joined_lines (all_handed events) ++ y.unread = all_lines_kept told calls events x y finish.2 in
@@ -115,18 +127,22 @@ module _ {S P Left : Type 0} (told : S → StreamCall → S → Type 0) (calls :
       let owes_now : y.owes ≡ after owes_by true events = followed told calls owes_by (λ (z : State S P). z.owes) (λ a b event step. step.owes_kept) events x y finish.2 in
       let same_stream : y.stream ≡ stream' = finish.4 in
       let same_port : y.port ≡ port' = finish.5 in
+      let happened : Happen told calls stream port events stream' port' = rw (← same_stream, ← same_port) (all_happened told calls events x y finish.2) in
       record {
         events = events;
+        conversed = record {
+          streams = streams_of told calls events stream port stream' port' happened;
+          first_lines = (lines y.unread, handed);
+          all_lines = λ all. handed ∙ ap (λ rest. all_handed events ++ rest) (no_more end events y finish.3 all) ∙ append-nil (all_handed events);
+          first_bytes = (y.pending, written);
+          all_bytes = λ all. written ∙ ap (λ rest. all_written events ++ rest) (nothing_waits end events y finish.3 all) ∙ append-nil (all_written events);
+          reads_few = all_read_few told calls events x y finish.2;
+          is_written = calls_when_written told calls events x y finish.2;
+          stops = finish.7;
+          silent = falls_silent told calls events x y finish.2;
+          cause = cause_of end events y finish.3 met_now told_now owes_now kept;
+        };
         port' = port';
-        happened = rw (← same_stream, ← same_port) (all_happened told calls events x y finish.2);
-        quit = gives.1.2;
-        first_lines = (lines y.unread, handed);
-        all_lines = λ all. handed ∙ ap (λ rest. all_handed events ++ rest) (no_more end events y finish.3 all) ∙ append-nil (all_handed events);
-        first_bytes = (y.pending, written);
-        all_bytes = λ all. written ∙ ap (λ rest. all_written events ++ rest) (nothing_waits end events y finish.3 all) ∙ append-nil (all_written events);
-        reads_few = all_read_few told calls events x y finish.2;
-        is_written = calls_when_written told calls events x y finish.2;
-        stops = finish.7;
-        silent = falls_silent told calls events x y finish.2;
-        cause = cause_of end events y finish.3 met_now told_now owes_now kept;
+        called = called_of told calls events stream port stream' port' happened;
+        quit = gives.3;
       }

@@ -33,6 +33,27 @@ StreamStep reads at_end read_fails writes full write_fails a read_failed b = rea
 StreamStep reads at_end read_fails writes full write_fails a (wrote bytes) b = writes a bytes b
 StreamStep reads at_end read_fails writes full write_fails a write_failed b = writes a [] b × (full b ⊎ ((fault : Error) × write_fails b fault))
 
+abbrev pub calls_of_stream : Event → List StreamCall
+calls_of_stream (on_stream call) = call ∷ []
+calls_of_stream (on_port call) = []
+
+abbrev pub calls_of_port : Event → List PortCall
+calls_of_port (on_stream call) = []
+calls_of_port (on_port call) = call ∷ []
+
+-- all calls of the stream, in order
+abbrev pub stream_calls : List Event → List StreamCall
+stream_calls = flat_map calls_of_stream
+
+-- all calls of the port, in order
+abbrev pub port_calls : List Event → List PortCall
+port_calls = flat_map calls_of_port
+
+-- one call after another, from the first state to the last
+abbrev pub Runs : {A C : Type 0} → (A → C → A → Type 0) → A → List C → A → Type 0
+Runs step a [] b = a ≡ b
+Runs {A} step a (call ∷ calls) b = (m : A) × step a call m × Runs step m calls b
+
 module _ {S P : Type 0} (told : S → StreamCall → S → Type 0) (calls : P → PortCall → P → Type 0) where
   -- one call, which leaves the other side as it was
   abbrev pub Happens : S → P → Event → S → P → Type 0
@@ -170,9 +191,9 @@ all_handed = flat_map lines_handed
 abbrev pub all_taken : List Event → List ℕ
 all_taken = flat_map bytes_taken
 
--- this is the last event of all
-abbrev pub EndsWith : Event → List Event → Type 0
-EndsWith event events = (before : List Event) × (events ≡ before ++ event ∷ [])
+-- this is the last of all
+abbrev pub EndsWith : {A : Type 0} → A → List A → Type 0
+EndsWith {A} last all = (before : List A) × (all ≡ before ++ last ∷ [])
 
 -- Tells whether a take has to follow, as something may wait of which nobody tells, once this happened too: behind a line, behind the end of the
 -- input, and behind a take that gave as many lines as it asked for.

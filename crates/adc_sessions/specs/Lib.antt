@@ -1,8 +1,10 @@
 pub mod Accepted
 pub mod Accepting
+pub mod Acts
 pub mod Arrivals
 pub mod Events
 pub mod Machine
 pub mod Outcome
+pub mod Polls
 pub mod Served
 pub mod State

@@ -1,16 +1,16 @@
 -- A session as a machine: what it holds, and how each call changes that.
-use Rattle.std.specs.Prelude.{◌≡◌, ◌≢◌, ◌⊎◌, ◌≤◌, ◌<◌, ◌++◌, ◌+◌, ℕ, Bool, true, false, List, [], ◌∷◌, length, take, Option, IsSomeAnd, ⊤}
+use Rattle.std.specs.Prelude.{◌≡◌, ◌≤◌, ◌<◌, ◌++◌, ◌+◌, ℕ, Bool, true, false, List, [], length, take, Option, IsSomeAnd, ⊤}
 use Rattle.std.specs.List.{All}
 use Rattle.outboxes.specs.declared.taken.Taken.{Taken}
 use Rattle.adc_line.specs.Frames.{max_line, HasNoLf}
 use Rattle.adc_line.specs.Stream.{joined_lines, IsLine}
 use Rattle.adc_sessions.specs.declared.ending.End.{End}
 use Rattle.adc_sessions.specs.declared.ending.End.TheVariants as ends
-use Rattle.adc_sessions.specs.Events.{StreamCall, PortCall, Event, on_stream, read_failed, wrote, write_failed, Happens, most_read, bytes_read, bytes_written, lines_handed, bytes_taken, met_by, told_by, over_by, owes_by, fresh_by, HearsNothing, IsOfPort, GoesFirst, TakesFirst, IsCaughtUp, HasNoFault, StopsAtFault, EndsWith}
+use Rattle.adc_sessions.specs.Events.{StreamCall, PortCall, Event, on_stream, read_failed, write_failed, Runs, Happens, most_read, bytes_read, bytes_written, lines_handed, bytes_taken, met_by, told_by, over_by, owes_by, HearsNothing, IsOfPort, HasNoFault, StopsAtFault, EndsWith}
 
 -- the stream, the port, the bytes that were read and are in no line handed over, the bytes that were taken and are not written,
--- whether the end of the input was met, what the last take told, whether the port said that it hears nothing more, whether a take has to
--- follow, and whether the port was not called yet in this poll
+-- whether the end of the input was met, what the last take told, whether the port said that it hears nothing more, and whether a take has to
+-- follow
 pub record State (S P : Type 0) : Type 0 where
   pub stream : S
   pub port : P
@@ -20,7 +20,6 @@ pub record State (S P : Type 0) : Type 0 where
   pub told : Option Taken
   pub over : Bool
   pub owes : Bool
-  pub fresh : Bool
 
 module _ {S P : Type 0} (told : S → StreamCall → S → Type 0) (calls : P → PortCall → P → Type 0) where
   -- one call: no byte is lost or made up between what comes in and what goes out
@@ -34,32 +33,16 @@ module _ {S P : Type 0} (told : S → StreamCall → S → Type 0) (calls : P �
     pub told_kept : b.told ≡ told_by a.told event
     pub over_kept : b.over ≡ over_by a.over event
     pub owes_kept : b.owes ≡ owes_by a.owes event
-    pub fresh_kept : b.fresh ≡ fresh_by a.fresh event
     pub is_written : IsOfPort event → a.pending ≡ []
     pub hears : a.over ≡ true → HearsNothing event
-    pub begins : a.fresh ≡ true → GoesFirst event
 
+  -- one call after another
   abbrev pub Moves : State S P → List Event → State S P → Type 0
-  Moves a [] b = a ≡ b
-  Moves a (event ∷ events) b = (c : State S P) × Step a event c × Moves c events b
+  Moves = Runs Step
 
   -- at most so many calls
   abbrev pub MovesIn : ℕ → State S P → State S P → Type 0
   MovesIn most a b = (events : List Event) × Moves a events b × (length events ≤ most) × HasNoFault events
-
-  -- exactly so many calls
-  abbrev pub MovesBy : ℕ → State S P → State S P → Type 0
-  MovesBy count a b = (events : List Event) × Moves a events b × (length events ≡ count) × HasNoFault events
-
-  -- a call of the stream that would take no byte of those that wait to be written
-  abbrev pub Stalls : State S P → State S P → Type 0
-  Stalls a b = Step a (on_stream (wrote [])) b × (b.pending ≢ [])
-
--- The reason for which a poll ends that made these calls, at most so many, and left bytes to write: it made them all, and the task is woken; or the stream
--- would not take what waits to be written; or the port has no more to give, and the bell was not rung.
-abbrev pub Pauses : Type 0 → Type 0 → ℕ → List Event → List ℕ → Type 0
-Pauses is_woken listens most events pending =
-    ((length events ≡ most) × is_woken) ⊎ ((EndsWith (on_stream (wrote [])) events × (pending ≢ [])) ⊎ (IsCaughtUp events × listens))
 
 -- the last take told this
 abbrev pub LastTook : {S P : Type 0} → State S P → (Taken → Type 0) → Type 0
@@ -74,24 +57,12 @@ EndsAs ends.WriteFailed events state = EndsWith (on_stream write_failed) events
 EndsAs ends.TooLong events state = (max_line < length state.unread) × HasNoLf (take (max_line + 1) state.unread)
 EndsAs ends.Memory events state = ⊤
 
--- a state in which a poll begins
-abbrev pub at_poll : {S P : Type 0} → State S P → State S P
-at_poll state = record state { fresh = true }
-
 module _ {S P : Type 0} (told : S → StreamCall → S → Type 0) (calls : P → PortCall → P → Type 0) where
-  -- a poll that is pending, which began in one state and left another
-  abbrev pub PausesIn : Type 0 → Type 0 → ℕ → State S P → State S P → Type 0
-  PausesIn is_woken listens most a b =
-      (events : List Event) × Moves told calls (at_poll a) events b × (length events ≤ most) × HasNoFault events × TakesFirst true events × Pauses is_woken listens most events b.pending
-
   -- from a state on, an end is come to with this stream and this port, by at most so many calls
   abbrev pub FinishesIn : ℕ → State S P → End → S → P → Type 0
   FinishesIn most a end stream port =
       (events : List Event) × (b : State S P) × Moves told calls a events b × EndsAs end events b × (b.stream ≡ stream) × (b.port ≡ port) × (length events ≤ most) × StopsAtFault events
 
-  -- what comes out of a session in this state, by at most so many calls: its end, the stream and what its port left
-  abbrev pub GivesIn : {Left : Type 0} → (P → Left → Type 0) → ℕ → State S P → End → S → Left → Type 0
-  GivesIn leaves most a end stream left = (port : P) × FinishesIn most a end stream port × leaves port left
-
+  -- what comes out of a session in this state: its end, the stream and what its port left
   abbrev pub Gives : {Left : Type 0} → (P → Left → Type 0) → State S P → End → S → Left → Type 0
-  Gives leaves a end stream left = (most : ℕ) × GivesIn leaves most a end stream left
+  Gives leaves a end stream left = (most : ℕ) × (port : P) × FinishesIn most a end stream port × leaves port left

@@ -5,7 +5,7 @@ use Rattle.adc_line.specs.Frames.{max_line, HasNoLf}
 use Rattle.adc_line.specs.Stream.{lines, joined_lines}
 use Rattle.adc_sessions.specs.declared.ending.End.{End}
 use Rattle.adc_sessions.specs.declared.ending.End.TheVariants as ends
-use Rattle.adc_sessions.specs.Events.{StreamCall, PortCall, Event, on_stream, read_failed, write_failed, Happen, most_read, bytes_read, all_read, all_written, all_handed, all_taken, after, told_by, FallsSilent, CallsWhenWritten, IsDrained, StopsAtFault, EndsWith}
+use Rattle.adc_sessions.specs.Events.{StreamCall, PortCall, Event, on_stream, read_failed, write_failed, stream_calls, port_calls, Runs, most_read, bytes_read, all_read, all_written, all_handed, all_taken, after, told_by, FallsSilent, CallsWhenWritten, IsDrained, StopsAtFault, EndsWith}
 
 -- a session that ends this way has handed over all lines that came
 abbrev pub handed_all : End → Bool
@@ -38,13 +38,10 @@ Cause ends.WriteFailed events = EndsWith (on_stream write_failed) events
 Cause ends.TooLong events = IsTooLong events
 Cause ends.Memory events = ⊤
 
--- what a session that was made of this stream and this port ends with: its end, the stream and what its port left
-pub record Served {S P Left : Type 0} (told : S → StreamCall → S → Type 0) (calls : P → PortCall → P → Type 0) (leaves : P → Left → Type 0) (stream : S) (port : P) (end : End) (stream' : S) (left : Left) : Type 0 where
-  pub events : List Event
-  pub port' : P
-  -- all calls of the stream and the port, in order; then the port was left
-  pub happened : Happen told calls stream port events stream' port'
-  pub quit : leaves port' left
+-- what these events of a session come to that was made over this stream and ended with that, in the words of the stream alone
+pub record Conversed {S : Type 0} (told : S → StreamCall → S → Type 0) (stream : S) (end : End) (stream' : S) (events : List Event) : Type 0 where
+  -- all calls of the stream, in order
+  pub streams : Runs told stream (stream_calls events) stream'
   -- the lines handed over are the first lines of the bytes read
   pub first_lines : (more : List (List ℕ)) × (lines (all_read events) ≡ all_handed events ++ more)
   pub all_lines : handed_all end ≡ true → lines (all_read events) ≡ all_handed events
@@ -60,6 +57,15 @@ pub record Served {S P Left : Type 0} (told : S → StreamCall → S → Type 0)
   -- once the port said that it hears nothing more, nothing is read and no line is handed over
   pub silent : FallsSilent false events
   pub cause : Cause end events
+
+-- what a session that was made of this stream and this port ends with: its end, the stream and what its port left
+pub record Served {S P Left : Type 0} (told : S → StreamCall → S → Type 0) (calls : P → PortCall → P → Type 0) (leaves : P → Left → Type 0) (stream : S) (port : P) (end : End) (stream' : S) (left : Left) : Type 0 where
+  pub events : List Event
+  pub conversed : Conversed told stream end stream' events
+  pub port' : P
+  -- all calls of the port, in order; then the port was left
+  pub called : Runs calls port (port_calls events) port'
+  pub quit : leaves port' left
 
 -- whatever a session of this stream and this port ends with, that holds of it
 abbrev pub Serves : {S P Left : Type 0} → (S → StreamCall → S → Type 0) → (P → PortCall → P → Type 0) → (P → Left → Type 0) → S → P → (End × S × Left → Type 0) → Type 0

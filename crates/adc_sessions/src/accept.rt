@@ -55,13 +55,14 @@ impl<I: Drop, T: Drop> Drop for Accept<I, T> {
 }
 
 impl<I: Incoming, T: Starter<I::Stream>> Accept<I, T> {
-    ghost use Rattle.adc_sessions.specs.Accepting.{starter_of, left_of, faults_of, AcceptsIn, OverBy};
+    ghost use Rattle.adc_sessions.specs.Accepting.{incoming_of, starter_of, left_of, faults_of, AcceptsIn, OverBy};
     ghost use Rattle.adc_sessions.specs.Accepted.{Accepted};
 
     /// Accepts so many streams, or without end where no number is given. What comes of it stands in `serves` (definitions in
     /// `specs/Accepted` and `specs/Arrivals`): each stream that came was started, and `AcceptFailed` comes only where the last
     /// 64 answers of the source were faults.
     pub fn new(incoming: I, starter: T, stop_after: Option<u64>) -> Accept<I, T>
+        ensures incoming { incoming_of result ≡ incoming }
         ensures starter { starter_of result ≡ starter }
         ensures left { left_of result ≡ stop_after }
         ensures faults { faults_of result ≡ 0 }

@@ -1,7 +1,8 @@
-ghost use Rattle.std.specs.Prelude.{◌+◌, ℕ};
+ghost use Rattle.std.specs.Prelude.{◌++◌, List, [], ◌∷◌};
 ghost use Rattle.futures.specs.Task.{IsArmed, Keeps};
 ghost use Rattle.futures.specs.Poll.{OnPending};
 ghost use Rattle.adc_sessions.specs.Arrivals.{Arrival, arrival_of};
+ghost use Rattle.adc_sessions.specs.declared.incoming.Peer.{Peer};
 
 use futures::task::{Context, Poll};
 use std::io;
@@ -15,11 +16,11 @@ pub struct Peer {
 
 /// A source of streams, such as a listening socket.
 pub trait Incoming: Drop {
-    /// The streams that it brings.
-    type Stream: Drop;
+    /// The streams that it brings. Nobody may drop one whose type is not `Drop`.
+    type Stream;
 
     /// The relation of two states: a call in the first came to this, and left the second.
-    ghost brings: { Self → Arrival → Self → Type 0 };
+    ghost brings: { Self → Arrival Self.Stream → Self → Type 0 };
 
     /// Gives the next stream, and its peer.
     fn poll_incoming(&mut self, cx: &mut Context<'_>) -> Poll<io::Result<(Self::Stream, Peer)>>
@@ -30,14 +31,16 @@ pub trait Incoming: Drop {
 
 /// A starter that makes a session of a stream and has it run.
 pub trait Starter<S>: Drop {
-    /// The relation of two states: from the first on it was given so many streams, and left the second.
-    ghost starts: { Self → ℕ → Self → Type 0 };
+    /// The relation of two states: from the first on it was given these streams with their peers, one after another, and left
+    /// the second.
+    ghost starts: { Self → List (S × Peer) → Self → Type 0 };
 
-    /// Takes a stream. Where it can make no session of it, it drops the stream: nothing is told to whom calls.
+    /// Takes a stream. Where it can make no session of it, it lets the stream go: nothing is told to whom calls.
     fn start(&mut self, stream: S, peer: Peer)
-        ensures { starts self.old 1 self.new };
+        ensures { starts self.old ((stream, peer) ∷ []) self.new };
 
-    ghost starts_nothing: { (a : Self) → starts a 0 a };
+    ghost starts_nothing: { (a : Self) → starts a [] a };
 
-    ghost starts_in_order: { (a : Self) (n : ℕ) (b : Self) (m : ℕ) (c : Self) → starts a n b → starts b m c → starts a (n + m) c };
+    ghost starts_in_order: { (a : Self) (first : List (S × Peer)) (b : Self) (last : List (S × Peer)) (c : Self)
+        → starts a first b → starts b last c → starts a (first ++ last) c };
 }

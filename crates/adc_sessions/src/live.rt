@@ -1,9 +1,12 @@
-ghost use Rattle.std.specs.Prelude.{◌≡◌, ◌≢◌, ◌<◌, ◌≤◌, true, false, length, IsSomeAnd};
+ghost use Rattle.std.specs.Prelude.{◌≡◌, ◌≢◌, ◌⊎◌, ◌≤◌, true, false, [], length, drop, Some, IsSome, IsSomeAnd};
 ghost use Rattle.futures.specs.Task.{IsArmed, Keeps};
 ghost use Rattle.futures.specs.Poll.{OnPending};
 ghost use Rattle.adc_line.specs.Frames.{HasNoLf};
 ghost use Rattle.adc_line.specs.Stream.{IsLine};
 
+mod transfer;
+
+use self::transfer::BATCH;
 use crate::bell::Bell;
 use crate::ending::End;
 use crate::port::Port;
@@ -11,23 +14,12 @@ use crate::stream::Stream;
 use adc_line::{Framer, Next};
 use futures::task::{Context, Poll};
 use hub_rules::Verdict;
-use memchr::memchr;
 use outboxes::Taken;
 use std::alloc::Global;
 use tokio::io::{AsyncRead, AsyncWrite};
 
-/// The number of lines that one take asks for at most.
-const BATCH: usize = 256;
-
-/// The number of bytes that one take is to give, by what the lines before had: a stream that takes them slowly takes as many at
-/// once, so that its client is heard between two takes, however much waits for it.
-const TAKEN: u64 = 32_768;
-
 /// The number of bytes for output that a session keeps room for while it rests.
 const KEPT: usize = 512;
-
-/// The number of bytes that one read may give at most.
-const MOST_ROOM: usize = 2_048;
 
 /// The number of turns that one poll makes at most.
 const TURNS: u8 = 64;
@@ -66,10 +58,12 @@ pub(crate) struct Live<S, P, B> {
     is_fresh: bool,
     // Lines may wait, whatever the bell says: so a take has to follow.
     owes_take: bool,
-    // The last call but writes was a take, so that a read is next.
+    // No read was tried since the last take of this poll, so that one is next.
     reads_next: bool,
-    // The bell was not rung when it was last heard, so that it wakes the task.
-    is_listening: bool,
+    // Whether the bell had been rung when it was last heard in this poll: if not, it wakes the task.
+    rung: Option<bool>,
+    // Whether the bell said that a line may be handed over when it was last asked in this poll, and since the last line.
+    may_hand: Option<bool>,
     // A line feed was read since the framer last had no whole line.
     may_have_line: bool,
     // The number of bytes that were read and not handed over.
@@ -77,18 +71,22 @@ pub(crate) struct Live<S, P, B> {
     // The stream would take nothing when it was last written.
     is_full: bool,
     ghost in_range: { written ≤ length output.items },
-    ghost has_room: { 0 < length input.items },
+    ghost has_room: { 256 ≤ length input.items },
     ghost reads_few: { length input.items ≤ 2_048 },
     ghost takes_some: { 1 ≤ batch },
     ghost takes_few: { batch ≤ 256 },
+    ghost holds_line: { may_hand ≡ Some false → may_have_line ≡ true },
+    ghost has_none: { may_have_line ≡ false → HasNoLf framer },
+    ghost begins: { is_fresh ≡ true → reads_next ≡ false },
 }
 
 impl<S: AsyncRead + AsyncWrite, P: Port, B: Bell> Live<S, P, B> {
-    ghost use Rattle.adc_sessions.specs.State.{state_of, fresh, with_line, Turned, Polled};
+    ghost use Rattle.adc_sessions.specs.Polls.{most_kept, ActsBy, Turned, PolledBy};
+    ghost use Rattle.adc_sessions.specs.State.{state_of, poll_of, polling, room_of, fresh, with_line};
 
     /// Makes a session of which nothing was read, taken or written, with room for one read.
     pub(crate) fn new(alloc: Global, stream: S, port: P, bell: B, input: Vec<u8>) -> Live<S, P, B>
-        requires some { 0 < length input.items }
+        requires some { 256 ≤ length input.items }
         requires few { length input.items ≤ 2_048 }
         ensures { state_of result ≡ fresh stream port }
     {
@@ -109,21 +107,22 @@ impl<S: AsyncRead + AsyncWrite, P: Port, B: Bell> Live<S, P, B> {
             is_fresh: true,
             owes_take: true,
             reads_next: false,
-            is_listening: false,
+            rung: None,
+            may_hand: None,
             may_have_line: false,
             unread_bytes: 0,
             is_full: false,
         }
     }
 
-    /// Makes up to 64 turns, each of which makes at most one call of the stream or the port. It rests before only where no
-    /// take has to follow, or where the stream would not take what waits.
+    /// Makes up to 64 turns, each of which makes at most one call of the stream or the port. It rests before only where the stream
+    /// would not take what waits, or where nothing is left to do.
     pub(crate) fn run(&mut self, cx: &mut Context<'_>) -> Poll<End>
-        ensures polled { Polled ⟦<S as Stream>⟧.told P.step 64 (state_of self.old) result (state_of self.new) (cx.new.is_woken ≡ true) (self.new.is_listening ≡ true) }
+        ensures polled { PolledBy ⟦<S as Stream>⟧.told P.step B.hears 64 (polling self.old) result (poll_of self.new) cx.new.is_woken (room_of self.new) }
         ensures registered { OnPending result (IsArmed cx.new) }
         ensures kept { Keeps cx.old cx.new }
     {
-        self.is_fresh = true;
+        self.begin();
         for turn in 0..TURNS {
             match self.turn(cx) {
                 Turn::Again => {}
@@ -137,13 +136,26 @@ impl<S: AsyncRead + AsyncWrite, P: Port, B: Bell> Live<S, P, B> {
         cx.yield_now()
     }
 
+    /// Begins a poll. What the bell said in the one before does not count.
+    fn begin(&mut self)
+        ensures { poll_of self.new ≡ polling self.old }
+    {
+        self.reads_next = false;
+        self.is_fresh = true;
+        self.may_hand = None;
+        self.rung = None;
+    }
+
     /// Gives back the room that only a burst of lines needed, where nothing waits to be written: most sessions rest most of
     /// the time.
     fn shed(&mut self)
-        ensures state { state_of self.new ≡ state_of self.old }
-        ensures listens { self.new.is_listening ≡ self.old.is_listening }
+        ensures state { poll_of self.new ≡ poll_of self.old }
+        ensures little { drop self.old.written self.old.output.items ≡ [] → room_of self.new ≤ most_kept }
     {
-        if self.output.capacity() > KEPT && self.written >= self.output.len() {
+        if self.written < self.output.len() {
+            return;
+        }
+        if self.output.capacity() > KEPT {
             self.output = Vec::new(self.alloc);
             self.written = 0;
         }
@@ -159,7 +171,7 @@ impl<S: AsyncRead + AsyncWrite, P: Port, B: Bell> Live<S, P, B> {
 
     /// Makes one turn. Bytes that wait to be written go first; then the take that each poll makes; then lines.
     fn turn(&mut self, cx: &mut Context<'_>) -> Turn
-        ensures turned { Turned ⟦<S as Stream>⟧.told P.step (state_of self.old) result (state_of self.new) (self.new.is_listening ≡ true) }
+        ensures turned { Turned ⟦<S as Stream>⟧.told P.step B.hears (poll_of self.old) result (poll_of self.new) }
         ensures registered { result ≡ Turn.Rest → IsArmed cx.new }
         ensures kept { Keeps cx.old cx.new }
     {
@@ -182,22 +194,29 @@ impl<S: AsyncRead + AsyncWrite, P: Port, B: Bell> Live<S, P, B> {
         self.advance(cx)
     }
 
-    /// Answers whether a line may be there that may not be handed over yet.
+    /// Asks the bell whether a line may be handed over, where one may be there, and answers whether it may not.
     fn is_held(&mut self) -> bool
-        ensures { self.new ≡ record self.old { bell = self.new.bell } }
+        ensures state { state_of self.new ≡ state_of self.old }
+        ensures rest { (self.new.is_fresh ≡ self.old.is_fresh) × (self.new.written ≡ self.old.written) × (self.new.output ≡ self.old.output) }
+        ensures acts { ActsBy ⟦<S as Stream>⟧.told P.step B.hears 0 (poll_of self.old) (poll_of self.new) }
+        ensures held { result ≡ true → self.new.may_hand ≡ Some false }
+        ensures free { result ≡ false → self.new.may_have_line ≡ true → self.new.may_hand ≡ Some true }
     {
         if !self.may_have_line {
             return false;
         }
-        !self.bell.may_hand(self.unread_bytes)
+        let may_hand = self.bell.may_hand(self.unread_bytes);
+        self.may_hand = Some(may_hand);
+        !may_hand
     }
 
     /// Hands over the next line, or looks for what else there is to do.
     fn advance(&mut self, cx: &mut Context<'_>) -> Turn
         requires written { length self.old.output.items ≤ self.old.written }
         requires heard { self.old.is_over ≡ false }
+        requires free { self.old.may_have_line ≡ true → self.old.may_hand ≡ Some true }
         requires taken { self.old.is_fresh ≡ false }
-        ensures turned { Turned ⟦<S as Stream>⟧.told P.step (state_of self.old) result (state_of self.new) (self.new.is_listening ≡ true) }
+        ensures turned { Turned ⟦<S as Stream>⟧.told P.step B.hears (poll_of self.old) result (poll_of self.new) }
         ensures registered { result ≡ Turn.Rest → IsArmed cx.new }
         ensures kept { Keeps cx.old cx.new }
     {
@@ -214,33 +233,21 @@ impl<S: AsyncRead + AsyncWrite, P: Port, B: Bell> Live<S, P, B> {
 
     /// Hears the bell.
     fn listen(&mut self, cx: &mut Context<'_>)
-        ensures rest { self.new ≡ record self.old { bell = self.new.bell; is_listening = self.new.is_listening } }
-        ensures registered { self.new.is_listening ≡ true → IsArmed cx.new }
+        ensures rest { self.new ≡ record self.old { bell = self.new.bell; rung = self.new.rung } }
+        ensures acts { ActsBy ⟦<S as Stream>⟧.told P.step B.hears 0 (poll_of self.old) (poll_of self.new) }
+        ensures said { IsSome self.new.rung }
+        ensures registered { self.new.rung ≡ Some false → IsArmed cx.new }
         ensures kept { Keeps cx.old cx.new }
     {
-        self.is_listening = !self.bell.wait(cx);
+        self.rung = Some(self.bell.wait(cx));
     }
 
-    /// Takes what waits, once all that was taken before is written: so the output holds what one take gave
-    /// and no more.
-    fn take(&mut self) -> Turn
-        requires { length self.old.output.items ≤ self.old.written }
-        ensures turned { Turned ⟦<S as Stream>⟧.told P.step (state_of self.old) result (state_of self.new) (self.new.is_listening ≡ true) }
-        ensures goes_on { result ≢ Turn.Rest }
+    /// Answers whether the bell had not been rung when it was heard in this poll.
+    fn is_listening(&self) -> bool
+        ensures silent { result ≡ true → self.now.rung ≡ Some false }
+        ensures rung { result ≡ false → IsSome self.now.rung → self.now.rung ≡ Some true }
     {
-        self.output.clear();
-        self.written = 0;
-        self.is_fresh = false;
-        self.reads_next = true;
-        match self.port.take(self.batch, &mut self.output) {
-            Ok(taken) => {
-                self.owes_take = taken.lines >= self.batch as u64;
-                self.batch = batch_after(taken.lines, self.output.len());
-                self.taken = Some(taken);
-                Turn::Again
-            }
-            Err(_) => Turn::Over(End::Memory),
-        }
+        matches!(self.rung, Some(false))
     }
 
     /// Hands over the line that came out of the framer.
@@ -248,11 +255,13 @@ impl<S: AsyncRead + AsyncWrite, P: Port, B: Bell> Live<S, P, B> {
         requires is_line { IsLine self.old.line.items }
         requires written { length self.old.output.items ≤ self.old.written }
         requires heard { self.old.is_over ≡ false }
+        requires free { self.old.may_hand ≡ Some true }
         requires taken { self.old.is_fresh ≡ false }
-        ensures turned { Turned ⟦<S as Stream>⟧.told P.step (with_line self.old.line.items (state_of self.old)) result (state_of self.new) (self.new.is_listening ≡ true) }
+        ensures turned { Turned ⟦<S as Stream>⟧.told P.step B.hears (with_line self.old.line.items (poll_of self.old)) result (poll_of self.new) }
         ensures goes_on { result ≢ Turn.Rest }
     {
         self.owes_take = true;
+        self.may_hand = None;
         let handed = self.line.len().saturating_add(1);
         self.unread_bytes = self.unread_bytes.saturating_sub(handed);
         match self.port.line(self.alloc, &self.line) {
@@ -268,8 +277,9 @@ impl<S: AsyncRead + AsyncWrite, P: Port, B: Bell> Live<S, P, B> {
     /// Waits for lines to take, where the port is to hear nothing now, or nothing more: what it still gives is written.
     fn wait_to_take(&mut self, cx: &mut Context<'_>) -> Turn
         requires written { length self.old.output.items ≤ self.old.written }
+        requires waits { (self.old.is_over ≡ true) ⊎ (self.old.may_hand ≡ Some false) }
         requires taken { self.old.is_fresh ≡ false }
-        ensures turned { Turned ⟦<S as Stream>⟧.told P.step (state_of self.old) result (state_of self.new) (self.new.is_listening ≡ true) }
+        ensures turned { Turned ⟦<S as Stream>⟧.told P.step B.hears (poll_of self.old) result (poll_of self.new) }
         ensures registered { result ≡ Turn.Rest → IsArmed cx.new }
         ensures kept { Keeps cx.old cx.new }
     {
@@ -277,7 +287,7 @@ impl<S: AsyncRead + AsyncWrite, P: Port, B: Bell> Live<S, P, B> {
         if self.owes_take {
             return self.take();
         }
-        if !self.is_listening {
+        if !self.is_listening() {
             return self.take();
         }
         Turn::Rest
@@ -289,8 +299,9 @@ impl<S: AsyncRead + AsyncWrite, P: Port, B: Bell> Live<S, P, B> {
         requires written { length self.old.output.items ≤ self.old.written }
         requires no_line { HasNoLf self.old.framer }
         requires heard { self.old.is_over ≡ false }
+        requires free { self.old.may_hand ≢ Some false }
         requires taken { self.old.is_fresh ≡ false }
-        ensures turned { Turned ⟦<S as Stream>⟧.told P.step (state_of self.old) result (state_of self.new) (self.new.is_listening ≡ true) }
+        ensures turned { Turned ⟦<S as Stream>⟧.told P.step B.hears (poll_of self.old) result (poll_of self.new) }
         ensures registered { result ≡ Turn.Rest → IsArmed cx.new }
         ensures kept { Keeps cx.old cx.new }
     {
@@ -304,7 +315,7 @@ impl<S: AsyncRead + AsyncWrite, P: Port, B: Bell> Live<S, P, B> {
         if self.owes_take {
             return self.take();
         }
-        if !self.is_listening {
+        if !self.is_listening() {
             return self.take();
         }
         self.read(cx)
@@ -315,7 +326,8 @@ impl<S: AsyncRead + AsyncWrite, P: Port, B: Bell> Live<S, P, B> {
         requires written { length self.old.output.items ≤ self.old.written }
         requires no_line { HasNoLf self.old.framer }
         requires met { self.old.has_met_end ≡ true }
-        ensures turned { Turned ⟦<S as Stream>⟧.told P.step (state_of self.old) result (state_of self.new) (self.new.is_listening ≡ true) }
+        requires taken { self.old.is_fresh ≡ false }
+        ensures turned { Turned ⟦<S as Stream>⟧.told P.step B.hears (poll_of self.old) result (poll_of self.new) }
         ensures goes_on { result ≢ Turn.Rest }
     {
         // The last lines may have answers.
@@ -327,99 +339,6 @@ impl<S: AsyncRead + AsyncWrite, P: Port, B: Bell> Live<S, P, B> {
         }
         self.take()
     }
-
-    /// Doubles the room for reads, up to 2,048 bytes, where one that gave so many bytes has filled it: who says little takes
-    /// little. Where memory is refused the room stays as it is.
-    fn widen(&mut self, count: usize)
-        ensures state { state_of self.new ≡ state_of self.old }
-        ensures listens { self.new.is_listening ≡ self.old.is_listening }
-    {
-        let room = self.input.len();
-        if count == room && room < MOST_ROOM {
-            let _ = self.input.resize(MOST_ROOM.min(room * 2), 0);
-        }
-    }
-
-    /// Reads what there is room for, once.
-    fn read(&mut self, cx: &mut Context<'_>) -> Turn
-        requires no_line { HasNoLf self.old.framer }
-        requires heard { self.old.is_over ≡ false }
-        requires taken { self.old.is_fresh ≡ false }
-        ensures turned { Turned ⟦<S as Stream>⟧.told P.step (state_of self.old) result (state_of self.new) (self.new.is_listening ≡ true) }
-        ensures registered { result ≡ Turn.Rest → IsArmed cx.new }
-        ensures kept { Keeps cx.old cx.new }
-    {
-        self.reads_next = false;
-        match self.stream.poll_read(cx, self.input.as_mut_slice()) {
-            Poll::Ready(Ok(0)) => {
-                self.has_met_end = true;
-                self.owes_take = true;
-                Turn::Again
-            }
-            Poll::Ready(Ok(count)) => {
-                self.unread_bytes = self.unread_bytes.saturating_add(count);
-                self.may_have_line |= memchr(b'\n', &self.input[..count]).is_some();
-                match self.framer.feed(&self.input[..count]) {
-                    Ok(()) => {
-                        self.widen(count);
-                        Turn::Again
-                    }
-                    Err(_) => Turn::Over(End::Memory),
-                }
-            }
-            Poll::Ready(Err(_)) => Turn::Over(End::ReadFailed),
-            Poll::Pending => {
-                // It rests only where the bell wakes it, and where no more waits than one take gave: nobody
-                // may ring for the rest.
-                if self.may_rest() {
-                    Turn::Rest
-                } else {
-                    Turn::Again
-                }
-            }
-        }
-    }
-
-    fn may_rest(&self) -> bool
-        ensures { result ≡ true → (self.now.is_listening ≡ true) × (self.now.owes_take ≡ false) }
-    {
-        self.is_listening & !self.owes_take
-    }
-
-    /// Offers the stream all that waits, in one write.
-    fn write(&mut self, cx: &mut Context<'_>) -> Turn
-        requires { self.old.written < length self.old.output.items }
-        ensures turned { Turned ⟦<S as Stream>⟧.told P.step (state_of self.old) result (state_of self.new) (self.new.is_listening ≡ true) }
-        ensures registered { result ≡ Turn.Rest → IsArmed cx.new }
-        ensures kept { Keeps cx.old cx.new }
-    {
-        match self.stream.poll_write(cx, &self.output[self.written..]) {
-            Poll::Ready(Ok(0)) => Turn::Over(End::WriteFailed),
-            Poll::Ready(Ok(count)) => {
-                self.written += count;
-                self.bell.wrote(count, self.is_full);
-                self.is_full = false;
-                Turn::Again
-            }
-            Poll::Ready(Err(_)) => Turn::Over(End::WriteFailed),
-            Poll::Pending => {
-                self.is_full = true;
-                Turn::Rest
-            }
-        }
-    }
-}
-
-/// Gives how many lines the next take asks for, where the last gave so many with so many bytes.
-fn batch_after(lines: u64, bytes: usize) -> usize
-    ensures some { 1 ≤ result }
-    ensures few { result ≤ 256 }
-{
-    let Some(each) = (bytes as u64).checked_div(lines) else {
-        return BATCH;
-    };
-    let count = TAKEN.checked_div(each).unwrap_or(TAKEN) as usize;
-    count.max(1).min(BATCH)
 }
 
 /// Answers whether the last take said that nothing will follow.
@@ -434,7 +353,8 @@ fn has_ended(taken: &Option<Taken>) -> bool
 
 /// Answers whether the last take gave no line.
 fn has_given_nothing(taken: &Option<Taken>) -> bool
-    ensures { result ≡ true → IsSomeAnd taken.now (λ taken. taken.lines ≡ 0) }
+    ensures nothing { result ≡ true → IsSomeAnd taken.now (λ taken. taken.lines ≡ 0) }
+    ensures some { result ≡ false → IsSomeAnd taken.now (λ taken. taken.lines ≡ 0) → ⊥ }
 {
     match taken {
         Some(taken) => taken.lines == 0,

@@ -79,14 +79,16 @@ impl<S: AsyncRead + AsyncWrite, P: Port, B: Bell> Future for Session<S, P, B> {
     ghost gives = { λ session out. SessionGives ⟦<S as Stream>⟧.told P.step P.leaves session out };
 
     /// Makes at most 64 calls of the stream and the port together: so it hands over at most 64 lines and writes
-    /// at most 64 times. The first call that is no write is a take. Where it is pending, it has made all 64 and has woken its
-    /// task; or the stream would not take what waits to be written; or its last call of the port is a take that gave fewer
-    /// lines than it asked for, and the bell was not rung. After the end it does nothing but ask to be polled again.
+    /// at most 64 times. The first call that is no write is a take, before which the bell is heard. Where it is pending, it has
+    /// made all 64 and has woken its task; or the stream would not take what waits to be written; or nothing is left to do. Then
+    /// its last call of the port is a take that gave fewer lines than it asked for; the bell, heard in this poll, had not been
+    /// rung; and a read had to wait, the port hears nothing more, or the bell holds lines back. The rules of its calls stand in
+    /// `specs/Polls`. After the end it does nothing but ask to be polled again.
     fn poll(&mut self, cx: &mut Context<'_>) -> Poll<Self::Output>
         ensures value { IfReady result (λ out. SessionGives ⟦<S as Stream>⟧.told P.step P.leaves self.old out) }
         ensures same { OnPending result (GivesAsBefore ⟦<S as Stream>⟧.told P.step P.leaves self.old self.new) }
-        ensures ends_in_few { IfReady result (λ out. EndsIn ⟦<S as Stream>⟧.told P.step P.leaves 64 self.old out) }
-        ensures goes_on_in_few { OnPending result (GoesOnIn ⟦<S as Stream>⟧.told P.step 64 cx.new self.old self.new) }
+        ensures ends_in_few { IfReady result (λ out. EndsIn ⟦<S as Stream>⟧.told P.step B.hears P.leaves 64 self.old out) }
+        ensures goes_on_in_few { OnPending result (GoesOnIn ⟦<S as Stream>⟧.told P.step B.hears 64 cx.new self.old self.new) }
         ensures registered { OnPending result (IsArmed cx.new) }
         ensures kept { Keeps cx.old cx.new }
     {

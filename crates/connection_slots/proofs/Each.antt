@@ -5,7 +5,7 @@ use Rattle.connection_slots.specs.declared.bells.Bell.{Bell}
 use Rattle.connection_slots.specs.Bells.{is_unheard}
 use Rattle.connection_slots.specs.Rung.{At, IsRung, IsAwake, OthersStay, SameSlots}
 use Rattle.connection_slots.specs.declared.bells.Bells.{Bells}
-use Rattle.connection_slots.proofs.Places.{same_or_not}
+use Rattle.connection_slots.proofs.Indexes.{same_or_not}
 
 -- all below the bound but one were rung for, which is as it was
 abbrev pub RungBelow : ℕ → Bells → ℕ → Bells → Type 0

@@ -4,7 +4,7 @@ use Rattle.std.proofs.lemmas.List.Folds.{list_any-append}
 use Rattle.connection_slots.specs.Bells.{is_among, is_unheard}
 use Rattle.connection_slots.specs.Rung.{IsRung, IsAwake, OthersStay, SameSlots}
 use Rattle.connection_slots.specs.declared.bells.Bells.{Bells}
-use Rattle.connection_slots.proofs.Places.{same_or_not}
+use Rattle.connection_slots.proofs.Indexes.{same_or_not}
 
 -- who was held is woken, or is still held; all others are as they were
 abbrev pub Released : List ℕ → Bells → List ℕ → Bells → Type 0

@@ -1,4 +1,4 @@
-pub mod Places
+pub mod Indexes
 pub mod Silent
 pub mod Heard
 pub mod Portions

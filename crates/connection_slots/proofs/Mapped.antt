@@ -3,7 +3,7 @@ use Rattle.std.proofs.Common.{◌≡◌, ◌<◌, ◌≤◌, ◌+◌, ◌⊎◌,
 use Rattle.std.proofs.lemmas.Option.{same_Some, none-some, slice_get_past, slice_get_within}
 use Rattle.std.proofs.Math.Seq.{take-append_seam}
 use Rattle.connection_slots.specs.Becomes.{EachBecomes}
-use Rattle.connection_slots.proofs.Places.{get_set_other, get_set_here, get_set_same, same_or_not}
+use Rattle.connection_slots.proofs.Indexes.{get_set_other, get_set_here, get_set_same, same_or_not}
 
 -- the elements below the bound were changed, and no others
 abbrev pub ChangedBelow : {A : Type 0} → (A → A) → List A → ℕ → List A → Type 0

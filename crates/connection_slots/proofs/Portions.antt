@@ -7,7 +7,7 @@ use Rattle.connection_slots.specs.Bells.{AreBells, AreDue, is_among, is_unheard,
 use Rattle.connection_slots.specs.Rung.{At, IsRung, IsAwake, IsDue, SameSlots, StaysOrIsWoken}
 use Rattle.connection_slots.specs.declared.bells.Bell.{Bell}
 use Rattle.connection_slots.specs.declared.bells.Bells.{Bells}
-use Rattle.connection_slots.proofs.Places.{same_or_not}
+use Rattle.connection_slots.proofs.Indexes.{same_or_not}
 use Rattle.connection_slots.proofs.LetGo.{last_there, there_too}
 
 -- where there are as many, there was something

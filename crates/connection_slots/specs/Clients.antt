@@ -1,7 +1,8 @@
 -- What the slots know of the sessions that have them, and of their clients.
-use Rattle.std.specs.Prelude.{◌≡◌, ℕ, Bool, ◌&&◌, false, List, [], ◌∷◌, Option, Some, None, slice_get, option_map, if◌then◌else◌}
+use Rattle.std.specs.Prelude.{◌≡◌, ℕ, ◌+◌, Bool, ◌&&◌, false, List, [], ◌∷◌, Option, Some, None, slice_get, option_map, if◌then◌else◌}
 use Rattle.std.specs.List.{list_any}
-use Rattle.connection_slots.specs.Amounts.{no_line, larger}
+use Rattle.connection_slots.specs.Amounts.{capped, no_line, larger}
+use Rattle.connection_slots.specs.Becomes.{OneBecomes}
 use Rattle.connection_slots.specs.Backlogs.{what_waits, is_behind, is_reading, is_waited_for, with_line, with_take, with_read, ticked}
 use Rattle.connection_slots.specs.Senders.{with_given}
 use Rattle.connection_slots.specs.Sights.{with_client}
@@ -21,6 +22,13 @@ with_line_for count slot = record slot { backlog = option_map (with_line count) 
 -- it gave so many bytes in this second
 abbrev pub gave : ℕ → ℕ → Slot → Slot
 gave moment count slot = record slot { given = with_given moment count slot.given }
+
+-- a line of so many bytes came for the client of one slot, and it counts for the session of the slot `own` in this second
+abbrev pub IsGivenBy : ℕ → ℕ → ℕ → ℕ → List Slot → List Slot → Type 0
+IsGivenBy own moment count place old new =
+    (between : List Slot)
+    × OneBecomes (with_line_for count) place old between
+    × OneBecomes (gave moment (capped (count + 256))) own between new
 
 -- lines were taken for its client
 abbrev pub took : Amount → Amount → Bool → Slot → Slot

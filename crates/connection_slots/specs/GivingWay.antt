@@ -1,12 +1,15 @@
 -- Who may hand over a line while somebody is behind, and who gives way.
-use Rattle.std.specs.Prelude.{ℕ, ◌+◌, Bool, true, false, not, ◌&&◌, nat_lt, List, Option, Some, None, slice_get, if◌then◌else◌}
+use Rattle.std.specs.Prelude.{◌≡◌, ◌≤◌, ℕ, ◌+◌, Bool, true, false, not, ◌&&◌, nat_lt, List, Option, Some, None, slice_get, if◌then◌else◌}
 use Rattle.connection_slots.specs.Amounts.{capped}
 use Rattle.connection_slots.specs.Senders.{given_of_late, may_spend, spent_at}
 use Rattle.connection_slots.specs.Sights.{would_be_behind, would_be_full, has_ration}
 use Rattle.connection_slots.specs.declared.giving_way.Way.{Way}
 use Rattle.connection_slots.specs.declared.giving_way.Way.TheVariants.{Open, Shut, Free, InTurn}
+use Rattle.connection_slots.specs.declared.permission.Permission.{Permission}
+use Rattle.connection_slots.specs.declared.permission.Permission.TheVariants.{Unasked, Asked, Lost}
 use Rattle.connection_slots.specs.declared.sender.Throttle.{Throttle}
 use Rattle.connection_slots.specs.declared.sight.Sight.{Sight}
+use Rattle.connection_slots.specs.declared.slots.Deed.TheVariants as deeds
 use Rattle.connection_slots.specs.declared.slots.Slot.{Slot}
 use Rattle.connection_slots.specs.declared.slots.Slots.{Slots}
 
@@ -52,3 +55,9 @@ line_begun count slot = record slot { on_the_way = count }
 -- none is
 abbrev pub line_over : Slot → Slot
 line_over slot = record slot { on_the_way = 0 }
+
+-- A sender is answered: it may send a short line unasked, after no long one. Or the slots were asked, or their lock was never had.
+abbrev pub IsAnswered : Permission → ℕ → ℕ → Bool → Bool → Type 0
+IsAnswered (Unasked nobody) slot count is_after_long may = (count ≤ 4_096) × (is_after_long ≡ false) × (may ≡ true)
+IsAnswered (Asked receipt) slot count is_after_long may = receipt ≡ deeds.Asked slot count may
+IsAnswered (Lost gave_up) slot count is_after_long may = may ≡ true

@@ -1,8 +1,9 @@
 -- The places in which connections wait for the tasks of their slots.
 use Rattle.std.specs.Prelude.{◌≡◌, ◌≢◌, ℕ, Bool, true, false, List, Option, Some, None, length, slice_get}
+use Rattle.std.specs.List.{filter_map}
 use Rattle.futures.specs.declared.task.Poll.{Poll}
 use Rattle.futures.specs.declared.task.Poll.TheVariants.{Ready, Pending}
-use Rattle.connection_slots.specs.declared.handoff.Place.{Place}
+use Rattle.connection_slots.specs.declared.places.Place.{Place}
 
 -- what the task of a slot is given, for which this was left, if somebody may come still or nobody comes any more
 abbrev pub next_of : {T : Type 0} → Option T → Bool → Poll (Option T)
@@ -13,6 +14,10 @@ next_of None false = Pending
 -- the place has this connection, and its task was woken
 abbrev pub has_left : {T : Type 0} → T → Place T
 has_left arrival = record { arrival = Some arrival; waker = None }
+
+-- the connections that are left in these places, from the first place to the last
+abbrev pub arrivals_in : {T : Type 0} → List (Place T) → List T
+arrivals_in places = filter_map (λ place. place.arrival) places
 
 -- the place as it is once its task was woken
 abbrev pub awake : {T : Type 0} → Place T → Place T

@@ -3,6 +3,7 @@ pub mod Backlogs
 pub mod Becomes
 pub mod Bells
 pub mod Clients
+pub mod Cries
 pub mod Faults
 pub mod GivingWay
 pub mod HandOff

@@ -2,8 +2,8 @@
 use Rattle.std.specs.Prelude.{Bool, true, false, Option, Some, None, if◌then◌else◌}
 use Rattle.futures.specs.declared.task.Poll.{Poll}
 use Rattle.futures.specs.declared.task.Poll.TheVariants.{Ready, Pending}
-use Rattle.connection_slots.specs.declared.lifecycle.Fault.{Fault}
-use Rattle.connection_slots.specs.declared.lifecycle.State.{State}
+use Rattle.connection_slots.specs.declared.state.Fault.{Fault}
+use Rattle.connection_slots.specs.declared.state.State.{State}
 
 abbrev pub first_fault : Option Fault → Option Fault → Option Fault
 first_fault None later = later

@@ -1,9 +1,10 @@
 -- For how long a socket is held whose session is over, and which goes where too many are held.
-use Rattle.std.specs.Prelude.{◌≡◌, ◌≢◌, ℕ, ◌-◌, ◌==◌, Bool, ◌&&◌, ◌||◌, true, false, nat_le, IsTrue, List, Option, Some, None, IsSomeAnd, Result, Ok, Err, slice_get, option_map, option_and_then, if◌then◌else◌}
+use Rattle.std.specs.Prelude.{◌≡◌, ◌≢◌, ℕ, ◌+◌, ◌*◌, ◌-◌, ◌==◌, Bool, ◌&&◌, ◌||◌, true, false, nat_le, IsTrue, List, Option, Some, None, IsSomeAnd, Result, Ok, Err, slice_get, option_map, option_and_then, if◌then◌else◌}
 use Rattle.std.specs.Time.{instant_nanos}
 use Rattle.std.specs.declared.time.Instant.{Instant}
 use Rattle.futures.specs.declared.task.Poll.{Poll}
 use Rattle.futures.specs.declared.task.Poll.TheVariants.{Ready, Pending}
+use Rattle.connection_slots.specs.declared.held.Kept.{Kept}
 use Rattle.connection_slots.specs.declared.lingering_socket.LingeringSocket.{LingeringSocket}
 use Rattle.connection_slots.specs.declared.lingering_socket.Next.{Next}
 use Rattle.connection_slots.specs.declared.lingering_socket.Next.TheVariants.{Over, Rest, Again}
@@ -48,3 +49,10 @@ IsHeldOn now is_end was held =
     (socket : LingeringSocket _) → held ≡ Some socket →
     (is_due socket.soon socket.until now is_end ≡ false)
     × IsSomeAnd was (λ before. (socket.soon ≡ before.soon) × (socket.until ≡ before.until))
+
+-- from some moment on a socket is held for so many seconds at most, at the end and at last
+abbrev pub IsKeptFor : ℕ → ℕ → Kept → Type 0
+IsKeptFor at_end longest kept =
+    (now : Instant)
+    × (instant_nanos kept.soon ≡ instant_nanos now + at_end * 1_000_000_000)
+    × (instant_nanos kept.until ≡ instant_nanos now + longest * 1_000_000_000)

@@ -1,8 +1,13 @@
 -- What a sender gave of late, and for how long it gives way.
-use Rattle.std.specs.Prelude.{ℕ, ◌+◌, ◌-◌, ◌^◌, ◌%◌, ◌==◌, Bool, false, ◌||◌, nat_lt, nat_le, Option, Some, None, unwrap_or, if◌then◌else◌}
+use Rattle.std.specs.Prelude.{ℕ, ◌+◌, ◌*◌, ◌-◌, ◌^◌, ◌%◌, ◌==◌, Bool, false, ◌||◌, nat_lt, nat_le, Option, Some, None, unwrap_or, if◌then◌else◌}
 use Rattle.connection_slots.specs.Amounts.{capped}
+use Rattle.connection_slots.specs.declared.amount.Amount.{Amount}
 use Rattle.connection_slots.specs.declared.sender.Given.{Given}
 use Rattle.connection_slots.specs.declared.sender.Throttle.{Throttle}
+
+-- what these lines count for: their bytes, and 256 for each
+abbrev pub weight_of : Amount → ℕ
+weight_of given = capped (given.bytes + capped (given.lines * 256))
 
 -- what was given in the second before this one, which is not the last in which something was counted
 abbrev pub given_before : Given → ℕ → ℕ

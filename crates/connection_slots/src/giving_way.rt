@@ -1,5 +1,5 @@
 //! Who may hand over a line while somebody is behind, and who gives way.
-ghost use Rattle.std.specs.Prelude.{◌≡◌, ◌+◌, ◌-◌, ◌<◌, true, false, None, Some, IsTrue, length, nat_lt, slice_get};
+ghost use Rattle.std.specs.Prelude.{◌≡◌, ◌+◌, ◌-◌, ◌<◌, ◌&&◌, true, false, None, Some, IsTrue, length, nat_lt, slice_get};
 ghost use Rattle.connection_slots.specs.Amounts.{capped};
 ghost use Rattle.connection_slots.specs.Becomes.{OneBecomes};
 ghost use Rattle.connection_slots.specs.Bells.{is_among};
@@ -14,7 +14,7 @@ use crate::slots::{Slot, Slots};
 impl Slots {
     /// Answers whether the session of this slot may hand over so many bytes now. Where it may not, since somebody is behind, it
     /// is woken once nobody is, and at the next tick.
-    pub(crate) fn may_send(
+    pub(crate) fn lets_send(
         &mut self,
         slot: usize,
         bytes: u64,
@@ -23,8 +23,7 @@ impl Slots {
     ) -> bool
         ensures told { result ≡ false → self.new.ticker ≡ None }
         ensures behind { result ≡ false → self.new.sight.is_behind ≡ true }
-        ensures idle { result ≡ false → throttle.new.is_on_the_way ≡ false }
-        ensures long { throttle.new.is_on_the_way ≡ true → 4_096 < bytes }
+        ensures on_the_way { throttle.new.is_on_the_way ≡ (result && nat_lt 4_096 bytes) }
         ensures flagged { result ≡ false → (was : Slot) → slice_get self.new.slots.items slot ≡ Some was → was.is_held ≡ true }
         ensures bells { self.new.bells ≡ self.old.bells }
         ensures index { SameIndex self.old self.new }
@@ -35,8 +34,8 @@ impl Slots {
         if is_long {
             self.look(said);
         }
-        if !self.admits(slot, bytes, throttle) {
-            return self.goes_unheld(slot);
+        if !self.admits(slot, bytes, throttle) && !self.goes_unheld(slot) {
+            return false;
         }
         if is_long {
             self.begin_line(slot, bytes);

@@ -2,6 +2,7 @@ ghost use Rattle.std.specs.Prelude.{◌≡◌, ◌≤◌, true, false};
 ghost use Rattle.futures.specs.Task.{Keeps};
 ghost use Rattle.connection_slots.specs.Lingers.{is_past, is_due, next_by};
 
+use crate::leaving_socket::LeavingSocket;
 use futures::task::{Context, Poll};
 use std::io;
 use std::time::Instant;
@@ -28,6 +29,13 @@ pub(crate) struct LingeringSocket<S> {
 }
 
 impl<S> LingeringSocket<S> {
+    /// Gives the moment at which it is closed at the end.
+    pub(crate) fn soon(&self) -> Instant
+        ensures { result ≡ self.now.soon }
+    {
+        self.soon
+    }
+
     /// Gives the moment at which it is closed at last.
     pub(crate) fn until(&self) -> Instant
         ensures { result ≡ self.now.until }
@@ -38,11 +46,11 @@ impl<S> LingeringSocket<S> {
 
 impl<S: AsyncRead + AsyncWrite> LingeringSocket<S> {
     /// Holds a socket until the later moment at most, or at the end until the sooner one.
-    pub(crate) fn new(stream: S, soon: Instant, until: Instant) -> LingeringSocket<S>
-        ensures { result ≡ record { stream = stream; soon = soon; until = until; left = 1_048_576; is_shut = false } }
+    pub(crate) fn new(socket: LeavingSocket<S>, soon: Instant, until: Instant) -> LingeringSocket<S>
+        ensures { result ≡ record { stream = socket; soon = soon; until = until; left = 1_048_576; is_shut = false } }
     {
         LingeringSocket {
-            stream,
+            stream: socket.into_stream(),
             soon,
             until,
             left: MOST_BYTES,

@@ -1,21 +1,26 @@
 ghost use Rattle.std.specs.Prelude.{◌≡◌, ◌≢◌, ◌<◌, ◌+◌, ◌%◌, ◌^◌, ◌==◌, ◌⊎◌, ℕ, true, false, not, None, Some, IsSomeAnd, IfSome, is_some, length, IsTrue, slice_get};
 ghost use Rattle.futures.specs.Task.{IsArmed, Keeps, Wakes};
 ghost use Rattle.connection_slots.specs.Becomes.{OneBecomes};
-ghost use Rattle.connection_slots.specs.Clients.{newcomer_in, with_line_for, is_behind_at};
+ghost use Rattle.connection_slots.specs.Clients.{gave, IsGivenBy, newcomer_in, with_line_for, is_behind_at};
+ghost use Rattle.connection_slots.specs.Senders.{weight_of};
 ghost use Rattle.connection_slots.specs.Bells.{is_among};
 ghost use Rattle.connection_slots.specs.Named.{IsSetAt, IsNamed, OthersStayNamed, SameIndex, slot_at};
 ghost use Rattle.connection_slots.specs.Rung.{IsRung, HasHeard, IsAwake, IsDue, Rests, OthersStay, SameSlots, StaysRung};
+
+mod sending;
+mod tasks;
 
 use crate::accept_waker::AcceptWaker;
 use crate::amount::Amount;
 use crate::backlog::Backlog;
 use crate::bells::Bells;
-use crate::sender::Given;
+use crate::sender::{EACH_LINE, Given};
 use crate::sight::Sight;
 use adc_base32::Sid;
 use futures::task::{Context, Poll, Source, Waker};
 use std::alloc::{AllocError, Global};
 use std::collections::BTreeMap;
+use std::marker::Model;
 
 /// The state of the session that has a slot, beside its bell.
 #[derive(Drop)]
@@ -55,29 +60,49 @@ pub(crate) struct Slots {
 
 /// What was done to the slots.
 #[derive(Clone, Copy)]
-pub(crate) enum Deed {
+pub enum Deed {
     /// The slot was given to another session: one with a client, or none.
     Cleared(usize, bool),
     /// The session of the slot is known by the identifier.
     Named(usize, Sid),
-    /// The session with the identifier was woken for a line of so many bytes, which that of the slot gave it.
-    WokeOne(Sid, usize, u64),
-    /// Everybody was woken but the session of the slot.
-    WokeEverybody(usize),
+    /// The session with the identifier was woken for a line of so many bytes, which that of the slot gave it in this second.
+    WokeOne(Sid, usize, u64, u64),
+    /// Everybody was woken but the session of the slot, which gave them so much in this second.
+    WokeEverybody(usize, Amount, u64),
     /// The session of the slot was woken.
     WokeSlot(usize),
-    /// It was looked whether the session of the slot was woken.
-    Looked(usize),
+    /// It was looked whether the session of the slot was woken: it was, or was not.
+    Looked(usize, bool),
+    /// It was asked whether the session of the slot may hand over so many bytes: it may, or may not.
+    Asked(usize, u64, bool),
+    /// The last line of the session of the slot is no longer on the way.
+    LineEnded(usize),
+    /// It was looked whether somebody is behind: somebody is, or nobody is.
+    LookedBehind(bool),
+    /// It was looked whether a socket was closed while the listener rests: one was, or none was.
+    LookedForRoom(bool),
     /// The accept task was called for help, or everybody but the session of the slot.
     CalledForHelp(usize),
+    /// The accept task is called for help no more.
+    HelpEnded,
     /// A tick passed in this second, for which so many were due, and who gave way was woken.
     Ticked(u64, u64),
+    /// The next of those were woken for whom everybody was woken: some are left, or none are.
+    Cried(bool),
 }
 
-/// The word of what was done to the slots. Only they give it, as they do it.
-#[derive(Clone, Copy)]
-pub(crate) struct Receipt {
+/// The word of what was done to the slots. Only they give it, under their lock, as they do it. Contracts see the deed.
+#[derive(Drop)]
+pub struct Receipt {
     deed: Deed,
+}
+
+impl Model for Receipt {
+    ghost use Rattle.connection_slots.specs.declared.slots.Deed.{Deed};
+
+    ghost Value = { Deed };
+
+    ghost view = { λ receipt. receipt.deed };
 }
 
 /// Takes the identifier from the index, if this slot stands under it.
@@ -129,7 +154,7 @@ impl Slots {
             → slice_get self.new.slots.items slot ≡ Some (newcomer_in was backlog) }
         ensures forgotten { (sid : ℕ) → IsNamed self.old slot sid → slot_at self.new.places.entries sid ≢ Some slot }
         ensures same { (other : ℕ) → other ≢ slot → slice_get self.new.slots.items other ≡ slice_get self.old.slots.items other }
-        ensures word { result.deed ≡ Deed.Cleared slot (is_some backlog) }
+        ensures word { result ≡ Deed.Cleared slot (is_some backlog) }
         ensures heard { HasHeard self.new.bells slot }
         ensures woken { IsAwake self.new.bells slot }
         ensures others { OthersStay self.old.bells self.new.bells slot }
@@ -167,7 +192,7 @@ impl Slots {
 
     /// Notes it as `name` does, and gives the word of it.
     pub(crate) fn name_by(&mut self, slot: usize, sid: Sid) -> Receipt
-        ensures word { result.deed ≡ Deed.Named slot sid }
+        ensures word { result ≡ Deed.Named slot sid }
         ensures bells { self.new.bells ≡ self.old.bells }
         ensures named { slot < length self.old.slots.items
             → IsSetAt sid (Some slot) self.old.places.entries self.new.places.entries ⊎ ((self.new.lacks_some ≡ true) × (self.new.places.entries ≡ self.old.places.entries)) }
@@ -180,14 +205,11 @@ impl Slots {
     }
 
     /// Wakes the session with this identifier, which was given a line of so many bytes. Answers whether it is behind.
-    pub(crate) fn wake_one(
-        &mut self,
-        sid: Sid,
-        own: usize,
-        bytes: u64,
-        said: Amount,
-    ) -> (Receipt, bool)
-        ensures word { result.0.deed ≡ Deed.WokeOne sid own bytes }
+    fn ring_one(&mut self, sid: Sid, own: usize, bytes: u64, said: Amount) -> bool
+        ensures given { (place : ℕ) → slot_at self.old.places.entries sid ≡ Some place → place ≢ own
+            → OneBecomes (with_line_for bytes) place self.old.slots.items self.new.slots.items }
+        ensures behind { (place : ℕ) → slot_at self.old.places.entries sid ≡ Some place → place ≢ own
+            → result ≡ is_behind_at self.new.slots.items place said }
         ensures rung { (place : ℕ) → slot_at self.old.places.entries sid ≡ Some place → place ≢ own → IsRung self.new.bells place }
         ensures woken { (place : ℕ) → slot_at self.old.places.entries sid ≡ Some place → place ≢ own → IsAwake self.new.bells place }
         ensures walked { slot_at self.old.places.entries sid ≡ None → self.old.lacks_some ≡ true → (place : ℕ) → IsNamed self.old place sid
@@ -199,13 +221,44 @@ impl Slots {
         ensures slots { SameSlots self.old.bells self.new.bells }
         ensures index { SameIndex self.old self.new }
     {
-        let receipt = Receipt {
-            deed: Deed::WokeOne(sid, own, bytes),
-        };
         match self.place(sid) {
-            Some(place) if place != own => (receipt, self.wake_for_line(place, bytes, said)),
-            _ => (receipt, false),
+            Some(place) if place != own => self.wake_for_line(place, bytes, said),
+            _ => false,
         }
+    }
+
+    /// Wakes it, and gives the word of it. Where it is behind, the line counts for the session of the slot `own` in this second.
+    pub(crate) fn wake_one(
+        &mut self,
+        sid: Sid,
+        own: usize,
+        bytes: u64,
+        second: u64,
+        said: Amount,
+    ) -> (Receipt, bool)
+        ensures word { result.0 ≡ Deed.WokeOne sid own bytes second }
+        ensures second { result.1 ≡ true → self.new.second ≡ second }
+        ensures given { result.1 ≡ true → (place : ℕ) → slot_at self.old.places.entries sid ≡ Some place → place ≢ own
+            → IsGivenBy own second bytes place self.old.slots.items self.new.slots.items }
+        ensures rung { (place : ℕ) → slot_at self.old.places.entries sid ≡ Some place → place ≢ own → IsRung self.new.bells place }
+        ensures woken { (place : ℕ) → slot_at self.old.places.entries sid ≡ Some place → place ≢ own → IsAwake self.new.bells place }
+        ensures walked { slot_at self.old.places.entries sid ≡ None → self.old.lacks_some ≡ true → (place : ℕ) → IsNamed self.old place sid
+            → (found : ℕ) × IsNamed self.old found sid × (found ≢ own → IsRung self.new.bells found) }
+        ensures others { self.old.lacks_some ≡ false → (slot : ℕ) → slot_at self.old.places.entries sid ≢ Some slot
+            → slice_get self.new.bells.bells.items slot ≡ slice_get self.old.bells.bells.items slot }
+        ensures own { slice_get self.new.bells.bells.items own ≡ slice_get self.old.bells.bells.items own }
+        ensures kept { (slot : ℕ) → IsRung self.old.bells slot → IsRung self.new.bells slot }
+        ensures slots { SameSlots self.old.bells self.new.bells }
+        ensures index { SameIndex self.old self.new }
+    {
+        let is_behind = self.ring_one(sid, own, bytes, said);
+        if is_behind {
+            self.count_given(own, second, bytes.saturating_add(EACH_LINE));
+        }
+        let receipt = Receipt {
+            deed: Deed::WokeOne(sid, own, bytes, second),
+        };
+        (receipt, is_behind)
     }
 
     /// Finds the slot of the session with this identifier.
@@ -236,10 +289,10 @@ impl Slots {
     }
 
     /// Wakes everybody but the session of this slot.
-    pub(crate) fn wake_everybody(&mut self, own: usize) -> Receipt
-        ensures word { result.deed ≡ Deed.WokeEverybody own }
+    fn ring_everybody(&mut self, own: usize)
         ensures accept { self.new.accept ≡ self.old.accept }
         ensures clients { self.new.slots ≡ self.old.slots }
+        ensures second { self.new.second ≡ self.old.second }
         ensures rung { (slot : ℕ) → slot ≢ own → IsRung self.new.bells slot }
         ensures woken { (slot : ℕ) → slot ≢ own → IsAwake self.new.bells slot ⊎ IsDue self.new.bells slot }
         ensures crier { 0 < self.new.bells.due → self.new.bells.crier ≡ None }
@@ -248,14 +301,31 @@ impl Slots {
         ensures index { SameIndex self.old self.new }
     {
         self.bells.ring_everybody(own);
+    }
+
+    /// Wakes them, and gives the word of it. What they were given counts for the session of the slot `own` in this second.
+    pub(crate) fn wake_everybody(&mut self, own: usize, given: Amount, second: u64) -> Receipt
+        ensures word { result ≡ Deed.WokeEverybody own given second }
+        ensures given { OneBecomes (gave second (weight_of given)) own self.old.slots.items self.new.slots.items }
+        ensures second { self.new.second ≡ second }
+        ensures rung { (slot : ℕ) → slot ≢ own → IsRung self.new.bells slot }
+        ensures woken { (slot : ℕ) → slot ≢ own → IsAwake self.new.bells slot ⊎ IsDue self.new.bells slot }
+        ensures crier { 0 < self.new.bells.due → self.new.bells.crier ≡ None }
+        ensures own { StaysRung self.old.bells self.new.bells own }
+        ensures slots { SameSlots self.old.bells self.new.bells }
+        ensures index { SameIndex self.old self.new }
+    {
+        let weight = given.lines.saturating_mul(EACH_LINE);
+        self.count_given(own, second, given.bytes.saturating_add(weight));
+        self.ring_everybody(own);
         Receipt {
-            deed: Deed::WokeEverybody(own),
+            deed: Deed::WokeEverybody(own, given, second),
         }
     }
 
     /// Wakes the session of one slot.
     pub(crate) fn wake_slot(&mut self, slot: usize) -> Receipt
-        ensures word { result.deed ≡ Deed.WokeSlot slot }
+        ensures word { result ≡ Deed.WokeSlot slot }
         ensures clients { self.new.slots ≡ self.old.slots }
         ensures rung { IsRung self.new.bells slot }
         ensures woken { IsAwake self.new.bells slot }
@@ -272,27 +342,15 @@ impl Slots {
         }
     }
 
-    /// Answers whether this slot was woken since the last `true`. Where it was not, the next wake wakes the task.
-    pub(crate) fn was_woken(&mut self, slot: usize, cx: &mut Context<'_>, source: &Source) -> bool
-        ensures seen { result ≡ false → HasHeard self.old.bells slot }
-        ensures heard { HasHeard self.new.bells slot }
-        ensures rests { result ≡ false → Rests self.new.bells slot cx.old cx.new }
-        ensures others { OthersStay self.old.bells self.new.bells slot }
-        ensures registered { result ≡ false → IsArmed cx.new }
-        ensures kept { Keeps cx.old cx.new }
-        ensures index { SameIndex self.old self.new }
-    {
-        self.bells.was_rung(slot, cx, source)
-    }
-
-    /// Looks whether this slot was woken, and gives the word of it.
-    pub(crate) fn look_at(
+    /// Answers whether this slot was woken since the last `true`, and gives the word of it. Where it was not, the next wake wakes
+    /// the task.
+    pub(crate) fn was_woken(
         &mut self,
         slot: usize,
         cx: &mut Context<'_>,
         source: &Source,
     ) -> (Receipt, bool)
-        ensures word { result.0.deed ≡ Deed.Looked slot }
+        ensures word { result.0 ≡ Deed.Looked slot result.1 }
         ensures seen { result.1 ≡ false → HasHeard self.old.bells slot }
         ensures heard { HasHeard self.new.bells slot }
         ensures rests { result.1 ≡ false → Rests self.new.bells slot cx.old cx.new }
@@ -301,45 +359,10 @@ impl Slots {
         ensures kept { Keeps cx.old cx.new }
         ensures index { SameIndex self.old self.new }
     {
+        let was_woken = self.bells.was_rung(slot, cx, source);
         let receipt = Receipt {
-            deed: Deed::Looked(slot),
+            deed: Deed::Looked(slot, was_woken),
         };
-        (receipt, self.was_woken(slot, cx, source))
-    }
-
-    /// Wakes the accept task, or everybody where there is none. The session of the slot `own` makes the call.
-    pub(crate) fn call_for_help(&mut self, own: usize) -> Receipt
-        ensures word { result.deed ≡ Deed.CalledForHelp own }
-        ensures task { self.new.accept.waker ≡ None }
-        ensures everybody { self.old.accept.is_gone ≡ true → (slot : ℕ) → slot ≢ own
-            → IsRung self.new.bells slot × (IsAwake self.new.bells slot ⊎ IsDue self.new.bells slot) }
-        ensures nobody { self.old.accept.is_gone ≡ false → self.new.bells ≡ self.old.bells }
-        ensures index { SameIndex self.old self.new }
-    {
-        if !self.accept.call() {
-            self.wake_everybody(own);
-        }
-        Receipt {
-            deed: Deed::CalledForHelp(own),
-        }
-    }
-
-    /// Counts a tick, as `tick` does, and wakes those who give way. Answers whether somebody is behind.
-    pub(crate) fn pass_tick(&mut self, said: Amount, second: u64, due: u64) -> (Receipt, bool)
-        ensures word { result.0.deed ≡ Deed.Ticked second due }
-        ensures behind { result.1 ≡ self.new.sight.is_behind }
-        ensures rung { (slot : ℕ) → IsTrue (is_among slot self.old.held.items) → IsRung self.new.bells slot }
-        ensures woken { (slot : ℕ) → IsTrue (is_among slot self.old.held.items) → IsAwake self.new.bells slot }
-        ensures ticks { self.new.ticks ≡ (self.old.ticks + 1) % 2 ^ 64 }
-        ensures second { self.new.second ≡ second }
-        ensures index { SameIndex self.old self.new }
-    {
-        self.tick(said, second, due);
-        let is_behind = self.look(said);
-        self.let_go();
-        let receipt = Receipt {
-            deed: Deed::Ticked(second, due),
-        };
-        (receipt, is_behind)
+        (receipt, was_woken)
     }
 }

@@ -1,9 +1,9 @@
-ghost use Rattle.std.specs.Prelude.{◌≡◌, true, IfOk, OnOk};
+ghost use Rattle.std.specs.Prelude.{◌≡◌, None, IfOk, IfSome, IsSome, OnOk};
 ghost use Rattle.std.specs.Io.KnownBytes.{Appends};
-ghost use Rattle.connection_slots.specs.Start.{listening_text, told_by};
+ghost use Rattle.connection_slots.specs.Start.{listening_text, IsSettled};
 
-use crate::lifecycle::{Fault, Word};
-use crate::shared::Shared;
+use crate::shared::{Closed, Shared};
+use crate::state::{Fault, Word};
 use futures::spin::GaveUp;
 use std::io::{self, Write};
 use std::net::SocketAddr;
@@ -15,7 +15,8 @@ pub struct Startup<'a, T, S, R: Wait, W> {
     rt: &'a R,
     output: &'a mut W,
     address: SocketAddr,
-    is_over: bool,
+    // What the server was told, once it was.
+    settled: Option<Result<Opening, GaveUp>>,
 }
 
 impl<'a, T, S, R: Wait, W: Write> Startup<'a, T, S, R, W> {
@@ -25,45 +26,49 @@ impl<'a, T, S, R: Wait, W: Write> Startup<'a, T, S, R, W> {
         rt: &'a R,
         output: &'a mut W,
         address: SocketAddr,
-    ) -> Startup<'a, T, S, R, W> {
+    ) -> Startup<'a, T, S, R, W>
+        ensures address { result.address ≡ address }
+        ensures output { result.output.now ≡ output.entry.now }
+        ensures unsettled { result.settled ≡ None }
+    {
         Startup {
             shared,
             rt,
             output,
             address,
-            is_over: false,
+            settled: None,
         }
     }
 
     /// Says `listening` and the address, and opens the server. Where that cannot be said, it is closed.
     pub fn open(&mut self)
-        ensures { self.new.is_over ≡ true }
+        ensures settled { IsSome self.new.settled }
+        ensures told { IfSome self.new.settled (λ settled. IfOk settled (λ opening. IsSettled opening
+            (Appends (W.contents self.old.output.now) (W.contents self.new.output.now) (listening_text self.old.address)))) }
     {
-        self.is_over = true;
-        let _ = self.settle();
+        let settled = self.settle();
+        self.settled = Some(settled);
     }
 
     /// Does so, and gives the word of what the server was told.
     fn settle(&mut self) -> Result<Opening, GaveUp>
-        ensures told { IfOk result (λ opening. opening.word.told ≡ told_by opening.said) }
-        ensures said { IfOk result (λ opening. OnOk opening.said
+        ensures { IfOk result (λ opening. IsSettled opening
             (Appends (W.contents self.old.output.now) (W.contents self.new.output.now) (listening_text self.old.address))) }
-        ensures over { self.new.is_over ≡ self.old.is_over }
     {
-        let said = say(self.output, self.address);
-        let word = match said {
-            Ok(()) => self.shared.open_by()?,
-            Err(_) => self.shared.close_by(self.rt, Some(Fault::Output))?,
-        };
-        Ok(Opening { said, word })
+        match say(self.output, self.address) {
+            Ok(()) => Ok(Opening::Open(self.shared.open()?)),
+            Err(_) => Ok(Opening::Shut(self.shared.close(self.rt, Some(Fault::Output))?)),
+        }
     }
 }
 
-/// What was said of a server's address, and what the server was told then.
-#[derive(Clone, Copy)]
-struct Opening {
-    said: io::Result<()>,
-    word: Word,
+/// The word of what a server was told that was to open.
+#[derive(Drop)]
+enum Opening {
+    /// It is open: its address was said.
+    Open(Word),
+    /// It is closed: its address could not be said.
+    Shut(Closed),
 }
 
 /// Says on `output` that the server listens there.
@@ -81,10 +86,11 @@ impl<T, S, R: Wait, W> Drop for Startup<'_, T, S, R, W> {
             rt,
             output: _,
             address: _,
-            is_over,
+            settled,
         } = self;
-        if !is_over {
-            shared.close(rt, Some(Fault::Start));
+        if settled.is_none() {
+            let _ = shared.close(rt, Some(Fault::Start));
         }
+        drop(settled);
     }
 }

@@ -1,11 +1,14 @@
-ghost use Rattle.std.specs.Prelude.{◌≡◌, ◌-◌, ◌/◌, min, max, true, false};
+ghost use Rattle.std.specs.Prelude.{◌≡◌, ◌-◌, ◌/◌, min, max, true, false, None, IsSome};
 ghost use Rattle.std.specs.Result.{ForOk};
 ghost use Rattle.std.specs.Duration.{as_nanos};
 ghost use Rattle.std.specs.Time.{instant_nanos};
 ghost use Rattle.futures.specs.Task.{IsArmed, Keeps};
-ghost use Rattle.futures.specs.Poll.{OnPending};
+ghost use Rattle.futures.specs.Poll.{IfReady, OnPending};
+ghost use Rattle.connection_slots.specs.Cries.{once_more};
 
-use crate::lingering::{Lingered, NoClock};
+use crate::clock::NoClock;
+use crate::cries::Cries;
+use crate::held::Lingered;
 use crate::shared::{Served, Shared};
 use futures::task::{Context, Poll};
 use std::sync::Wait;
@@ -27,6 +30,9 @@ pub struct Ticker<'a, T, S, R> {
     timer: Sleep,
     // The moment of the last tick.
     ticked: Option<Instant>,
+    cries: Cries,
+    // The word that all is over, once it is.
+    over: Option<Over>,
 }
 
 /// The word that all is over: nobody is served any more, and nobody lingers, as far as the clock tells.
@@ -45,6 +51,8 @@ impl<'a, T, S, R> Drop for Ticker<'a, T, S, R> {
             rt: _,
             timer,
             ticked: _,
+            cries: _,
+            over: _,
         } = self;
         drop(timer);
     }
@@ -52,35 +60,49 @@ impl<'a, T, S, R> Drop for Ticker<'a, T, S, R> {
 
 impl<'a, T, S: AsyncRead + AsyncWrite, R: Wait + Clock> Ticker<'a, T, S, R> {
     /// Makes the task, which uses this timer, whatever it is set to.
-    pub fn new(shared: &'a Shared<T, S>, rt: &'a R, timer: Sleep) -> Ticker<'a, T, S, R> {
+    pub fn new(shared: &'a Shared<T, S>, rt: &'a R, timer: Sleep) -> Ticker<'a, T, S, R>
+        ensures timer { result.timer ≡ timer }
+        ensures over { result.over ≡ None }
+    {
         Ticker {
             shared,
             rt,
             timer,
             ticked: None,
+            cries: Cries::none(),
+            over: None,
         }
     }
 
-    /// Works as a task does. It is over once nobody is served any more, and nobody lingers.
+    /// Works as a task does: it cries once, and asks for another poll where somebody is left. It is over once nobody is served
+    /// any more, and nobody lingers.
     pub fn poll_over(&mut self, cx: &mut Context<'_>) -> Poll<()>
+        ensures cried { self.new.cries.count ≡ once_more self.old.cries.count }
+        ensures goes_on { OnPending result (self.new.cries.has_more ≡ true → cx.new.is_woken ≡ true) }
+        ensures over { IfReady result (λ _. IsSome self.new.over) }
         ensures registered { OnPending result (IsArmed cx.new) }
         ensures kept { Keeps cx.old cx.new }
     {
-        let has_more = self.shared.wakers.cry(cx);
+        let cried = self.shared.wakers.cry(cx);
+        let has_more = self.cries.count(cried);
         match self.poll_end(cx) {
-            Poll::Ready(_) => Poll::Ready(()),
+            Poll::Ready(over) => {
+                self.over = Some(over);
+                Poll::Ready(())
+            }
             Poll::Pending if has_more => cx.yield_now(),
             Poll::Pending => Poll::Pending,
         }
     }
 
-    /// Works as a task does, and gives the word that all is over.
+    /// Ticks as a task does, and gives the word that all is over.
     fn poll_end(&mut self, cx: &mut Context<'_>) -> Poll<Over>
+        ensures cries { self.new.cries ≡ self.old.cries }
         ensures registered { OnPending result (IsArmed cx.new) }
         ensures kept { Keeps cx.old cx.new }
     {
         let is_end = self.shared.is_over(self.rt);
-        let lingered = self.shared.lingering.linger_until(self.rt, cx, is_end);
+        let lingered = self.shared.lingering.linger(self.rt, cx, is_end);
         if let Ok(seen) = &lingered
             && seen.some()
         {
@@ -100,6 +122,7 @@ impl<'a, T, S: AsyncRead + AsyncWrite, R: Wait + Clock> Ticker<'a, T, S, R> {
     /// Waits for the next tick, or makes it.
     fn wait(&mut self, cx: &mut Context<'_>) -> Poll<Over>
         ensures waits { result ≡ Poll.Pending }
+        ensures cries { self.new.cries ≡ self.old.cries }
         ensures registered { OnPending result (IsArmed cx.new) }
         ensures kept { Keeps cx.old cx.new }
     {
@@ -107,7 +130,7 @@ impl<'a, T, S: AsyncRead + AsyncWrite, R: Wait + Clock> Ticker<'a, T, S, R> {
             Poll::Pending => Poll::Pending,
             Poll::Ready(_) => {
                 let due = self.due();
-                self.shared.wakers.tick(seconds(self.rt), due);
+                let _ = self.shared.wakers.tick_by(seconds(self.rt), due);
                 self.set();
                 cx.yield_now()
             }
@@ -115,7 +138,9 @@ impl<'a, T, S: AsyncRead + AsyncWrite, R: Wait + Clock> Ticker<'a, T, S, R> {
     }
 
     /// Counts the ticks that were due since the last one, which on a busy machine are more than one.
-    fn due(&mut self) -> u64 {
+    fn due(&mut self) -> u64
+        ensures { self.new.cries ≡ self.old.cries }
+    {
         let Ok(now) = Instant::now(self.rt) else {
             return 1;
         };
@@ -124,7 +149,9 @@ impl<'a, T, S: AsyncRead + AsyncWrite, R: Wait + Clock> Ticker<'a, T, S, R> {
         due
     }
 
-    fn set(&mut self) {
+    fn set(&mut self)
+        ensures { self.new.cries ≡ self.old.cries }
+    {
         if let Ok(now) = Instant::now(self.rt)
             && let Some(next) = now.checked_add(Duration::from_millis(TICK))
         {

@@ -1,16 +1,19 @@
-ghost use Rattle.std.specs.Prelude.{◌≡◌, true, false, IfOk};
+ghost use Rattle.std.specs.Prelude.{◌≡◌, ◌&&◌, true, false, nat_lt, IsSome, IfSome, IfOk, IfErr};
 ghost use Rattle.futures.specs.Task.{IsArmed, Keeps};
+ghost use Rattle.connection_slots.specs.GivingWay.{IsAnswered};
 
 use crate::amount::Amount;
 use crate::backlog::Backlog;
-use crate::sender::{BURST, BURST_BYTES, EACH_LINE, SHORT, Throttle};
+use crate::behind::Behind;
+use crate::permission::Permission;
+use crate::sender::{BURST, BURST_BYTES, SHORT, Throttle};
 use crate::slots::{Deed, Receipt, Slots};
 use adc_base32::Sid;
 use futures::spin::{GaveUp, lock, lock_or_give_up};
 use futures::task::{Context, Poll, Source};
 use std::alloc::{AllocError, Global};
 use std::sync::Mutex;
-use std::sync::atomic::{AtomicBool, AtomicU64, Ordering};
+use std::sync::atomic::{AtomicU64, Ordering};
 
 /// The wakers of all sessions, one a slot. Whom a call concerned is woken, and nobody else.
 ///
@@ -22,34 +25,47 @@ use std::sync::atomic::{AtomicBool, AtomicU64, Ordering};
 #[derive(Drop)]
 pub struct Wakers {
     source: Source,
+    // The number of slots.
+    count: usize,
     slots: Mutex<Slots>,
     // The number of lines that were said to everybody, and that of their bytes.
     said: AtomicU64,
     said_bytes: AtomicU64,
-    // Somebody is behind, so that senders ask before each line.
-    is_behind: AtomicBool,
+    behind: Behind,
 }
 
 impl Wakers {
     /// Makes the wakers of `count` slots. Refused only where memory runs out.
-    pub fn new(alloc: Global, count: usize) -> Result<Wakers, AllocError> {
+    pub fn new(alloc: Global, count: usize) -> Result<Wakers, AllocError>
+        ensures { IfOk result (λ wakers. wakers.count ≡ count) }
+    {
         Ok(Wakers {
             source: Source::new(),
+            count,
             slots: Mutex::new(Slots::new(alloc, count)?),
             said: AtomicU64::new(0),
             said_bytes: AtomicU64::new(0),
-            is_behind: AtomicBool::new(false),
+            behind: Behind::nobody(),
         })
     }
 
-    /// Gives the slot to a session.
-    pub fn occupy(&self, slot: usize) {
-        let _ = self.clear(slot, true);
+    /// Gives the number of slots.
+    pub fn count(&self) -> usize
+        ensures { result ≡ self.now.count }
+    {
+        self.count
+    }
+
+    /// Gives the slot to a session, and gives the word of it.
+    pub fn occupy(&self, slot: usize) -> Result<Receipt, GaveUp>
+        ensures { IfOk result (λ receipt. receipt ≡ Deed.Cleared slot true) }
+    {
+        self.clear(slot, true)
     }
 
     /// Gives the slot to a session that has come, or to none, and gives the word of it.
     fn clear(&self, slot: usize, is_taken: bool) -> Result<Receipt, GaveUp>
-        ensures { IfOk result (λ receipt. receipt.deed ≡ Deed.Cleared slot is_taken) }
+        ensures { IfOk result (λ receipt. receipt ≡ Deed.Cleared slot is_taken) }
     {
         let mut slots = lock_or_give_up(&self.slots)?;
         let newcomer = if is_taken {
@@ -60,14 +76,9 @@ impl Wakers {
         Ok(slots.clear(slot, newcomer))
     }
 
-    /// Notes the session identifier by which the session of this slot is known.
-    pub fn name(&self, slot: usize, sid: Sid) {
-        let _ = self.name_by(slot, sid);
-    }
-
-    /// Notes it, and gives the word of it.
-    fn name_by(&self, slot: usize, sid: Sid) -> Result<Receipt, GaveUp>
-        ensures { IfOk result (λ receipt. receipt.deed ≡ Deed.Named slot sid) }
+    /// Notes the session identifier by which the session of this slot is known, and gives the word of it.
+    pub fn name(&self, slot: usize, sid: Sid) -> Result<Receipt, GaveUp>
+        ensures { IfOk result (λ receipt. receipt ≡ Deed.Named slot sid) }
     {
         let mut slots = lock_or_give_up(&self.slots)?;
         Ok(slots.name_by(slot, sid))
@@ -76,37 +87,26 @@ impl Wakers {
     /// Takes the slot from its session, which is over.
     pub fn vacate(&self, slot: usize) {
         let _ = self.clear(slot, false);
-        if self.is_behind() {
+        if self.behind.look().is_none() {
             self.look();
         }
     }
 
     /// Wakes the session with this identifier, which was given a line of so many bytes by the session of the slot `own` in this
-    /// second. A session is not woken by its own call: it takes what waits after each of them.
-    pub fn wake_one(&self, sid: Sid, own: usize, bytes: u64, second: u64) {
-        let _ = self.tell_one(sid, own, bytes, second);
-    }
-
-    /// Wakes it, and gives the word of it.
-    fn tell_one(&self, sid: Sid, own: usize, bytes: u64, second: u64) -> Result<Receipt, GaveUp>
-        ensures { IfOk result (λ receipt. receipt.deed ≡ Deed.WokeOne sid own bytes) }
+    /// second, and gives the word of it. A session is not woken by its own call: it takes what waits after each of them.
+    pub fn wake_one(&self, sid: Sid, own: usize, bytes: u64, second: u64) -> Result<Receipt, GaveUp>
+        ensures { IfOk result (λ receipt. receipt ≡ Deed.WokeOne sid own bytes second) }
     {
         let mut slots = lock_or_give_up(&self.slots)?;
-        let (receipt, is_behind) = slots.wake_one(sid, own, bytes, self.broadcasts());
+        let (receipt, is_behind) = slots.wake_one(sid, own, bytes, second, self.broadcasts());
         if is_behind {
-            slots.count_given(own, second, bytes.saturating_add(EACH_LINE));
-            self.is_behind.store(true, Ordering::SeqCst);
+            self.behind.note(true);
         }
         Ok(receipt)
     }
 
-    /// Wakes two sessions, each of which was given a line of so many bytes.
-    pub fn wake_two(&self, one: Sid, other: Sid, own: usize, bytes: u64, second: u64) {
-        let _ = self.tell_two(one, other, own, bytes, second);
-    }
-
-    /// Wakes both, and gives the words of it.
-    fn tell_two(
+    /// Wakes two sessions, each of which was given a line of so many bytes, and gives the words of it.
+    pub fn wake_two(
         &self,
         one: Sid,
         other: Sid,
@@ -114,65 +114,49 @@ impl Wakers {
         bytes: u64,
         second: u64,
     ) -> Result<(Receipt, Receipt), GaveUp>
-        ensures one { IfOk result (λ receipts. receipts.0.deed ≡ Deed.WokeOne one own bytes) }
-        ensures other { IfOk result (λ receipts. receipts.1.deed ≡ Deed.WokeOne other own bytes) }
+        ensures one { IfOk result (λ receipts. receipts.0 ≡ Deed.WokeOne one own bytes second) }
+        ensures other { IfOk result (λ receipts. receipts.1 ≡ Deed.WokeOne other own bytes second) }
     {
-        let first = self.tell_one(one, own, bytes, second)?;
-        let then = self.tell_one(other, own, bytes, second)?;
+        let first = self.wake_one(one, own, bytes, second)?;
+        let then = self.wake_one(other, own, bytes, second)?;
         Ok((first, then))
     }
 
-    /// Wakes all sessions but that of the slot `own`, which gave them lines of so many bytes in this second: 256 more count for
-    /// each line.
-    pub fn wake_everybody(&self, own: usize, given: Amount, second: u64) {
-        let _ = self.tell_everybody(own, given, second);
-    }
-
-    /// Wakes them, and gives the word of it.
-    fn tell_everybody(&self, own: usize, given: Amount, second: u64) -> Result<Receipt, GaveUp>
-        ensures { IfOk result (λ receipt. receipt.deed ≡ Deed.WokeEverybody own) }
+    /// Wakes all sessions but that of the slot `own`, which gave them lines of so many bytes in this second, and gives the word
+    /// of it. 256 bytes more count for each line.
+    pub fn wake_everybody(&self, own: usize, given: Amount, second: u64) -> Result<Receipt, GaveUp>
+        ensures { IfOk result (λ receipt. receipt ≡ Deed.WokeEverybody own given second) }
     {
         let mut slots = lock_or_give_up(&self.slots)?;
-        let weight = given.lines.saturating_mul(EACH_LINE);
-        slots.count_given(own, second, given.bytes.saturating_add(weight));
-        Ok(slots.wake_everybody(own))
+        Ok(slots.wake_everybody(own, given, second))
     }
 
-    /// Wakes the session of one slot.
-    pub fn wake_slot(&self, slot: usize) {
-        let _ = self.tell_slot(slot);
-    }
-
-    /// Wakes it, and gives the word of it.
-    fn tell_slot(&self, slot: usize) -> Result<Receipt, GaveUp>
-        ensures { IfOk result (λ receipt. receipt.deed ≡ Deed.WokeSlot slot) }
+    /// Wakes the session of one slot, and gives the word of it.
+    pub fn wake_slot(&self, slot: usize) -> Result<Receipt, GaveUp>
+        ensures { IfOk result (λ receipt. receipt ≡ Deed.WokeSlot slot) }
     {
         let mut slots = lock_or_give_up(&self.slots)?;
         Ok(slots.wake_slot(slot))
     }
 
-    /// Answers whether this slot was woken since the last `true`. Where it was not, the next wake wakes the task.
-    pub fn was_woken(&self, slot: usize, cx: &mut Context<'_>) -> bool
-        ensures registered { result ≡ false → IsArmed cx.new }
+    /// Answers whether this slot was woken since the last `true`, with the word of it. Where it was not, the next wake wakes the
+    /// task.
+    pub fn was_woken(&self, slot: usize, cx: &mut Context<'_>) -> (Result<Receipt, GaveUp>, bool)
+        ensures word { IfOk result.0 (λ receipt. receipt ≡ Deed.Looked slot result.1) }
+        ensures unseen { IfErr result.0 (λ _. result.1 ≡ false) }
+        ensures registered { result.1 ≡ false → IsArmed cx.new }
         ensures kept { Keeps cx.old cx.new }
     {
-        match self.look_at(slot, cx) {
-            Ok((_, was_woken)) => was_woken,
-            Err(_) => {
+        match lock_or_give_up(&self.slots) {
+            Ok(mut slots) => {
+                let (receipt, was_woken) = slots.was_woken(slot, cx, &self.source);
+                (Ok(receipt), was_woken)
+            }
+            Err(given_up) => {
                 let _: Poll<()> = cx.yield_now();
-                false
+                (Err(given_up), false)
             }
         }
-    }
-
-    /// Looks whether it was, and gives the word of it.
-    fn look_at(&self, slot: usize, cx: &mut Context<'_>) -> Result<(Receipt, bool), GaveUp>
-        ensures word { IfOk result (λ seen. seen.0.deed ≡ Deed.Looked slot) }
-        ensures registered { IfOk result (λ seen. seen.1 ≡ false → IsArmed cx.new) }
-        ensures kept { Keeps cx.old cx.new }
-    {
-        let mut slots = lock_or_give_up(&self.slots)?;
-        Ok(slots.look_at(slot, cx, &self.source))
     }
 
     /// Counts a line of so many bytes that was said to everybody. Now and then it is looked who is behind.
@@ -203,7 +187,7 @@ impl Wakers {
                 slots.wake_slot(slot);
             }
         }
-        if self.is_behind() {
+        if self.behind.look().is_none() {
             self.look();
         }
     }
@@ -215,36 +199,60 @@ impl Wakers {
         }
     }
 
-    /// Answers whether somebody is behind, as was last seen.
-    pub fn is_behind(&self) -> bool {
-        self.is_behind.load(Ordering::SeqCst)
-    }
-
-    /// Answers whether the session of this slot may hand over lines of so many bytes now. Where it may not, since somebody is
-    /// behind, it is woken once nobody is, and at the next tick. Whatever it may hand over is to be done, and counted, before it
-    /// asks again.
-    pub fn may_send(&self, slot: usize, bytes: u64, throttle: &mut Throttle) -> bool {
-        if bytes <= SHORT && !throttle.is_on_the_way && !self.is_behind() {
-            throttle.open();
-            return true;
-        }
-        match lock(&self.slots) {
-            Some(mut slots) => {
-                let may_send = slots.may_send(slot, bytes, self.broadcasts(), throttle);
-                self.is_behind.store(slots.is_behind(), Ordering::SeqCst);
-                may_send
+    /// Answers whether somebody is behind, as was last seen, with the word of it.
+    pub fn is_behind(&self) -> (Result<Receipt, GaveUp>, bool)
+        ensures word { IfOk result.0 (λ receipt. receipt ≡ Deed.LookedBehind result.1) }
+        ensures unseen { IfErr result.0 (λ _. result.1 ≡ false) }
+    {
+        match lock_or_give_up(&self.slots) {
+            Ok(slots) => {
+                let (receipt, is_behind) = slots.look_behind();
+                (Ok(receipt), is_behind)
             }
-            None => true,
+            Err(given_up) => (Err(given_up), false),
         }
     }
 
-    /// Notes that the last line of the session of this slot was said.
-    pub fn end_line(&self, slot: usize, throttle: &mut Throttle) {
-        if throttle.is_on_the_way
-            && let Some(mut slots) = lock(&self.slots)
+    /// Answers whether the session of this slot may hand over lines of so many bytes now, with the word of it. Where it may not,
+    /// since somebody is behind, it is woken once nobody is, and at the next tick. Whatever it may hand over is to be done, and
+    /// counted, before it asks again.
+    pub fn may_send(&self, slot: usize, bytes: u64, throttle: &mut Throttle) -> (Permission, bool)
+        ensures answered { IsAnswered result.0 slot bytes throttle.old.is_on_the_way result.1 }
+        ensures on_the_way { throttle.new.is_on_the_way ≡ (result.1 && nat_lt 4_096 bytes) }
+    {
+        if bytes <= SHORT
+            && !throttle.is_on_the_way
+            && let Some(nobody) = self.behind.look()
         {
-            slots.end_line(slot);
-            throttle.is_on_the_way = false;
+            throttle.open();
+            return (Permission::Unasked(nobody), true);
+        }
+        match lock_or_give_up(&self.slots) {
+            Ok(mut slots) => {
+                let (receipt, may_send) = slots.may_send(slot, bytes, self.broadcasts(), throttle);
+                self.behind.note(slots.is_behind());
+                (Permission::Asked(receipt), may_send)
+            }
+            Err(given_up) => {
+                throttle.is_on_the_way = bytes > SHORT;
+                (Permission::Lost(given_up), true)
+            }
+        }
+    }
+
+    /// Notes that the last line of the session of this slot was said, if it was a long one, and gives the word of it.
+    pub fn end_line(&self, slot: usize, throttle: &mut Throttle) -> Option<Result<Receipt, GaveUp>>
+        ensures asked { throttle.old.is_on_the_way ≡ true → IsSome result }
+        ensures word { IfSome result (λ ended. IfOk ended (λ receipt. receipt ≡ Deed.LineEnded slot)) }
+        ensures over { throttle.new ≡ record throttle.old { is_on_the_way = false } }
+    {
+        if !throttle.is_on_the_way {
+            return None;
+        }
+        throttle.is_on_the_way = false;
+        match lock_or_give_up(&self.slots) {
+            Ok(mut slots) => Some(Ok(slots.end_line_by(slot))),
+            Err(given_up) => Some(Err(given_up)),
         }
     }
 
@@ -252,7 +260,7 @@ impl Wakers {
     fn look(&self) {
         if let Some(mut slots) = lock(&self.slots) {
             let is_behind = slots.look_and_let_go(self.broadcasts());
-            self.is_behind.store(is_behind, Ordering::SeqCst);
+            self.behind.note(is_behind);
         }
     }
 
@@ -263,29 +271,28 @@ impl Wakers {
     }
 
     /// Counts it, and gives the word of it.
-    fn tick_by(&self, second: u64, due: u64) -> Result<Receipt, GaveUp>
-        ensures { IfOk result (λ receipt. receipt.deed ≡ Deed.Ticked second due) }
+    pub(crate) fn tick_by(&self, second: u64, due: u64) -> Result<Receipt, GaveUp>
+        ensures { IfOk result (λ receipt. receipt ≡ Deed.Ticked second due) }
     {
         let mut slots = lock_or_give_up(&self.slots)?;
         let (receipt, is_behind) = slots.pass_tick(self.broadcasts(), second, due);
-        self.is_behind.store(is_behind, Ordering::SeqCst);
+        self.behind.note(is_behind);
         Ok(receipt)
     }
 
-    /// Wakes the next of those for whom everybody was woken, 32 at once. Answers whether some are left. Where none are, the task is
-    /// woken once some will be.
-    pub fn cry(&self, cx: &mut Context<'_>) -> bool
-        ensures registered { result ≡ false → IsArmed cx.new }
+    /// Wakes the next of those for whom everybody was woken, 32 at once, and gives the word of it. Answers whether some are left.
+    /// Where none are, the task is woken once some will be.
+    pub(crate) fn cry(&self, cx: &mut Context<'_>) -> Result<(Receipt, bool), GaveUp>
+        ensures word { IfOk result (λ cried. cried.0 ≡ Deed.Cried cried.1) }
+        ensures registered { IfOk result (λ cried. cried.1 ≡ false → IsArmed cx.new) }
         ensures kept { Keeps cx.old cx.new }
     {
-        match lock(&self.slots) {
-            Some(mut slots) => slots.bells.cry_on(cx, &self.source),
-            None => true,
-        }
+        let mut slots = lock_or_give_up(&self.slots)?;
+        Ok(slots.cry(cx, &self.source))
     }
 
     /// Answers whether somebody gives way. Where nobody does, the task is woken once somebody will.
-    pub fn has_held(&self, cx: &mut Context<'_>) -> bool
+    pub(crate) fn has_held(&self, cx: &mut Context<'_>) -> bool
         ensures registered { result ≡ false → IsArmed cx.new }
         ensures kept { Keeps cx.old cx.new }
     {
@@ -313,19 +320,21 @@ impl Wakers {
 
     /// Stops using the accept task as a helper, once it has ended.
     pub fn end_help(&self) {
-        if let Some(mut slots) = lock(&self.slots) {
-            slots.accept.leave();
-        }
+        let _ = self.end_help_by();
     }
 
-    /// Wakes the accept task, or everybody where there is none. The session of the slot `own` makes the call.
-    pub fn call_for_help(&self, own: usize) {
-        let _ = self.help(own);
+    /// Stops using it, and gives the word of it.
+    pub(crate) fn end_help_by(&self) -> Result<Receipt, GaveUp>
+        ensures { IfOk result (λ receipt. receipt ≡ Deed.HelpEnded) }
+    {
+        let mut slots = lock_or_give_up(&self.slots)?;
+        Ok(slots.end_help())
     }
 
-    /// Calls for it, and gives the word of it.
-    fn help(&self, own: usize) -> Result<Receipt, GaveUp>
-        ensures { IfOk result (λ receipt. receipt.deed ≡ Deed.CalledForHelp own) }
+    /// Wakes the accept task, or everybody where there is none, and gives the word of it. The session of the slot `own` makes the
+    /// call.
+    pub fn call_for_help(&self, own: usize) -> Result<Receipt, GaveUp>
+        ensures { IfOk result (λ receipt. receipt ≡ Deed.CalledForHelp own) }
     {
         let mut slots = lock_or_give_up(&self.slots)?;
         Ok(slots.call_for_help(own))
@@ -345,16 +354,22 @@ impl Wakers {
         }
     }
 
-    /// Answers whether a socket was closed since the listener began to rest. Where none was, the task is woken once one is.
-    pub fn wait_for_room(&self, cx: &mut Context<'_>) -> bool
-        ensures registered { result ≡ false → IsArmed cx.new }
+    /// Answers whether a socket was closed since the listener began to rest, with the word of it. Where none was, the task is woken
+    /// once one is.
+    pub fn wait_for_room(&self, cx: &mut Context<'_>) -> (Result<Receipt, GaveUp>, bool)
+        ensures word { IfOk result.0 (λ receipt. receipt ≡ Deed.LookedForRoom result.1) }
+        ensures unseen { IfErr result.0 (λ _. result.1 ≡ false) }
+        ensures registered { result.1 ≡ false → IsArmed cx.new }
         ensures kept { Keeps cx.old cx.new }
     {
-        match lock(&self.slots) {
-            Some(mut slots) => slots.accept.wait_for_room(cx, &self.source),
-            None => {
+        match lock_or_give_up(&self.slots) {
+            Ok(mut slots) => {
+                let (receipt, has_room) = slots.look_for_room(cx, &self.source);
+                (Ok(receipt), has_room)
+            }
+            Err(given_up) => {
                 let _: Poll<()> = cx.yield_now();
-                false
+                (Err(given_up), false)
             }
         }
     }

@@ -1,3 +1,4 @@
+pub mod Arriving
 pub mod Descriptors
 pub mod Peers
 pub mod Rests

@@ -1,10 +1,8 @@
-use crate::listener::Listens;
 use crate::options::{SocketOption, set_option};
-use crate::socket::Socket;
 use std::io;
 use std::net::{Net, SocketAddr, SocketAddrV4};
 use std::os::fd::{AsRawFd, RawFd};
-use tokio::net::{TcpListener, TcpStream};
+use tokio::net::TcpListener;
 use tokio::reactor::Handle;
 
 /// The number of bytes that the system is asked to hold for each socket. It takes twice as many, and says that there is room again
@@ -23,28 +21,11 @@ const ASKS: u32 = 3;
 /// Linux goes by it and not by the number of questions.
 const GIVES_UP: u32 = 120_000;
 
-/// A place at which a server is to listen.
-pub trait Bind: Drop {
-    /// The sockets of those who connect there.
-    type Socket: Socket + Send;
-
-    /// The listener that it binds.
-    type Listener: Listens<Socket = Self::Socket> + Send;
-
-    /// Binds a listener. It fails where the system does not give the address.
-    fn bind<R: Net>(self, rt: &R, handle: &Handle) -> io::Result<Self::Listener>;
-}
-
-impl Bind for SocketAddrV4 {
-    type Socket = TcpStream;
-
-    type Listener = TcpListener;
-
-    fn bind<R: Net>(self, rt: &R, handle: &Handle) -> io::Result<TcpListener> {
-        let socket = mio::net::TcpListener::bind(rt, SocketAddr::V4(self))?;
-        set_options(socket.as_raw_fd());
-        TcpListener::from_std(socket.into(), handle)
-    }
+/// Listens at this address. It fails where the system does not give the address.
+pub fn listen<R: Net>(rt: &R, address: SocketAddrV4, handle: &Handle) -> io::Result<TcpListener> {
+    let socket = mio::net::TcpListener::bind(rt, SocketAddr::V4(address))?;
+    set_options(socket.as_raw_fd());
+    TcpListener::from_std(socket.into(), handle)
 }
 
 /// Sets the options of a socket that listens, from which accepted ones have them. Where the system refuses one they have the system's own.

@@ -3,15 +3,17 @@
 
 mod bind;
 mod listener;
+mod listens;
 mod moments;
 mod opening;
 mod options;
 mod socket;
 mod ticks;
 
-pub use bind::Bind;
-pub use listener::{Listener, Listens};
-pub use moments::{Moments, moment};
+pub use bind::listen;
+pub use listener::Listener;
+pub use listens::{Arrived, Listens};
+pub use moments::{CallMoment, Moments, moment};
 pub use opening::{FewDescriptors, say_start, warn_of_descriptors};
 pub use socket::Socket;
 pub use ticks::Ticks;

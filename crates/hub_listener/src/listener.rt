@@ -1,22 +1,18 @@
 ghost use Rattle.std.specs.Prelude.{◌≡◌, true, false, IfOk};
 ghost use Rattle.futures.specs.Task.{IsArmed, Keeps};
 ghost use Rattle.futures.specs.Poll.{IfReady, OnPending};
-ghost use Rattle.adc_sessions.specs.Arrivals.{arrival_of};
-ghost use Rattle.hub_listener.specs.Peers.{IsAt, IsBrought, IsNamed};
+ghost use Rattle.hub_listener.specs.Arriving.{OnNobody};
 ghost use Rattle.hub_listener.specs.Rests.{EndOfRest, IsFault, rests, socket_of, Rests, GoesOn};
 
-use crate::socket::Socket;
+use crate::listens::{Arrived, Listens};
 use crate::ticks::Ticks;
-use adc_sessions::{Incoming, Peer};
 use connection_slots::{AcceptError, Wakers, accept_error_of};
 use futures::task::{Context, Poll};
 use hub_warnings::{Cause, WallClock, Warnings};
 use log::Log;
 use std::io;
-use std::net::SocketAddr;
 use std::sync::Wait;
 use std::time::{Duration, Instant};
-use tokio::net::{TcpListener, TcpStream};
 use tokio::time::Sleep;
 
 /// The number of milliseconds for which the listener rests at most.
@@ -24,39 +20,6 @@ const REST: u64 = 100;
 
 /// The number of times that one poll asks the socket for a connection, where those that were there are gone.
 const ATTEMPTS: u8 = 16;
-
-/// A listening socket, or what stands for it.
-pub trait Listens: Drop {
-    /// The sockets that it accepts.
-    type Socket: Socket;
-
-    ghost use Rattle.std.specs.Prelude.{⊤};
-    ghost use Rattle.std.specs.declared.net.socket_addr.SocketAddr.{SocketAddr};
-
-    /// The relation of two states: in the first a call accepted this connection from this address, and left the second.
-    ghost accepts: { Self → Self.Socket → SocketAddr → Self → Type 0 } = { λ _ _ _ _. ⊤ };
-
-    /// Accepts the next connection, and says where it comes from.
-    fn poll_accept(&mut self, cx: &mut Context<'_>) -> Poll<io::Result<(Self::Socket, SocketAddr)>>
-        ensures accepted { IfReady result (λ r. IfOk r (λ came. accepts self.old came.0 came.1 self.new)) }
-        ensures registered { OnPending result (IsArmed cx.new) }
-        ensures kept { Keeps cx.old cx.new };
-
-    /// Gives the address at which it listens.
-    fn address(&self) -> io::Result<SocketAddr>;
-}
-
-impl Listens for TcpListener {
-    type Socket = TcpStream;
-
-    fn poll_accept(&mut self, cx: &mut Context<'_>) -> Poll<io::Result<(TcpStream, SocketAddr)>> {
-        TcpListener::poll_accept(self, cx)
-    }
-
-    fn address(&self) -> io::Result<SocketAddr> {
-        self.local_addr()
-    }
-}
 
 /// A listener that rests where the system has no room for another connection, until a socket is closed or 100 ms have
 /// passed: that is no fault of its own.
@@ -84,7 +47,7 @@ impl<'a, R, L, I: Drop> Drop for Listener<'a, R, L, I> {
     }
 }
 
-impl<'a, R: Wait + WallClock + Ticks, L: Log, I: Listens> Listener<'a, R, L, I> {
+impl<'a, R: Wait + WallClock + Ticks, L: Log, I> Listener<'a, R, L, I> {
     /// Makes a listener of a socket. It uses this timer, whatever it is set to, and warns where memory was wanting.
     pub fn new(
         socket: I,
@@ -118,7 +81,7 @@ impl<'a, R: Wait + WallClock + Ticks, L: Log, I: Listens> Listener<'a, R, L, I> 
         if !self.is_resting {
             return true;
         }
-        if self.wakers.wait_for_room(cx) {
+        if self.wakers.wait_for_room(cx).1 {
             self.is_resting = false;
             return true;
         }
@@ -177,16 +140,14 @@ fn end_of_rest(now: Option<Instant>) -> Option<Instant>
     now?.checked_add(Duration::from_millis(REST))
 }
 
-impl<R: Wait + WallClock + Ticks, L: Log, I: Listens> Incoming for Listener<'_, R, L, I> {
-    type Stream = I::Socket;
-
-    // Which calls of the socket there were in between is not said.
-    ghost brings = { λ _ arrival _. IsBrought I.accepts arrival };
-
-    #[tactic(auto, using(crate::proofs::Bringing::brought))]
-    fn poll_incoming(&mut self, cx: &mut Context<'_>) -> Poll<io::Result<(I::Socket, Peer)>>
-        ensures brings { IsBrought I.accepts (arrival_of result) }
-        ensures named { IfReady result (λ r. IfOk r (λ came. IsNamed I.accepts came.0 came.1.address)) }
+impl<R: Wait + WallClock + Ticks, L: Log, I: Listens> Listener<'_, R, L, I> {
+    /// Gives the next connection. Where the system has no room for one, it rests before.
+    pub fn poll_arrived(
+        &mut self,
+        cx: &mut Context<'_>,
+    ) -> Poll<io::Result<Arrived<I::Socket, I::Ticket>>>
+        ensures came { IfReady result (λ r. IfOk r (λ it. I.comes (socket_of self.old) it (socket_of self.new))) }
+        ensures waited { OnNobody result (I.waits (socket_of self.old) (socket_of self.new)) }
         ensures registered { OnPending result (IsArmed cx.new) }
         ensures kept { Keeps cx.old cx.new }
     {
@@ -195,10 +156,7 @@ impl<R: Wait + WallClock + Ticks, L: Log, I: Listens> Incoming for Listener<'_, 
                 return Poll::Pending;
             }
             match self.socket.poll_accept(cx) {
-                Poll::Ready(Ok(accepted)) => {
-                    let (stream, address) = accepted;
-                    return Poll::Ready(accept_ipv4(stream, &address));
-                }
+                Poll::Ready(Ok(arrived)) => return Poll::Ready(Ok(arrived)),
                 Poll::Ready(Err(error)) => {
                     if !self.goes_on(&error) {
                         return Poll::Ready(Err(error));
@@ -211,21 +169,5 @@ impl<R: Wait + WallClock + Ticks, L: Log, I: Listens> Incoming for Listener<'_, 
             }
         }
         cx.yield_now()
-    }
-}
-
-/// Gives a stream and its peer, which has an IPv4 address, as what is listened at has.
-fn accept_ipv4<S: Drop>(stream: S, address: &SocketAddr) -> io::Result<(S, Peer)>
-    ensures stream { IfOk result (λ r. r.0 ≡ stream) }
-    ensures peer { IfOk result (λ r. IsAt r.1.address address.now) }
-{
-    match address {
-        SocketAddr::V4(address) => {
-            let peer = Peer {
-                address: address.ip().octets(),
-            };
-            Ok((stream, peer))
-        }
-        SocketAddr::V6(_) => Err(io::ErrorKind::Unsupported.into()),
     }
 }

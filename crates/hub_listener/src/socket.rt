@@ -1,16 +1,12 @@
 ghost use Rattle.std.specs.Prelude.{◌≤◌, [], length, take, IfOk, IfErr};
 
 use std::io;
-use std::net::SocketAddr;
 use tokio::io::{AsyncRead, AsyncWrite};
 use tokio::net::TcpStream;
 
 /// A socket of a client, or what stands for it: a stream that is read and written by tasks, and what a server asks of it
 /// beside that.
 pub trait Socket: AsyncRead + AsyncWrite {
-    /// Gives the address and the port of the client. It fails where the connection is gone.
-    fn peer_addr(&self) -> io::Result<SocketAddr>;
-
     /// Says whether what is written goes out at once, and does not wait for more.
     fn set_nodelay(&self, is_at_once: bool) -> io::Result<()>;
 
@@ -24,10 +20,6 @@ pub trait Socket: AsyncRead + AsyncWrite {
 }
 
 impl Socket for TcpStream {
-    fn peer_addr(&self) -> io::Result<SocketAddr> {
-        TcpStream::peer_addr(self)
-    }
-
     fn set_nodelay(&self, is_at_once: bool) -> io::Result<()> {
         TcpStream::set_nodelay(self, is_at_once)
     }

@@ -1,5 +1,7 @@
-ghost use Rattle.std.specs.Prelude.{map};
+ghost use Rattle.std.specs.Prelude.{◌≡◌, ℕ, map};
 ghost use Rattle.std.specs.String.{string_bytes};
+ghost use Rattle.hub_program.specs.Starting.{EndsServer};
+ghost use Rattle.hub_server.specs.Reporting.{Reports};
 ghost use Rattle.hub_starts.specs.Endings.{AsksToServe, EndsOver, Tells};
 
 use crate::start::serve_file;
@@ -39,6 +41,8 @@ where
     E: Write + Send,
     ensures ends { EndsOver result (map string_bytes words.now) I.remaining I.failures input.old input.new O.contents O.failures output.old output.new }
     ensures tells { (AsksToServe (map string_bytes words.now) → ⊥) → Tells result (E.contents errors.old) (E.contents errors.new) }
+    ensures status { AsksToServe (map string_bytes words.now) → EndsServer E.contents errors.new result }
+    ensures served { AsksToServe (map string_bytes words.now) → result ≡ 0 → (joins : ℕ) × Reports O.contents output.new joins }
 {
     if let Some(path) = settings_path(words) {
         return serve_file(rt, path, output, errors);

@@ -1,10 +1,10 @@
-ghost use Rattle.std.specs.Prelude.{◌≡◌, IfErr, MatchResult};
+ghost use Rattle.std.specs.Prelude.{◌≡◌, ℕ, IfOk, IfErr, MatchResult};
 ghost use Rattle.std.specs.Arc.{arc_value};
-ghost use Rattle.std.specs.Io.KnownBytes.{Keeps};
 ghost use Rattle.flushed_writes.specs.Parts.{AppendsFront};
 ghost use Rattle.hub_starts.specs.Endings.{status_by, message_by, KeepsFromStarting};
 ghost use Rattle.hub_starts.specs.Files.{AreRead};
-ghost use Rattle.hub_program.specs.Starting.{IsHash};
+ghost use Rattle.hub_program.specs.Starting.{EndsServer, IsHash};
+ghost use Rattle.hub_server.specs.Reporting.{EndsServing, Reports};
 
 use hub_server::{serve_for_journal, serve_on};
 use hub_settings::{HashName, Settings};
@@ -27,6 +27,8 @@ where
     R: Wait + Threads + Clock + Net + RandomSource + AllocGlobal + Files + Env + Sync,
     W: Write,
     E: Write + Send,
+    ensures status { EndsServer E.contents errors.new result }
+    ensures served { result ≡ 0 → (joins : ℕ) × Reports W.contents output.new joins }
 {
     let served = start(rt, path, output, errors);
     end(served, errors)
@@ -35,7 +37,7 @@ where
 /// Gives the exit status of a server that served, and says what kept it from its start, if anything did.
 fn end<E: Write>(served: Result<u8, StartFault>, errors: &mut E) -> u8
     ensures status { MatchResult served (λ status. result ≡ status) (λ fault. result ≡ status_by fault) }
-    ensures tells { MatchResult served (λ _. Keeps (E.contents errors.old) (E.contents errors.new))
+    ensures tells { MatchResult served (λ _. errors.new ≡ errors.old)
         (λ fault. AppendsFront (E.contents errors.old) (E.contents errors.new) (message_by fault)) }
 {
     match served {
@@ -50,7 +52,9 @@ where
     R: Wait + Threads + Clock + Net + RandomSource + AllocGlobal + Files + Env + Sync,
     W: Write,
     E: Write + Send,
-    ensures { IfErr result KeepsFromStarting }
+    ensures fault { IfErr result KeepsFromStarting }
+    ensures status { IfOk result (EndsServing E.contents errors.new) }
+    ensures served { IfOk result (λ status. status ≡ 0 → (joins : ℕ) × Reports W.contents output.new joins) }
 {
     let settings = settings_in(rt, path)?;
     let served = serve_hashing(rt, &settings, path, output, errors);
@@ -70,7 +74,9 @@ where
     R: Wait + Threads + Clock + Net + RandomSource + AllocGlobal + Files + Env + Sync,
     W: Write,
     E: Write + Send,
-    ensures { IfErr result KeepsFromStarting }
+    ensures fault { IfErr result KeepsFromStarting }
+    ensures status { IfOk result (EndsServing E.contents errors.new) }
+    ensures served { IfOk result (λ status. status ≡ 0 → (joins : ℕ) × Reports W.contents output.new joins) }
 {
     let seed = seed_in(rt, settings.seed_file())?;
     match settings.hash() {
@@ -102,6 +108,8 @@ where
     E: Write + Send,
     requires hash { IsHash R.File.remaining settings.now.hash (H.digest_of (arc_value hash)) }
     requires seed { AreRead R.File.remaining seed }
+    ensures status { EndsServing E.contents errors.new result }
+    ensures served { result ≡ 0 → (joins : ℕ) × Reports W.contents output.new joins }
 {
     if has_journal(rt) {
         serve_for_journal(rt, settings, path, hash, seed, output, errors)

@@ -1,5 +1,7 @@
-pub mod Matching
-pub mod Serving
-pub mod Visiting
-pub mod Closing
-pub mod Refusing
+mod Serving
+mod Visiting
+mod Closing
+mod Refusing
+mod Stopping
+mod Owing
+pub mod Reporting

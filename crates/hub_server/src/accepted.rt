@@ -1,48 +1,60 @@
 ghost use Rattle.std.specs.Prelude.{◌≡◌, Some};
-ghost use Rattle.hub_listener.specs.Peers.{octets_of};
-ghost use Rattle.hub_server.specs.Peers.{HasComeFrom};
+ghost use Rattle.hub_server.specs.Naming.{home_in};
+ghost use Rattle.hub_server.specs.Owing.{IsServed, OwesServiceOf};
 ghost use Rattle.hub_server.specs.Visits.{HasEntered};
 
 use crate::free_slot::OfHub;
+use crate::ticket::Ticket;
 use adc_sessions::Stream;
+use hub_listener::Moments;
 use hub_shared::Pass;
+use session_hash::SessionHash;
 use std::marker::PhantomData;
 use std::net::SocketAddrV4;
-use tokio::io::{AsyncRead, AsyncWrite};
+use std::snapshot::Snapshot;
 
-/// A connection that was accepted, and has joined the named hub from its address, for a visitor whose calls before are visits.
-#[derive(Drop)]
-pub(crate) struct Accepted<B: OfHub<H>, S: Stream, H> {
-    pub(crate) stream: S,
+/// A connection that was accepted, and has joined the named hub, for a visitor whose calls before are visits. It cannot be
+/// dropped: its ticket has to be used.
+pub(crate) struct Accepted<
+    B: OfHub<H, S>,
+    S: Stream,
+    T: Ticket<S, H, C>,
+    H: SessionHash,
+    C: Moments,
+> {
+    pub(crate) ticket: T,
+    pub(crate) socket: S,
     pub(crate) pass: Pass<H>,
     pub(crate) challenge: [u8; 24],
     pub(crate) peer: SocketAddrV4,
-    of: PhantomData<B>,
-    pub(crate) ghost here: { B.home ≡ Some pass.home },
+    pub(crate) of: PhantomData<(B, Snapshot<C>)>,
+    pub(crate) ghost began: { T.began ticket ≡ socket },
+    pub(crate) ghost here: { home_in B.hub ≡ Some pass.home },
     pub(crate) ghost challenged: { pass.challenge ≡ challenge },
-    pub(crate) ghost came: { HasComeFrom pass (octets_of peer) challenge },
-    pub(crate) ghost entered: { HasEntered ⟦<S as Stream>⟧.told B.tells pass },
+    pub(crate) ghost entered: { HasEntered ⟦<S as Stream>⟧.told B.tells B.arrives socket pass },
+    pub(crate) ghost owes: { OwesServiceOf B.hub H.digest_of ⟦<S as Stream>⟧.told B.tells socket pass
+        (λ end later. IsServed H.digest_of C.tells ⟦<S as Stream>⟧.told (T.terms ticket) (T.number ticket) (T.peer ticket) (T.began ticket) end later) },
 }
 
-impl<B: OfHub<H>, S: AsyncRead + AsyncWrite, H> Accepted<B, S, H> {
-    /// Keeps a socket with the pass for which it joined, and the address from which it comes.
-    pub(crate) fn new(
-        stream: S,
-        pass: Pass<H>,
-        challenge: [u8; 24],
-        peer: SocketAddrV4,
-    ) -> Accepted<B, S, H>
-        requires here { B.home ≡ Some pass.home }
-        requires challenged { pass.challenge ≡ challenge }
-        requires came { HasComeFrom pass (octets_of peer) challenge }
-        requires entered { HasEntered ⟦<S as Stream>⟧.told B.tells pass }
-    {
-        Accepted {
-            stream,
+impl<B: OfHub<H, S>, S: Stream, T: Ticket<S, H, C>, H: SessionHash, C: Moments> Accepted<
+    B,
+    S,
+    T,
+    H,
+    C,
+> {
+    /// Ends it, where the server's runtime ended before a task took it.
+    pub(crate) fn cut_off(self) {
+        let Accepted {
+            ticket,
+            socket,
             pass,
-            challenge,
-            peer,
-            of: PhantomData,
-        }
+            challenge: _,
+            peer: _,
+            of: _,
+        } = self;
+        drop(socket);
+        drop(pass);
+        ticket.cut_off();
     }
 }

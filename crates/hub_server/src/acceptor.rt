@@ -1,148 +1,213 @@
-ghost use Rattle.std.specs.Prelude.{◌≡◌, Some, IfOk, ℕ, take};
+ghost use Rattle.std.specs.Prelude.{◌≡◌, Some, IfOk, Err};
 ghost use Rattle.hub_listener.specs.Peers.{octets_of};
+ghost use Rattle.hub_server.specs.Naming.{home_in};
+ghost use Rattle.hub_server.specs.Owing.{IsToldFull};
 ghost use Rattle.hub_server.specs.Peers.{HasComeFrom};
-ghost use Rattle.hub_server.specs.Refusing.{hub_full};
+ghost use Rattle.hub_server.specs.Turning.{WasRefused};
+ghost use Rattle.hub_server.specs.declared.no_place.NoPlace.TheVariants.{HubFull};
 ghost use Rattle.hub_server.specs.Visits.{HasEntered};
 
 use crate::accepted::Accepted;
 use crate::free_slot::{FreeSlot, OfHub};
+use crate::newcomer::Newcomer;
+use crate::no_place::NoPlace;
 use crate::server::Server;
+use crate::ticket::Ticket;
 use adc_sessions::{Peer, Starter, Stream};
-use hub_challenges::Challenges;
 use hub_core::JoinRefused;
-use hub_listener::{Moments, Socket};
+use hub_listener::{Arrived, Moments, Socket};
 use hub_shared::Pass;
 use hub_warnings::{Cause, Warnings};
 use log::Log;
 use session_hash::SessionHash;
 use std::alloc::AllocGlobal;
-use std::net::{Ipv4Addr, SocketAddrV4};
+use std::marker::PhantomData;
+use std::net::SocketAddrV4;
 use std::sync::Wait;
 use std::time::Clock;
 
 /// The acceptor, which joins the hub for each connection that is accepted, and hands it to the task of its slot.
-pub(crate) struct Acceptor<'a, B: OfHub<H>, S: Stream, H: SessionHash, R: Moments, L> {
-    server: &'a Server<'a, B, S, H, R>,
-    challenges: Challenges,
+pub(crate) struct Acceptor<
+    'a,
+    B: OfHub<H, S>,
+    S: Stream,
+    T: Ticket<S, H, C>,
+    H: SessionHash,
+    R,
+    C: Moments,
+    L,
+> {
+    server: &'a Server<'a, B, S, T, H, R, C>,
     warnings: &'a Warnings<L>,
 }
 
-impl<'a, B: OfHub<H>, S: Stream, H: SessionHash, R: Moments, L> Drop
-    for Acceptor<'a, B, S, H, R, L> {
+impl<'a, B: OfHub<H, S>, S: Stream, T: Ticket<S, H, C>, H: SessionHash, R, C: Moments, L> Drop
+    for Acceptor<'a, B, S, T, H, R, C, L> {
     fn drop(self) {
         let Acceptor {
             server: _,
-            challenges,
             warnings: _,
         } = self;
-        drop(challenges);
     }
 }
 
 impl<
     'a,
-    B: OfHub<H>,
+    B: OfHub<H, S>,
     S: Socket,
+    T: Ticket<S, H, C>,
     H: SessionHash,
-    R: Wait + Clock + Moments + AllocGlobal,
+    R: Wait + Clock + AllocGlobal,
+    C: Moments,
     L: Log,
-> Acceptor<'a, B, S, H, R, L> {
+> Acceptor<'a, B, S, T, H, R, C, L> {
     pub(crate) fn new(
-        server: &'a Server<'a, B, S, H, R>,
-        challenges: Challenges,
+        server: &'a Server<'a, B, S, T, H, R, C>,
         warnings: &'a Warnings<L>,
-    ) -> Acceptor<'a, B, S, H, R, L> {
-        Acceptor {
-            server,
-            challenges,
-            warnings,
-        }
+    ) -> Acceptor<'a, B, S, T, H, R, C, L> {
+        Acceptor { server, warnings }
     }
 
-    /// Joins the hub, and gives the pass and the slot for the connection.
-    fn join(&self, peer: Peer, challenge: [u8; 24]) -> Result<(Pass<H>, usize), JoinRefused>
-        ensures here { IfOk result (λ r. B.home ≡ Some r.0.home) }
+    /// Joins the hub for a connection that has come, and gives the pass and the slot for it.
+    fn join(
+        &self,
+        address: SocketAddrV4,
+        challenge: [u8; 24],
+        socket: &S,
+    ) -> Result<(Pass<H>, usize), NoPlace<B, S, H>>
+        requires arrives { ∥ B.arrives (octets_of address) challenge socket.now ∥₁ }
+        ensures here { IfOk result (λ r. home_in B.hub ≡ Some r.0.home) }
         ensures challenged { IfOk result (λ r. r.0.challenge ≡ challenge) }
-        ensures came { IfOk result (λ r. HasComeFrom r.0 peer.address challenge) }
-        ensures entered { IfOk result (λ r. HasEntered ⟦<S as Stream>⟧.told B.tells r.0) }
+        ensures came { IfOk result (λ r. HasComeFrom r.0 (octets_of address) challenge) }
+        ensures entered { IfOk result (λ r. HasEntered ⟦<S as Stream>⟧.told B.tells B.arrives socket.now r.0) }
+        ensures turned_away { (free : _) → result ≡ Err (HubFull free) → WasRefused (octets_of address) challenge free.visitor }
     {
+        // It only says which stream the connection has.
+        let _ = socket;
         let server = self.server;
-        let Some(free) = server.take_slot() else {
-            return Err(JoinRefused::Full);
+        let FreeSlot { visitor, slot, .. } = match server.take_slot() {
+            Ok(free) => free,
+            Err(no_slot) => return Err(NoPlace::NoSlot(no_slot)),
         };
-        let FreeSlot { visitor, slot, .. } = free;
-        let now = server.moment_of_call();
+        let moment = server.moment_of_call();
+        let peer = address.ip().octets();
+        let alloc = server.rt.alloc();
         match server.hub.join(
             server.rt,
-            server.rt.alloc(),
+            alloc,
             visitor,
-            peer.address,
+            peer,
             challenge,
-            now,
+            moment.into_seconds(),
         ) {
             Ok(pass) => Ok((pass, slot)),
             Err((refused, visitor)) => {
-                server.free(FreeSlot::new(visitor, slot));
-                Err(refused)
+                let free = FreeSlot::new(visitor, slot);
+                match refused {
+                    JoinRefused::Memory => Err(NoPlace::NoMemory(free)),
+                    JoinRefused::Full | JoinRefused::JoinsSpent => Err(NoPlace::HubFull(free)),
+                }
             }
         }
     }
 
     /// Leaves the connection for the task of its slot. It is let go where that cannot be.
-    fn hand_over(&self, accepted: Accepted<B, S, H>, slot: usize) {
+    fn hand_over(&self, accepted: Accepted<B, S, T, H, C>, slot: usize) {
         let server = self.server;
-        if let Some(accepted) = server.shared.handoff.put(server.rt, slot, accepted) {
-            let Accepted { stream, pass, .. } = accepted;
+        let (_word, before) = server.shared.handoff.put(server.rt, slot, accepted);
+        if let Some(accepted) = before {
+            let Accepted {
+                ticket,
+                socket,
+                pass,
+                challenge: _,
+                peer: _,
+                of: _,
+            } = accepted;
             let visitor = server.hub.quit(server.rt, pass);
             server.free(FreeSlot::new(visitor, slot));
-            drop(stream);
+            ticket.lost(socket);
             server.shared.wakers.make_room();
         }
     }
 
-    /// Says that the hub is full.
-    fn refuse(&self, mut stream: S) {
-        say_full(&mut stream);
-        self.server.shared.lingering.let_out(self.server.rt, stream);
-        self.server.shared.wakers.make_room();
+    /// Ends a connection for which there is no place: it is told so, or let go where memory was refused.
+    fn turn_away(&self, why: NoPlace<B, S, H>, arrived: Arrived<S, T>)
+        requires began { T.began arrived.ticket ≡ arrived.socket }
+    {
+        let server = self.server;
+        let Arrived {
+            ticket,
+            mut socket,
+            address,
+        } = arrived;
+        match why {
+            NoPlace::NoMemory(free) => {
+                server.free(free);
+                ticket.lost(socket);
+                self.warnings.warn(server.rt, Some(address), Cause::Refused);
+            }
+            NoPlace::HubFull(free) => {
+                server.free(free);
+                say_full(&mut socket);
+                server.let_out(ticket.refused(socket));
+            }
+            NoPlace::NoSlot(no_slot) => {
+                no_slot.end();
+                say_full(&mut socket);
+                server.let_out(ticket.refused(socket));
+            }
+        }
+        server.shared.wakers.make_room();
     }
 }
 
 impl<
-    B: OfHub<H>,
+    B: OfHub<H, S>,
     S: Socket,
+    T: Ticket<S, H, C>,
     H: SessionHash,
-    R: Wait + Clock + Moments + AllocGlobal,
+    R: Wait + Clock + AllocGlobal,
+    C: Moments,
     L: Log,
-> Starter<S> for Acceptor<'_, B, S, H, R, L> {
+> Starter<Newcomer<B, S, T, H, C>> for Acceptor<'_, B, S, T, H, R, C, L> {
     ghost use Rattle.std.specs.Prelude.{◌≡◌};
-    ghost use Rattle.hub_challenges.specs.Dealing.{after_dealt};
-    ghost use Rattle.hub_challenges.proofs.Dealing.{after-more, after-none};
+    ghost use Rattle.std.proofs.Common.{◌∙◌, refl};
 
-    // Each stream that was accepted has drawn a challenge of its own, the next one.
-    ghost starts = { λ a n b. b.challenges ≡ after_dealt n a.challenges };
+    // It stays the same. That each connection was started is what its ticket's end says.
+    ghost starts = { λ a n b. b ≡ a };
 
-    ghost starts_nothing = { λ a. after-none a.challenges };
+    ghost starts_nothing = { λ a. refl };
 
-    ghost starts_in_order = { λ a n b m c. after-more n m a.challenges b.challenges c.challenges };
+    ghost starts_in_order = { λ a n b m c first second. second ∙ first };
 
-    fn start(&mut self, stream: S, peer: Peer) {
-        let challenge = self.challenges.next();
-        let address = address_of(&stream, peer);
+    fn start(&mut self, newcomer: Newcomer<B, S, T, H, C>, _peer: Peer) {
+        let Newcomer {
+            arrived,
+            challenge,
+            of: _,
+        } = newcomer;
         // Lines are written in one piece each, so that waiting for more would only delay them.
-        let _ = stream.set_nodelay(true);
-        match self.join(peer, challenge) {
+        let _ = arrived.socket.set_nodelay(true);
+        match self.join(arrived.address, challenge, &arrived.socket) {
             Ok(joined) => {
                 let (pass, slot) = joined;
-                self.hand_over(Accepted::new(stream, pass, challenge, address), slot);
+                let Arrived {
+                    ticket,
+                    socket,
+                    address,
+                } = arrived;
+                let accepted = Accepted {
+                    ticket,
+                    socket,
+                    pass,
+                    challenge,
+                    peer: address,
+                    of: PhantomData,
+                };
+                self.hand_over(accepted, slot);
             }
-            Err(JoinRefused::Memory) => {
-                drop(stream);
-                self.server.shared.wakers.make_room();
-                self.warnings
-                    .warn(self.server.rt, Some(address), Cause::Refused);
-            }
-            Err(JoinRefused::Full | JoinRefused::JoinsSpent) => self.refuse(stream),
+            Err(why) => self.turn_away(why, arrived),
         }
     }
 }
@@ -150,19 +215,7 @@ impl<
 /// Says on a socket that the hub is full, and nothing else. It is one line on a fresh socket, which takes all of it or is not
 /// worth more.
 fn say_full<S: Socket>(stream: &mut S)
-    ensures said { ∥ ((count : ℕ) × S.writes stream.old (take count hub_full) stream.new) ∥₁ }
+    ensures said { ∥ IsToldFull S.writes stream.old stream.new ∥₁ }
 {
     let _ = stream.try_write(b"ISTA 211 Hub\\sfull\n");
-}
-
-/// Gives the address and the port from which a connection comes, for who reads warnings. The port is 0 where the connection is
-/// gone already.
-fn address_of<S: Socket>(stream: &S, peer: Peer) -> SocketAddrV4
-    ensures { octets_of result ≡ peer.address }
-{
-    let port = match stream.peer_addr() {
-        Ok(address) => address.port(),
-        Err(_) => 0,
-    };
-    SocketAddrV4::new(Ipv4Addr::from_octets(peer.address), port)
 }

@@ -1,18 +1,25 @@
-ghost use Rattle.std.specs.Prelude.{◌≡◌, IfOk, IfErr};
+ghost use Rattle.std.specs.Prelude.{◌≡◌, true, false, None, IfOk, IfErr, OnErr, IsSomeAnd};
+ghost use Rattle.connection_slots.specs.declared.slots.Deed.TheVariants.{Named};
+ghost use Rattle.hub_core.specs.declared.share.Touched.TheVariants.{One};
 ghost use Rattle.hub_rules.specs.Prepared.{prepared_line};
 ghost use Rattle.hub_server.specs.PortCalls.{Leaves};
 ghost use Rattle.hub_server.specs.ServedByHub.{ServesByHub};
+ghost use Rattle.hub_server.specs.Waking.{AreWokenOrOwed, HasRung};
+ghost use Rattle.hub_shared.specs.Calls.{SaysLine, Saw};
 
 use crate::free_slot::OfHub;
 use crate::left_slot::LeftSlot;
 use crate::server::Server;
-use adc_sessions::{Bell, Port, Session, Stream};
-use connection_slots::{Amount, Throttle, Wakers};
+use crate::slot_bell::SlotBell;
+use crate::ticket::Ticket;
+use crate::waking::{Concerned, Woken};
+use adc_sessions::{Port, Session, Stream};
+use connection_slots::{Amount, Receipt};
 use futures::Future;
-use futures::task::Context;
+use futures::spin::GaveUp;
 use hub_core::{LineRefused, Prepared, Setup, TakeRefused, Taken, Touched, Verdict, prepare};
-use hub_listener::Moments;
-use hub_shared::Pass;
+use hub_listener::{CallMoment, Moments};
+use hub_shared::{Hub, Pass};
 use session_hash::SessionHash;
 use std::alloc::{AllocGlobal, Global};
 use std::sync::Wait;
@@ -23,94 +30,125 @@ use tokio::io::{AsyncRead, AsyncWrite};
 const QUIT: u64 = 10;
 
 /// One connection of the hub, for its session.
-pub struct Connection<'a, B: OfHub<H>, S: Stream, H: SessionHash, R: Moments> {
-    server: &'a Server<'a, B, S, H, R>,
+pub struct Connection<
+    'a,
+    B: OfHub<H, S>,
+    S: Stream,
+    T: Ticket<S, H, C>,
+    H: SessionHash,
+    R,
+    C: Moments,
+> {
+    server: &'a Server<'a, B, S, T, H, R, C>,
     pass: Pass<H>,
     challenge: [u8; 24],
     slot: usize,
-    is_named: bool,
+    // The receipt of the slot's name, once the connection has a session identifier.
+    named: Option<Result<Receipt, GaveUp>>,
     // Lines for everybody for which nobody was woken yet, and the second of the last of them.
+    owes: bool,
     owed: Amount,
     second: u64,
+    // The receipts of those whom the last line concerned, and of the last time that everybody was woken.
+    woken: Woken,
+    rung: Option<Result<Receipt, GaveUp>>,
     ghost here: { pass.home ≡ server.now.hub.now.home },
     ghost challenged: { pass.challenge ≡ challenge },
 }
 
-impl<'a, B: OfHub<H>, S: Stream, H: SessionHash, R: Moments> Drop for Connection<'a, B, S, H, R> {
+impl<'a, B: OfHub<H, S>, S: Stream, T: Ticket<S, H, C>, H: SessionHash, R, C: Moments> Drop
+    for Connection<'a, B, S, T, H, R, C> {
     fn drop(self) {
         let Connection {
             server: _,
             pass,
             challenge: _,
             slot: _,
-            is_named: _,
+            named,
+            owes: _,
             owed: _,
             second: _,
+            woken,
+            rung,
         } = self;
         drop(pass);
+        drop(named);
+        drop(woken);
+        drop(rung);
     }
 }
 
 impl<
     'a,
-    B: OfHub<H>,
+    B: OfHub<H, S>,
     S: AsyncRead + AsyncWrite,
+    T: Ticket<S, H, C>,
     H: SessionHash,
-    R: Wait + Clock + Moments,
-> Connection<'a, B, S, H, R> {
+    R: Wait + Clock,
+    C: Moments,
+> Connection<'a, B, S, T, H, R, C> {
     /// Makes the connection of a pass that joined with this challenge, and gives it the slot.
     pub fn new(
-        server: &'a Server<'a, B, S, H, R>,
+        server: &'a Server<'a, B, S, T, H, R, C>,
         pass: Pass<H>,
         challenge: [u8; 24],
         slot: usize,
-    ) -> Connection<'a, B, S, H, R>
+    ) -> Connection<'a, B, S, T, H, R, C>
         requires here { pass.home ≡ server.now.hub.now.home }
         requires challenged { pass.challenge ≡ challenge }
         ensures server { result.server ≡ server.entry }
         ensures pass { result.pass ≡ pass }
+        ensures slot { result.slot ≡ slot }
     {
-        server.shared.wakers.occupy(slot);
+        let _ = server.shared.wakers.occupy(slot);
         Connection {
             server,
             pass,
             challenge,
             slot,
-            is_named: false,
+            named: None,
+            owes: false,
             owed: Amount::NONE,
             second: 0,
+            woken: Woken::Nobody,
+            rung: None,
         }
     }
 
     /// Gives the bell of this connection's session.
-    pub fn bell(&self) -> SlotBell<'a> {
+    pub fn bell(&self) -> SlotBell<'a>
+        ensures { result.slot ≡ self.now.slot }
+    {
         SlotBell::new(&self.server.shared.wakers, self.slot)
     }
 
     /// Wakes those whom the last line concerned, of so many bytes. A client's lines often come together, so where one is for
     /// everybody, they are woken once for all, by the take that follows.
-    fn wake(&mut self, touched: Touched, bytes: u64)
+    fn wake(&mut self, concerned: Concerned, bytes: u64)
         ensures server { self.new.server ≡ self.old.server }
         ensures pass { self.new.pass ≡ self.old.pass }
+        ensures slot { self.new.slot ≡ self.old.slot }
+        ensures rung { self.new.rung ≡ self.old.rung }
+        ensures owes { self.old.owes ≡ true → self.new.owes ≡ true }
+        ensures named { (sid : _) → concerned ≡ One sid → self.old.named ≡ None → IsSomeAnd self.new.named (λ it. IfOk it (λ deed. deed ≡ Named self.old.slot sid)) }
+        ensures woken { AreWokenOrOwed concerned self.old.slot self.new.woken self.new.owes }
     {
+        let wakers = &self.server.shared.wakers;
+        let touched = concerned.touched();
         // Before it has a session identifier, a connection's lines concern nobody but itself.
-        if !self.is_named
+        if self.named.is_none()
             && let Touched::One(sid) = touched
         {
-            self.server.shared.wakers.name(self.slot, sid);
-            self.is_named = true;
+            self.named = Some(wakers.name(self.slot, sid));
         }
         if let Touched::Everybody = touched {
-            self.server.shared.wakers.count_broadcast(bytes);
+            concerned.owe();
+            wakers.count_broadcast(bytes);
             self.owed = self.owed.plus(Amount::of_line(bytes));
+            self.owes = true;
+            self.woken = Woken::Nobody;
         } else {
-            wake_touched(
-                &self.server.shared.wakers,
-                touched,
-                self.slot,
-                bytes,
-                self.second,
-            );
+            self.woken = concerned.wake(wakers, self.slot, bytes, self.second);
         }
     }
 
@@ -118,29 +156,51 @@ impl<
     fn wake_owed(&mut self)
         ensures server { self.new.server ≡ self.old.server }
         ensures pass { self.new.pass ≡ self.old.pass }
+        ensures slot { self.new.slot ≡ self.old.slot }
+        ensures second { self.new.second ≡ self.old.second }
+        ensures settled { self.new.owes ≡ false }
+        ensures rung { self.old.owes ≡ true → HasRung self.old.slot self.new.rung }
     {
-        let owed = self.owed;
-        if owed.lines != 0 {
+        if self.owes {
+            let owed = self.owed;
             self.owed = Amount::NONE;
-            self.server
-                .shared
-                .wakers
-                .wake_everybody(self.slot, owed, self.second);
+            self.owes = false;
+            let wakers = &self.server.shared.wakers;
+            self.rung = Some(wakers.wake_everybody(self.slot, owed, self.second));
         }
     }
 }
 
-/// Wakes those whom a call of the session of this slot concerned, which gave each a line of about so many bytes in this second.
-fn wake_touched(wakers: &Wakers, touched: Touched, slot: usize, bytes: u64, second: u64) {
-    match touched {
-        Touched::Nobody => {}
-        Touched::One(sid) => wakers.wake_one(sid, slot, bytes, second),
-        Touched::Two(one, other) => wakers.wake_two(one, other, slot, bytes, second),
-        Touched::Everybody => {
-            wakers.count_broadcast(bytes);
-            wakers.wake_everybody(slot, Amount::of_line(bytes), second);
-        }
-    }
+/// What the hub said of a line, whom that concerned, and in which second it was.
+struct Said {
+    verdict: Verdict,
+    concerned: Concerned,
+    second: u64,
+}
+
+/// Has the hub handle a line of this pass at this moment, and names those whom that concerned.
+fn say<H: SessionHash, R: Wait>(
+    rt: &R,
+    hub: &Hub<H>,
+    alloc: Global,
+    pass: &mut Pass<H>,
+    line: &Prepared,
+    moment: CallMoment,
+) -> Result<Said, LineRefused>
+    requires here { pass.old.home ≡ hub.now.home }
+    requires prepared { line.now ≡ prepared_line hub.now.setup (H.digest_of hub.now.hash) pass.old.challenge line.now.bytes }
+    ensures same { pass.new ≡ record pass.old { caller = pass.new.caller; touched = pass.new.touched } }
+    ensures made { IfOk result (λ r. SaysLine hub.now.setup (H.digest_of hub.now.hash) pass.old line.now.bytes moment r.verdict pass.new.caller) }
+    ensures concerned { IfOk result (λ r. r.concerned ≡ pass.new.touched) }
+    ensures refused { OnErr result (Saw hub.now.setup (H.digest_of hub.now.hash) pass.old.caller pass.new.caller) }
+{
+    let second = moment.into_seconds();
+    let verdict = hub.line(rt, alloc, pass, line, second)?;
+    Ok(Said {
+        verdict,
+        concerned: Concerned::new(pass.touched()),
+        second,
+    })
 }
 
 /// Makes a line ready for the hub with this setup and this hash, and for who was challenged by this.
@@ -158,34 +218,49 @@ fn prepare_line<H: SessionHash>(
     prepare(alloc, setup, hash, challenge, line)
 }
 
-impl<B: OfHub<H>, S: AsyncRead + AsyncWrite, H: SessionHash, R: Wait + Clock + Moments> Port
-    for Connection<'_, B, S, H, R> {
+impl<
+    B: OfHub<H, S>,
+    S: AsyncRead + AsyncWrite,
+    T: Ticket<S, H, C>,
+    H: SessionHash,
+    R: Wait + Clock,
+    C: Moments,
+> Port for Connection<'_, B, S, T, H, R, C> {
     ghost use Rattle.std.specs.Prelude.{◌≡◌};
     ghost use Rattle.hub_server.specs.PortCalls.{Calls, Leaves};
+    ghost use Rattle.hub_server.specs.Waking.{Wakes, AreWoken, OwesOn};
 
     type Left = LeftSlot<H>;
 
-    ghost step = { λ a call b. (b.server ≡ a.server) × Calls a.server.now.hub.now.setup (H.digest_of a.server.now.hub.now.hash) B.tells a.pass call b.pass };
+    ghost step = { λ a call b. (b.server ≡ a.server) × Calls a.server.now.hub.now.setup (H.digest_of a.server.now.hub.now.hash) B.tells a.pass call b.pass
+        × (b.slot ≡ a.slot) × Wakes call b.pass.touched a.slot a.owes b.owes b.woken b.rung };
 
-    ghost leaves = { λ a left. Leaves a.server.now.hub.now.setup (H.digest_of a.server.now.hub.now.hash) a.pass left.visitor };
+    ghost leaves = { λ a left. Leaves a.server.now.hub.now.setup (H.digest_of a.server.now.hub.now.hash) a.pass left.visitor
+        × (left.slot ≡ a.slot) × AreWoken left.visitor.touched a.slot 10 a.second left.woken × OwesOn a.owes false a.slot left.rung };
 
     fn line(&mut self, alloc: Global, line: &[u8]) -> Result<Verdict, LineRefused> {
         // Their digests may take long.
         if line.starts_with(b"BINF") || line.starts_with(b"HPAS") {
             self.wake_owed();
-            self.server.shared.wakers.call_for_help(self.slot);
+            let _ = self.server.shared.wakers.call_for_help(self.slot);
         }
         let server = self.server;
         let prepared = prepare_line(alloc, server.setup, server.hash, self.challenge, line)?;
-        let now = server.moment_of_call();
-        let verdict = server
-            .hub
-            .line(server.rt, alloc, &mut self.pass, &prepared, now)?;
-        self.second = now;
-        let connection = &*self;
-        let touched = connection.pass.touched();
+        let Said {
+            verdict,
+            concerned,
+            second,
+        } = say(
+            server.rt,
+            server.hub,
+            alloc,
+            &mut self.pass,
+            &prepared,
+            server.moment_of_call(),
+        )?;
+        self.second = second;
         let bytes = (line.len() as u64).saturating_add(1);
-        self.wake(touched, bytes);
+        self.wake(concerned, bytes);
         Ok(verdict)
     }
 
@@ -213,18 +288,33 @@ impl<B: OfHub<H>, S: AsyncRead + AsyncWrite, H: SessionHash, R: Wait + Clock + M
             pass,
             challenge: _,
             slot,
-            is_named: _,
+            named,
+            owes: _,
             owed: _,
             second,
+            woken,
+            rung,
         } = self;
+        drop(named);
+        drop(woken);
         let visitor = server.hub.quit(server.rt, pass);
-        wake_touched(&server.shared.wakers, visitor.touched(), slot, QUIT, second);
-        LeftSlot { visitor, slot }
+        let concerned = Concerned::new(visitor.touched());
+        let woken = concerned.wake(&server.shared.wakers, slot, QUIT, second);
+        LeftSlot {
+            visitor,
+            slot,
+            woken,
+            rung,
+        }
     }
 }
 
 /// The session of a connection of the hub, over this stream.
-pub type HubSession<'a, B, S, H, R> = Session<S, Connection<'a, B, S, H, R>, SlotBell<'a>>;
+pub type HubSession<'a, B, S, T, H, R, C> = Session<
+    S,
+    Connection<'a, B, S, T, H, R, C>,
+    SlotBell<'a>,
+>;
 
 /// Serves a stream for a pass that joined with this challenge, as the connection of this slot. The session is a future.
 ///
@@ -235,20 +325,22 @@ pub type HubSession<'a, B, S, H, R> = Session<S, Connection<'a, B, S, H, R>, Slo
 /// Refused for want of memory; then the connection has quit, and the stream and the slot are given back.
 pub fn serve_connection<
     'a,
-    B: OfHub<H>,
+    B: OfHub<H, S>,
     S: AsyncRead + AsyncWrite,
+    T: Ticket<S, H, C>,
     H: SessionHash,
-    R: Wait + Clock + Moments + AllocGlobal,
+    R: Wait + Clock + AllocGlobal,
+    C: Moments,
 >(
-    server: &'a Server<'a, B, S, H, R>,
+    server: &'a Server<'a, B, S, T, H, R, C>,
     stream: S,
     pass: Pass<H>,
     challenge: [u8; 24],
     slot: usize,
-) -> Result<HubSession<'a, B, S, H, R>, (S, LeftSlot<H>)>
+) -> Result<HubSession<'a, B, S, T, H, R, C>, (S, LeftSlot<H>)>
     requires here { pass.home ≡ server.now.hub.now.home }
     requires challenged { pass.challenge ≡ challenge }
-    ensures serves { IfOk result (λ session. ServesByHub server.now.hub.now.setup (H.digest_of server.now.hub.now.hash) ⟦<S as Stream>⟧.told B.tells stream pass (⟦<Session<S, Connection<'a, B, S, H, R>, SlotBell<'a>> as Future>⟧.gives session) (λ left. left.visitor)) }
+    ensures serves { IfOk result (λ session. ServesByHub server.now.hub.now.setup (H.digest_of server.now.hub.now.hash) ⟦<S as Stream>⟧.told B.tells stream pass (⟦<Session<S, Connection<'a, B, S, T, H, R, C>, SlotBell<'a>> as Future>⟧.gives session) (λ left. left.visitor)) }
     ensures stream { IfErr result (λ back. back.0 ≡ stream) }
     ensures left { IfErr result (λ back. Leaves server.now.hub.now.setup (H.digest_of server.now.hub.now.hash) pass back.1.visitor) }
 {
@@ -257,46 +349,5 @@ pub fn serve_connection<
     match Session::new(server.rt.alloc(), stream, connection, bell) {
         Ok(session) => Ok(session),
         Err((_, stream, connection, _bell)) => Err((stream, connection.quit())),
-    }
-}
-
-/// The bell of a session: the waker of its slot.
-#[derive(Drop)]
-pub struct SlotBell<'a> {
-    wakers: &'a Wakers,
-    slot: usize,
-    throttle: Throttle,
-}
-
-impl<'a> SlotBell<'a> {
-    /// Makes the bell of the session of this slot.
-    pub fn new(wakers: &'a Wakers, slot: usize) -> SlotBell<'a> {
-        SlotBell {
-            wakers,
-            slot,
-            throttle: Throttle::new(),
-        }
-    }
-}
-
-impl Bell for SlotBell<'_> {
-    fn ring(&self) {
-        self.wakers.wake_slot(self.slot);
-    }
-
-    fn wait(&mut self, cx: &mut Context<'_>) -> bool {
-        self.wakers.end_line(self.slot, &mut self.throttle);
-        self.wakers.was_woken(self.slot, cx)
-    }
-
-    fn may_hand(&mut self, bytes: usize) -> bool {
-        let bytes = bytes as u64;
-        self.wakers.may_send(self.slot, bytes, &mut self.throttle)
-    }
-
-    fn wrote(&mut self, bytes: usize, was_full: bool) {
-        if was_full {
-            self.wakers.count_written(self.slot, bytes as u64);
-        }
     }
 }

@@ -1,6 +1,16 @@
+ghost use Rattle.std.specs.Prelude.{◌≡◌, ℕ, IfOk, IfErr, OnOk};
+ghost use Rattle.std.specs.Arc.{arc_value};
+ghost use Rattle.std.specs.Io.KnownBytes.{Appends, Keeps};
+ghost use Rattle.hub_endings.specs.declared.ending.Ending.TheVariants.{Served};
+ghost use Rattle.hub_server.specs.Reporting.{EndsServing, HasServed, IsServerEnding, IsServerFault, report_line};
+
 use crate::lifetime::serve_hub;
+use crate::port::{BindPort, HubPort};
+use crate::tcp::{TcpPort, TcpTicket};
+use crate::ticket::Ticket;
+use adc_sessions::Stream;
 use hub_endings::Ending;
-use hub_listener::{Bind, moment};
+use hub_listener::{Moments, Socket, moment};
 use hub_settings::Settings;
 use hub_shared::Report;
 use hub_warnings::{End, Journal, Moment, Warnings};
@@ -13,8 +23,10 @@ use std::random::RandomSource;
 use std::sync::{Arc, Wait};
 use std::thread::Threads;
 use std::time::Clock;
+use tokio::net::TcpStream;
 
-/// Serves a hub with these settings, this hash, and challenges of this seed, and gives the exit status.
+/// Serves a hub with these settings, this hash, and challenges of this seed, and gives the exit status. With status 0 all that came
+/// were served, as many as the settings say, and the output ends with the report (`specs/Reporting` has all that is promised).
 ///
 /// On `output` it says `listening` and the address that was bound, as `a.b.c.d:port`, once all of its tasks came to be, and
 /// at the end `joins`, the number of joins that were accepted, `present 0`. On `errors` goes a warning for each session
@@ -38,29 +50,41 @@ where
     R: Wait + Threads + Clock + Net + RandomSource + AllocGlobal + Sync,
     W: Write,
     E: Write + Send,
+    ensures status { EndsServing E.contents errors.new result }
+    ensures served { result ≡ 0 → (joins : ℕ) × HasServed ⟦<TcpTicket<H, R> as Ticket<TcpStream, H, R>>⟧.terms ⟦<TcpTicket<H, R> as Ticket<TcpStream, H, R>>⟧.number ⟦<TcpTicket<H, R> as Ticket<TcpStream, H, R>>⟧.peer
+        ⟦<TcpTicket<H, R> as Ticket<TcpStream, H, R>>⟧.began ⟦<TcpStream as Stream>⟧.told ⟦<TcpPort<H, R> as HubPort<TcpStream, TcpTicket<H, R>, H, R>>⟧.terms
+        ⟦<TcpPort<H, R> as HubPort<TcpStream, TcpTicket<H, R>, H, R>>⟧.accepted ⟦<R as Moments>⟧.tells W.contents settings.now.hub H.digest_of (arc_value hash) rt.now seed
+        settings.now.stop_after output.new joins }
 {
     let address = settings.listen();
-    serve_at(rt, settings, hash, seed, address, output, errors)
+    serve_at::<TcpStream, TcpTicket<H, R>, TcpPort<H, R>, H, R, W, E>(
+        rt, settings, hash, seed, address, output, errors,
+    )
 }
 
 /// Serves as [`serve_on`] does, but listens at this address, wherever the settings say to listen.
-pub fn serve_at<H, R, A, W, E>(
+pub fn serve_at<S, T, I, H, R, W, E>(
     rt: &R,
     settings: &Settings,
     hash: Arc<H>,
     seed: [u8; 32],
-    address: A,
+    address: I::Address,
     output: &mut W,
     errors: &mut E,
 ) -> u8
 where
+    S: Socket + Send,
+    T: Ticket<S, H, R> + Send,
+    I: BindPort<S, T, H, R> + Send,
     H: SessionHash + Send + Sync + Drop,
     R: Wait + Threads + Clock + Net + RandomSource + AllocGlobal + Sync,
-    A: Bind,
     W: Write,
     E: Write + Send,
+    ensures status { EndsServing E.contents errors.new result }
+    ensures served { result ≡ 0 → (joins : ℕ) × HasServed T.terms T.number T.peer T.began ⟦<S as Stream>⟧.told I.terms I.accepted ⟦<R as Moments>⟧.tells
+        W.contents settings.now.hub H.digest_of (arc_value hash) rt.now seed settings.now.stop_after output.new joins }
 {
-    run_to_status(rt, settings, hash, seed, address, None, output, errors)
+    run_to_status::<S, T, I, H, R, W, E>(rt, settings, hash, seed, address, None, output, errors)
 }
 
 /// Serves as [`serve_on`] does, where `errors` is the journal of systemd. Each warning begins with its priority there, as
@@ -80,36 +104,48 @@ where
     R: Wait + Threads + Clock + Net + RandomSource + AllocGlobal + Sync,
     W: Write,
     E: Write + Send,
+    ensures status { EndsServing E.contents errors.new result }
+    ensures served { result ≡ 0 → (joins : ℕ) × HasServed ⟦<TcpTicket<H, R> as Ticket<TcpStream, H, R>>⟧.terms ⟦<TcpTicket<H, R> as Ticket<TcpStream, H, R>>⟧.number ⟦<TcpTicket<H, R> as Ticket<TcpStream, H, R>>⟧.peer
+        ⟦<TcpTicket<H, R> as Ticket<TcpStream, H, R>>⟧.began ⟦<TcpStream as Stream>⟧.told ⟦<TcpPort<H, R> as HubPort<TcpStream, TcpTicket<H, R>, H, R>>⟧.terms
+        ⟦<TcpPort<H, R> as HubPort<TcpStream, TcpTicket<H, R>, H, R>>⟧.accepted ⟦<R as Moments>⟧.tells W.contents settings.now.hub H.digest_of (arc_value hash) rt.now seed
+        settings.now.stop_after output.new joins }
 {
     let address = settings.listen();
     let file = Some(settings_file);
-    run_to_status(rt, settings, hash, seed, address, file, output, errors)
+    run_to_status::<TcpStream, TcpTicket<H, R>, TcpPort<H, R>, H, R, W, E>(
+        rt, settings, hash, seed, address, file, output, errors,
+    )
 }
 
 /// Serves, for the journal where there is a path of the settings' file, which it names.
-fn run_to_status<H, R, A, W, E>(
+fn run_to_status<S, T, I, H, R, W, E>(
     rt: &R,
     settings: &Settings,
     hash: Arc<H>,
     seed: [u8; 32],
-    address: A,
+    address: I::Address,
     settings_file: Option<&str>,
     output: &mut W,
     errors: &mut E,
 ) -> u8
 where
+    S: Socket + Send,
+    T: Ticket<S, H, R> + Send,
+    I: BindPort<S, T, H, R> + Send,
     H: SessionHash + Send + Sync + Drop,
     R: Wait + Threads + Clock + Net + RandomSource + AllocGlobal + Sync,
-    A: Bind,
     W: Write,
     E: Write + Send,
+    ensures status { EndsServing E.contents errors.new result }
+    ensures served { result ≡ 0 → (joins : ℕ) × HasServed T.terms T.number T.peer T.began ⟦<S as Stream>⟧.told I.terms I.accepted ⟦<R as Moments>⟧.tells
+        W.contents settings.now.hub H.digest_of (arc_value hash) rt.now seed settings.now.stop_after output.new joins }
 {
     let log = Logged::new(
         (),
         Level::Info,
         Journal::new(rt, settings_file.is_some(), &mut *errors),
     );
-    let ending = run_and_log_end(
+    let ending = run_and_log_end::<S, T, I, H, R, W, _>(
         rt,
         settings,
         &*hash,
@@ -123,25 +159,30 @@ where
 }
 
 /// Serves with this log, and says there at the end, for the journal, why it ended.
-fn run_and_log_end<H, R, A, W, L>(
+fn run_and_log_end<S, T, I, H, R, W, L>(
     rt: &R,
     settings: &Settings,
     hash: &H,
     seed: [u8; 32],
-    address: A,
+    address: I::Address,
     settings_file: Option<&str>,
     output: &mut W,
     log: L,
 ) -> Ending
 where
+    S: Socket + Send,
+    T: Ticket<S, H, R> + Send,
+    I: BindPort<S, T, H, R> + Send,
     H: SessionHash + Send + Sync,
     R: Wait + Threads + Clock + Net + RandomSource + AllocGlobal + Sync,
-    A: Bind,
     W: Write,
     L: Log + Sync + Drop,
+    ensures ending { IsServerEnding result }
+    ensures served { result ≡ Served → (joins : ℕ) × HasServed T.terms T.number T.peer T.began ⟦<S as Stream>⟧.told I.terms I.accepted ⟦<R as Moments>⟧.tells
+        W.contents settings.now.hub H.digest_of hash.now rt.now seed settings.now.stop_after output.new joins }
 {
     let warnings = Warnings::new(log);
-    let served = run_and_report(
+    let served = run_and_report::<S, T, I, H, R, W, L>(
         rt,
         settings,
         hash,
@@ -187,24 +228,30 @@ fn reason_of(ending: Ending) -> &'static str {
 }
 
 /// Serves, says the report, and gives the number of joins that were accepted.
-fn run_and_report<H, R, A, W, L>(
+fn run_and_report<S, T, I, H, R, W, L>(
     rt: &R,
     settings: &Settings,
     hash: &H,
     seed: [u8; 32],
-    address: A,
+    address: I::Address,
     settings_file: Option<&str>,
     output: &mut W,
     warnings: &Warnings<L>,
 ) -> Result<u64, Ending>
 where
+    S: Socket + Send,
+    T: Ticket<S, H, R> + Send,
+    I: BindPort<S, T, H, R> + Send,
     H: SessionHash + Send + Sync,
     R: Wait + Threads + Clock + Net + RandomSource + AllocGlobal + Sync,
-    A: Bind,
     W: Write,
     L: Log + Sync,
+    ensures served { IfOk result (λ joins. HasServed T.terms T.number T.peer T.began ⟦<S as Stream>⟧.told I.terms I.accepted ⟦<R as Moments>⟧.tells
+        W.contents settings.now.hub H.digest_of hash.now rt.now seed settings.now.stop_after output.new joins) }
+    ensures ending { IfErr result IsServerFault }
 {
-    let report = serve_hub(
+    let served = serve_hub::<S, T, I, H, R, R, W, L>(
+        rt,
         rt,
         settings,
         hash,
@@ -214,18 +261,24 @@ where
         output,
         warnings,
     )?;
-    say_report(&report, output)?;
-    Ok(report.joins)
+    say_report(&served.report, output)?;
+    Ok(served.report.joins)
 }
 
-fn say_report<W: Write>(report: &Report, output: &mut W) -> Result<(), Ending> {
+fn say_report<W: Write>(report: &Report, output: &mut W) -> Result<(), Ending>
+    ensures said { OnOk result (Appends (W.contents output.old) (W.contents output.new) (report_line report.now.joins report.now.present)) }
+    ensures ending { IfErr result IsServerFault }
+{
     match writeln!(output, "joins {} present {}", report.joins, report.present) {
         Ok(()) => flush(output),
         Err(_) => Err(Ending::Transfer),
     }
 }
 
-fn flush<W: Write>(output: &mut W) -> Result<(), Ending> {
+fn flush<W: Write>(output: &mut W) -> Result<(), Ending>
+    ensures kept { OnOk result (Keeps (W.contents output.old) (W.contents output.new)) }
+    ensures ending { IfErr result IsServerFault }
+{
     match output.flush() {
         Ok(()) => Ok(()),
         Err(_) => Err(Ending::Transfer),

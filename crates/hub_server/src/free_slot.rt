@@ -1,47 +1,60 @@
 ghost use Rattle.std.specs.Prelude.{◌≡◌, Some};
+ghost use Rattle.hub_server.specs.Naming.{home_in};
 ghost use Rattle.hub_server.specs.Visits.{HasVisited};
 
 use adc_sessions::Stream;
 use hub_shared::Visitor;
+use session_hash::SessionHash;
 use std::marker::{Brand, PhantomData};
 use tokio::io::{AsyncRead, AsyncWrite};
 
-/// A name of the hub that all is about, and of the moments of its calls, which travels through tasks: a proof picks it.
-pub trait OfHub<H> {
-    ghost use Rattle.std.specs.Prelude.{Option, ℕ};
-    ghost use Rattle.one_history.specs.States.{Home};
-    ghost use Rattle.hub_shared.specs.declared.about.About.{About};
+/// A name of the hub that all is about, of the moments of its calls, and of those who come to it over streams `S`. It travels
+/// through tasks: a proof picks it.
+pub trait OfHub<H, S> {
+    ghost use Rattle.std.specs.Prelude.{Option, ℕ, List};
+    ghost use Rattle.hub_shared.specs.Callers.{HubState};
 
-    ghost home: { Option (Home (About H)) };
+    /// The hub.
+    ghost hub: { Option (HubState H) };
 
     /// The moments of its calls.
     ghost tells: { ℕ → Type 0 };
+
+    /// Who comes: the address, the challenge, and the stream as it began.
+    ghost arrives: { List ℕ → List ℕ → S → Type 0 };
+
+    /// As many connections came as the server was to accept.
+    ghost stops: { Type 0 };
 }
 
-impl<H> OfHub<H> for Brand {
+impl<H, S> OfHub<H, S> for Brand {
     ghost use Rattle.std.specs.Prelude.{None, ⊤};
 
-    ghost home = { None };
+    ghost hub = { None };
 
     ghost tells = { λ _. ⊤ };
+
+    ghost arrives = { λ _ _ _. ⊤ };
+
+    ghost stops = { ⊤ };
 }
 
 /// A slot without a connection, and the visitor of the named hub who joins for the next one. All its calls so far are visits,
 /// whose connections were streams `S`.
 #[derive(Drop)]
-pub struct FreeSlot<B: OfHub<H>, S: Stream, H> {
+pub struct FreeSlot<B: OfHub<H, S>, S: Stream, H> {
     pub(crate) visitor: Visitor<H>,
     pub(crate) slot: usize,
     of: PhantomData<(B, S)>,
-    pub(crate) ghost here: { B.home ≡ Some visitor.home },
-    pub(crate) ghost visits: { HasVisited ⟦<S as Stream>⟧.told B.tells visitor },
+    pub(crate) ghost here: { home_in B.hub ≡ Some visitor.home },
+    pub(crate) ghost visits: { HasVisited ⟦<S as Stream>⟧.told B.tells B.arrives visitor },
 }
 
-impl<B: OfHub<H>, S: AsyncRead + AsyncWrite, H> FreeSlot<B, S, H> {
+impl<B: OfHub<H, S>, S: AsyncRead + AsyncWrite, H> FreeSlot<B, S, H> {
     /// Gives this slot to a visitor of the named hub whose calls are visits.
     pub fn new(visitor: Visitor<H>, slot: usize) -> FreeSlot<B, S, H>
-        requires here { B.home ≡ Some visitor.home }
-        requires visits { HasVisited ⟦<S as Stream>⟧.told B.tells visitor }
+        requires here { home_in B.hub ≡ Some visitor.home }
+        requires visits { HasVisited ⟦<S as Stream>⟧.told B.tells B.arrives visitor }
         ensures { result.visitor ≡ visitor }
     {
         FreeSlot {
@@ -49,5 +62,20 @@ impl<B: OfHub<H>, S: AsyncRead + AsyncWrite, H> FreeSlot<B, S, H> {
             slot,
             of: PhantomData,
         }
+    }
+}
+
+/// The word that as many connections came as the server was to accept.
+#[derive(Drop)]
+pub struct Stop<B: OfHub<H, S>, S, H> {
+    of: PhantomData<(B, S, H)>,
+    pub(crate) ghost stopped: { ∥ B.stops ∥₁ },
+}
+
+impl<B: OfHub<H, S>, S, H> Stop<B, S, H> {
+    pub(crate) fn new() -> Stop<B, S, H>
+        requires stopped { ∥ B.stops ∥₁ }
+    {
+        Stop { of: PhantomData }
     }
 }

@@ -1,18 +1,25 @@
-ghost use Rattle.std.specs.Prelude.{◌≡◌, ◌≤◌, [], Some, ℕ, IfOk, OnOk};
+ghost use Rattle.std.specs.Prelude.{◌≡◌, ◌≤◌, [], Some, ℕ, List, IfOk, IfErr, OnOk};
 ghost use Rattle.std.specs.List.{All};
 ghost use Rattle.one_history.specs.States.{Home};
 ghost use Rattle.hub_shared.specs.declared.about.About.{About};
-ghost use Rattle.hub_server.specs.ServedAll.{ServedAll};
+ghost use Rattle.hub_server.specs.Naming.{home_in, hub_in};
+ghost use Rattle.hub_server.specs.Reporting.{IsServerFault};
+ghost use Rattle.hub_server.specs.ServedAll.{Arrives, ServedAll};
+ghost use Rattle.hub_server.specs.Stopping.{AreTerms, HasStopped};
 ghost use Rattle.hub_server.specs.Visits.{HasVisited};
 
-use crate::free_slot::{FreeSlot, OfHub};
+use crate::free_slot::{FreeSlot, OfHub, Stop};
 use crate::listening::run_on_threads;
+use crate::port::BindPort;
+use crate::served::Served;
 use crate::server::Server;
+use crate::terms::Terms;
+use crate::ticket::Ticket;
 use adc_sessions::Stream;
 use hub_endings::Ending;
-use hub_listener::{Bind, Moments};
+use hub_listener::{Moments, Socket};
 use hub_settings::Settings;
-use hub_shared::{Host, Hub, Report, Visitor};
+use hub_shared::{Host, Hub, Visitor};
 use hub_warnings::Warnings;
 use log::Log;
 use session_hash::SessionHash;
@@ -21,6 +28,7 @@ use std::io::Write;
 use std::marker::Brand;
 use std::net::Net;
 use std::random::RandomSource;
+use std::snapshot::Snapshot;
 use std::sync::Wait;
 use std::thread::Threads;
 use std::time::Clock;
@@ -29,45 +37,65 @@ use tokio::io::{AsyncRead, AsyncWrite};
 /// Serves all connections that come to a hub of these settings and this hash, until as many were accepted as the settings say
 /// and all are over, and gives the report of the hub.
 ///
-/// All calls of the hub then stand in one legal history of a hub for one thread, and nobody is present at its end. The calls of
-/// each caller in it are visits, one after another and in their order: a join that was refused; or a join, the calls by which
-/// its connection was served, and its quit. The lines that a connection sent are the first lines of the bytes read, and the bytes
-/// written are the first of what its takes were answered (`specs/ServedAll` and `specs/Visits` have all that is promised).
-pub fn serve_hub<H, R, A, W, L>(
+/// While it runs, each connection that the listener accepts ends by one call of its ticket, and what the server owes it is that
+/// call's condition. At the end all calls of the hub stand in one legal history of a hub for one thread, and nobody is present
+/// in it. The calls of each visitor in it are visits of connections that came, one after another and in their order
+/// (`specs/ServedAll`, `specs/Visits` and `specs/Owing` have all that is promised).
+pub fn serve_hub<S, T, I, H, R, C, W, L>(
     rt: &R,
+    clock: &C,
     settings: &Settings,
     hash: &H,
     seed: [u8; 32],
-    address: A,
+    address: I::Address,
     settings_file: Option<&str>,
     output: &mut W,
     warnings: &Warnings<L>,
-) -> Result<Report, Ending>
+) -> Result<Served<H, C>, Ending>
 where
+    S: Socket + Send,
+    T: Ticket<S, H, C> + Send,
+    I: BindPort<S, T, H, C> + Send,
     H: SessionHash + Send + Sync,
-    R: Wait + Threads + Clock + Moments + Net + RandomSource + AllocGlobal + Sync,
-    A: Bind,
+    R: Wait + Threads + Clock + Net + RandomSource + AllocGlobal + Sync,
+    C: Moments + Sync,
     W: Write,
     L: Log + Sync,
-    ensures all { IfOk result (λ report. ServedAll ⟦<A::Socket as Stream>⟧.told (R.tells rt.now) settings.now.hub (H.digest_of hash.now) report.joins) }
-    ensures nobody { IfOk result (λ report. report.present ≡ 0) }
+    ensures all { IfOk result (λ it. ServedAll T.terms T.number T.peer T.began ⟦<S as Stream>⟧.told (C.tells clock.now)
+        settings.now.hub (H.digest_of hash.now) it.terms it.visitors.value.items it.report.joins) }
+    ensures terms { IfOk result (λ it. (it.terms.setup.value ≡ settings.now.hub) × (it.terms.hash.value ≡ hash.now)
+        × (it.terms.clock.value ≡ clock.now) × (it.terms.seed.value ≡ seed)) }
+    ensures stopped { IfOk result (λ it. ∥ HasStopped I.terms I.accepted it.terms settings.now.stop_after ∥₁) }
+    ensures nobody { IfOk result (λ it. it.report.present ≡ 0) }
+    ensures ending { IfErr result IsServerFault }
 {
     let plan = Plan {
         rt,
+        clock,
         settings,
         hash,
         settings_file,
         warnings,
     };
     let (hub, mut host) = open(&plan)?;
-    let visitors = run::<Brand, H, R, A, W, L>(&plan, &hub, &mut host, seed, address, output)?;
-    close::<A::Socket, H, R, L>(&plan, hub, host, visitors)
+    let terms = Terms {
+        host: Snapshot::of(&host),
+        setup: Snapshot::of(&**settings.setup()),
+        hash: Snapshot::of(hash),
+        clock: Snapshot::of(clock),
+        seed: Snapshot::of(&seed),
+    };
+    let visitors = run::<Brand, S, T, I, H, R, C, W, L>(
+        &plan, &hub, &mut host, seed, &terms, address, output,
+    )?;
+    close::<S, T, H, R, C, L>(&plan, hub, host, visitors, terms)
 }
 
 /// What a server has from its start to its end.
 #[derive(Drop)]
-pub(crate) struct Plan<'a, H, R, L> {
+pub(crate) struct Plan<'a, H, R, C, L> {
     pub(crate) rt: &'a R,
+    clock: &'a C,
     pub(crate) settings: &'a Settings,
     hash: &'a H,
     /// The path of the settings' file, where the journal is to have it.
@@ -76,47 +104,61 @@ pub(crate) struct Plan<'a, H, R, L> {
 }
 
 /// Opens the hub of these settings, and gives who admits visitors to it.
-fn open<H: SessionHash, R: AllocGlobal, L>(
-    plan: &Plan<'_, H, R, L>,
+fn open<H: SessionHash, R: AllocGlobal, C, L>(
+    plan: &Plan<'_, H, R, C, L>,
 ) -> Result<(Hub<H>, Host<H>), Ending>
     ensures set { IfOk result (λ r. r.0.setup ≡ plan.now.settings.now.hub) }
     ensures hashed { IfOk result (λ r. r.0.hash ≡ plan.now.hash.now) }
     ensures host { IfOk result (λ r. r.1 ≡ record { home = r.0.home; admitted = 0 }) }
+    ensures ending { IfErr result IsServerFault }
 {
     let setup = plan.settings.setup().clone().map_err(|_| Ending::Memory)?;
     Hub::open(plan.rt.alloc(), setup, plan.hash).map_err(|_| Ending::Memory)
 }
 
 /// Runs the server, and gives all visitors of the hub back, or those that are left where memory ran out.
-fn run<'a, B, H, R, A, W, L>(
-    plan: &Plan<'a, H, R, L>,
+fn run<'a, B, S, T, I, H, R, C, W, L>(
+    plan: &Plan<'a, H, R, C, L>,
     hub: &'a Hub<H>,
     host: &mut Host<H>,
     seed: [u8; 32],
-    address: A,
+    terms: &Terms<H, C>,
+    address: I::Address,
     output: &mut W,
 ) -> Result<Vec<Visitor<H>>, Ending>
 where
-    B: OfHub<H> + Send + Sync,
+    B: OfHub<H, S> + Send + Sync,
+    S: Socket + Send,
+    T: Ticket<S, H, C> + Send,
+    I: BindPort<S, T, H, C> + Send,
     H: SessionHash + Send + Sync,
-    R: Wait + Threads + Clock + Moments + Net + RandomSource + AllocGlobal + Sync,
-    A: Bind,
+    R: Wait + Threads + Clock + Net + RandomSource + AllocGlobal + Sync,
+    C: Moments + Sync,
     W: Write,
     L: Log + Sync,
-    requires here { B.home ≡ Some hub.now.home }
-    requires timed { (moment : ℕ) → R.tells plan.now.rt.now moment → ∥ B.tells moment ∥₁ }
+    requires here { B.hub ≡ Some hub.now }
+    requires timed { (moment : ℕ) → C.tells plan.now.clock.now moment → ∥ B.tells moment ∥₁ }
+    requires timely { (moment : ℕ) → B.tells moment → ∥ C.tells plan.now.clock.now moment ∥₁ }
+    requires terms { AreTerms hub.now plan.now.clock.now seed terms.now }
+    requires arrives { (peer challenge : List ℕ) (stream : S)
+        → Arrives T.terms T.number T.peer T.began terms.now peer challenge stream → ∥ B.arrives peer challenge stream ∥₁ }
+    requires stops { HasStopped I.terms I.accepted terms.now plan.now.settings.now.stop_after → ∥ B.stops ∥₁ }
     requires host { host.old ≡ record { home = hub.now.home; admitted = 0 } }
     requires set { hub.now.setup ≡ plan.now.settings.now.hub }
     requires hashed { hub.now.hash ≡ plan.now.hash.now }
     ensures host { OnOk result (host.new.home ≡ hub.now.home) }
     ensures visitors { IfOk result (λ visitors. All (λ v. v.home ≡ hub.now.home) visitors.items) }
-    ensures visits { IfOk result (λ visitors. All (λ v. HasVisited ⟦<A::Socket as Stream>⟧.told B.tells v) visitors.items) }
+    ensures visits { IfOk result (λ visitors. All (λ v. HasVisited ⟦<S as Stream>⟧.told B.tells B.arrives v) visitors.items) }
+    ensures stopped { OnOk result ∥ B.stops ∥₁ }
+    ensures ending { IfErr result IsServerFault }
 {
     let alloc = plan.rt.alloc();
     let count = slot_count(plan.settings);
     let visitors = Vec::with_capacity(alloc, count)?;
-    let free = admit::<B, A::Socket, H>(alloc, host, hub, count)?;
-    let free = run_slots::<B, H, R, A, W, L>(plan, hub, free, seed, address, output)?;
+    let free = admit::<B, S, H>(alloc, host, hub, count)?;
+    let (free, _stop) = run_slots::<B, S, T, I, H, R, C, W, L>(
+        plan, hub, free, seed, terms, address, output,
+    )?;
     Ok(leave(free, visitors))
 }
 
@@ -128,16 +170,17 @@ pub(crate) fn slot_count(settings: &Settings) -> usize
 }
 
 /// Admits so many visitors, who take the slots in their order.
-fn admit<B: OfHub<H>, S: AsyncRead + AsyncWrite, H: SessionHash>(
+fn admit<B: OfHub<H, S>, S: AsyncRead + AsyncWrite, H: SessionHash>(
     alloc: Global,
     host: &mut Host<H>,
     hub: &Hub<H>,
     count: usize,
 ) -> Result<Vec<FreeSlot<B, S, H>>, Ending>
-    requires here { B.home ≡ Some hub.now.home }
+    requires here { home_in B.hub ≡ Some hub.now.home }
     requires host { host.old ≡ record { home = hub.now.home; admitted = 0 } }
     requires few { count ≤ 65_536 }
     ensures host { host.new.home ≡ hub.now.home }
+    ensures ending { IfErr result IsServerFault }
 {
     let mut free = Vec::with_capacity(alloc, count)?;
     for slot in 0..count {
@@ -146,42 +189,72 @@ fn admit<B: OfHub<H>, S: AsyncRead + AsyncWrite, H: SessionHash>(
     Ok(free)
 }
 
+/// All slots of a server that has stopped, and the word that it has.
+type AllFree<B, S, H> = (Vec<FreeSlot<B, S, H>>, Stop<B, S, H>);
+
 /// Runs the server with these slots, and gives back those that are left.
-fn run_slots<'a, B, H, R, A, W, L>(
-    plan: &Plan<'a, H, R, L>,
+fn run_slots<'a, B, S, T, I, H, R, C, W, L>(
+    plan: &Plan<'a, H, R, C, L>,
     hub: &'a Hub<H>,
-    free: Vec<FreeSlot<B, A::Socket, H>>,
+    free: Vec<FreeSlot<B, S, H>>,
     seed: [u8; 32],
-    address: A,
+    terms: &Terms<H, C>,
+    address: I::Address,
     output: &mut W,
-) -> Result<Vec<FreeSlot<B, A::Socket, H>>, Ending>
+) -> Result<AllFree<B, S, H>, Ending>
 where
-    B: OfHub<H> + Send + Sync,
+    B: OfHub<H, S> + Send + Sync,
+    S: Socket + Send,
+    T: Ticket<S, H, C> + Send,
+    I: BindPort<S, T, H, C> + Send,
     H: SessionHash + Send + Sync,
-    R: Wait + Threads + Clock + Moments + Net + RandomSource + AllocGlobal + Sync,
-    A: Bind,
+    R: Wait + Threads + Clock + Net + RandomSource + AllocGlobal + Sync,
+    C: Moments + Sync,
     W: Write,
     L: Log + Sync,
-    requires here { B.home ≡ Some hub.now.home }
-    requires timed { (moment : ℕ) → R.tells plan.now.rt.now moment → ∥ B.tells moment ∥₁ }
+    requires here { B.hub ≡ Some hub.now }
+    requires timed { (moment : ℕ) → C.tells plan.now.clock.now moment → ∥ B.tells moment ∥₁ }
+    requires timely { (moment : ℕ) → B.tells moment → ∥ C.tells plan.now.clock.now moment ∥₁ }
+    requires terms { AreTerms hub.now plan.now.clock.now seed terms.now }
+    requires arrives { (peer challenge : List ℕ) (stream : S)
+        → Arrives T.terms T.number T.peer T.began terms.now peer challenge stream → ∥ B.arrives peer challenge stream ∥₁ }
+    requires stops { HasStopped I.terms I.accepted terms.now plan.now.settings.now.stop_after → ∥ B.stops ∥₁ }
     requires set { hub.now.setup ≡ plan.now.settings.now.hub }
     requires hashed { hub.now.hash ≡ plan.now.hash.now }
+    ensures ending { IfErr result IsServerFault }
 {
     let (rt, setup) = (plan.rt, plan.settings.setup());
     let count = slot_count(plan.settings);
-    let server = Server::new(rt.alloc(), rt, hub, plan.hash, setup, count, free)?;
-    let served = run_on_threads(plan, &server, plan.warnings, address, seed, output);
+    let server = Server::new(
+        rt.alloc(),
+        rt,
+        plan.clock,
+        hub,
+        plan.hash,
+        setup,
+        count,
+        free,
+    )?;
+    let served = run_on_threads::<B, S, T, I, H, R, C, W, L>(
+        plan,
+        &server,
+        plan.warnings,
+        address,
+        seed,
+        terms,
+        output,
+    );
     server.into_free_after(served)
 }
 
 /// Gives the visitors of these slots, as many as there is room for.
-fn leave<B: OfHub<H>, S: AsyncRead + AsyncWrite, H>(
+fn leave<B: OfHub<H, S>, S: AsyncRead + AsyncWrite, H>(
     free: Vec<FreeSlot<B, S, H>>,
     visitors: Vec<Visitor<H>>,
 ) -> Vec<Visitor<H>>
     requires none { visitors.items ≡ [] }
-    ensures here { (home : Home (About H)) → B.home ≡ Some home → All (λ v. v.home ≡ home) result.items }
-    ensures visits { All (λ v. HasVisited ⟦<S as Stream>⟧.told B.tells v) result.items }
+    ensures here { (home : Home (About H)) → home_in B.hub ≡ Some home → All (λ v. v.home ≡ home) result.items }
+    ensures visits { All (λ v. HasVisited ⟦<S as Stream>⟧.told B.tells B.arrives v) result.items }
 {
     let mut visitors = visitors;
     for slot in free {
@@ -194,24 +267,35 @@ fn leave<B: OfHub<H>, S: AsyncRead + AsyncWrite, H>(
 }
 
 /// Closes the hub of these settings and this hash for which the visitors are back, and gives its report.
-fn close<S: AsyncRead + AsyncWrite, H: SessionHash, R: Moments, L>(
-    plan: &Plan<'_, H, R, L>,
+fn close<S: AsyncRead + AsyncWrite, T: Ticket<S, H, C>, H: SessionHash, R, C: Moments, L>(
+    plan: &Plan<'_, H, R, C, L>,
     hub: Hub<H>,
     host: Host<H>,
     visitors: Vec<Visitor<H>>,
-) -> Result<Report, Ending>
+    terms: Terms<H, C>,
+) -> Result<Served<H, C>, Ending>
     requires set { hub.setup ≡ plan.now.settings.now.hub }
     requires hashed { hub.hash ≡ plan.now.hash.now }
+    requires terms { (hub_in terms) ≡ hub }
     requires here { host.home ≡ hub.home }
     requires visitors { All (λ v. v.home ≡ hub.home) visitors.items }
-    requires visits { All (λ v. HasVisited ⟦<S as Stream>⟧.told (R.tells plan.now.rt.now) v) visitors.items }
-    ensures all { IfOk result (λ report. ServedAll ⟦<S as Stream>⟧.told (R.tells plan.now.rt.now) plan.now.settings.now.hub (H.digest_of plan.now.hash.now) report.joins) }
-    ensures nobody { IfOk result (λ report. report.present ≡ 0) }
+    requires visits { All (λ v. HasVisited ⟦<S as Stream>⟧.told (C.tells plan.now.clock.now)
+        (Arrives T.terms T.number T.peer T.began terms) v) visitors.items }
+    ensures all { IfOk result (λ it. ServedAll T.terms T.number T.peer T.began ⟦<S as Stream>⟧.told (C.tells plan.now.clock.now)
+        plan.now.settings.now.hub (H.digest_of plan.now.hash.now) it.terms it.visitors.value.items it.report.joins) }
+    ensures terms { IfOk result (λ it. it.terms ≡ terms) }
+    ensures nobody { IfOk result (λ it. it.report.present ≡ 0) }
+    ensures ending { IfErr result IsServerFault }
 {
     // It only says which hub it is.
     let _ = plan;
+    let back = Snapshot::of(&visitors);
     let Ok(report) = hub.close(host, visitors) else {
         return Err(Ending::Memory);
     };
-    Ok(report)
+    Ok(Served {
+        report,
+        terms,
+        visitors: back,
+    })
 }

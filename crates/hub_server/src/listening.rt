@@ -1,14 +1,23 @@
+ghost use Rattle.std.specs.Prelude.{◌≡◌, ℕ, List, Some, Err, IfOk, IfErr};
+ghost use Rattle.connection_slots.specs.declared.state.Fault.{Fault};
+ghost use Rattle.hub_server.specs.Reporting.{IsServerFault, ending_by};
+ghost use Rattle.hub_server.specs.ServedAll.{Arrives};
+ghost use Rattle.hub_server.specs.Stopping.{AreTerms, HasStopped, stop_of};
+
 use crate::acceptor::Acceptor;
+use crate::arrivals::Arrivals;
 use crate::free_slot::OfHub;
 use crate::lifetime::{Plan, slot_count};
+use crate::port::{BindPort, HubPort};
 use crate::server::Server;
 use crate::task::AcceptTask;
 use crate::tasks::Tasks;
+use crate::terms::Terms;
+use crate::ticket::Ticket;
 use adc_sessions::Accept;
 use connection_slots::{Fault, Startup, Ticker};
-use hub_challenges::Challenges;
 use hub_endings::Ending;
-use hub_listener::{Bind, Listener, Listens, Moments, Socket, say_start, warn_of_descriptors};
+use hub_listener::{Listener, Listens, Moments, Socket, say_start, warn_of_descriptors};
 use hub_settings::Settings;
 use hub_warnings::Warnings;
 use hub_workers::Workers;
@@ -19,89 +28,146 @@ use std::io;
 use std::io::Write;
 use std::net::{Net, SocketAddr};
 use std::random::RandomSource;
+use std::snapshot::Snapshot;
 use std::sync::Wait;
 use std::thread::Threads;
 use std::time::{Clock, Duration};
 use tokio::time::{self, Sleep};
 
 /// Runs the tasks of a server that listens at this address, with as many threads as its settings say.
-pub(crate) fn run_on_threads<'a, B, H, R, A, W, L>(
-    plan: &Plan<'_, H, R, L>,
-    server: &'a Server<'a, B, A::Socket, H, R>,
+pub(crate) fn run_on_threads<'a, B, S, T, I, H, R, C, W, L>(
+    plan: &Plan<'_, H, R, C, L>,
+    server: &'a Server<'a, B, S, T, H, R, C>,
     warnings: &'a Warnings<L>,
-    address: A,
+    address: I::Address,
     seed: [u8; 32],
+    terms: &Terms<H, C>,
     output: &'a mut W,
 ) -> Result<(), Ending>
 where
-    B: OfHub<H> + Send + Sync,
+    B: OfHub<H, S> + Send + Sync,
+    S: Socket + Send,
+    T: Ticket<S, H, C> + Send,
+    I: BindPort<S, T, H, C> + Send,
     H: SessionHash + Send + Sync,
-    R: Wait + Threads + Clock + Moments + Net + RandomSource + AllocGlobal + Sync,
-    A: Bind,
+    R: Wait + Threads + Clock + Net + RandomSource + AllocGlobal + Sync,
+    C: Moments + Sync,
     W: Write,
     L: Log + Sync,
+    requires terms { AreTerms server.now.hub.now server.now.clock.now seed terms.now }
+    requires arrives { (peer challenge : List ℕ) (stream : S)
+        → Arrives T.terms T.number T.peer T.began terms.now peer challenge stream → ∥ B.arrives peer challenge stream ∥₁ }
+    requires stops { HasStopped I.terms I.accepted terms.now plan.now.settings.now.stop_after → ∥ B.stops ∥₁ }
+    ensures ending { IfErr result IsServerFault }
 {
     // Settings ask for one at least.
     let threads = plan.settings.threads().max(1) as usize;
     let Ok(mut workers) = Workers::new(plan.rt, threads) else {
         return Err(Ending::Memory);
     };
-    let served = bind_and_run(plan, &mut workers, server, warnings, address, seed, output);
+    let served = bind_and_run::<B, S, T, I, H, R, C, W, L>(
+        plan,
+        &mut workers,
+        server,
+        warnings,
+        address,
+        seed,
+        terms,
+        output,
+    );
     drop(workers);
     served
 }
 
 /// Listens at this address, and serves all connections that come.
-fn bind_and_run<'a, B, H, R, A, W, L>(
-    plan: &Plan<'_, H, R, L>,
+fn bind_and_run<'a, B, S, T, I, H, R, C, W, L>(
+    plan: &Plan<'_, H, R, C, L>,
     workers: &mut Workers,
-    server: &'a Server<'a, B, A::Socket, H, R>,
+    server: &'a Server<'a, B, S, T, H, R, C>,
     warnings: &'a Warnings<L>,
-    address: A,
+    address: I::Address,
     seed: [u8; 32],
+    terms: &Terms<H, C>,
     output: &'a mut W,
 ) -> Result<(), Ending>
 where
-    B: OfHub<H> + Send + Sync,
+    B: OfHub<H, S> + Send + Sync,
+    S: Socket + Send,
+    T: Ticket<S, H, C> + Send,
+    I: BindPort<S, T, H, C> + Send,
     H: SessionHash + Send + Sync,
-    R: Wait + Threads + Clock + Moments + Net + RandomSource + AllocGlobal + Sync,
-    A: Bind,
+    R: Wait + Threads + Clock + Net + RandomSource + AllocGlobal + Sync,
+    C: Moments + Sync,
     W: Write,
     L: Log + Sync,
+    requires terms { AreTerms server.now.hub.now server.now.clock.now seed terms.now }
+    requires arrives { (peer challenge : List ℕ) (stream : S)
+        → Arrives T.terms T.number T.peer T.began terms.now peer challenge stream → ∥ B.arrives peer challenge stream ∥₁ }
+    requires stops { HasStopped I.terms I.accepted terms.now plan.now.settings.now.stop_after → ∥ B.stops ∥₁ }
+    ensures ending { IfErr result IsServerFault }
 {
     let Listening {
         listener,
         address,
         timers,
-    } = listen(plan, workers, address)?;
+    } = listen::<S, T, I, H, R, C, L>(plan, workers, address, terms)?;
     let Timers { accepting, ticking } = timers;
     let settings = plan.settings;
-    let accept = accept_task(settings, server, warnings, listener, seed, accepting);
+    let accept = accept_task(settings, server, warnings, listener, seed, terms, accepting);
     let startup = Startup::new(&server.shared, server.rt, output, address);
     let ticker = Ticker::new(&server.shared, server.rt, ticking);
     let count = slot_count(settings);
     let tasks = Tasks::new(ticker, count, accept, startup, server, warnings);
+    run_tasks(workers, server, tasks)
+}
+
+/// Runs these tasks to their end, and says how the server ends.
+fn run_tasks<'a, B, S, T, I, H, R, C, W, L>(
+    workers: &mut Workers,
+    server: &'a Server<'a, B, S, T, H, R, C>,
+    tasks: Tasks<'a, B, S, T, H, R, C, L, I, W>,
+) -> Result<(), Ending>
+where
+    B: OfHub<H, S> + Send + Sync,
+    S: Socket + Send,
+    T: Ticket<S, H, C> + Send,
+    I: HubPort<S, T, H, C> + Send,
+    H: SessionHash + Send + Sync,
+    R: Wait + Threads + Clock + Net + RandomSource + AllocGlobal + Sync,
+    C: Moments + Sync,
+    W: Write,
+    L: Log + Sync,
+    ensures ending { IfErr result IsServerFault }
+{
     match workers.run_all(server.rt, tasks) {
-        Ok(()) => ending_by(server.shared.fault()),
+        Ok(()) => ending_by(server.shared.fault().1),
         Err(_) => Err(Ending::Memory),
     }
 }
 
 /// Makes the timers of the tasks, listens at this address, and says so to the journal, where it is to have it.
-fn listen<H, R, A, L>(
-    plan: &Plan<'_, H, R, L>,
+fn listen<S, T, I, H, R, C, L>(
+    plan: &Plan<'_, H, R, C, L>,
     workers: &Workers,
-    address: A,
-) -> Result<Listening<A::Listener>, Ending>
+    address: I::Address,
+    terms: &Terms<H, C>,
+) -> Result<Listening<I>, Ending>
 where
+    S: Socket,
+    T: Ticket<S, H, C>,
+    I: BindPort<S, T, H, C>,
+    H: SessionHash,
     R: Clock + Net,
-    A: Bind,
+    C: Moments,
     L: Log,
+    ensures promised { IfOk result (λ it. I.terms it.listener ≡ terms.now) }
+    ensures none { IfOk result (λ it. I.accepted it.listener ≡ 0) }
+    ensures ending { IfErr result IsServerFault }
 {
     let timers = make_timers(plan.rt, workers.time())?;
     let users = plan.settings.setup().max_users();
     warn_of_descriptors(plan.rt, &plan.warnings.log, users);
-    let listener = match address.bind(plan.rt, workers.reactor()) {
+    let listener = match I::bind(plan.rt, address, workers.reactor(), Snapshot::of(terms)) {
         Ok(listener) => listener,
         Err(error) => return Err(ending_of(&error)),
     };
@@ -135,7 +201,9 @@ struct Timers {
 }
 
 /// Makes the timers of the tasks.
-fn make_timers<R: Clock>(rt: &R, time: &time::Handle) -> Result<Timers, Ending> {
+fn make_timers<R: Clock>(rt: &R, time: &time::Handle) -> Result<Timers, Ending>
+    ensures ending { IfErr result IsServerFault }
+{
     Ok(Timers {
         accepting: timer(rt, time)?,
         ticking: timer(rt, time)?,
@@ -143,39 +211,61 @@ fn make_timers<R: Clock>(rt: &R, time: &time::Handle) -> Result<Timers, Ending> 
 }
 
 /// Makes a timer that is not set.
-fn timer<R: Clock>(rt: &R, time: &time::Handle) -> Result<Sleep, Ending> {
+fn timer<R: Clock>(rt: &R, time: &time::Handle) -> Result<Sleep, Ending>
+    ensures ending { IfErr result IsServerFault }
+{
     time.sleep(rt, Duration::ZERO).map_err(|_| Ending::Memory)
 }
 
 /// Makes the task that accepts connections.
-fn accept_task<'a, B, S, H, R, L, I>(
+fn accept_task<'a, B, S, T, H, R, C, L, I>(
     settings: &Settings,
-    server: &'a Server<'a, B, S, H, R>,
+    server: &'a Server<'a, B, S, T, H, R, C>,
     warnings: &'a Warnings<L>,
     listener: I,
     seed: [u8; 32],
+    terms: &Terms<H, C>,
     timer: Sleep,
-) -> AcceptTask<'a, B, S, H, R, L, I>
+) -> AcceptTask<'a, B, S, T, H, R, C, L, I>
 where
-    B: OfHub<H>,
+    B: OfHub<H, S>,
     S: Socket,
+    T: Ticket<S, H, C>,
     H: SessionHash,
-    R: Wait + Clock + Moments + AllocGlobal,
+    R: Wait + Clock + AllocGlobal,
+    C: Moments,
     L: Log,
-    I: Listens<Socket = S>,
+    I: HubPort<S, T, H, C>,
+    requires terms { AreTerms server.now.hub.now server.now.clock.now seed terms.now }
+    requires promised { I.terms listener ≡ terms.now }
+    requires none { I.accepted listener ≡ 0 }
+    requires arrives { (peer challenge : List ℕ) (stream : S) → Arrives T.terms T.number T.peer T.began terms.now peer challenge stream → ∥ B.arrives peer challenge stream ∥₁ }
+    requires stops { HasStopped I.terms I.accepted terms.now settings.now.stop_after → ∥ B.stops ∥₁ }
 {
-    let stop_after = match settings.stop_after() {
-        0 => None,
-        count => Some(u64::from(count)),
-    };
+    // It only says what the listener promises.
+    let _ = terms;
+    let stop_after = stop_after(settings);
     let listener = Listener::new(listener, &server.shared.wakers, server.rt, warnings, timer);
-    let acceptor = Acceptor::new(server, Challenges::from_seed(seed), warnings);
-    let accept = Accept::new(listener, acceptor, stop_after);
+    let arrivals = Arrivals::new(listener, seed, server);
+    let accept = Accept::new(arrivals, Acceptor::new(server, warnings), stop_after);
     AcceptTask::new(accept, server)
 }
 
+/// Gives the number of connections after which no more are accepted, if there is one.
+fn stop_after(settings: &Settings) -> Option<u64>
+    ensures { result ≡ stop_of settings.now.stop_after }
+{
+    match settings.stop_after() {
+        0 => None,
+        count => Some(u64::from(count)),
+    }
+}
+
 /// Says how the server ends where no more connections came because of this.
-fn ending_by(fault: Option<Fault>) -> Result<(), Ending> {
+fn ending_by(fault: Option<Fault>) -> Result<(), Ending>
+    ensures by { (met : Fault) → fault ≡ Some met → result ≡ Err (ending_by met) }
+    ensures ending { IfErr result IsServerFault }
+{
     match fault {
         None => Ok(()),
         Some(Fault::Accepting) => Err(Ending::Address),
@@ -185,7 +275,9 @@ fn ending_by(fault: Option<Fault>) -> Result<(), Ending> {
 }
 
 /// Says how the server ends where its address cannot be had.
-fn ending_of(error: &io::Error) -> Ending {
+fn ending_of(error: &io::Error) -> Ending
+    ensures ending { IsServerFault result }
+{
     if error.kind() == io::ErrorKind::OutOfMemory {
         return Ending::Memory;
     }

@@ -1,13 +1,18 @@
-ghost use Rattle.std.specs.Prelude.{◌≡◌, ℕ, List};
+ghost use Rattle.std.specs.Prelude.{◌≡◌, Some, ℕ, List, true, false, is_some};
 ghost use Rattle.std.specs.Option.{ForSome};
-ghost use Rattle.futures.specs.Poll.{OnPending};
+ghost use Rattle.futures.specs.Poll.{OnPending, IfReady};
 ghost use Rattle.futures.specs.Task.{IsArmed, Keeps};
 ghost use Rattle.hub_server.specs.Ending.{EndsVisit};
+ghost use Rattle.hub_server.specs.Owing.{IsServed};
 ghost use Rattle.hub_server.specs.PortCalls.{Calls, Leaves};
+ghost use Rattle.hub_server.specs.Visits.{HasVisited};
+ghost use Rattle.hub_server.specs.declared.left_slot.LeftSlot.{LeftSlot};
+ghost use Rattle.hub_server.specs.Waking.{AreWoken, OwesOn, Wakes};
 
 use crate::connection::HubSession;
 use crate::free_slot::{FreeSlot, OfHub};
 use crate::left_slot::LeftSlot;
+use crate::ticket::Ticket;
 use adc_sessions::{End, Stream};
 use futures::Future;
 use futures::task::{Context, Poll};
@@ -15,6 +20,7 @@ use hub_listener::Moments;
 use session_hash::SessionHash;
 use std::alloc::AllocGlobal;
 use std::marker::PhantomData;
+use std::snapshot::Snapshot;
 use std::sync::Wait;
 use std::time::Clock;
 use tokio::io::{AsyncRead, AsyncWrite};
@@ -26,54 +32,102 @@ struct Meaning<H: SessionHash> {
     ghost digests: { (hash : _) (bytes : List ℕ) → H.digest_of hash bytes ≡ H.digest_of hash bytes },
 }
 
-/// The session of a slot, while it serves a connection of the named hub. Whatever it ends with, all calls of the visitor who
-/// is left are visits of that hub.
-pub(crate) struct ServedSlot<'a, B: OfHub<H>, S: Stream, H: SessionHash, R: Moments> {
-    meaning: Meaning<H>,
-    session: Option<HubSession<'a, B, S, H, R>>,
-    ghost visits: { ForSome session (λ running. EndsVisit running ⟦<S as Stream>⟧.told B.tells B.home
-        (λ a call b. (b.server ≡ a.server) × Calls a.server.now.hub.now.setup (H.digest_of a.server.now.hub.now.hash) B.tells a.pass call b.pass)
-        (λ a visitor. Leaves a.server.now.hub.now.setup (H.digest_of a.server.now.hub.now.hash) a.pass visitor)) },
+/// A connection whose session is over: how it ended, its ticket and its socket, and the slot that is free again.
+pub(crate) struct Over<B: OfHub<H, S>, S: Stream, T: Ticket<S, H, C>, H: SessionHash, C: Moments> {
+    pub(crate) end: End,
+    pub(crate) ticket: T,
+    pub(crate) socket: S,
+    pub(crate) free: FreeSlot<B, S, H>,
+    pub(crate) of: PhantomData<Snapshot<C>>,
+    pub(crate) ghost owed: { ∥ IsServed H.digest_of C.tells ⟦<S as Stream>⟧.told (T.terms ticket) (T.number ticket) (T.peer ticket) (T.began ticket) end socket ∥₁ },
 }
 
-impl<'a, B: OfHub<H>, S: Stream, H: SessionHash, R: Moments> Drop for ServedSlot<'a, B, S, H, R> {
+/// The session of a slot, while it serves a connection of the named hub, and the connection's ticket. Whatever the session ends
+/// with, what is owed to the connection holds, and all calls of the visitor who is left are visits of that hub.
+pub(crate) struct ServedSlot<
+    'a,
+    B: OfHub<H, S>,
+    S: Stream,
+    T: Ticket<S, H, C>,
+    H: SessionHash,
+    R: Wait + Clock,
+    C: Moments,
+> {
+    meaning: Meaning<H>,
+    session: Option<HubSession<'a, B, S, T, H, R, C>>,
+    ticket: Option<T>,
+    ghost has_ticket: { ForSome session (λ _. is_some ticket ≡ true) },
+    ghost ends: { ForSome session (λ running. ForSome ticket (λ held. EndsVisit running ⟦<S as Stream>⟧.told
+        (λ a call b. (b.server ≡ a.server) × Calls a.server.now.hub.now.setup (H.digest_of a.server.now.hub.now.hash) B.tells a.pass call b.pass
+        × (b.slot ≡ a.slot) × Wakes call b.pass.touched a.slot a.owes b.owes b.woken b.rung)
+        (λ a left. Leaves a.server.now.hub.now.setup (H.digest_of a.server.now.hub.now.hash) a.pass left.visitor
+        × (left.slot ≡ a.slot) × AreWoken left.visitor.touched a.slot 10 a.second left.woken × OwesOn a.owes false a.slot left.rung)
+        (λ (left : LeftSlot H). left.visitor) B.hub (HasVisited ⟦<S as Stream>⟧.told B.tells B.arrives)
+        (λ end later. IsServed H.digest_of C.tells ⟦<S as Stream>⟧.told (T.terms held) (T.number held) (T.peer held) (T.began held) end later))) },
+}
+
+impl<
+    'a,
+    B: OfHub<H, S>,
+    S: Stream,
+    T: Ticket<S, H, C>,
+    H: SessionHash,
+    R: Wait + Clock,
+    C: Moments,
+> Drop for ServedSlot<'a, B, S, T, H, R, C> {
     fn drop(self) {
-        let ServedSlot { meaning, session } = self;
+        let ServedSlot {
+            meaning,
+            session,
+            ticket,
+        } = self;
         drop(meaning);
         drop(session);
+        // The runtime has ended before the session did.
+        match ticket {
+            Some(ticket) => ticket.cut_off(),
+            None => {}
+        }
     }
 }
 
 impl<
     'a,
-    B: OfHub<H>,
+    B: OfHub<H, S>,
     S: AsyncRead + AsyncWrite,
+    T: Ticket<S, H, C>,
     H: SessionHash,
-    R: Wait + Clock + Moments + AllocGlobal,
-> ServedSlot<'a, B, S, H, R> {
+    R: Wait + Clock + AllocGlobal,
+    C: Moments,
+> ServedSlot<'a, B, S, T, H, R, C> {
     /// Makes that of a slot which serves nobody.
-    pub(crate) fn new() -> ServedSlot<'a, B, S, H, R> {
+    pub(crate) fn new() -> ServedSlot<'a, B, S, T, H, R, C> {
         ServedSlot {
             meaning: Meaning { of: PhantomData },
             session: None,
+            ticket: None,
         }
     }
 
-    /// Serves by this session.
-    pub(crate) fn begin(&mut self, session: HubSession<'a, B, S, H, R>)
-        requires visits { EndsVisit session ⟦<S as Stream>⟧.told B.tells B.home
-            (λ a call b. (b.server ≡ a.server) × Calls a.server.now.hub.now.setup (H.digest_of a.server.now.hub.now.hash) B.tells a.pass call b.pass)
-            (λ a visitor. Leaves a.server.now.hub.now.setup (H.digest_of a.server.now.hub.now.hash) a.pass visitor) }
+    /// Serves the connection with this ticket by this session.
+    pub(crate) fn begin(&mut self, session: HubSession<'a, B, S, T, H, R, C>, ticket: T)
+        requires ends { EndsVisit session ⟦<S as Stream>⟧.told
+            (λ a call b. (b.server ≡ a.server) × Calls a.server.now.hub.now.setup (H.digest_of a.server.now.hub.now.hash) B.tells a.pass call b.pass
+            × (b.slot ≡ a.slot) × Wakes call b.pass.touched a.slot a.owes b.owes b.woken b.rung)
+            (λ a left. Leaves a.server.now.hub.now.setup (H.digest_of a.server.now.hub.now.hash) a.pass left.visitor
+            × (left.slot ≡ a.slot) × AreWoken left.visitor.touched a.slot 10 a.second left.woken × OwesOn a.owes false a.slot left.rung)
+            (λ (left : LeftSlot H). left.visitor) B.hub (HasVisited ⟦<S as Stream>⟧.told B.tells B.arrives)
+            (λ end later. IsServed H.digest_of C.tells ⟦<S as Stream>⟧.told (T.terms ticket) (T.number ticket) (T.peer ticket) (T.began ticket) end later) }
     {
         self.session = Some(session);
+        match self.ticket.replace(ticket) {
+            Some(before) => before.cut_off(),
+            None => {}
+        }
     }
 
-    /// Works as the session does. At its end it gives how it ended, the socket, and the slot with the visitor; at once
-    /// nothing where there is no session.
-    pub(crate) fn poll_over(
-        &mut self,
-        cx: &mut Context<'_>,
-    ) -> Poll<Option<(End, S, FreeSlot<B, S, H>)>>
+    /// Works as the session does. At its end it gives what is over; at once nothing where there is no session.
+    pub(crate) fn poll_over(&mut self, cx: &mut Context<'_>) -> Poll<Option<Over<B, S, T, H, C>>>
         ensures registered { OnPending result (IsArmed cx.new) }
         ensures kept { Keeps cx.old cx.new }
     {
@@ -82,10 +136,26 @@ impl<
         };
         match session.poll(cx) {
             Poll::Pending => Poll::Pending,
-            Poll::Ready((end, stream, left)) => {
+            Poll::Ready((end, socket, left)) => {
                 self.session = None;
-                let LeftSlot { visitor, slot } = left;
-                Poll::Ready(Some((end, stream, FreeSlot::new(visitor, slot))))
+                let Some(ticket) = self.ticket.take() else {
+                    unreachable!()
+                };
+                let LeftSlot {
+                    visitor,
+                    slot,
+                    woken,
+                    rung,
+                } = left;
+                drop(woken);
+                drop(rung);
+                Poll::Ready(Some(Over {
+                    end,
+                    ticket,
+                    socket,
+                    free: FreeSlot::new(visitor, slot),
+                    of: PhantomData,
+                }))
             }
         }
     }

@@ -1,93 +1,101 @@
-ghost use Rattle.std.specs.Prelude.{◌≡◌, Some, ℕ};
+ghost use Rattle.std.specs.Prelude.{◌≡◌, [], Some, ℕ, IfOk, IfErr};
+ghost use Rattle.hub_server.specs.Reporting.{IsServerFault};
 
 use crate::accepted::Accepted;
-use crate::free_slot::{FreeSlot, OfHub};
+use crate::free_slot::{FreeSlot, OfHub, Stop};
+use crate::ticket::Ticket;
 use adc_sessions::Stream;
-use connection_slots::{Fault, Shared};
+use connection_slots::{Fault, LeavingSocket, Shared};
 use hub_core::Setup;
 use hub_endings::Ending;
-use hub_listener::Moments;
+use hub_listener::{CallMoment, Moments};
 use hub_shared::Hub;
 use session_hash::SessionHash;
 use std::alloc::{AllocError, Global};
 use std::sync::{Mutex, Wait};
+use std::time::Clock;
 use tokio::io::{AsyncRead, AsyncWrite};
 
-/// The part of a server that all its tasks share: its hub, and what they need to find one another. Its connections are streams
-/// `S`.
-pub struct Server<'a, B: OfHub<H>, S: Stream, H: SessionHash, R: Moments> {
+/// The part of a server that all its tasks share: its hub, and what they need to find one another. Its connections have tickets
+/// `T`.
+pub struct Server<
+    'a,
+    B: OfHub<H, S>,
+    S: Stream,
+    T: Ticket<S, H, C>,
+    H: SessionHash,
+    R,
+    C: Moments,
+> {
     pub(crate) rt: &'a R,
+    clock: &'a C,
     pub(crate) hub: &'a Hub<H>,
     pub(crate) hash: &'a H,
     pub(crate) setup: &'a Setup,
-    pub(crate) shared: Shared<Accepted<B, S, H>, S>,
+    pub(crate) shared: Shared<Accepted<B, S, T, H, C>, S>,
     // Those without a connection. There is room for all, so that coming back takes no memory.
     free: Mutex<Vec<FreeSlot<B, S, H>>>,
+    // The word that as many connections came as were to be accepted, once that is so.
+    stop: Mutex<Option<Stop<B, S, H>>>,
     pub(crate) ghost set: { hub.now.setup ≡ setup.now },
     pub(crate) ghost hashed: { hub.now.hash ≡ hash.now },
-    pub(crate) ghost here: { B.home ≡ Some hub.now.home },
-    pub(crate) ghost timed: { (moment : ℕ) → R.tells rt.now moment → ∥ B.tells moment ∥₁ },
+    pub(crate) ghost here: { B.hub ≡ Some hub.now },
+    pub(crate) ghost timed: { (moment : ℕ) → C.tells clock.now moment → ∥ B.tells moment ∥₁ },
+    pub(crate) ghost timely: { (moment : ℕ) → B.tells moment → ∥ C.tells clock.now moment ∥₁ },
 }
 
-impl<'a, B: OfHub<H>, S: Stream, H: SessionHash, R: Moments> Drop for Server<'a, B, S, H, R> {
-    fn drop(self) {
-        let Server {
-            rt: _,
-            hub: _,
-            hash: _,
-            setup: _,
-            shared,
-            free,
-        } = self;
-        drop(shared);
-        drop(free);
-    }
-}
-
-impl<'a, B: OfHub<H>, S: AsyncRead + AsyncWrite, H: SessionHash, R: Wait + Moments> Server<
+impl<
     'a,
-    B,
-    S,
-    H,
-    R,
-> {
+    B: OfHub<H, S>,
+    S: AsyncRead + AsyncWrite,
+    T: Ticket<S, H, C>,
+    H: SessionHash,
+    R: Wait,
+    C: Moments,
+> Server<'a, B, S, T, H, R, C> {
     /// Makes the server of this hub, with `count` slots, numbered from 0, of which these are free. Refused only where memory
     /// runs out.
     pub fn new(
         alloc: Global,
         rt: &'a R,
+        clock: &'a C,
         hub: &'a Hub<H>,
         hash: &'a H,
         setup: &'a Setup,
         count: usize,
         free: Vec<FreeSlot<B, S, H>>,
-    ) -> Result<Server<'a, B, S, H, R>, AllocError>
+    ) -> Result<Server<'a, B, S, T, H, R, C>, AllocError>
         requires set { hub.now.setup ≡ setup.now }
         requires hashed { hub.now.hash ≡ hash.now }
-        requires here { B.home ≡ Some hub.now.home }
-        requires timed { (moment : ℕ) → R.tells rt.now moment → ∥ B.tells moment ∥₁ }
+        requires here { B.hub ≡ Some hub.now }
+        requires timed { (moment : ℕ) → C.tells clock.now moment → ∥ B.tells moment ∥₁ }
+        requires timely { (moment : ℕ) → B.tells moment → ∥ C.tells clock.now moment ∥₁ }
+        ensures hub { IfOk result (λ server. server.hub ≡ hub.entry) }
+        ensures clock { IfOk result (λ server. server.clock ≡ clock.entry) }
     {
         let shared = Shared::new(alloc, count)?;
         Ok(Server {
             rt,
+            clock,
             hub,
             hash,
             setup,
             shared,
             free: Mutex::new(free),
+            stop: Mutex::new(None),
         })
     }
 
-    /// Tells the moment of a call of the hub.
-    pub(crate) fn moment_of_call(&self) -> u64
+    /// Tells the moment of a call of the hub that follows.
+    pub(crate) fn moment_of_call(&self) -> CallMoment
         ensures told { ∥ B.tells result ∥₁ }
     {
-        self.rt.moment_of_call()
+        self.clock.moment_of_call()
     }
 
-    /// Takes a slot that has no connection.
-    pub(crate) fn take_slot(&self) -> Option<FreeSlot<B, S, H>> {
-        self.free.lock(self.rt).pop()
+    /// Takes a slot that has no connection, or the word that there is none.
+    pub(crate) fn take_slot(&self) -> Result<FreeSlot<B, S, H>, NoSlot> {
+        last_of(&mut *self.free.lock(self.rt))
     }
 
     /// Takes a slot back that has no connection any more.
@@ -97,36 +105,97 @@ impl<'a, B: OfHub<H>, S: AsyncRead + AsyncWrite, H: SessionHash, R: Wait + Momen
         let _ = self.free.lock(self.rt).push(free);
     }
 
-    /// Closes the server, because of this where it is a fault. All tasks end once their sessions have.
-    pub(crate) fn close(&self, fault: Option<Fault>) {
-        self.shared.close(self.rt, fault);
+    /// Lets a socket go by and by whose last bytes are to reach its client.
+    pub(crate) fn let_out(&self, socket: Option<LeavingSocket<S>>)
+    where
+        R: Clock,
+    {
+        if let Some(socket) = socket {
+            let _ = self.shared.lingering.let_out(self.rt, socket);
+        }
     }
 
-    /// Gives all slots that have no connection, once all tasks are over, or the ending by which these could not go on.
+    /// Closes the server, because of this fault. All tasks end once their sessions have.
+    pub(crate) fn close(&self, fault: Fault) {
+        let _ = self.shared.close(self.rt, Some(fault));
+    }
+
+    /// Closes the server, since as many connections came as were to be accepted.
+    pub(crate) fn stop(&self, stop: Stop<B, S, H>) {
+        *self.stop.lock(self.rt) = Some(stop);
+        let _ = self.shared.close(self.rt, None);
+    }
+
+    /// Gives all slots that have no connection, once all tasks are over, and the word that as many connections came as were to be
+    /// accepted; or the ending by which these could not go on.
     pub(crate) fn into_free_after(
         self,
         served: Result<(), Ending>,
-    ) -> Result<Vec<FreeSlot<B, S, H>>, Ending> {
-        let free = self.into_free();
-        match served {
-            Ok(()) => Ok(free),
-            Err(ending) => {
+    ) -> Result<(Vec<FreeSlot<B, S, H>>, Stop<B, S, H>), Ending>
+        requires ending { IfErr served IsServerFault }
+        ensures ending { IfErr result IsServerFault }
+    {
+        let (free, stop) = self.into_parts();
+        match (served, stop) {
+            (Ok(()), Some(stop)) => Ok((free, stop)),
+            // It does not come to this: tasks end well only where the server was stopped.
+            (Ok(()), None) => {
                 drop(free);
+                Err(Ending::Memory)
+            }
+            (Err(ending), stop) => {
+                drop(free);
+                drop(stop);
                 Err(ending)
             }
         }
     }
 
-    fn into_free(self) -> Vec<FreeSlot<B, S, H>> {
+    /// Ends a server that serves nobody any more. A connection that no task took is cut off.
+    pub fn end(self) {
+        let (free, stop) = self.into_parts();
+        drop(free);
+        drop(stop);
+    }
+
+    fn into_parts(self) -> (Vec<FreeSlot<B, S, H>>, Option<Stop<B, S, H>>) {
         let Server {
             rt: _,
+            clock: _,
             hub: _,
             hash: _,
             setup: _,
             shared,
             free,
+            stop,
         } = self;
-        drop(shared);
-        free.into_inner()
+        let (_word, mut left) = shared.into_left();
+        while let Some(accepted) = left.next() {
+            accepted.cut_off();
+        }
+        left.end();
+        (free.into_inner(), stop.into_inner())
+    }
+}
+
+/// The word that no slot was free.
+pub(crate) struct NoSlot(());
+
+impl NoSlot {
+    /// Ends it.
+    pub(crate) fn end(self) {
+        let NoSlot(()) = self;
+    }
+}
+
+/// Takes the last of these slots, or the word that there is none.
+fn last_of<B: OfHub<H, S>, S: AsyncRead + AsyncWrite, H>(
+    free: &mut Vec<FreeSlot<B, S, H>>,
+) -> Result<FreeSlot<B, S, H>, NoSlot>
+    ensures none { IfErr result (λ _. free.old.items ≡ []) }
+{
+    match free.pop() {
+        Some(slot) => Ok(slot),
+        None => Err(NoSlot(())),
     }
 }

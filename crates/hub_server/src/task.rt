@@ -1,18 +1,24 @@
 ghost use Rattle.futures.specs.Task.{IsArmed, Keeps};
 ghost use Rattle.futures.specs.Poll.{OnPending};
+ghost use Rattle.adc_sessions.specs.Accepting.{incoming_of, left_of};
+ghost use Rattle.hub_listener.specs.Rests.{socket_of};
+ghost use Rattle.hub_server.specs.Stopping.{StopsWhen};
 
 use crate::accepted::Accepted;
 use crate::acceptor::Acceptor;
+use crate::arrivals::Arrivals;
 use crate::connection::serve_connection;
-use crate::free_slot::{FreeSlot, OfHub};
+use crate::free_slot::{FreeSlot, OfHub, Stop};
 use crate::left_slot::LeftSlot;
-use crate::served_slot::ServedSlot;
+use crate::port::HubPort;
+use crate::served_slot::{Over, ServedSlot};
 use crate::server::Server;
+use crate::ticket::Ticket;
 use adc_sessions::{Accept, AcceptEnd, End, Stream};
 use connection_slots::{Fault, Ticker};
 use futures::Future;
 use futures::task::{Context, Poll};
-use hub_listener::{Listener, Listens, Moments, Socket};
+use hub_listener::{Moments, Socket};
 use hub_warnings::{Cause, Warnings};
 use log::Log;
 use session_hash::SessionHash;
@@ -22,33 +28,63 @@ use std::sync::Wait;
 use std::time::Clock;
 
 /// The accepting of connections.
-pub(crate) type Accepts<'a, B, S, H, R, L, I> = Accept<
-    Listener<'a, R, L, I>,
-    Acceptor<'a, B, S, H, R, L>,
+pub(crate) type Accepts<'a, B, S, T, H, R, C, L, I> = Accept<
+    Arrivals<'a, B, S, T, H, R, C, L, I>,
+    Acceptor<'a, B, S, T, H, R, C, L>,
 >;
 
 /// One task of the server.
 #[derive(Drop)]
-pub(crate) enum Task<'a, B: OfHub<H>, S: Stream, H: SessionHash, R: Moments, L, I> {
+pub(crate) enum Task<
+    'a,
+    B: OfHub<H, S>,
+    S: Stream,
+    T: Ticket<S, H, C>,
+    H: SessionHash,
+    R: Wait + Clock + AllocGlobal,
+    C: Moments,
+    L: Log,
+    I: HubPort<S, T, H, C>,
+> {
     /// Keeps time.
-    Ticking(Ticker<'a, Accepted<B, S, H>, S, R>),
+    Ticking(Ticker<'a, Accepted<B, S, T, H, C>, S, R>),
     /// Serves the connections of one slot.
-    Serving(SlotTask<'a, B, S, H, R, L>),
+    Serving(SlotTask<'a, B, S, T, H, R, C, L>),
     /// Accepts connections.
-    Accepting(AcceptTask<'a, B, S, H, R, L, I>),
+    Accepting(AcceptTask<'a, B, S, T, H, R, C, L, I>),
     /// Nothing: the task is done.
     Done,
 }
 
 /// The task that accepts connections.
-pub(crate) struct AcceptTask<'a, B: OfHub<H>, S: Stream, H: SessionHash, R: Moments, L, I> {
-    accept: Accepts<'a, B, S, H, R, L, I>,
-    server: &'a Server<'a, B, S, H, R>,
+pub(crate) struct AcceptTask<
+    'a,
+    B: OfHub<H, S>,
+    S: Stream,
+    T: Ticket<S, H, C>,
+    H: SessionHash,
+    R: Wait + Clock + AllocGlobal,
+    C: Moments,
+    L: Log,
+    I: HubPort<S, T, H, C>,
+> {
+    accept: Accepts<'a, B, S, T, H, R, C, L, I>,
+    server: &'a Server<'a, B, S, T, H, R, C>,
     is_open: bool,
+    ghost stops: { StopsWhen B.stops I.terms I.accepted (socket_of (incoming_of accept).listener) (left_of accept) },
 }
 
-impl<'a, B: OfHub<H>, S: Stream, H: SessionHash, R: Moments, L, I: Drop> Drop
-    for AcceptTask<'a, B, S, H, R, L, I> {
+impl<
+    'a,
+    B: OfHub<H, S>,
+    S: Stream,
+    T: Ticket<S, H, C>,
+    H: SessionHash,
+    R: Wait + Clock + AllocGlobal,
+    C: Moments,
+    L: Log,
+    I: HubPort<S, T, H, C>,
+> Drop for AcceptTask<'a, B, S, T, H, R, C, L, I> {
     fn drop(self) {
         let AcceptTask {
             accept,
@@ -60,13 +96,15 @@ impl<'a, B: OfHub<H>, S: Stream, H: SessionHash, R: Moments, L, I: Drop> Drop
 }
 
 impl<
-    B: OfHub<H>,
+    B: OfHub<H, S>,
     S: Socket,
+    T: Ticket<S, H, C>,
     H: SessionHash,
-    R: Wait + Clock + Moments + AllocGlobal,
+    R: Wait + Clock + AllocGlobal,
+    C: Moments,
     L: Log,
-    I: Listens<Socket = S>,
-> Future for Task<'_, B, S, H, R, L, I> {
+    I: HubPort<S, T, H, C>,
+> Future for Task<'_, B, S, T, H, R, C, L, I> {
     type Output = ();
 
     fn poll(&mut self, cx: &mut Context<'_>) -> Poll<()> {
@@ -86,17 +124,22 @@ impl<
 
 impl<
     'a,
-    B: OfHub<H>,
+    B: OfHub<H, S>,
     S: Socket,
+    T: Ticket<S, H, C>,
     H: SessionHash,
-    R: Wait + Clock + Moments + AllocGlobal,
+    R: Wait + Clock + AllocGlobal,
+    C: Moments,
     L: Log,
-    I: Listens<Socket = S>,
-> AcceptTask<'a, B, S, H, R, L, I> {
+    I: HubPort<S, T, H, C>,
+> AcceptTask<'a, B, S, T, H, R, C, L, I> {
+    /// Makes it. Condition: once as many more connections came as are left to accept, the server stops.
     pub(crate) fn new(
-        accept: Accepts<'a, B, S, H, R, L, I>,
-        server: &'a Server<'a, B, S, H, R>,
-    ) -> AcceptTask<'a, B, S, H, R, L, I> {
+        accept: Accepts<'a, B, S, T, H, R, C, L, I>,
+        server: &'a Server<'a, B, S, T, H, R, C>,
+    ) -> AcceptTask<'a, B, S, T, H, R, C, L, I>
+        requires stops { StopsWhen B.stops I.terms I.accepted (socket_of (incoming_of accept).listener) (left_of accept) }
+    {
         AcceptTask {
             accept,
             server,
@@ -118,33 +161,47 @@ impl<
         }
         match self.accept.poll(cx) {
             Poll::Pending => Poll::Pending,
-            Poll::Ready(end) => {
-                self.server.close(fault_of(end));
+            Poll::Ready(AcceptEnd::Stopped) => {
+                self.server.stop(Stop::new());
+                Poll::Ready(())
+            }
+            Poll::Ready(AcceptEnd::AcceptFailed) => {
+                self.server.close(Fault::Accepting);
                 Poll::Ready(())
             }
         }
     }
 }
 
-fn fault_of(end: AcceptEnd) -> Option<Fault> {
-    match end {
-        AcceptEnd::Stopped => None,
-        AcceptEnd::AcceptFailed => Some(Fault::Accepting),
-    }
-}
-
 /// The task that serves the connections of one slot, one after the other.
-pub(crate) struct SlotTask<'a, B: OfHub<H>, S: Stream, H: SessionHash, R: Moments, L> {
-    served: ServedSlot<'a, B, S, H, R>,
-    server: &'a Server<'a, B, S, H, R>,
+pub(crate) struct SlotTask<
+    'a,
+    B: OfHub<H, S>,
+    S: Stream,
+    T: Ticket<S, H, C>,
+    H: SessionHash,
+    R: Wait + Clock + AllocGlobal,
+    C: Moments,
+    L,
+> {
+    served: ServedSlot<'a, B, S, T, H, R, C>,
+    server: &'a Server<'a, B, S, T, H, R, C>,
     slot: usize,
     // The address from which the connection of the session comes.
     peer: Option<SocketAddrV4>,
     warnings: &'a Warnings<L>,
 }
 
-impl<'a, B: OfHub<H>, S: Stream, H: SessionHash, R: Moments, L> Drop
-    for SlotTask<'a, B, S, H, R, L> {
+impl<
+    'a,
+    B: OfHub<H, S>,
+    S: Stream,
+    T: Ticket<S, H, C>,
+    H: SessionHash,
+    R: Wait + Clock + AllocGlobal,
+    C: Moments,
+    L,
+> Drop for SlotTask<'a, B, S, T, H, R, C, L> {
     fn drop(self) {
         let SlotTask {
             served,
@@ -159,17 +216,19 @@ impl<'a, B: OfHub<H>, S: Stream, H: SessionHash, R: Moments, L> Drop
 
 impl<
     'a,
-    B: OfHub<H>,
+    B: OfHub<H, S>,
     S: Socket,
+    T: Ticket<S, H, C>,
     H: SessionHash,
-    R: Wait + Clock + Moments + AllocGlobal,
+    R: Wait + Clock + AllocGlobal,
+    C: Moments,
     L: Log,
-> SlotTask<'a, B, S, H, R, L> {
+> SlotTask<'a, B, S, T, H, R, C, L> {
     pub(crate) fn new(
-        server: &'a Server<'a, B, S, H, R>,
+        server: &'a Server<'a, B, S, T, H, R, C>,
         slot: usize,
         warnings: &'a Warnings<L>,
-    ) -> SlotTask<'a, B, S, H, R, L> {
+    ) -> SlotTask<'a, B, S, T, H, R, C, L> {
         SlotTask {
             served: ServedSlot::new(),
             server,
@@ -187,8 +246,8 @@ impl<
         match self.served.poll_over(cx) {
             Poll::Pending => Poll::Pending,
             Poll::Ready(None) => self.wait(cx),
-            Poll::Ready(Some((end, stream, free))) => {
-                self.end(end, stream, free);
+            Poll::Ready(Some(over)) => {
+                self.end(over);
                 cx.yield_now()
             }
         }
@@ -200,7 +259,8 @@ impl<
         ensures kept { Keeps cx.old cx.new }
     {
         let server = self.server;
-        match server.shared.handoff.poll_next(server.rt, self.slot, cx) {
+        let (_word, next) = server.shared.handoff.poll_next(server.rt, self.slot, cx);
+        match next {
             Poll::Pending => Poll::Pending,
             Poll::Ready(None) => {
                 server.shared.end_one(server.rt);
@@ -213,38 +273,48 @@ impl<
         }
     }
 
-    /// Serves this connection. For want of memory it is let go.
-    fn begin(&mut self, accepted: Accepted<B, S, H>) {
+    /// Serves this connection. It is lost where memory is refused.
+    fn begin(&mut self, accepted: Accepted<B, S, T, H, C>) {
         let server = self.server;
         let Accepted {
-            stream,
+            ticket,
+            socket,
             pass,
             challenge,
             peer,
-            ..
+            of: _,
         } = accepted;
         self.peer = Some(peer);
-        match serve_connection(server, stream, pass, challenge, self.slot) {
-            Ok(session) => self.served.begin(session),
-            Err((stream, left)) => {
-                let LeftSlot { visitor, slot } = left;
-                self.end(End::Memory, stream, FreeSlot::new(visitor, slot));
+        match serve_connection(server, socket, pass, challenge, self.slot) {
+            Ok(session) => self.served.begin(session, ticket),
+            Err((socket, left)) => {
+                let LeftSlot { visitor, slot, .. } = left;
+                server.free(FreeSlot::new(visitor, slot));
+                ticket.lost(socket);
+                self.note_end(End::Memory);
             }
         }
     }
 
-    /// Gives the slot back, and lets the socket go. What the hub said last is to reach its client.
-    fn end(&self, end: End, stream: S, free: FreeSlot<B, S, H>) {
-        let server = self.server;
-        server.free(free);
-        if end == End::Ended {
-            server.shared.lingering.let_out(server.rt, stream);
-        } else {
-            drop(stream);
-        }
-        server.shared.wakers.make_room();
+    /// Gives the slot back, and ends the connection.
+    fn end(&self, over: Over<B, S, T, H, C>) {
+        let Over {
+            end,
+            ticket,
+            socket,
+            free,
+            of: _,
+        } = over;
+        self.server.free(free);
+        self.server.let_out(ticket.served(socket, end));
+        self.note_end(end);
+    }
+
+    /// Notes that a connection is over, and warns where it ended by a fault.
+    fn note_end(&self, end: End) {
+        self.server.shared.wakers.make_room();
         if let Some(cause) = cause_of(end) {
-            self.warnings.warn(server.rt, self.peer, cause);
+            self.warnings.warn(self.server.rt, self.peer, cause);
         }
     }
 }

@@ -1,11 +1,13 @@
 use crate::accepted::Accepted;
 use crate::free_slot::OfHub;
+use crate::port::HubPort;
 use crate::server::Server;
 use crate::task::{AcceptTask, SlotTask, Task};
+use crate::ticket::Ticket;
 use connection_slots::{Startup, Ticker};
 use futures::Stream;
 use futures::task::{Context, Poll};
-use hub_listener::{Listens, Moments, Socket};
+use hub_listener::{Moments, Socket};
 use hub_warnings::Warnings;
 use log::Log;
 use session_hash::SessionHash;
@@ -18,34 +20,38 @@ use std::time::Clock;
 /// that accepts connections. So what comes later needs no memory for a task.
 pub(crate) struct Tasks<
     'a,
-    B: OfHub<H>,
+    B: OfHub<H, S>,
     S: adc_sessions::Stream,
+    T: Ticket<S, H, C>,
     H: SessionHash,
-    R: Wait + Moments,
-    L,
-    I,
+    R: Wait + Clock + AllocGlobal,
+    C: Moments,
+    L: Log,
+    I: HubPort<S, T, H, C>,
     W,
 > {
-    ticker: Option<Ticker<'a, Accepted<B, S, H>, S, R>>,
+    ticker: Option<Ticker<'a, Accepted<B, S, T, H, C>, S, R>>,
     // The slot of the next task, and how many slots there are.
     next: usize,
     count: usize,
-    accept: Option<AcceptTask<'a, B, S, H, R, L, I>>,
-    startup: Startup<'a, Accepted<B, S, H>, S, R, W>,
-    server: &'a Server<'a, B, S, H, R>,
+    accept: Option<AcceptTask<'a, B, S, T, H, R, C, L, I>>,
+    startup: Startup<'a, Accepted<B, S, T, H, C>, S, R, W>,
+    server: &'a Server<'a, B, S, T, H, R, C>,
     warnings: &'a Warnings<L>,
 }
 
 impl<
     'a,
-    B: OfHub<H>,
+    B: OfHub<H, S>,
     S: adc_sessions::Stream,
+    T: Ticket<S, H, C>,
     H: SessionHash,
-    R: Wait + Moments,
-    L,
-    I: Drop,
+    R: Wait + Clock + AllocGlobal,
+    C: Moments,
+    L: Log,
+    I: HubPort<S, T, H, C>,
     W,
-> Drop for Tasks<'a, B, S, H, R, L, I, W> {
+> Drop for Tasks<'a, B, S, T, H, R, C, L, I, W> {
     fn drop(self) {
         let Tasks {
             ticker,
@@ -64,23 +70,25 @@ impl<
 
 impl<
     'a,
-    B: OfHub<H>,
+    B: OfHub<H, S>,
     S: Socket,
+    T: Ticket<S, H, C>,
     H: SessionHash,
-    R: Wait + Clock + Moments + AllocGlobal,
+    R: Wait + Clock + AllocGlobal,
+    C: Moments,
     L: Log,
-    I: Listens<Socket = S>,
+    I: HubPort<S, T, H, C>,
     W: Write,
-> Tasks<'a, B, S, H, R, L, I, W> {
+> Tasks<'a, B, S, T, H, R, C, L, I, W> {
     /// Makes the tasks for so many slots.
     pub(crate) fn new(
-        ticker: Ticker<'a, Accepted<B, S, H>, S, R>,
+        ticker: Ticker<'a, Accepted<B, S, T, H, C>, S, R>,
         count: usize,
-        accept: AcceptTask<'a, B, S, H, R, L, I>,
-        startup: Startup<'a, Accepted<B, S, H>, S, R, W>,
-        server: &'a Server<'a, B, S, H, R>,
+        accept: AcceptTask<'a, B, S, T, H, R, C, L, I>,
+        startup: Startup<'a, Accepted<B, S, T, H, C>, S, R, W>,
+        server: &'a Server<'a, B, S, T, H, R, C>,
         warnings: &'a Warnings<L>,
-    ) -> Tasks<'a, B, S, H, R, L, I, W> {
+    ) -> Tasks<'a, B, S, T, H, R, C, L, I, W> {
         Tasks {
             ticker: Some(ticker),
             next: 0,
@@ -95,15 +103,17 @@ impl<
 
 impl<
     'a,
-    B: OfHub<H>,
+    B: OfHub<H, S>,
     S: Socket,
+    T: Ticket<S, H, C>,
     H: SessionHash,
-    R: Wait + Clock + Moments + AllocGlobal,
+    R: Wait + Clock + AllocGlobal,
+    C: Moments,
     L: Log,
-    I: Listens<Socket = S>,
+    I: HubPort<S, T, H, C>,
     W: Write,
-> Stream for Tasks<'a, B, S, H, R, L, I, W> {
-    type Item = Task<'a, B, S, H, R, L, I>;
+> Stream for Tasks<'a, B, S, T, H, R, C, L, I, W> {
+    type Item = Task<'a, B, S, T, H, R, C, L, I>;
 
     /// Gives the next task. It ends once all tasks came to be; then the server opens.
     fn poll_next(&mut self, _cx: &mut Context<'_>) -> Poll<Option<Self::Item>> {

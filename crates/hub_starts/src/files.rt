@@ -17,7 +17,7 @@ pub fn settings_in<R: Moments + AllocGlobal + Files>(
 ) -> Result<Settings, StartFault>
     ensures { (opening : ℕ) × (left : Option (List ℕ)) × R.tells rt.now opening × StartsBy left opening result }
 {
-    let opening = rt.moment_of_call();
+    let opening = rt.moment_of_call().into_seconds();
     match fs::open(rt, path) {
         Ok(file) => settings_from(rt.alloc(), file, opening),
         Err(error) => Err(StartFault::of_file(&error, "file")),

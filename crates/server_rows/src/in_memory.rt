@@ -1,13 +1,17 @@
 // The whole server over memory, with four threads: what each of its connections was written, byte for byte.
 pub(crate) mod desk;
+pub(crate) mod port;
+mod promise;
 pub(crate) mod wire;
 
-use crate::in_memory::desk::{Desk, Gone};
-use crate::in_memory::wire::{Client, Cue, Lobby};
+use crate::in_memory::desk::{Desk, EndedBy, EndedTicket, Gone};
+use crate::in_memory::port::{Door, Lobby, WireTicket};
+use crate::in_memory::promise::serve_paid;
+use crate::in_memory::wire::{Client, Cue, Wire};
 use crate::machine::*;
 use crate::run::settings;
 use crate::warnings::shape;
-use hub_server::serve_at;
+use hub_settings::Settings;
 use second_try::{Transcript, transcript_of};
 
 const SETTINGS: &str = "hash = \"first24\"\nthreads = 4\nstop_after = 6\nmax_users = 8\n";
@@ -74,6 +78,7 @@ struct Served {
     output: Vec<u8>,
     errors: Vec<u8>,
     gone: Vec<Gone>,
+    tickets: Vec<EndedTicket>,
 }
 
 impl Served {
@@ -100,9 +105,9 @@ fn talk<R: ServerMachine>(rt: &R) -> Vec<Transcript> {
     all
 }
 
-/// Serves these clients.
-fn serve<R: ServerMachine>(rt: &R, talk: &[Transcript]) -> Result<Served, AllocError> {
-    let mut clients = Vec::with_capacity(rt.alloc(), talk.len())?;
+/// Gives the clients that say this.
+fn clients_of(alloc: Global, talk: &[Transcript]) -> Result<Vec<Client<'_>>, AllocError> {
+    let mut clients = Vec::with_capacity(alloc, talk.len())?;
     for (place, one) in talk.iter().enumerate() {
         let (cues, enters) = match place {
             ANA => (ANA_CUES, b"BINF AAAB ".as_slice()),
@@ -115,6 +120,12 @@ fn serve<R: ServerMachine>(rt: &R, talk: &[Transcript]) -> Result<Served, AllocE
             enters,
         })?;
     }
+    Ok(clients)
+}
+
+/// Serves these clients.
+fn serve<R: ServerMachine>(rt: &R, talk: &[Transcript]) -> Result<Served, AllocError> {
+    let clients = clients_of(rt.alloc(), talk)?;
     let (settings, hash) = (
         settings(rt.alloc(), SETTINGS)?,
         Arc::new(rt.alloc(), First24)?,
@@ -122,15 +133,30 @@ fn serve<R: ServerMachine>(rt: &R, talk: &[Transcript]) -> Result<Served, AllocE
     let mut output = Vec::with_capacity(rt.alloc(), 1_024)?;
     let mut errors = Vec::with_capacity(rt.alloc(), 1_024)?;
     let desk = Desk::new(rt.alloc(), clients.len())?;
-    let lobby = Lobby::new(rt, rt.alloc(), &desk, &clients);
-    let said = &mut errors;
-    let status = serve_at(rt, &settings, hash, [0; 32], lobby, &mut output, said);
+    let door = Door::new(rt, rt.alloc(), &desk, &clients);
+    let status = serve_at_door(rt, &settings, hash, door, &mut output, &mut errors);
+    let (gone, tickets) = desk.into_left();
     Ok(Served {
         status,
         output,
         errors,
-        gone: desk.into_gone(),
+        gone,
+        tickets,
     })
+}
+
+/// Serves those who come in by this door, and gives the status.
+fn serve_at_door<'a, R: ServerMachine>(
+    rt: &'a R,
+    settings: &Settings,
+    hash: Arc<First24>,
+    door: Door<'a, R>,
+    output: &mut Vec<u8>,
+    errors: &mut Vec<u8>,
+) -> u8 {
+    serve_paid::<Wire<'a, R>, WireTicket<'a, R>, Lobby<'a, R>, R, Vec<u8>, Vec<u8>>(
+        rt, settings, hash, [0; 32], door, output, errors,
+    )
 }
 
 /// Serves these clients, and once more where memory was refused.
@@ -141,17 +167,32 @@ fn serves<R: ServerMachine>(rt: &R, talk: &[Transcript]) -> Served {
     }
 }
 
+/// Stops the test unless each hears what it should, and all tickets have ended by `served`: nobody was refused, lost or cut off.
+fn all_are_served<R: ServerMachine>(rt: &R) {
+    let talk = talk(rt);
+    let served = serves(rt, &talk);
+    assert!(rt; served.status == 0, "{}", served.status);
+    assert!(rt; served.output.as_slice() == SAID);
+    let shape = again!(rt; shape(rt.alloc(), &served.errors));
+    assert!(rt; shape.as_slice() == WARNED);
+    assert!(rt; served.gone.len() == talk.len());
+    for gone in served.gone.iter() {
+        let wanted = talk.get(gone.place).expect(rt, "a client");
+        assert!(rt; gone.sent == wanted.heard, "{}", gone.place);
+    }
+    assert!(rt; served.tickets.len() == talk.len());
+    for place in 0..talk.len() {
+        let mut ended = served.tickets.iter().filter(|ticket| ticket.place == place);
+        assert!(rt;
+            ended
+                .next()
+                .is_some_and(|ticket| ticket.by == EndedBy::Served),
+            "{place}"
+        );
+    }
+}
+
 #[test]
 fn each_is_written_what_the_rules_owe_it(rt: HostRuntime) {
-    let talk = talk(&rt);
-    let served = serves(&rt, &talk);
-    assert!(&rt; served.status == 0, "{}", served.status);
-    assert!(&rt; served.output.as_slice() == SAID);
-    let shape = again!(&rt; shape(rt.alloc(), &served.errors));
-    assert!(&rt; shape.as_slice() == WARNED);
-    assert!(&rt; served.gone.len() == talk.len());
-    for gone in served.gone.iter() {
-        let wanted = talk.get(gone.place).expect(&rt, "a client");
-        assert!(&rt; gone.sent == wanted.heard, "{}", gone.place);
-    }
+    all_are_served(&rt);
 }

@@ -1,7 +1,7 @@
 // Sockets that linger: for how long, which one is cut off where too many do, and that the ticker waits for them.
 use crate::histories::clock::StillClock;
 use crate::machine::*;
-use connection_slots::{Lingering, Shared, Ticker};
+use connection_slots::{LeavingSocket, Lingering, Shared, Ticker};
 use std::sync::atomic::{AtomicU64, Ordering};
 use tokio::runtime::Runtime;
 use tokio::time::Sleep;
@@ -64,7 +64,7 @@ fn let_out<'a, R: Wait>(
     number: u64,
     closed: &'a AtomicU64,
 ) {
-    lingering.let_out(clock, Silent { number, closed });
+    let _ = lingering.let_out(clock, LeavingSocket::new(Silent { number, closed }));
 }
 
 /// Answers whether a socket still lingers so many seconds after its session.
@@ -78,7 +78,9 @@ fn lingers_after<R: Wait + RandomSource + AllocGlobal>(
     let lingering = Lingering::new(rt.alloc())?;
     let_out(&lingering, &clock, 1, &closed);
     clock.set(seconds);
-    Ok(task.enter(|cx| lingering.linger(&clock, cx)))
+    Ok(task.enter(|cx| lingering
+        .linger(&clock, cx, false)
+        .is_ok_and(|seen| seen.some())))
 }
 
 #[test]
@@ -119,9 +121,13 @@ fn is_over_after<R: ServerMachine>(rt: &R, seconds: u64) -> Result<bool, AllocEr
     let task = MockTask::new(rt).map_err(|_| AllocError)?;
     let shared: Shared<(), Silent<'_>> = Shared::new(rt.alloc(), 0)?;
     let_out(&shared.lingering, &clock, 1, &closed);
-    shared.close(&clock, None);
+    let _ = shared.close(&clock, None);
     clock.set(seconds);
-    Ok(is_over(&shared, &clock, timer, &task))
+    let is_over = is_over(&shared, &clock, timer, &task);
+    let (_, mut left) = shared.into_left();
+    while let Some(()) = left.next() {}
+    left.end();
+    Ok(is_over)
 }
 
 /// Answers whether the ticker of this server is over.

@@ -2,24 +2,92 @@
 use crate::machine::*;
 use crate::program::asking::Output;
 use crate::run::settings;
-use hub_listener::Bind;
-use hub_server::serve_at;
+use hub_listener::{Arrived, Listens};
+use hub_server::{BindPort, HubPort, TcpPort, TcpTicket, Terms, serve_at};
 use std::net::{TcpListener, TcpStream};
 use std::os::fd::OwnedFd;
+use std::snapshot::Snapshot;
+use tokio::net::TcpStream as Stream;
 use tokio::reactor::Handle;
 
-/// A socket that is connected already, so that it accepts nobody.
+/// A socket `L` that is connected already, so that it accepts nobody, and has promised a `P`.
 #[derive(Drop)]
-struct Connected(TcpListener);
+struct PromisedNobody<L, P> {
+    listener: L,
+    terms: P,
+}
 
-impl Bind for Connected {
-    type Socket = tokio::net::TcpStream;
+/// Such a socket of TCP.
+type ConnectedPort<R> = PromisedNobody<tokio::net::TcpListener, Snapshot<Terms<First24, R>>>;
 
-    type Listener = tokio::net::TcpListener;
+impl<R: Clock> HubPort<Stream, TcpTicket<First24, R>, First24, R> for ConnectedPort<R> {
+    ghost use Rattle.std.proofs.Common.{refl};
 
-    fn bind<R: Net>(self, _rt: &R, handle: &Handle) -> io::Result<tokio::net::TcpListener> {
-        tokio::net::TcpListener::from_std(self.0, handle)
+    ghost terms = { λ port. port.terms.value };
+
+    ghost accepted = { λ _. 0 };
+
+    ghost comes_so = { λ a it b came. absurd came };
+
+    ghost waits_so = { λ a b same. (same, refl) };
+}
+
+impl<R: Clock> BindPort<Stream, TcpTicket<First24, R>, First24, R> for ConnectedPort<R> {
+    ghost use Rattle.std.specs.Prelude.{◌≡◌, ℕ, IfOk};
+
+    type Address = TcpListener;
+
+    fn bind<N: Net>(
+        _rt: &N,
+        address: TcpListener,
+        handle: &Handle,
+        promise: Snapshot<Terms<First24, R>>,
+    ) -> io::Result<ConnectedPort<R>>
+        ensures promised { IfOk result (λ port. port.terms.value ≡ promise.value) }
+        ensures none { IfOk result (λ port. ◌≡◌ {A = ℕ} 0 0) }
+    {
+        let listener = tokio::net::TcpListener::from_std(address, handle)?;
+        Ok(PromisedNobody {
+            listener,
+            terms: promise,
+        })
     }
+}
+
+impl<R: Clock> Listens for ConnectedPort<R> {
+    ghost use Rattle.std.specs.Prelude.{◌≡◌};
+    ghost use Rattle.std.proofs.Common.{◌∙◌, refl};
+
+    type Socket = Stream;
+
+    type Ticket = TcpTicket<First24, R>;
+
+    // Nobody comes.
+    ghost comes = { λ _ _ _. ⊥ };
+
+    ghost waits = { λ a b. b.terms.value ≡ a.terms.value };
+
+    fn poll_accept(
+        &mut self,
+        cx: &mut Context<'_>,
+    ) -> Poll<io::Result<Arrived<Stream, TcpTicket<First24, R>>>> {
+        match self.listener.poll_accept(cx) {
+            Poll::Pending => Poll::Pending,
+            Poll::Ready(Err(error)) => Poll::Ready(Err(error)),
+            // The test would not end.
+            Poll::Ready(Ok(_)) => cx.yield_now(),
+        }
+    }
+
+    fn address(&self) -> io::Result<SocketAddr> {
+        self.listener.local_addr()
+    }
+
+    ghost waits_nothing = { λ a. refl };
+
+    ghost waits_on = { λ a b c first second. second ∙ first };
+
+    ghost waits_first = { λ a b it c first came. came };
 }
 
 /// The trouble that is there where a server is to be.
@@ -36,9 +104,9 @@ enum Trouble {
 }
 
 /// Runs a server at this address, and gives its status, its output and what it said on standard error.
-fn at<R: ServerMachine + Net<Stream = TcpStream, Listener = TcpListener>, A: Bind>(
+fn at<R: ServerMachine, I: BindPort<Stream, TcpTicket<First24, R>, First24, R> + Send>(
     rt: &R,
-    address: A,
+    address: I::Address,
     is_broken: bool,
 ) -> io::Result<(u8, Vec<u8>, Vec<u8>)> {
     let settings = settings(rt.alloc(), "hash = \"first24\"\nmax_users = 4\n")?;
@@ -46,7 +114,15 @@ fn at<R: ServerMachine + Net<Stream = TcpStream, Listener = TcpListener>, A: Bin
     let mut output = Output::new(rt.alloc(), is_broken)?;
     let mut errors = Vec::with_capacity(rt.alloc(), 64)?;
     let said = &mut errors;
-    let status = serve_at(rt, &settings, hash, [0; 32], address, &mut output, said);
+    let status = serve_at::<Stream, TcpTicket<First24, R>, I, First24, R, Output, Vec<u8>>(
+        rt,
+        &settings,
+        hash,
+        [0; 32],
+        address,
+        &mut output,
+        said,
+    );
     Ok((status, output.got, errors))
 }
 
@@ -60,14 +136,14 @@ fn in_trouble<R: ServerMachine + Net<Stream = TcpStream, Listener = TcpListener>
     let any = SocketAddrV4::new(Ipv4Addr::LOCALHOST, 0);
     let nowhere = SocketAddrV4::new(Ipv4Addr::new(203, 0, 113, 1), 4111);
     match (trouble, local) {
-        (Trouble::InUse, SocketAddr::V4(local)) => at(rt, local, false),
+        (Trouble::InUse, SocketAddr::V4(local)) => at::<R, TcpPort<First24, R>>(rt, local, false),
         (Trouble::InUse, SocketAddr::V6(_)) => Err(io::ErrorKind::Unsupported.into()),
-        (Trouble::NotHere, _) => at(rt, nowhere, false),
-        (Trouble::Mute, _) => at(rt, any, true),
+        (Trouble::NotHere, _) => at::<R, TcpPort<First24, R>>(rt, nowhere, false),
+        (Trouble::Mute, _) => at::<R, TcpPort<First24, R>>(rt, any, true),
         (Trouble::Connected, local) => {
             let stream = TcpStream::connect(rt, local)?;
             let connected = TcpListener::from(OwnedFd::from(stream));
-            at(rt, Connected(connected), false)
+            at::<R, ConnectedPort<R>>(rt, connected, false)
         }
     }
 }

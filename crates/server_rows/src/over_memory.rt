@@ -1,13 +1,15 @@
 // A session over memory, with a connection of the server.
 ghost use Rattle.std.specs.Prelude.{◌≡◌, Some, ℕ, ⊤};
+ghost use Rattle.hub_server.specs.Naming.{home_in};
 
 use crate::sessions::hold;
 use adc_sessions::End;
 use futures::task::{Context, Poll};
 use futures::test::MockTask;
 use hub_core::{Options, Setup};
-use hub_server::{Connection, OfHub, Server};
-use hub_shared::{Host, Hub};
+use hub_listener::Moments;
+use hub_server::{Connection, OfHub, Server, TcpTicket, Ticket};
+use hub_shared::{Host, Hub, Pass};
 use second_try::{again, transcript_of};
 use session_hash::First24;
 use std::alloc::{AllocError, AllocGlobal};
@@ -17,6 +19,7 @@ use std::random::RandomSource;
 use std::sync::{Arc, Wait};
 use std::time::Clock;
 use tokio::io::{AsyncRead, AsyncWrite};
+use tokio::net::TcpStream;
 
 const CHALLENGE: [u8; 24] = [0; 24];
 
@@ -69,8 +72,9 @@ impl AsyncWrite for Wire<'_> {
 
 /// Tells how the session of a hub's only connection ends, and what it writes; nothing where memory was refused.
 fn session<
-    B: OfHub<First24>,
+    B: OfHub<First24, S>,
     S: AsyncRead + AsyncWrite,
+    T: Ticket<S, First24, R>,
     R: Wait + Clock + RandomSource + AllocGlobal,
 >(
     rt: &R,
@@ -79,8 +83,9 @@ fn session<
     setup: &Setup,
     input: &[u8],
 ) -> Option<(End, Vec<u8>)>
-    requires here { B.home ≡ Some hub.now.home }
-    requires timed { (moment : ℕ) → ∥ B.tells moment ∥₁ }
+    requires here { B.hub ≡ Some hub.now }
+    requires timed { (moment : ℕ) → ⟦<R as Moments>⟧.tells rt.now moment → ∥ B.tells moment ∥₁ }
+    requires timely { (moment : ℕ) → B.tells moment → ∥ ⟦<R as Moments>⟧.tells rt.now moment ∥₁ }
     requires host { host.old ≡ record { home = hub.now.home; admitted = 0 } }
     requires set { hub.now.setup ≡ setup.now }
 {
@@ -90,8 +95,9 @@ fn session<
         return None;
     };
     let free = Vec::new(rt.alloc());
-    let server = Server::<B, S, First24, R>::new(
+    let server = Server::<B, S, T, First24, R, R>::new(
         rt.alloc(),
+        rt,
         rt,
         hub,
         &First24,
@@ -99,7 +105,29 @@ fn session<
         1,
         free,
     ).ok()?;
-    let connection = Connection::new(&server, pass, CHALLENGE, 0);
+    let ended = serve(rt, &server, pass, input);
+    // It cannot be dropped, since tickets cannot.
+    server.end();
+    ended
+}
+
+/// Serves a stream with this input for a pass that joined with `CHALLENGE`.
+fn serve<
+    'a,
+    B: OfHub<First24, S>,
+    S: AsyncRead + AsyncWrite,
+    T: Ticket<S, First24, R>,
+    R: Wait + Clock + RandomSource + AllocGlobal,
+>(
+    rt: &R,
+    server: &'a Server<'a, B, S, T, First24, R, R>,
+    pass: Pass<First24>,
+    input: &[u8],
+) -> Option<(End, Vec<u8>)>
+    requires here { home_in B.hub ≡ Some pass.home }
+    requires challenged { pass.challenge ≡ CHALLENGE }
+{
+    let connection = Connection::new(server, pass, CHALLENGE, 0);
     let bell = connection.bell();
     let written = Vec::with_capacity(rt.alloc(), 1024).ok()?;
     let wire = Wire {
@@ -123,7 +151,9 @@ fn attempt<R: Wait + Clock + RandomSource + AllocGlobal>(
 ) -> Option<(End, Vec<u8>)> {
     let setup = setup(rt)?;
     let (hub, mut host) = Hub::open(rt.alloc(), setup.clone().ok()?, &First24).ok()?;
-    match session::<Brand, Wire<'_>, R>(rt, &hub, &mut host, &setup, input) {
+    match session::<Brand, TcpStream, TcpTicket<First24, R>, R>(
+        rt, &hub, &mut host, &setup, input,
+    ) {
         Some((End::Memory, _)) | None => None,
         Some(ended) => Some(ended),
     }

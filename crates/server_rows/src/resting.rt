@@ -1,8 +1,7 @@
 // Tests of what a listener does where no connection can be accepted.
 use crate::machine::*;
-use adc_sessions::Incoming;
 use connection_slots::Wakers;
-use hub_listener::{Listener, Listens};
+use hub_listener::{Arrived, Listener, Listens};
 use hub_warnings::Warnings;
 use log::sink::Discard;
 use log::{Level, Logged};
@@ -19,15 +18,31 @@ struct Failing {
 }
 
 impl Listens for Failing {
+    ghost use Rattle.std.specs.Prelude.{◌≡◌};
+    ghost use Rattle.std.proofs.Common.{◌∙◌, refl};
+
     type Socket = TcpStream;
 
-    fn poll_accept(&mut self, _cx: &mut Context<'_>) -> Poll<io::Result<(TcpStream, SocketAddr)>> {
+    type Ticket = ();
+
+    // Nobody comes.
+    ghost comes = { λ _ _ _. ⊥ };
+
+    ghost waits = { λ a b. b.number ≡ a.number };
+
+    fn poll_accept(&mut self, _cx: &mut Context<'_>) -> Poll<io::Result<Arrived<TcpStream, ()>>> {
         Poll::Ready(Err(io::Error::from_raw_os_error(self.number)))
     }
 
     fn address(&self) -> io::Result<SocketAddr> {
         Ok(SocketAddr::V4(SocketAddrV4::new(Ipv4Addr::LOCALHOST, 0)))
     }
+
+    ghost waits_nothing = { λ a. refl };
+
+    ghost waits_on = { λ a b c first second. second ∙ first };
+
+    ghost waits_first = { λ a b it c first came. came };
 }
 
 /// The deed of a listener.
@@ -49,8 +64,17 @@ fn try_listener<R: ServerMachine>(rt: &R, number: i32) -> Option<Did> {
     let task = MockTask::new(rt).ok()?;
     let mut listener = Listener::new(Failing { number }, &wakers, rt, &warnings, timer);
     for _rest in 0..RESTS {
-        match task.enter(|cx| listener.poll_incoming(cx)) {
-            Poll::Ready(_) => return Some(Did::Failed),
+        match task.enter(|cx| listener.poll_arrived(cx)) {
+            Poll::Ready(Ok(arrived)) => {
+                let Arrived {
+                    ticket: (),
+                    socket,
+                    address: _,
+                } = arrived;
+                drop(socket);
+                return None;
+            }
+            Poll::Ready(Err(_)) => return Some(Did::Failed),
             Poll::Pending if task.is_woken() => return Some(Did::Yielded),
             Poll::Pending => wakers.make_room(),
         }

@@ -1,10 +1,10 @@
 // A server over loopback sockets, and the clients that it serves.
 use crate::conversation::plays;
-use crate::flaky::Flaky;
+use crate::flaky::FlakyPort;
 use crate::gate::GateHash;
 use crate::machine::*;
 use futures::spin::lock;
-use hub_server::{serve_at, serve_for_journal, serve_on};
+use hub_server::{TcpTicket, serve_at, serve_for_journal, serve_on};
 use hub_settings::{Settings, read_settings};
 use second_try::Step;
 use std::io::{self, Write};
@@ -12,6 +12,7 @@ use std::net::{TcpListener, TcpStream};
 use std::sync::Mutex;
 use std::sync::atomic::{AtomicBool, Ordering};
 use std::thread::join;
+use tokio::net::TcpStream as Stream;
 
 /// The number of times that a thread looks for what another does, a millisecond or more apart.
 const LOOKS: u32 = 30_000;
@@ -175,6 +176,20 @@ pub enum Way {
     Journal,
 }
 
+/// Serves at the address of these settings, where nobody is accepted at first.
+fn serve_flaky<R: ServerMachine, W: Write>(
+    rt: &R,
+    settings: &Settings,
+    hash: Arc<GateHash>,
+    output: &mut W,
+    errors: &mut Vec<u8>,
+) -> u8 {
+    let address = settings.listen();
+    serve_at::<Stream, TcpTicket<GateHash, R>, FlakyPort<GateHash, R>, GateHash, R, W, Vec<u8>>(
+        rt, settings, hash, SEED, address, output, errors,
+    )
+}
+
 /// Serves while the clients play this conversation.
 fn attempt<R: ServerMachine + Net<Stream = TcpStream, Listener = TcpListener>>(
     rt: &R,
@@ -197,10 +212,7 @@ fn attempt<R: ServerMachine + Net<Stream = TcpStream, Listener = TcpListener>>(
                     Way::Journal => {
                         serve_for_journal(rt, settings, path, served, SEED, output, errors)
                     }
-                    Way::Flaky => {
-                        let address = Flaky(settings.listen());
-                        serve_at(rt, settings, served, SEED, address, output, errors)
-                    }
+                    Way::Flaky => serve_flaky(rt, settings, served, output, errors),
                 };
                 heard.over.store(true, Ordering::SeqCst);
                 status

@@ -1,3 +1,5 @@
+ghost use Rattle.std.specs.Prelude.{⊤};
+
 use super::*;
 use futures::task::{Source, Waker};
 
@@ -9,6 +11,8 @@ pub(crate) enum Rung {
 }
 
 impl Bell for Rung {
+    ghost hears = { λ _ _ _. ⊤ };
+
     fn ring(&self) {}
 
     fn wait(&mut self, cx: &mut Context<'_>) -> bool {
@@ -20,6 +24,12 @@ impl Bell for Rung {
             }
         }
     }
+
+    fn may_hand(&mut self, _bytes: usize) -> bool {
+        true
+    }
+
+    fn wrote(&mut self, _bytes: usize, _was_full: bool) {}
 }
 
 /// A bell that never is, and that wakes nobody.
@@ -39,10 +49,18 @@ impl Silent {
 }
 
 impl Bell for Silent {
+    ghost hears = { λ _ _ _. ⊤ };
+
     fn ring(&self) {}
 
     fn wait(&mut self, cx: &mut Context<'_>) -> bool {
         let _: Poll<()> = cx.register(&self.source, &mut self.waker);
         false
     }
+
+    fn may_hand(&mut self, _bytes: usize) -> bool {
+        true
+    }
+
+    fn wrote(&mut self, _bytes: usize, _was_full: bool) {}
 }

@@ -2,7 +2,7 @@ use Rattle.server_laws.proofs.Owing.{visits_are_paid, written_is_owed}
 use Rattle.server_laws.proofs.written_laws.Goals as goal
 
 pub returns-clause-paid : goal.returns-clause-paid
-returns-clause-paid c start = visits_are_paid _ _
+returns-clause-paid c start = λ terms. visits_are_paid _ _ _
 
 pub returns-clause-written : goal.returns-clause-written
-returns-clause-written c start = written_is_owed _ _
+returns-clause-written c start = written_is_owed _ _ _ _ _ _

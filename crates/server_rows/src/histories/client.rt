@@ -1,5 +1,6 @@
 // A client over memory, whose connection's calls are recorded.
 ghost use Rattle.std.specs.Prelude.{◌≡◌, Some, ⊤};
+ghost use Rattle.hub_server.specs.Naming.{home_in};
 
 use crate::histories::clock::StillClock;
 use crate::histories::record::Desk;
@@ -8,7 +9,7 @@ use crate::sessions::begin;
 use adc_sessions::{Port, Session};
 use history_check::{Call, Reply};
 use hub_core::{JoinRefused, LineRefused, TakeRefused, Taken, Verdict};
-use hub_server::{Connection, OfHub, Server, SlotBell};
+use hub_server::{Connection, OfHub, Server, SlotBell, Ticket};
 use hub_shared::{Hub, Visitor};
 use second_try::{Deed, Step};
 use std::marker::PhantomData;
@@ -120,6 +121,18 @@ pub(crate) struct Recorder<'a, P, R> {
     connection: u64,
 }
 
+impl<'a, P, R> Recorder<'a, P, R> {
+    /// Makes the port of a connection of this caller that hands each call on to another.
+    fn new(port: P, desk: &'a Desk<R>, caller: u64, connection: u64) -> Recorder<'a, P, R> {
+        Recorder {
+            port,
+            desk,
+            caller,
+            connection,
+        }
+    }
+}
+
 impl<P: Port, R: Wait> Port for Recorder<'_, P, R> {
     ghost step = { λ a call b. P.step a.port call b.port };
 
@@ -158,25 +171,47 @@ impl<P: Port, R: Wait> Port for Recorder<'_, P, R> {
     }
 }
 
-/// The session of a client, of a server whose own sockets are streams `S`.
-pub(crate) type Talk<'a, B, S, R> = Session<
+/// A server whose clock stands, and whose own sockets are streams `S` with tickets `T`.
+pub(crate) type StillServer<'a, B, S, T, R> = Server<
+    'a,
+    B,
+    S,
+    T,
+    First24,
+    StillClock<R>,
+    StillClock<R>,
+>;
+
+/// The connection of a client of such a server.
+type StillConnection<'a, B, S, T, R> = Connection<
+    'a,
+    B,
+    S,
+    T,
+    First24,
+    StillClock<R>,
+    StillClock<R>,
+>;
+
+/// The session of a client of such a server.
+pub(crate) type Talk<'a, B, S, T, R> = Session<
     Wire<'a, R>,
-    Recorder<'a, Connection<'a, B, S, First24, StillClock<R>>, R>,
+    Recorder<'a, StillConnection<'a, B, S, T, R>, R>,
     SlotBell<'a>,
 >;
 
 /// A visitor of the named hub.
 #[derive(Drop)]
-pub(crate) struct Guest<B: OfHub<First24>> {
+pub(crate) struct Guest<B: OfHub<First24, S>, S> {
     visitor: Visitor<First24>,
-    of: PhantomData<B>,
-    ghost here: { B.home ≡ Some visitor.home },
+    of: PhantomData<(B, S)>,
+    ghost here: { home_in B.hub ≡ Some visitor.home },
 }
 
-impl<B: OfHub<First24>> Guest<B> {
+impl<B: OfHub<First24, S>, S> Guest<B, S> {
     /// Makes a guest of a visitor of the named hub.
-    pub(crate) fn new(visitor: Visitor<First24>) -> Guest<B>
-        requires { B.home ≡ Some visitor.home }
+    pub(crate) fn new(visitor: Visitor<First24>) -> Guest<B, S>
+        requires { home_in B.hub ≡ Some visitor.home }
     {
         Guest {
             visitor,
@@ -187,17 +222,23 @@ impl<B: OfHub<First24>> Guest<B> {
 
 /// Makes a step that is a join, of the caller of this number. The client gets no session where the hub is full; nothing is given where memory
 /// was refused.
-pub(crate) fn joins<'a, B: OfHub<First24>, S: AsyncRead + AsyncWrite, R: Wait>(
+pub(crate) fn joins<
+    'a,
+    B: OfHub<First24, S>,
+    S: AsyncRead + AsyncWrite,
+    T: Ticket<S, First24, StillClock<R>>,
+    R: Wait,
+>(
     alloc: Global,
     hub: &Hub<First24>,
-    server: &'a Server<'a, B, S, First24, StillClock<R>>,
+    server: &'a StillServer<'a, B, S, T, R>,
     desk: &'a Desk<R>,
     steps: &'a [Step<'a>],
     step: Step<'a>,
     caller: u64,
-    guest: Guest<B>,
-) -> Option<Option<Talk<'a, B, S, R>>>
-    requires { B.home ≡ Some hub.now.home }
+    guest: Guest<B, S>,
+) -> Option<Option<Talk<'a, B, S, T, R>>>
+    requires { home_in B.hub ≡ Some hub.now.home }
 {
     let address = Ipv4Addr::parse_ascii(step.line.as_bytes()).ok()?.octets();
     let Guest { visitor, .. } = guest;
@@ -209,12 +250,7 @@ pub(crate) fn joins<'a, B: OfHub<First24>, S: AsyncRead + AsyncWrite, R: Wait>(
             let slot = connection.wrapping_sub(1) as usize;
             let port = Connection::new(server, pass, CHALLENGE, slot);
             let (bell, wire) = (port.bell(), Wire::new(desk, steps, step.who));
-            let port = Recorder {
-                port,
-                desk,
-                caller,
-                connection,
-            };
+            let port = Recorder::new(port, desk, caller, connection);
             begin(alloc, wire, port, bell).map(Some)
         }
         Err((JoinRefused::Full, _)) => {

@@ -1,14 +1,16 @@
 // Conversations as text, and how they are played.
 ghost use Rattle.std.specs.Prelude.{◌≡◌, Some, ℕ};
+ghost use Rattle.hub_server.specs.Naming.{home_in};
 
-use crate::histories::client::{Guest, Talk, joins};
+use crate::histories::client::{Guest, StillServer, Talk, joins};
 use crate::histories::clock::StillClock;
 use crate::histories::polls::{are_over, go_round, goes_to_end};
 use crate::histories::record::Desk;
 use crate::machine::*;
 use history_check::Entry;
 use hub_core::Setup;
-use hub_server::{OfHub, Server};
+use hub_listener::Moments;
+use hub_server::{OfHub, Server, TcpTicket, Ticket};
 use hub_shared::{Host, Hub};
 use second_try::{Deed, Step, steps_of};
 use std::marker::Brand;
@@ -37,15 +39,18 @@ pub(crate) fn plays<R: ServerMachine>(
     let steps = steps_of(rt.alloc(), text)?;
     let desk = Desk::new(rt.alloc());
     let (hub, mut host) = Hub::open(rt.alloc(), setup.clone().ok()?, &First24).ok()?;
-    converses::<Brand, TcpStream, R>(rt, &hub, &mut host, setup, &desk, &steps, way)?;
+    converses::<Brand, TcpStream, TcpTicket<First24, StillClock<R>>, R>(
+        rt, &hub, &mut host, setup, &desk, &steps, way,
+    )?;
     desk.into_history()
 }
 
 /// Plays these steps on this hub, whose host has admitted nobody.
 fn converses<
     'a,
-    B: OfHub<First24> + Send + Sync,
+    B: OfHub<First24, S> + Send + Sync,
     S: AsyncRead + AsyncWrite + Send,
+    T: Ticket<S, First24, StillClock<R>> + Send,
     R: ServerMachine,
 >(
     rt: &R,
@@ -56,32 +61,38 @@ fn converses<
     steps: &'a [Step<'a>],
     way: Way,
 ) -> Option<()>
-    requires here { B.home ≡ Some hub.now.home }
-    requires timed { (moment : ℕ) → ∥ B.tells moment ∥₁ }
+    requires here { B.hub ≡ Some hub.now }
+    requires timed { (moment : ℕ) → ⟦<StillClock<R> as Moments>⟧.tells desk.now.clock moment → ∥ B.tells moment ∥₁ }
+    requires timely { (moment : ℕ) → B.tells moment → ∥ ⟦<StillClock<R> as Moments>⟧.tells desk.now.clock moment ∥₁ }
     requires host { host.old ≡ record { home = hub.now.home; admitted = 0 } }
     requires set { hub.now.setup ≡ setup.now }
 {
-    let guests = admits::<B>(rt.alloc(), hub, host)?;
+    let guests = admits::<B, S>(rt.alloc(), hub, host)?;
     let free = Vec::new(rt.alloc());
-    let server = Server::<B, S, First24, StillClock<R>>::new(
+    let server = Server::<B, S, T, First24, StillClock<R>, StillClock<R>>::new(
         rt.alloc(),
+        &desk.clock,
         &desk.clock,
         hub,
         &First24,
         setup,
         CLIENTS,
         free,
-    ).ok()?;
-    make_steps(rt, hub, &server, desk, steps, way, guests)
+    )
+    .ok()?;
+    let made = make_steps(rt, hub, &server, desk, steps, way, guests);
+    // It cannot be dropped, since tickets cannot.
+    server.end();
+    made
 }
 
 /// Admits as many guests as a conversation has clients.
-fn admits<B: OfHub<First24>>(
+fn admits<B: OfHub<First24, S>, S>(
     alloc: Global,
     hub: &Hub<First24>,
     host: &mut Host<First24>,
-) -> Option<Vec<Guest<B>>>
-    requires here { B.home ≡ Some hub.now.home }
+) -> Option<Vec<Guest<B, S>>>
+    requires here { home_in B.hub ≡ Some hub.now.home }
     requires host { host.old ≡ record { home = hub.now.home; admitted = 0 } }
 {
     let mut guests = Vec::with_capacity(alloc, CLIENTS).ok()?;
@@ -96,21 +107,21 @@ fn admits<B: OfHub<First24>>(
 /// otherwise each goes on by itself once all have joined, on a thread of its own.
 fn make_steps<
     'a,
-    B: OfHub<First24> + Send + Sync,
+    B: OfHub<First24, S> + Send + Sync,
     S: AsyncRead + AsyncWrite + Send,
+    T: Ticket<S, First24, StillClock<R>> + Send,
     R: ServerMachine,
 >(
     rt: &R,
     hub: &Hub<First24>,
-    server: &'a Server<'a, B, S, First24, StillClock<R>>,
+    server: &'a StillServer<'a, B, S, T, R>,
     desk: &'a Desk<R>,
     steps: &'a [Step<'a>],
     way: Way,
-    guests: Vec<Guest<B>>,
+    mut guests: Vec<Guest<B, S>>,
 ) -> Option<()>
-    requires { B.home ≡ Some hub.now.home }
+    requires { home_in B.hub ≡ Some hub.now.home }
 {
-    let mut guests = guests;
     let task = MockTask::new(rt).ok()?;
     // Clients have the numbers from 1 on, in the order in which they join.
     let (mut names, mut talks) = (Vec::new(rt.alloc()), Vec::new(rt.alloc()));
@@ -135,12 +146,11 @@ fn make_steps<
 }
 
 /// Polls all sessions until they are over, each on a thread of its own.
-fn go_apart<B: OfHub<First24> + Send + Sync, S: AsyncRead + AsyncWrite + Send, R>(
-    rt: &R,
-    desk: &Desk<R>,
-    talks: &mut Vec<Option<Talk<'_, B, S, R>>>,
-)
+fn go_apart<B, S, T, R>(rt: &R, desk: &Desk<R>, talks: &mut Vec<Option<Talk<'_, B, S, T, R>>>)
 where
+    B: OfHub<First24, S> + Send + Sync,
+    S: AsyncRead + AsyncWrite + Send,
+    T: Ticket<S, First24, StillClock<R>> + Send,
     R: Wait + Threads + RandomSource + AllocGlobal + Sync,
 {
     for_each_mut(

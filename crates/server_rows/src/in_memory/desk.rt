@@ -10,7 +10,23 @@ pub(crate) struct Gone {
     pub(crate) sent: Vec<u8>,
 }
 
-/// The part that all sockets share.
+/// The call that ended a ticket.
+#[derive(Clone, Copy, Debug, PartialEq, Eq)]
+pub(crate) enum EndedBy {
+    Served,
+    Refused,
+    Lost,
+    CutOff,
+}
+
+/// A ticket that has ended, by its client's place.
+#[derive(Clone, Copy)]
+pub(crate) struct EndedTicket {
+    pub(crate) place: usize,
+    pub(crate) by: EndedBy,
+}
+
+/// The part that all sockets and tickets share.
 #[derive(Drop)]
 pub(crate) struct Desk {
     notes: Mutex<Notes>,
@@ -21,6 +37,7 @@ pub(crate) struct Desk {
 struct Notes {
     entered: Vec<usize>,
     gone: Vec<Gone>,
+    tickets: Vec<EndedTicket>,
 }
 
 impl Desk {
@@ -30,6 +47,7 @@ impl Desk {
             notes: Mutex::new(Notes {
                 entered: Vec::with_capacity(alloc, count)?,
                 gone: Vec::with_capacity(alloc, count)?,
+                tickets: Vec::with_capacity(alloc, count)?,
             }),
         })
     }
@@ -58,10 +76,21 @@ impl Desk {
         lock(&self.notes).is_some_and(|notes| notes.gone.iter().any(|gone| gone.place == place))
     }
 
-    /// Gives the clients that are gone, in the order in which they went.
-    pub(crate) fn into_gone(self) -> Vec<Gone> {
+    /// Notes that the ticket of the client at this place has ended by this call.
+    pub(crate) fn end_ticket(&self, place: usize, by: EndedBy) {
+        if let Some(mut notes) = lock(&self.notes) {
+            let _ = notes.tickets.push(EndedTicket { place, by });
+        }
+    }
+
+    /// Gives the clients that are gone and the tickets that have ended, each in the order in which they did.
+    pub(crate) fn into_left(self) -> (Vec<Gone>, Vec<EndedTicket>) {
         let Desk { notes } = self;
-        let Notes { entered: _, gone } = notes.into_inner();
-        gone
+        let Notes {
+            entered: _,
+            gone,
+            tickets,
+        } = notes.into_inner();
+        (gone, tickets)
     }
 }

@@ -1,10 +1,9 @@
-// Sockets over memory, and an address to which their clients come.
+// Sockets over memory.
 ghost use Rattle.std.specs.Prelude.{◌≡◌, ◌<◌, ◌≤◌, ◌++◌, length};
 
 use crate::in_memory::desk::Desk;
 use crate::machine::*;
-use hub_listener::{Bind, Listens, Socket};
-use tokio::reactor::Handle;
+use hub_listener::Socket;
 
 /// The number of times that a client looks whether its turn has come, a millisecond or more apart.
 const LOOKS: u32 = 20_000;
@@ -13,7 +12,7 @@ const LOOKS: u32 = 20_000;
 const ROOM: usize = 4_096;
 
 /// The port to which all come, and from which.
-const PORT: u16 = 4_111;
+pub(crate) const PORT: u16 = 4_111;
 
 /// The last number of the address from which the first client comes.
 const FIRST_HOME: u8 = 2;
@@ -110,10 +109,10 @@ impl<'a, R: Clock> Wire<'a, R> {
 }
 
 /// Gives the address from which the client at this place comes: 127.0.0.2, 127.0.0.3 and so on.
-fn home_of(place: usize) -> SocketAddr {
+pub(crate) fn home_of(place: usize) -> SocketAddrV4 {
     let number = u8::try_from(place).unwrap_or(u8::MAX);
     let home = Ipv4Addr::new(127, 0, 0, FIRST_HOME.saturating_add(number));
-    SocketAddr::V4(SocketAddrV4::new(home, PORT))
+    SocketAddrV4::new(home, PORT)
 }
 
 /// Gives the length of the first line, with its line feed where it has one.
@@ -232,10 +231,6 @@ impl<R: Clock> AsyncWrite for Wire<'_, R> {
 }
 
 impl<R: Clock> Socket for Wire<'_, R> {
-    fn peer_addr(&self) -> io::Result<SocketAddr> {
-        Ok(home_of(self.place))
-    }
-
     fn set_nodelay(&self, _is_at_once: bool) -> io::Result<()> {
         Ok(())
     }
@@ -245,64 +240,5 @@ impl<R: Clock> Socket for Wire<'_, R> {
             Ok(()) => Ok(bytes.len()),
             Err(error) => Err(io::Error::from(error)),
         }
-    }
-}
-
-/// An address to which these clients come, one after the other. It is its own listener.
-#[derive(Drop)]
-pub(crate) struct Lobby<'a, R> {
-    rt: &'a R,
-    alloc: Global,
-    desk: &'a Desk,
-    clients: &'a [Client<'a>],
-    came: usize,
-}
-
-impl<'a, R> Lobby<'a, R> {
-    /// Makes one to which nobody has come yet.
-    pub(crate) fn new(
-        rt: &'a R,
-        alloc: Global,
-        desk: &'a Desk,
-        clients: &'a [Client<'a>],
-    ) -> Lobby<'a, R> {
-        Lobby {
-            rt,
-            alloc,
-            desk,
-            clients,
-            came: 0,
-        }
-    }
-}
-
-impl<'a, R: Clock + Sync> Bind for Lobby<'a, R> {
-    type Socket = Wire<'a, R>;
-
-    type Listener = Lobby<'a, R>;
-
-    fn bind<N: Net>(self, _rt: &N, _handle: &Handle) -> io::Result<Lobby<'a, R>> {
-        Ok(self)
-    }
-}
-
-impl<'a, R: Clock> Listens for Lobby<'a, R> {
-    type Socket = Wire<'a, R>;
-
-    fn poll_accept(&mut self, cx: &mut Context<'_>) -> Poll<io::Result<(Wire<'a, R>, SocketAddr)>> {
-        let place = self.came;
-        let Some(client) = self.clients.get(place) else {
-            return cx.yield_now();
-        };
-        let wire = match Wire::new(self.rt, self.alloc, self.desk, client, place) {
-            Ok(wire) => wire,
-            Err(error) => return Poll::Ready(Err(io::Error::from(error))),
-        };
-        self.came = place.wrapping_add(1);
-        Poll::Ready(Ok((wire, home_of(place))))
-    }
-
-    fn address(&self) -> io::Result<SocketAddr> {
-        Ok(SocketAddr::V4(SocketAddrV4::new(Ipv4Addr::LOCALHOST, PORT)))
     }
 }

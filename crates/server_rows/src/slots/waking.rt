@@ -34,8 +34,8 @@ impl Waiters {
         let mut tasks = Vec::with_capacity(rt.alloc(), COUNT).ok()?;
         for slot in 0..COUNT {
             tasks.push(MockTask::new(rt).ok()?).ok()?;
-            wakers.occupy(slot);
-            wakers.name(slot, sid(rt, slot as u32 + 1));
+            let _ = wakers.occupy(slot);
+            let _ = wakers.name(slot, sid(rt, slot as u32 + 1));
         }
         Some(Waiters { wakers, tasks })
     }
@@ -49,7 +49,7 @@ impl Waiters {
     /// Answers whether this one was woken; it waits now.
     fn hears(&self, rt: &impl Abort, slot: usize) -> bool {
         let task = self.tasks.get(slot).expect(rt, "a slot");
-        task.enter(|cx| self.wakers.was_woken(slot, cx))
+        task.enter(|cx| self.wakers.was_woken(slot, cx).1)
     }
 
     /// Lets all wait, twice where they heard something.
@@ -64,7 +64,7 @@ impl Waiters {
     /// Wakes two by a call of the first session.
     fn wakes_two(&self, rt: &impl Abort, one: u32, other: u32) {
         let (one, other) = (sid(rt, one), sid(rt, other));
-        self.wakers.wake_two(one, other, 0, LINE, SECOND);
+        let _ = self.wakers.wake_two(one, other, 0, LINE, SECOND);
     }
 
     /// Stops the test unless exactly these are woken, and hear that they were.
@@ -83,19 +83,19 @@ impl Waiters {
 fn those_are_woken_whom_a_call_concerned(rt: HostRuntime) {
     let waiters = Waiters::new(&rt);
     waiters.are_woken(&rt, [false; COUNT]);
-    waiters.wakers.wake_one(sid(&rt, 3), 0, LINE, SECOND);
+    let _ = waiters.wakers.wake_one(sid(&rt, 3), 0, LINE, SECOND);
     waiters.are_woken(&rt, [false, false, true, false]);
     waiters.wakes_two(&rt, 2, 4);
     waiters.are_woken(&rt, [false, true, false, true]);
-    waiters.wakers.wake_everybody(1, Amount::NONE, SECOND);
+    let _ = waiters.wakers.wake_everybody(1, Amount::NONE, SECOND);
     waiters.are_woken(&rt, [true, false, true, true]);
     // A session is not woken by its own call.
     waiters.wakes_two(&rt, 1, 2);
     waiters.are_woken(&rt, [false, true, false, false]);
     // A wake that nobody waits for is heard.
-    waiters.wakers.wake_everybody(0, Amount::NONE, SECOND);
-    waiters.wakers.wake_everybody(1, Amount::NONE, SECOND);
-    waiters.wakers.wake_one(sid(&rt, 2), 0, LINE, SECOND);
+    let _ = waiters.wakers.wake_everybody(0, Amount::NONE, SECOND);
+    let _ = waiters.wakers.wake_everybody(1, Amount::NONE, SECOND);
+    let _ = waiters.wakers.wake_one(sid(&rt, 2), 0, LINE, SECOND);
     waiters.are_woken(&rt, [true, true, true, true]);
 }
 
@@ -104,10 +104,10 @@ fn who_left_is_not_woken_alone(rt: HostRuntime) {
     let waiters = Waiters::new(&rt);
     waiters.wakers.vacate(2);
     waiters.all_wait(&rt);
-    waiters.wakers.wake_one(sid(&rt, 3), 0, LINE, SECOND);
+    let _ = waiters.wakers.wake_one(sid(&rt, 3), 0, LINE, SECOND);
     waiters.are_woken(&rt, [false; COUNT]);
-    waiters.wakers.name(2, sid(&rt, 9));
-    waiters.wakers.wake_one(sid(&rt, 9), 0, LINE, SECOND);
+    let _ = waiters.wakers.name(2, sid(&rt, 9));
+    let _ = waiters.wakers.wake_one(sid(&rt, 9), 0, LINE, SECOND);
     waiters.are_woken(&rt, [false, false, true, false]);
 }
 
@@ -117,11 +117,11 @@ fn a_call_for_help_wakes_the_accepting_task(rt: HostRuntime) {
     let helper = again!(&rt; MockTask::new(&rt));
     helper.enter(|cx| waiters.wakers.wait_to_help(cx));
     assert!(&rt; !helper.is_woken());
-    waiters.wakers.call_for_help(0);
+    let _ = waiters.wakers.call_for_help(0);
     assert!(&rt; helper.is_woken());
     waiters.are_woken(&rt, [false; COUNT]);
     waiters.wakers.end_help();
-    waiters.wakers.call_for_help(0);
+    let _ = waiters.wakers.call_for_help(0);
     waiters.are_woken(&rt, [false, true, true, true]);
 }
 
@@ -147,7 +147,7 @@ fn moves(waiters: &Waiters, slot: usize) {
 /// Lets the session of this slot give so many bytes, of which all have heard.
 fn gives(rt: &impl Abort, waiters: &Waiters, slot: usize, bytes: u64) {
     let given = Amount { lines: 0, bytes };
-    waiters.wakers.wake_everybody(slot, given, SECOND);
+    let _ = waiters.wakers.wake_everybody(slot, given, SECOND);
     waiters.all_wait(rt);
 }
 
@@ -191,7 +191,7 @@ fn who_says_little_does_not_give_way(rt: HostRuntime) {
     gives(&rt, &waiters, 0, LITTLE - 60);
     gives(&rt, &waiters, 1, 100 * LITTLE);
     says(&waiters, FAR_BEHIND.lines + BURST);
-    assert!(&rt; waiters.wakers.is_behind() && bell.may_hand(60));
+    assert!(&rt; waiters.wakers.is_behind().1 && bell.may_hand(60));
     // Its line itself would be much.
     assert!(&rt; !bell.may_hand(61));
     // Nor does it for long where an outbox is nearly full.
@@ -213,7 +213,7 @@ fn much_is_little_two_seconds_later(rt: HostRuntime) {
     waiters.wakers.tick(SECOND + 1, 1);
     assert!(&rt; !bell.may_hand(60));
     waiters.wakers.tick(SECOND + 2, 1);
-    assert!(&rt; waiters.wakers.is_behind() && bell.may_hand(60));
+    assert!(&rt; waiters.wakers.is_behind().1 && bell.may_hand(60));
 }
 
 #[test]
@@ -231,7 +231,7 @@ fn who_gives_much_waits_for_who_reads(rt: HostRuntime) {
     for _tick in 0..100 {
         waiters.wakers.tick(SECOND, 1);
     }
-    assert!(&rt; !waiters.wakers.is_behind() && bell.may_hand(60));
+    assert!(&rt; !waiters.wakers.is_behind().1 && bell.may_hand(60));
 }
 
 #[test]
@@ -262,7 +262,7 @@ fn who_never_moves_holds_up_nobody(rt: HostRuntime) {
         assert!(&rt; !bell.may_hand(60));
         waiters.wakers.tick(SECOND, 1);
     }
-    assert!(&rt; !waiters.wakers.is_behind());
+    assert!(&rt; !waiters.wakers.is_behind().1);
     for _line in 0..10 * BURST {
         assert!(&rt; bell.may_hand(60));
         waiters.wakers.count_broadcast(LINE);
@@ -300,9 +300,9 @@ fn who_gives_much_to_one_gives_way_and_nobody_else(rt: HostRuntime) {
             refused_at = line;
             break;
         }
-        waiters.wakers.wake_one(sid(&rt, 3), 0, 1_000, SECOND);
+        let _ = waiters.wakers.wake_one(sid(&rt, 3), 0, 1_000, SECOND);
         assert!(&rt; other.may_hand(1_000));
-        waiters.wakers.wake_one(sid(&rt, 4), 1, 1_000, SECOND);
+        let _ = waiters.wakers.wake_one(sid(&rt, 4), 1, 1_000, SECOND);
         takes_all(&waiters, 3);
     }
     // By lines: 513 and some more, whose bytes and 64 for each are little.

@@ -1,6 +1,6 @@
 use Rattle.std.proofs.Common.{◌≡◌, ℕ, List, refl, sym, subst, arith, slice_get, Some, None, false}
 use Rattle.connection_slots.specs.declared.bells.Bell.{Bell}
-use Rattle.connection_slots.proofs.Places.{each_more}
+use Rattle.connection_slots.proofs.Indexes.{each_more}
 use Rattle.connection_slots.proofs.Silent.{IsSilent}
 use Rattle.connection_slots.proofs.bells.Bells.new.Goals as goal
 

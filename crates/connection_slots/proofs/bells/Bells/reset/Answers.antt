@@ -1,7 +1,7 @@
 use Rattle.std.proofs.Common.{◌≡◌, refl, arith, slice_get, length-set, false, None, Some}
 use Rattle.std.proofs.lemmas.Option.{slice_get_read}
 use Rattle.connection_slots.proofs.Heard.{heard_all}
-use Rattle.connection_slots.proofs.Places.{each_set, at_set, get_set_other, nothing_past}
+use Rattle.connection_slots.proofs.Indexes.{each_set, at_set, get_set_other, nothing_past}
 use Rattle.connection_slots.proofs.bells.Bells.reset.Goals as goal
 
 pub invariant_of-self : goal.invariant_of-self

@@ -3,7 +3,7 @@ use Rattle.std.proofs.lemmas.Option.{slice_get_read}
 use Rattle.connection_slots.specs.Bells.{AreBells, AreDue, is_among, is_unheard}
 use Rattle.connection_slots.proofs.Heard.{heard_all, grown, quiet}
 use Rattle.connection_slots.proofs.Portions.{due_grown}
-use Rattle.connection_slots.proofs.Places.{each_set, at_set, get_set_other, only_there}
+use Rattle.connection_slots.proofs.Indexes.{each_set, at_set, get_set_other, only_there}
 use Rattle.connection_slots.proofs.bells.Bells.was_rung.Goals as goal
 
 pub invariant_of-self-then-bell : goal.invariant_of-self-then-bell

@@ -1,5 +1,5 @@
 use Rattle.std.proofs.Common.{refl, Some}
-use Rattle.connection_slots.proofs.Places.{get_set_here}
+use Rattle.connection_slots.proofs.Indexes.{get_set_here}
 use Rattle.connection_slots.proofs.slots.Slots.name.Goals as goal
 
 pub returns-then-is_err-clause-known : goal.returns-then-is_err-clause-known

@@ -1,12 +1,16 @@
+use Rattle.std.proofs.Common.{◌∙◌, sym, ap, subst}
+use Rattle.connection_slots.specs.Rung.{IsRung}
 use Rattle.connection_slots.proofs.slots.Slots.wake_one.Goals as goal
-use Rattle.connection_slots.proofs.slots.Slots.wake_one.Goals.{in_default-via-in-Some+else-place-own, in_default-via-in_default}
+use Rattle.connection_slots.proofs.slots.Slots.wake_one.Goals.{then-is_behind, else-is_behind}
 
-pub returns-in-Some-clause-walked : goal.returns-in-Some-clause-walked
-returns-in-Some-clause-walked c none lacks place named =
-    (c.in-Some.place, c.in-Some.ensures.walked none lacks place named, λ _. c.wake_for_line.ensures.rung)
-
-pub returns-in_default-clause-walked : goal.returns-in_default-clause-walked
-returns-in_default-clause-walked c none lacks place named = elim c.in_default.branch [
-  | in_default-via-in-Some+else-place-own w ↦ (w.in-Some.place, w.in-Some.ensures.walked none lacks place named, λ ne. absurd (ne w.if-place-own.false))
-  | in_default-via-in_default w ↦ absurd (w.in_default.ensures.walked none lacks place named)
-]
+pub returns-clause-walked : goal.returns-clause-walked
+returns-clause-walked c none lacks place named =
+    let found = c.ring_one-is_behind.ensures.walked none lacks place named in
+    elim c.if-is_behind.branch [
+      | then-is_behind w ↦ (
+        found.0,
+        found.1,
+        λ other. subst (λ bells. IsRung bells found.0) (sym (ap (λ slots. slots.bells) w.self-is ∙ w.count_given.ensures.bells)) (found.2 other),
+      )
+      | else-is_behind w ↦ (found.0, found.1, λ other. subst (λ bells. IsRung bells found.0) (sym (ap (λ slots. slots.bells) w.self-is)) (found.2 other))
+    ]

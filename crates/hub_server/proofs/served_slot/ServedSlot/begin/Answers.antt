@@ -1,5 +1,10 @@
-use Rattle.hub_server.proofs.Visiting.{for-some}
+use Rattle.std.proofs.Common.{ap}
+use Rattle.std.specs.Prelude.{is_some}
+use Rattle.hub_server.proofs.Visiting.{for-some, for-the-some}
 use Rattle.hub_server.proofs.served_slot.ServedSlot.begin.Goals as goal
 
 pub invariant_of-self : goal.invariant_of-self
-invariant_of-self g c = record { visits = for-some _ c.args.session c.requires.visits }
+invariant_of-self g c = record {
+  has_ticket = λ session same. ap is_some c.replace.ensures.after;
+  ends = for-some _ c.args.session (for-the-some _ c.replace.new.self c.args.ticket c.replace.ensures.after c.requires.ends);
+}

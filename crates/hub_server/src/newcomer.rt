@@ -1,0 +1,29 @@
+ghost use Rattle.std.specs.Prelude.{◌≡◌, Some};
+ghost use Rattle.hub_listener.specs.Peers.{octets_of};
+ghost use Rattle.hub_server.specs.Owing.{IsServed, OwesService};
+
+use crate::free_slot::OfHub;
+use crate::ticket::Ticket;
+use adc_sessions::Stream;
+use hub_listener::{Arrived, Moments};
+use session_hash::SessionHash;
+use std::marker::PhantomData;
+use std::snapshot::Snapshot;
+
+/// A connection that has come, with its challenge.
+pub(crate) struct Newcomer<
+    B: OfHub<H, S>,
+    S: Stream,
+    T: Ticket<S, H, C>,
+    H: SessionHash,
+    C: Moments,
+> {
+    pub(crate) arrived: Arrived<S, T>,
+    pub(crate) challenge: [u8; 24],
+    pub(crate) of: PhantomData<(B, H, Snapshot<C>)>,
+    pub(crate) ghost began: { T.began arrived.ticket ≡ arrived.socket },
+    pub(crate) ghost peer: { T.peer arrived.ticket ≡ octets_of arrived.address },
+    pub(crate) ghost arrives: { ∥ B.arrives (T.peer arrived.ticket) challenge arrived.socket ∥₁ },
+    pub(crate) ghost owes: { OwesService B.hub H.digest_of ⟦<S as Stream>⟧.told B.tells (T.peer arrived.ticket) challenge arrived.socket
+        (λ end later. IsServed H.digest_of C.tells ⟦<S as Stream>⟧.told (T.terms arrived.ticket) (T.number arrived.ticket) (T.peer arrived.ticket) (T.began arrived.ticket) end later) },
+}

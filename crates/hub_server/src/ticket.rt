@@ -1,0 +1,40 @@
+use crate::terms::Terms;
+use adc_sessions::{End, Stream};
+use connection_slots::LeavingSocket;
+use hub_listener::Moments;
+use session_hash::SessionHash;
+
+/// A connection over a socket `S` that was accepted and is not over. It cannot be dropped: exactly one of its four calls ends it.
+/// So what a server owes it is the condition of each call.
+pub trait Ticket<S: Stream, H: SessionHash, C: Moments> {
+    ghost use Rattle.std.specs.Prelude.{◌≡◌, ℕ, List};
+    ghost use Rattle.hub_server.specs.declared.terms.Terms.{Terms};
+    ghost use Rattle.hub_server.specs.Owing.{IsServed, IsToldFull};
+
+    /// What the server promised when it began to listen.
+    ghost terms: { Self → Terms H C };
+
+    /// How many connections were accepted before.
+    ghost number: { Self → ℕ };
+
+    /// The octets of the address from which it comes, most significant first.
+    ghost peer: { Self → List ℕ };
+
+    /// Its socket, as it was accepted.
+    ghost began: { Self → S };
+
+    /// Ends a connection that was served until this end. Returns the socket if its last bytes are to reach the client.
+    fn served(self, socket: S, end: End) -> Option<LeavingSocket<S>>
+        requires served { ∥ IsServed H.digest_of C.tells ⟦<S as Stream>⟧.told (terms self) (number self) (peer self) (began self) end socket ∥₁ };
+
+    /// Ends a connection for which the server had no place. Returns the socket if what it was told is to reach the client.
+    fn refused(self, socket: S) -> Option<LeavingSocket<S>>
+        requires told { ∥ IsToldFull S.writes (began self) socket ∥₁ };
+
+    /// Ends a connection that memory was refused for. Nothing was read from it or written to it.
+    fn lost(self, socket: S)
+        requires untouched { socket ≡ began self };
+
+    /// Ends a connection that was served when the server's runtime ended. Its socket is gone.
+    fn cut_off(self);
+}
