@@ -60,6 +60,7 @@ impl<S: Read + Write> Client<S> {
         ensures gone { gone_of result ≡ [] }
         ensures unheard { unheard S.remaining result ≡ prepend_known [] (S.remaining stream) }
         ensures said { said_by S.contents result ≡ S.contents stream }
+        ensures turns { turns_of result ≡ 18_446_744_073_709_551_615 }
     {
         Client {
             alloc,
@@ -75,6 +76,8 @@ impl<S: Read + Write> Client<S> {
     pub fn hello(&mut self, pinger: bool) -> Result<Welcome, ClientFault>
         ensures welcome { IfOk result (IsWelcome S.remaining S.contents self.old self.new (support_text pinger)) }
         ensures fails { IfErr result (Fails S.remaining S.contents IsPrelude IsNoWelcome self.old self.new (support_text pinger)) }
+        ensures users { users_of self.new ≡ users_of self.old }
+        ensures gone { gone_of self.new ≡ gone_of self.old }
     {
         say(
             self.alloc,
@@ -102,6 +105,7 @@ impl<S: Read + Write> Client<S> {
         ensures comes { IfOk result (Comes S.remaining S.contents self.old self.new sid login.now.text) }
         ensures fails { IfErr result
             (Fails S.remaining S.contents (λ line. IsEntry line sid None) (λ _ last. IsRefusal last) self.old self.new login.now.text) }
+        ensures gone { gone_of self.new ≡ gone_of self.old }
     {
         say(self.alloc, &mut self.stream, login)?;
         'lines: while self.turns > 0 {
@@ -195,6 +199,8 @@ impl<S: Read + Write> Client<S> {
         ensures said { OnOk result ((heard : List Reading) × Concludes S.remaining S.contents (IsEcho line.now.text) self.old self.new line.now.text heard tt) }
         ensures fails { IfErr result (Fails S.remaining S.contents
             (λ heard. IsEcho line.now.text heard None) (λ _ last. IsBadStatus last) self.old self.new line.now.text) }
+        ensures users { users_of self.new ≡ users_of self.old }
+        ensures gone { gone_of self.new ≡ gone_of self.old }
     {
         say(self.alloc, &mut self.stream, line)?;
         'lines: while self.turns > 0 {
@@ -210,6 +216,8 @@ impl<S: Read + Write> Client<S> {
         ensures heard { IfOk result (λ is_echo. (heard : Reading) × Hears (unheard S.remaining self.old) (unheard S.remaining self.new) (heard ∷ [])
             × IsEcho line.now.text heard (if is_echo then Some tt else None)) }
         ensures fails { IfErr result (FailsAt S.remaining IsBadStatus self.old self.new) }
+        ensures users { users_of self.new ≡ users_of self.old }
+        ensures gone { gone_of self.new ≡ gone_of self.old }
         ensures fewer { OnOk result (turns_of self.new < turns_of self.old) }
     {
         let heard = self.hear()?;
@@ -227,6 +235,8 @@ impl<S: Read + Write> Client<S> {
         ensures heard { IfOk result (λ line. Hears (unheard S.remaining self.old) (unheard S.remaining self.new) (line ∷ [])) }
         ensures well { IfOk result (λ line. IsInfo line (codes "STA") → (status : Status) × IsSuccess line status) }
         ensures fails { IfErr result (FailsAt S.remaining IsBadStatus self.old self.new) }
+        ensures users { users_of self.new ≡ users_of self.old }
+        ensures gone { gone_of self.new ≡ gone_of self.old }
         ensures fewer { OnOk result (turns_of self.new < turns_of self.old) }
     {
         let line = self.hear()?;

@@ -1,4 +1,5 @@
 pub mod Arriving
 pub mod Descriptors
 pub mod Peers
+pub mod Resting
 pub mod Rests

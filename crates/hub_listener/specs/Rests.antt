@@ -10,6 +10,8 @@ use Rattle.connection_slots.specs.declared.accept_error.AcceptError.{AcceptError
 use Rattle.connection_slots.specs.declared.accept_error.AcceptError.TheVariants as faults
 use Rattle.tokio.specs.Timers.{sleep_deadline}
 use Rattle.hub_listener.specs.declared.listener.Listener.{Listener}
+use Rattle.hub_listener.specs.Resting.{is_on}
+use Rattle.hub_listener.specs.declared.rest.Rest.TheVariants.{Never}
 
 -- the end of a rest that begins at this reading of a clock: 100 ms later, and none if there is no such time or no reading
 abbrev pub EndOfRest : Option Instant → Option Instant → Type 0
@@ -24,7 +26,11 @@ IsFault error fault =
 
 module _ {R L I : Type 0} where
   abbrev pub rests : Listener R L I → Bool
-  rests listener = listener.is_resting
+  rests listener = is_on listener.rest
+
+  -- a rest began, which goes on or has ended
+  abbrev pub HasBegun : Listener R L I → Type 0
+  HasBegun listener = listener.rest ≢ Never
 
   abbrev pub socket_of : Listener R L I → I
   socket_of listener = listener.socket

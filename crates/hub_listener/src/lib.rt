@@ -7,6 +7,7 @@ mod listens;
 mod moments;
 mod opening;
 mod options;
+mod rest;
 mod socket;
 mod ticks;
 

@@ -1,10 +1,11 @@
-ghost use Rattle.std.specs.Prelude.{◌≡◌, true, false, IfOk};
+ghost use Rattle.std.specs.Prelude.{◌≡◌, true, false, IfErr, IfOk, IsOk, OnOk, OnErr};
 ghost use Rattle.futures.specs.Task.{IsArmed, Keeps};
 ghost use Rattle.futures.specs.Poll.{IfReady, OnPending};
 ghost use Rattle.hub_listener.specs.Arriving.{OnNobody};
-ghost use Rattle.hub_listener.specs.Rests.{EndOfRest, IsFault, rests, socket_of, Rests, GoesOn};
+ghost use Rattle.hub_listener.specs.Rests.{EndOfRest, HasBegun, IsFault, rests, socket_of, Rests, GoesOn};
 
 use crate::listens::{Arrived, Listens};
+use crate::rest::{Look, Rest};
 use crate::ticks::Ticks;
 use connection_slots::{AcceptError, Wakers, accept_error_of};
 use futures::task::{Context, Poll};
@@ -29,7 +30,7 @@ pub struct Listener<'a, R, L, I> {
     rt: &'a R,
     warnings: &'a Warnings<L>,
     timer: Sleep,
-    is_resting: bool,
+    rest: Rest,
 }
 
 impl<'a, R, L, I: Drop> Drop for Listener<'a, R, L, I> {
@@ -40,10 +41,11 @@ impl<'a, R, L, I: Drop> Drop for Listener<'a, R, L, I> {
             rt: _,
             warnings: _,
             timer,
-            is_resting: _,
+            rest,
         } = self;
         drop(socket);
         drop(timer);
+        drop(rest);
     }
 }
 
@@ -65,38 +67,38 @@ impl<'a, R: Wait + WallClock + Ticks, L: Log, I> Listener<'a, R, L, I> {
             rt,
             warnings,
             timer,
-            is_resting: false,
+            rest: Rest::Never,
         }
     }
 
-    /// Answers whether it does not rest, or has rested for long enough. Where it has not, the task is woken once it has.
-    fn has_rested(&mut self, cx: &mut Context<'_>) -> bool
-        ensures awake { rests self.old ≡ false → result ≡ true }
-        ensures over { result ≡ true → rests self.new ≡ false }
-        ensures not_over { result ≡ false → rests self.new ≡ true }
+    /// Ends a rest once a socket was closed or its time has passed. Fails with the look that found no room, if the rest goes on; the
+    /// task is woken at its end.
+    fn end_rest(&mut self, cx: &mut Context<'_>) -> Result<(), Look>
+        ensures awake { rests self.old ≡ false → IsOk result }
+        ensures over { OnOk result (rests self.new ≡ false) }
+        ensures not_over { OnErr result (rests self.new ≡ true) }
+        ensures no_room { IfErr result (λ look. look.has_room ≡ false) }
+        ensures begun { HasBegun self.old → HasBegun self.new }
         ensures socket { socket_of self.new ≡ socket_of self.old }
-        ensures registered { result ≡ false → IsArmed cx.new }
+        ensures registered { OnErr result (IsArmed cx.new) }
         ensures kept { Keeps cx.old cx.new }
     {
-        if !self.is_resting {
-            return true;
+        if !self.rest.is_on() {
+            return Ok(());
         }
-        if self.wakers.wait_for_room(cx).1 {
-            self.is_resting = false;
-            return true;
+        let (word, has_room) = self.wakers.wait_for_room(cx);
+        let look = Look { word, has_room };
+        if !has_room && self.timer.poll_elapsed(cx).is_pending() {
+            return Err(look);
         }
-        match self.timer.poll_elapsed(cx) {
-            Poll::Pending => false,
-            Poll::Ready(_) => {
-                self.is_resting = false;
-                true
-            }
-        }
+        self.rest = Rest::Over(look);
+        Ok(())
     }
 
     /// Begins to rest, and answers whether the time can be had.
     fn rest(&mut self) -> bool
         ensures rests { Rests R.ticks self.old result self.new }
+        ensures begun { HasBegun self.old → HasBegun self.new }
         ensures socket { socket_of self.new ≡ socket_of self.old }
     {
         let Some(until) = end_of_rest(self.rt.instant()) else {
@@ -104,13 +106,14 @@ impl<'a, R: Wait + WallClock + Ticks, L: Log, I> Listener<'a, R, L, I> {
         };
         self.wakers.rest();
         self.timer.reset(until);
-        self.is_resting = true;
+        self.rest = Rest::On;
         true
     }
 
     /// Answers whether the socket may be asked again after this error.
     fn goes_on(&mut self, error: &io::Error) -> bool
         ensures does { (fault : _) × IsFault error.now fault × GoesOn R.ticks self.old fault result self.new }
+        ensures begun { HasBegun self.old → HasBegun self.new }
         ensures socket { socket_of self.new ≡ socket_of self.old }
     {
         self.goes_on_after(accept_error_of(error))
@@ -119,6 +122,7 @@ impl<'a, R: Wait + WallClock + Ticks, L: Log, I> Listener<'a, R, L, I> {
     /// Answers whether the socket may be asked again after this fault.
     fn goes_on_after(&mut self, fault: AcceptError) -> bool
         ensures does { GoesOn R.ticks self.old fault result self.new }
+        ensures begun { HasBegun self.old → HasBegun self.new }
         ensures socket { socket_of self.new ≡ socket_of self.old }
     {
         match fault {
@@ -148,11 +152,12 @@ impl<R: Wait + WallClock + Ticks, L: Log, I: Listens> Listener<'_, R, L, I> {
     ) -> Poll<io::Result<Arrived<I::Socket, I::Ticket>>>
         ensures came { IfReady result (λ r. IfOk r (λ it. I.comes (socket_of self.old) it (socket_of self.new))) }
         ensures waited { OnNobody result (I.waits (socket_of self.old) (socket_of self.new)) }
+        ensures begun { HasBegun self.old → HasBegun self.new }
         ensures registered { OnPending result (IsArmed cx.new) }
         ensures kept { Keeps cx.old cx.new }
     {
         for attempt in 0..ATTEMPTS {
-            if !self.has_rested(cx) {
+            if self.end_rest(cx).is_err() {
                 return Poll::Pending;
             }
             match self.socket.poll_accept(cx) {

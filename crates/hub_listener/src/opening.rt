@@ -99,12 +99,33 @@ pub fn say_start<'a, C: WallClock, L: Log>(
     ensures address { (said_line result).address ≡ address }
     ensures needed { (said_line result).needed ≡ users + 32 }
 {
-    let start = Start {
-        moment: Moment::now(clock),
+    say(
+        log,
+        Level::Info,
+        start_line(clock, settings, address, users, descriptor_limit()),
+    )
+}
+
+/// Makes the line at the start of a server that may have so many descriptors.
+fn start_line<'a, C: WallClock>(
+    clock: &C,
+    settings: &'a str,
+    address: SocketAddr,
+    users: u32,
+    allowed: Option<u64>,
+) -> Start<'a>
+    ensures moment { IsToldBy C.reads clock.now result.moment }
+    ensures settings { result.settings.now ≡ settings.now }
+    ensures address { result.address ≡ address }
+    ensures needed { result.needed ≡ users + 32 }
+    ensures allowed { result.allowed ≡ allowed }
+{
+    let moment = Moment::now(clock);
+    Start {
+        moment,
         settings,
         address,
         needed: descriptors_needed(users),
-        allowed: descriptor_limit(),
-    };
-    say(log, Level::Info, start)
+        allowed,
+    }
 }

@@ -6,10 +6,9 @@ ghost use Rattle.hub_starts.specs.Endings.{AsksToServe, EndsOver, Tells};
 
 use crate::start::serve_file;
 use flushed_writes::{CountedRead, CountedWrite};
-use hub_starts::{serve_stdin_if_asked, settings_path};
+use hub_starts::{Opens, serve_stdin_if_asked, settings_path};
 use std::alloc::AllocGlobal;
 use std::env::Env;
-use std::fs::Files;
 use std::io::Write;
 use std::net::Net;
 use std::random::RandomSource;
@@ -35,7 +34,7 @@ pub fn program<R, I, O, E>(
     errors: &mut E,
 ) -> u8
 where
-    R: Wait + Threads + Clock + Net + RandomSource + AllocGlobal + Files + Env + Sync,
+    R: Wait + Threads + Clock + Net + RandomSource + AllocGlobal + Opens + Env + Sync,
     I: CountedRead,
     O: CountedWrite,
     E: Write + Send,

@@ -2,17 +2,15 @@ ghost use Rattle.std.specs.Prelude.{◌≡◌, ℕ, IfOk, IfErr, MatchResult};
 ghost use Rattle.std.specs.Arc.{arc_value};
 ghost use Rattle.flushed_writes.specs.Parts.{AppendsFront};
 ghost use Rattle.hub_starts.specs.Endings.{status_by, message_by, KeepsFromStarting};
-ghost use Rattle.hub_starts.specs.Files.{AreRead};
-ghost use Rattle.hub_program.specs.Starting.{EndsServer, IsHash};
+ghost use Rattle.hub_program.specs.Starting.{AreAt, EndsServer, IsHash, IsSeedAt};
 ghost use Rattle.hub_server.specs.Reporting.{EndsServing, Reports};
 
 use hub_server::{serve_for_journal, serve_on};
 use hub_settings::{HashName, Settings};
-use hub_starts::{StartFault, has_journal, seed_in, settings_in, tables_in};
+use hub_starts::{Opens, StartFault, has_journal, seed_in, settings_in, tables_in};
 use session_hash::{First24, SessionHash};
 use std::alloc::AllocGlobal;
 use std::env::Env;
-use std::fs::Files;
 use std::io::Write;
 use std::net::Net;
 use std::random::RandomSource;
@@ -24,7 +22,7 @@ use std::time::Clock;
 /// the file of Tiger's tables if the hash is Tiger, and then the address.
 pub(crate) fn serve_file<R, W, E>(rt: &R, path: &str, output: &mut W, errors: &mut E) -> u8
 where
-    R: Wait + Threads + Clock + Net + RandomSource + AllocGlobal + Files + Env + Sync,
+    R: Wait + Threads + Clock + Net + RandomSource + AllocGlobal + Opens + Env + Sync,
     W: Write,
     E: Write + Send,
     ensures status { EndsServer E.contents errors.new result }
@@ -49,7 +47,7 @@ fn end<E: Write>(served: Result<u8, StartFault>, errors: &mut E) -> u8
 /// Reads the settings of this file and serves their hub.
 fn start<R, W, E>(rt: &R, path: &str, output: &mut W, errors: &mut E) -> Result<u8, StartFault>
 where
-    R: Wait + Threads + Clock + Net + RandomSource + AllocGlobal + Files + Env + Sync,
+    R: Wait + Threads + Clock + Net + RandomSource + AllocGlobal + Opens + Env + Sync,
     W: Write,
     E: Write + Send,
     ensures fault { IfErr result KeepsFromStarting }
@@ -71,9 +69,10 @@ fn serve_hashing<R, W, E>(
     errors: &mut E,
 ) -> Result<u8, StartFault>
 where
-    R: Wait + Threads + Clock + Net + RandomSource + AllocGlobal + Files + Env + Sync,
+    R: Wait + Threads + Clock + Net + RandomSource + AllocGlobal + Opens + Env + Sync,
     W: Write,
     E: Write + Send,
+    requires { AreAt R.opens R.Opened.remaining rt.now path.now settings.now }
     ensures fault { IfErr result KeepsFromStarting }
     ensures status { IfOk result (EndsServing E.contents errors.new) }
     ensures served { IfOk result (λ status. status ≡ 0 → (joins : ℕ) × Reports W.contents output.new joins) }
@@ -103,11 +102,12 @@ fn serve<H, R, W, E>(
 ) -> u8
 where
     H: SessionHash + Send + Sync + Drop,
-    R: Wait + Threads + Clock + Net + RandomSource + AllocGlobal + Files + Env + Sync,
+    R: Wait + Threads + Clock + Net + RandomSource + AllocGlobal + Opens + Env + Sync,
     W: Write,
     E: Write + Send,
-    requires hash { IsHash R.File.remaining settings.now.hash (H.digest_of (arc_value hash)) }
-    requires seed { AreRead R.File.remaining seed }
+    requires settings { AreAt R.opens R.Opened.remaining rt.now path.now settings.now }
+    requires hash { IsHash R.opens R.Opened.remaining rt.now settings.now.hash settings.now.tables (H.digest_of (arc_value hash)) }
+    requires seed { IsSeedAt R.opens R.Opened.remaining rt.now settings.now.seed_file seed }
     ensures status { EndsServing E.contents errors.new result }
     ensures served { result ≡ 0 → (joins : ℕ) × Reports W.contents output.new joins }
 {

@@ -1,7 +1,6 @@
 -- What is read of the files that the settings name, and of the settings' own.
 use Rattle.std.specs.Prelude.{◌≡◌, ◌≤◌, ◌⊎◌, ⊤, ℕ, List, length, take, codes, Option, Some, None, Result, Ok, Err}
 use Rattle.std.specs.Str.{IsUtf8}
-use Rattle.std.specs.Io.KnownBytes.{Consumes}
 use Rattle.session_hash.specs.Tables.{words_from}
 use Rattle.hub_settings.specs.Settings.{ServerSettings}
 use Rattle.hub_settings.specs.Reading.{IsRead}
@@ -57,6 +56,10 @@ IsUnread (Err fault) = IsFileFault (codes "file") fault
 abbrev pub StartsBy : Option (List ℕ) → ℕ → Result ServerSettings StartFault → Type 0
 StartsBy left opening result = IsUnread result ⊎ ((bytes : List ℕ) × AreAll left bytes × IsStartOf bytes opening result)
 
--- bytes that a reader gave, of those that such readers may have
-abbrev pub AreRead : {F : Type 0} → (F → Option (List ℕ)) → List ℕ → Type 0
-AreRead {F} remaining bytes = (before after : F) × Consumes (remaining before) (remaining after) bytes
+-- a file that is opened at this path, and that this holds of the bytes that it has left
+abbrev pub HasAt : {R F : Type 0} → (R → List ℕ → F → Type 0) → (F → Option (List ℕ)) → R → List ℕ → (Option (List ℕ) → Type 0) → Type 0
+HasAt {R} {F} opens remaining files path holds = (file : F) × opens files path file × holds (remaining file)
+
+-- the settings of a hub that opens at this moment are those of the file at this path, unless it could not be read
+abbrev pub StartsAt : {R F : Type 0} → (R → List ℕ → F → Type 0) → (F → Option (List ℕ)) → R → List ℕ → ℕ → Result ServerSettings StartFault → Type 0
+StartsAt opens remaining files path opening result = IsUnread result ⊎ HasAt opens remaining files path (λ left. StartsBy left opening result)

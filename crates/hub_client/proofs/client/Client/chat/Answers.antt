@@ -1,4 +1,4 @@
-use Rattle.std.proofs.Common.{[], ◌∷◌, ◌++◌, None}
+use Rattle.std.proofs.Common.{◌∙◌, refl, [], ◌∷◌, ◌++◌, None}
 use Rattle.std.proofs.lemmas.List.Elements.{All-nil}
 use Rattle.std.proofs.lemmas.Result.{err_from_is_err_and}
 use Rattle.adc_line.specs.Lines.{Reading}
@@ -13,6 +13,8 @@ lines-init g c = (
   [],
   waits-from g.S.Read.remaining g.S.Write.contents c.args.self.now c.say.new.stream c.args.line.now.text c.in_ok-say.ensures.whole,
   All-nil (λ (heard : Reading). IsEcho c.args.line.now.text heard None),
+  refl,
+  refl,
 )
 
 pub returns-in_err-hears_echo-clause-fails : goal.returns-in_err-hears_echo-clause-fails
@@ -33,4 +35,6 @@ lines-preserved g c =
       heard.0 ++ next.0 ∷ [],
       waits-more g.S.Read.remaining g.S.Write.contents c.args.self.now text heard.0 (next.0 ∷ []) (unheard g.S.Read.remaining now) (unheard g.S.Read.remaining then) heard.1 next.1,
       all-more (λ line. IsEcho text line None) heard.0 next.0 heard.2 next.2,
+      c.hears_echo.ensures.users ∙ heard.3,
+      c.hears_echo.ensures.gone ∙ heard.4,
     )

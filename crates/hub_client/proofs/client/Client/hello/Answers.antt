@@ -20,6 +20,8 @@ lines-init g c =
       waits-from g.S.Read.remaining g.S.Write.contents c.args.self.now c.say.new.stream (support_text c.args.pinger) said,
       All-nil IsPrelude,
       inl (refl, All-nil (λ (line : Reading). IsSid line → ⊥)),
+      refl,
+      refl,
     )
 
 pub returns-in_err-line-clause-fails : goal.returns-in_err-line-clause-fails
@@ -46,7 +48,9 @@ lines-preserved g c =
     waits-more g.S.Read.remaining g.S.Write.contents c.args.self.now (support_text c.args.pinger) heard.0 (line ∷ []) (unheard g.S.Read.remaining now) (unheard g.S.Read.remaining then) heard.1
     c.in_ok-line.ensures.heard in
     let all = all-more IsPrelude heard.0 line heard.2 (c.if-is_info.ensures.no refl, c.in_ok-line.ensures.well) in
+    let users = c.hear_well.ensures.users ∙ heard.4 in
+    let gone = c.hear_well.ensures.gone ∙ heard.5 in
     elim c.if-is_info-2.branch [
-      | then-is_info-2 w ↦ (heard.0 ++ line ∷ [], waits, all, given-anew heard.0 line c.if-is_info-2.sid (w.if-is_info-2.ensures.yes refl) (w.sid-is ∙ w.sid_in-sid.ensures))
-      | else-is_info-2 w ↦ (heard.0 ++ line ∷ [], waits, all, subst (λ sid. IsGiven (heard.0 ++ line ∷ []) sid) (sym w.sid-is) (given-still heard.0 line c.lines.sid heard.3 (w.if-is_info-2.ensures.no refl)))
+      | then-is_info-2 w ↦ (heard.0 ++ line ∷ [], waits, all, given-anew heard.0 line c.if-is_info-2.sid (w.if-is_info-2.ensures.yes refl) (w.sid-is ∙ w.sid_in-sid.ensures), users, gone)
+      | else-is_info-2 w ↦ (heard.0 ++ line ∷ [], waits, all, subst (λ sid. IsGiven (heard.0 ++ line ∷ []) sid) (sym w.sid-is) (given-still heard.0 line c.lines.sid heard.3 (w.if-is_info-2.ensures.no refl)), users, gone)
     ]

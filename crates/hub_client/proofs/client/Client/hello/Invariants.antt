@@ -1,16 +1,16 @@
-use Rattle.std.proofs.Common.{List}
+use Rattle.std.proofs.Common.{◌≡◌, List}
 use Rattle.std.specs.List.{All}
 use Rattle.adc_line.specs.Lines.{Reading}
 use Rattle.hub_client.specs.Conversations.{IsGiven, IsPrelude, Waits}
 use Rattle.hub_client.specs.Sayings.{support_text}
-use Rattle.hub_client.specs.Talks.{turns_of, unheard}
+use Rattle.hub_client.specs.Talks.{gone_of, turns_of, unheard, users_of}
 use Rattle.hub_client.proofs.client.Client.hello.Given as goal
 
 -- the lines that were heard come before the hub's own, and the last session identifier is known
 abbrev pub invariant-lines : goal.invariant-lines
 invariant-lines g l =
     (heard : List Reading) × Waits g.S.Read.remaining g.S.Write.contents l.fn.self (support_text l.pinger) heard (unheard g.S.Read.remaining l.self)
-    × All IsPrelude heard × IsGiven heard l.sid
+    × All IsPrelude heard × IsGiven heard l.sid × (users_of l.self ≡ users_of l.fn.self) × (gone_of l.self ≡ gone_of l.fn.self)
 
 abbrev pub decreases-lines : goal.decreases-lines
 decreases-lines g l = turns_of l.self
