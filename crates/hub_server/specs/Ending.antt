@@ -1,11 +1,14 @@
 -- The end of a session that serves a connection of a named hub.
-use Rattle.std.specs.Prelude.{◌≡◌, Option, Some}
+use Rattle.std.specs.Prelude.{◌≡◌, Option, None, Some}
 use Rattle.adc_sessions.specs.declared.ending.End.{End}
+use Rattle.adc_sessions.specs.declared.ending.End.TheVariants as ends
 use Rattle.adc_sessions.specs.declared.session.Session.{Session}
 use Rattle.adc_sessions.specs.Events.{StreamCall, PortCall}
 use Rattle.adc_sessions.specs.Outcome.{SessionGives}
 use Rattle.hub_server.specs.Naming.{home_in}
 use Rattle.hub_shared.specs.Callers.{HubState, VisitorState}
+use Rattle.hub_warnings.specs.declared.cause.Cause.{Cause}
+use Rattle.hub_warnings.specs.declared.cause.Cause.TheVariants as causes
 
 -- Whatever this session ends with, the visitor who is left is of the named hub, all that it has called are visits, and what is owed to the
 -- connection at that end holds.
@@ -14,3 +17,12 @@ abbrev pub EndsVisit : {S P B H Rest : Type 0} → Session S P B → (S → Stre
 EndsVisit {S} {Rest} session told calls leaves visitor named visited owed =
     (end : End) (stream : S) (left : Rest) → SessionGives told calls leaves session (end, stream, left)
     → (home_in named ≡ Some (visitor left).home) × visited (visitor left) × ∥ owed end stream ∥₁
+
+-- the cause by which a session's end is warned of: none where it ended as it should
+abbrev pub cause_by : End → Option Cause
+cause_by ends.Closed = None
+cause_by ends.Ended = None
+cause_by ends.ReadFailed = Some causes.ReadFailed
+cause_by ends.WriteFailed = Some causes.WriteFailed
+cause_by ends.TooLong = Some causes.TooLong
+cause_by ends.Memory = Some causes.OutOfMemory

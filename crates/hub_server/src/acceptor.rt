@@ -1,7 +1,7 @@
 ghost use Rattle.std.specs.Prelude.{◌≡◌, Some, IfOk, Err};
 ghost use Rattle.hub_listener.specs.Peers.{octets_of};
 ghost use Rattle.hub_server.specs.Naming.{home_in};
-ghost use Rattle.hub_server.specs.Owing.{IsToldFull};
+ghost use Rattle.hub_server.specs.Owing.{IsToldFull, challenge_of};
 ghost use Rattle.hub_server.specs.Peers.{HasComeFrom};
 ghost use Rattle.hub_server.specs.Turning.{WasRefused};
 ghost use Rattle.hub_server.specs.declared.no_place.NoPlace.TheVariants.{HubFull};
@@ -11,6 +11,7 @@ use crate::accepted::Accepted;
 use crate::free_slot::{FreeSlot, OfHub};
 use crate::newcomer::Newcomer;
 use crate::no_place::NoPlace;
+use crate::refusal::Refusal;
 use crate::server::Server;
 use crate::ticket::Ticket;
 use adc_sessions::{Peer, Starter, Stream};
@@ -23,6 +24,7 @@ use session_hash::SessionHash;
 use std::alloc::AllocGlobal;
 use std::marker::PhantomData;
 use std::net::SocketAddrV4;
+use std::snapshot::Snapshot;
 use std::sync::Wait;
 use std::time::Clock;
 
@@ -134,6 +136,8 @@ impl<
     /// Ends a connection for which there is no place: it is told so, or let go where memory was refused.
     fn turn_away(&self, why: NoPlace<B, S, H>, arrived: Arrived<S, T>)
         requires began { T.began arrived.ticket ≡ arrived.socket }
+        requires refused { (free : _) → why ≡ HubFull free
+            → WasRefused (T.peer arrived.ticket) (challenge_of (T.terms arrived.ticket).seed.value (T.number arrived.ticket)) free.visitor }
     {
         let server = self.server;
         let Arrived {
@@ -148,14 +152,14 @@ impl<
                 self.warnings.warn(server.rt, Some(address), Cause::Refused);
             }
             NoPlace::HubFull(free) => {
+                let why = Refusal::HubFull(Snapshot::of(&free.visitor));
                 server.free(free);
                 say_full(&mut socket);
-                server.let_out(ticket.refused(socket));
+                server.let_out(ticket.refused(socket, why));
             }
             NoPlace::NoSlot(no_slot) => {
-                no_slot.end();
                 say_full(&mut socket);
-                server.let_out(ticket.refused(socket));
+                server.let_out(ticket.refused(socket, Refusal::NoSlot(no_slot)));
             }
         }
         server.shared.wakers.make_room();

@@ -51,10 +51,12 @@ where
     W: Write,
     E: Write + Send,
     ensures status { EndsServing E.contents errors.new result }
-    ensures served { result ≡ 0 → (joins : ℕ) × HasServed ⟦<TcpTicket<H, R> as Ticket<TcpStream, H, R>>⟧.terms ⟦<TcpTicket<H, R> as Ticket<TcpStream, H, R>>⟧.number ⟦<TcpTicket<H, R> as Ticket<TcpStream, H, R>>⟧.peer
-        ⟦<TcpTicket<H, R> as Ticket<TcpStream, H, R>>⟧.began ⟦<TcpStream as Stream>⟧.told ⟦<TcpPort<H, R> as HubPort<TcpStream, TcpTicket<H, R>, H, R>>⟧.terms
-        ⟦<TcpPort<H, R> as HubPort<TcpStream, TcpTicket<H, R>, H, R>>⟧.accepted ⟦<R as Moments>⟧.tells W.contents settings.now.hub H.digest_of (arc_value hash) rt.now seed
-        settings.now.stop_after output.new joins }
+    ensures served { result ≡ 0 → (joins : ℕ) × HasServed
+        ⟦<TcpTicket<H, R> as Ticket<TcpStream, H, R>>⟧.terms ⟦<TcpTicket<H, R> as Ticket<TcpStream, H, R>>⟧.number
+        ⟦<TcpTicket<H, R> as Ticket<TcpStream, H, R>>⟧.peer ⟦<TcpTicket<H, R> as Ticket<TcpStream, H, R>>⟧.began ⟦<TcpStream as Stream>⟧.told
+        ⟦<TcpPort<H, R> as HubPort<TcpStream, TcpTicket<H, R>, H, R>>⟧.terms
+        ⟦<TcpPort<H, R> as HubPort<TcpStream, TcpTicket<H, R>, H, R>>⟧.accepted ⟦<R as Moments>⟧.tells W.contents settings.now.hub
+        H.digest_of (arc_value hash) rt.now seed settings.now.stop_after output.new joins }
 {
     let address = settings.listen();
     serve_at::<TcpStream, TcpTicket<H, R>, TcpPort<H, R>, H, R, W, E>(
@@ -105,10 +107,12 @@ where
     W: Write,
     E: Write + Send,
     ensures status { EndsServing E.contents errors.new result }
-    ensures served { result ≡ 0 → (joins : ℕ) × HasServed ⟦<TcpTicket<H, R> as Ticket<TcpStream, H, R>>⟧.terms ⟦<TcpTicket<H, R> as Ticket<TcpStream, H, R>>⟧.number ⟦<TcpTicket<H, R> as Ticket<TcpStream, H, R>>⟧.peer
-        ⟦<TcpTicket<H, R> as Ticket<TcpStream, H, R>>⟧.began ⟦<TcpStream as Stream>⟧.told ⟦<TcpPort<H, R> as HubPort<TcpStream, TcpTicket<H, R>, H, R>>⟧.terms
-        ⟦<TcpPort<H, R> as HubPort<TcpStream, TcpTicket<H, R>, H, R>>⟧.accepted ⟦<R as Moments>⟧.tells W.contents settings.now.hub H.digest_of (arc_value hash) rt.now seed
-        settings.now.stop_after output.new joins }
+    ensures served { result ≡ 0 → (joins : ℕ) × HasServed
+        ⟦<TcpTicket<H, R> as Ticket<TcpStream, H, R>>⟧.terms ⟦<TcpTicket<H, R> as Ticket<TcpStream, H, R>>⟧.number
+        ⟦<TcpTicket<H, R> as Ticket<TcpStream, H, R>>⟧.peer ⟦<TcpTicket<H, R> as Ticket<TcpStream, H, R>>⟧.began ⟦<TcpStream as Stream>⟧.told
+        ⟦<TcpPort<H, R> as HubPort<TcpStream, TcpTicket<H, R>, H, R>>⟧.terms
+        ⟦<TcpPort<H, R> as HubPort<TcpStream, TcpTicket<H, R>, H, R>>⟧.accepted ⟦<R as Moments>⟧.tells W.contents settings.now.hub
+        H.digest_of (arc_value hash) rt.now seed settings.now.stop_after output.new joins }
 {
     let address = settings.listen();
     let file = Some(settings_file);

@@ -178,8 +178,8 @@ impl<
     }
 }
 
-/// The word that no slot was free.
-pub(crate) struct NoSlot(());
+/// The word that no slot was free. It cannot be dropped.
+pub struct NoSlot(());
 
 impl NoSlot {
     /// Ends it.

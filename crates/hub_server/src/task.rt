@@ -1,7 +1,9 @@
+ghost use Rattle.std.specs.Prelude.{◌≡◌};
 ghost use Rattle.futures.specs.Task.{IsArmed, Keeps};
 ghost use Rattle.futures.specs.Poll.{OnPending};
 ghost use Rattle.adc_sessions.specs.Accepting.{incoming_of, left_of};
 ghost use Rattle.hub_listener.specs.Rests.{socket_of};
+ghost use Rattle.hub_server.specs.Ending.{cause_by};
 ghost use Rattle.hub_server.specs.Stopping.{StopsWhen};
 
 use crate::accepted::Accepted;
@@ -320,7 +322,9 @@ impl<
 }
 
 /// Gives the cause by which a session's end is warned of. Nothing where it ended as it should.
-pub fn cause_of(end: End) -> Option<Cause> {
+pub fn cause_of(end: End) -> Option<Cause>
+    ensures { result ≡ cause_by end }
+{
     match end {
         End::Closed | End::Ended => None,
         End::ReadFailed => Some(Cause::ReadFailed),

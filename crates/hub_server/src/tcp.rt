@@ -1,6 +1,7 @@
 ghost use Rattle.std.specs.Prelude.{◌≡◌};
 
 use crate::port::{BindPort, HubPort};
+use crate::refusal::Refusal;
 use crate::terms::Terms;
 use crate::ticket::Ticket;
 use adc_sessions::End;
@@ -172,8 +173,9 @@ impl<H: SessionHash, C: Moments> Ticket<TcpStream, H, C> for TcpTicket<H, C> {
         }
     }
 
-    fn refused(self, socket: TcpStream) -> Option<LeavingSocket<TcpStream>> {
+    fn refused(self, socket: TcpStream, why: Refusal<H>) -> Option<LeavingSocket<TcpStream>> {
         self.end();
+        why.end();
         Some(LeavingSocket::new(socket))
     }
 

@@ -1,3 +1,4 @@
+use crate::refusal::Refusal;
 use crate::terms::Terms;
 use adc_sessions::{End, Stream};
 use connection_slots::LeavingSocket;
@@ -9,7 +10,8 @@ use session_hash::SessionHash;
 pub trait Ticket<S: Stream, H: SessionHash, C: Moments> {
     ghost use Rattle.std.specs.Prelude.{◌≡◌, ℕ, List};
     ghost use Rattle.hub_server.specs.declared.terms.Terms.{Terms};
-    ghost use Rattle.hub_server.specs.Owing.{IsServed, IsToldFull};
+    ghost use Rattle.hub_server.specs.Owing.{IsServed, IsToldFull, challenge_of};
+    ghost use Rattle.hub_server.specs.Turning.{IsRefusal};
 
     /// What the server promised when it began to listen.
     ghost terms: { Self → Terms H C };
@@ -27,9 +29,10 @@ pub trait Ticket<S: Stream, H: SessionHash, C: Moments> {
     fn served(self, socket: S, end: End) -> Option<LeavingSocket<S>>
         requires served { ∥ IsServed H.digest_of C.tells ⟦<S as Stream>⟧.told (terms self) (number self) (peer self) (began self) end socket ∥₁ };
 
-    /// Ends a connection for which the server had no place. Returns the socket if what it was told is to reach the client.
-    fn refused(self, socket: S) -> Option<LeavingSocket<S>>
-        requires told { ∥ IsToldFull S.writes (began self) socket ∥₁ };
+    /// Ends a connection that the server refused. Returns the socket if what it was told is to reach the client.
+    fn refused(self, socket: S, why: Refusal<H>) -> Option<LeavingSocket<S>>
+        requires told { ∥ IsToldFull S.writes (began self) socket ∥₁ }
+        requires why { IsRefusal (peer self) (challenge_of (terms self).seed.value (number self)) why };
 
     /// Ends a connection that memory was refused for. Nothing was read from it or written to it.
     fn lost(self, socket: S)

@@ -7,7 +7,7 @@ use crate::machine::*;
 use adc_sessions::End;
 use connection_slots::LeavingSocket;
 use hub_listener::{Arrived, Listens};
-use hub_server::{BindPort, HubPort, Terms, Ticket};
+use hub_server::{BindPort, HubPort, Refusal, Terms, Ticket};
 use std::snapshot::Snapshot;
 use tokio::reactor::Handle;
 
@@ -180,8 +180,13 @@ impl<'a, R: Clock> Ticket<Wire<'a, R>, First24, R> for WireTicket<'a, R> {
         }
     }
 
-    fn refused(self, socket: Wire<'a, R>) -> Option<LeavingSocket<Wire<'a, R>>> {
+    fn refused(
+        self,
+        socket: Wire<'a, R>,
+        why: Refusal<First24>,
+    ) -> Option<LeavingSocket<Wire<'a, R>>> {
         self.end(EndedBy::Refused);
+        why.end();
         Some(LeavingSocket::new(socket))
     }
 

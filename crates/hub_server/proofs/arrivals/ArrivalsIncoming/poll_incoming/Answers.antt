@@ -35,6 +35,7 @@ invariant_of-newcomer g c =
     record {
       began = come.fresh;
       peer = come.named;
+      challenged = chosen ∙ ap₂ (λ n (t : Terms _ _). challenge_of t.seed.value n) (sym come.numbered) (sym come.promised);
       arrives = old.arrives (g.T.Ticket.peer it.ticket) c.next.result it.socket
           record { ticket = it.ticket; promised = come.promised; from = refl; dealt = chosen ∙ ap (λ n. challenge_of (g.I.HubPort.terms port).seed.value n) (sym come.numbered); fresh = come.fresh };
       owes = owes-ticket g.H.SessionHash.digest_of g.C.Moments.tells _ g.B.OfHub.hub g.B.OfHub.tells g.T.Ticket.terms g.T.Ticket.number g.T.Ticket.peer g.T.Ticket.began
