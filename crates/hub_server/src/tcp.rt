@@ -12,6 +12,7 @@ use session_hash::SessionHash;
 use std::io;
 use std::net::{Net, SocketAddr, SocketAddrV4};
 use std::snapshot::Snapshot;
+use tokio::io::AsyncWrite;
 use tokio::net::{TcpListener, TcpStream};
 use tokio::reactor::Handle;
 
@@ -155,6 +156,8 @@ impl<H: SessionHash, C> TcpTicket<H, C> {
 
 impl<H: SessionHash, C: Moments> Ticket<TcpStream, H, C> for TcpTicket<H, C> {
     ghost use Rattle.hub_listener.specs.Peers.{octets_of};
+    ghost use Rattle.hub_server.specs.Owing.{IsToldFull, challenge_of};
+    ghost use Rattle.hub_server.specs.Turning.{IsRefusal};
 
     ghost terms = { λ ticket. ticket.terms.value.value };
 
@@ -173,7 +176,10 @@ impl<H: SessionHash, C: Moments> Ticket<TcpStream, H, C> for TcpTicket<H, C> {
         }
     }
 
-    fn refused(self, socket: TcpStream, why: Refusal<H>) -> Option<LeavingSocket<TcpStream>> {
+    fn refused(self, socket: TcpStream, why: Refusal<H>) -> Option<LeavingSocket<TcpStream>>
+        requires told { ∥ IsToldFull ⟦<TcpStream as AsyncWrite>⟧.writes self.began.value socket ∥₁ }
+        requires why { IsRefusal (octets_of self.address) (challenge_of self.terms.value.value.seed.value self.number) why }
+    {
         self.end();
         why.end();
         Some(LeavingSocket::new(socket))

@@ -163,6 +163,8 @@ impl<'a, R: Clock> WireTicket<'a, R> {
 
 impl<'a, R: Clock> Ticket<Wire<'a, R>, First24, R> for WireTicket<'a, R> {
     ghost use Rattle.hub_listener.specs.Peers.{octets_of};
+    ghost use Rattle.hub_server.specs.Owing.{IsToldFull, challenge_of};
+    ghost use Rattle.hub_server.specs.Turning.{IsRefusal};
 
     ghost terms = { λ ticket. ticket.terms.value.value };
 
@@ -184,7 +186,10 @@ impl<'a, R: Clock> Ticket<Wire<'a, R>, First24, R> for WireTicket<'a, R> {
         self,
         socket: Wire<'a, R>,
         why: Refusal<First24>,
-    ) -> Option<LeavingSocket<Wire<'a, R>>> {
+    ) -> Option<LeavingSocket<Wire<'a, R>>>
+        requires told { ∥ IsToldFull ⟦<Wire<'a, R> as AsyncWrite>⟧.writes self.began.value socket ∥₁ }
+        requires why { IsRefusal (octets_of self.address) (challenge_of self.terms.value.value.seed.value self.place) why }
+    {
         self.end(EndedBy::Refused);
         why.end();
         Some(LeavingSocket::new(socket))
