@@ -1,11 +1,11 @@
 // The machines that tests of a server need, and what most of them use.
 pub(crate) use futures::task::{Context, Poll};
 pub(crate) use futures::test::MockTask;
+use hub_starts::Opens;
 pub(crate) use second_try::{Machine, again};
 pub(crate) use session_hash::First24;
 pub(crate) use std::alloc::{AllocError, AllocGlobal, Global};
 use std::env::Env;
-use std::fs::Files;
 pub(crate) use std::io;
 pub(crate) use std::net::{Ipv4Addr, Net, SocketAddr, SocketAddrV4};
 pub(crate) use std::process::Abort;
@@ -22,6 +22,6 @@ pub trait ServerMachine: Machine + Wait + Threads + Clock + Net + RandomSource +
 impl<R: Machine + Wait + Threads + Clock + Net + RandomSource + Sync> ServerMachine for R {}
 
 /// The machine of the program.
-pub trait ProgramMachine: ServerMachine + Files + Env {}
+pub trait ProgramMachine: ServerMachine + Opens + Env {}
 
-impl<R: ServerMachine + Files + Env> ProgramMachine for R {}
+impl<R: ServerMachine + Opens + Env> ProgramMachine for R {}
