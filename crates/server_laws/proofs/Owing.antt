@@ -106,7 +106,6 @@ taken-is true same (Said verdict) = refl
 taken-is true same Left = refl
 taken-is true same (Took bytes count ended) = refl
 
-
 -- the bytes that a call of the port gave
 abbrev gave : PortCall → List ℕ
 gave (handed line verdict) = []
