@@ -2,9 +2,9 @@ use crate::server::NoSlot;
 use hub_shared::Visitor;
 use std::snapshot::Snapshot;
 
-/// Why a server refuses a connection. Nobody can make one without having asked for a slot. It cannot be dropped.
+/// Why a server refuses a connection. It cannot be dropped.
 pub enum Refusal<H> {
-    /// No slot was free.
+    /// No slot was free, as the word of that says.
     NoSlot(NoSlot),
     /// The hub had no place for this visitor.
     HubFull(Snapshot<Visitor<H>>),
