@@ -340,7 +340,8 @@ pub fn serve_connection<
 ) -> Result<HubSession<'a, B, S, T, H, R, C>, (S, LeftSlot<H>)>
     requires here { pass.home ≡ server.now.hub.now.home }
     requires challenged { pass.challenge ≡ challenge }
-    ensures serves { IfOk result (λ session. ServesByHub server.now.hub.now.setup (H.digest_of server.now.hub.now.hash) ⟦<S as Stream>⟧.told B.tells stream pass (⟦<Session<S, Connection<'a, B, S, T, H, R, C>, SlotBell<'a>> as Future>⟧.gives session) (λ left. left.visitor)) }
+    ensures serves { IfOk result (λ session. ServesByHub server.now.hub.now.setup (H.digest_of server.now.hub.now.hash) ⟦<S as Stream>⟧.told B.tells stream pass
+        (⟦<Session<S, Connection<'a, B, S, T, H, R, C>, SlotBell<'a>> as Future>⟧.gives session) (λ left. left.visitor)) }
     ensures stream { IfErr result (λ back. back.0 ≡ stream) }
     ensures left { IfErr result (λ back. Leaves server.now.hub.now.setup (H.digest_of server.now.hub.now.hash) pass back.1.visitor) }
 {

@@ -239,7 +239,8 @@ where
     requires terms { AreTerms server.now.hub.now server.now.clock.now seed terms.now }
     requires promised { I.terms listener ≡ terms.now }
     requires none { I.accepted listener ≡ 0 }
-    requires arrives { (peer challenge : List ℕ) (stream : S) → Arrives T.terms T.number T.peer T.began terms.now peer challenge stream → ∥ B.arrives peer challenge stream ∥₁ }
+    requires arrives { (peer challenge : List ℕ) (stream : S)
+        → Arrives T.terms T.number T.peer T.began terms.now peer challenge stream → ∥ B.arrives peer challenge stream ∥₁ }
     requires stops { HasStopped I.terms I.accepted terms.now settings.now.stop_after → ∥ B.stops ∥₁ }
 {
     // It only says what the listener promises.
