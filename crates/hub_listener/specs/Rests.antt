@@ -5,9 +5,9 @@ use Rattle.std.specs.Time.{instant_nanos, FitsClock}
 use Rattle.std.specs.declared.time.Instant.{Instant}
 use Rattle.std.specs.declared.io.Error.{Error}
 use Rattle.std.specs.declared.io.ErrorKind.TheVariants.{OutOfMemory}
-use Rattle.connection_slots.specs.Faults.{error_by}
-use Rattle.connection_slots.specs.declared.accept_error.AcceptError.{AcceptError}
-use Rattle.connection_slots.specs.declared.accept_error.AcceptError.TheVariants as faults
+use Rattle.server_tasks.specs.Faults.{error_by}
+use Rattle.server_tasks.specs.declared.accept_error.AcceptError.{AcceptError}
+use Rattle.server_tasks.specs.declared.accept_error.AcceptError.TheVariants as faults
 use Rattle.tokio.specs.Timers.{sleep_deadline}
 use Rattle.hub_listener.specs.declared.listener.Listener.{Listener}
 use Rattle.hub_listener.specs.Resting.{is_on}

@@ -7,10 +7,10 @@ ghost use Rattle.hub_listener.specs.Rests.{EndOfRest, HasBegun, IsFault, rests, 
 use crate::listens::{Arrived, Listens};
 use crate::rest::{Look, Rest};
 use crate::ticks::Ticks;
-use connection_slots::{AcceptError, Wakers, accept_error_of};
 use futures::task::{Context, Poll};
 use hub_warnings::{Cause, WallClock, Warnings};
 use log::Log;
+use server_tasks::{AcceptError, Wakers, accept_error_of};
 use std::io;
 use std::sync::Wait;
 use std::time::{Duration, Instant};

@@ -5,9 +5,9 @@ ghost use Rattle.hub_warnings.specs.Clocks.{IsToldBy};
 ghost use Rattle.hub_warnings.specs.Logged.{said_level, said_line};
 ghost use Rattle.hub_listener.specs.Descriptors.{AreFew, few_text};
 
-use connection_slots::{descriptor_limit, descriptors_needed};
 use hub_warnings::{Moment, Said, Start, WallClock, say};
 use log::{Level, Log};
+use server_tasks::{descriptor_limit, descriptors_needed};
 use std::fmt;
 use std::fmt::{Display, Formatter};
 use std::net::SocketAddr;

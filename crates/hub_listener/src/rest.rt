@@ -1,9 +1,9 @@
 ghost use Rattle.std.specs.Prelude.{◌≡◌, true, false};
 ghost use Rattle.std.specs.Result.{ForOk};
-ghost use Rattle.connection_slots.specs.declared.slots.Deed.TheVariants.{LookedForRoom};
+ghost use Rattle.server_tasks.specs.declared.slots.Deed.TheVariants.{LookedForRoom};
 
-use connection_slots::Receipt;
 use futures::spin::GaveUp;
+use server_tasks::Receipt;
 
 /// The rest of a listener.
 #[derive(Drop)]

@@ -7,19 +7,35 @@ use tokio::net::TcpStream;
 /// A socket of a client, or what stands for it: a stream that is read and written by tasks, and what a server asks of it
 /// beside that.
 pub trait Socket: AsyncRead + AsyncWrite {
+    ghost use Rattle.std.specs.Prelude.{ℕ, List, [], Result, take, IfOk, IfErr};
+    ghost use Rattle.std.specs.declared.io.Error.{Error};
+
+    /// One call of `try_write` in the first state, with these bytes and this result, left the second. Only a call says so.
+    ghost tries: { Self → List ℕ → Result ℕ Error → Self → Type 0 };
+
     /// Says whether what is written goes out at once, and does not wait for more.
     fn set_nodelay(&self, is_at_once: bool) -> io::Result<()>;
 
     /// Writes as many of these bytes as are taken at once, and gives their number. It leaves no waker. It fails where none
     /// can be taken now, or the connection is gone.
     fn try_write(&mut self, bytes: &[u8]) -> io::Result<usize>
+        ensures tried { tries self.old bytes.now result self.new }
         ensures bound { IfOk result (λ count. count ≤ length bytes.now) }
         ensures bytes { IfOk result (λ count. Self.writes self.old (take count bytes.now) self.new) }
         ensures nothing { IfErr result (λ _. Self.writes self.old [] self.new) }
         ensures failed { IfErr result (λ error. Self.AsyncWrite.fails self.new error) };
+
+    /// Such a call wrote the first of the bytes, or none where it failed.
+    ghost tries_so: { (a : Self) (bytes : List ℕ) (r : Result ℕ Error) (b : Self) → tries a bytes r b
+        → IfOk r (λ count. Self.AsyncWrite.writes a (take count bytes) b) × IfErr r (λ _. Self.AsyncWrite.writes a [] b) };
 }
 
 impl Socket for TcpStream {
+    ghost use Rattle.std.specs.Prelude.{⊤};
+    ghost use Rattle.std.proofs.Common.{rules};
+
+    ghost tries = { λ _ _ _ _. ⊤ };
+
     fn set_nodelay(&self, is_at_once: bool) -> io::Result<()> {
         TcpStream::set_nodelay(self, is_at_once)
     }
@@ -27,4 +43,6 @@ impl Socket for TcpStream {
     fn try_write(&mut self, bytes: &[u8]) -> io::Result<usize> {
         TcpStream::try_write(&*self, bytes)
     }
+
+    ghost tries_so = { λ a bytes r b tried. Prim.search rules };
 }

@@ -3,8 +3,8 @@ use Rattle.std.proofs.Common.{◌≡◌, ℕ, List, Option, Result, Ok, Err, IfO
 use Rattle.flushed_writes.specs.Parts.{AppendsFront}
 use Rattle.hub_program.specs.Starting.{EndsServer}
 use Rattle.hub_server.specs.Reporting.{EndsServing}
-use Rattle.hub_starts.specs.Endings.{KeepsFromStarting, status_by, message_by}
-use Rattle.hub_starts.specs.declared.fault.StartFault.{StartFault}
+use Rattle.hub_startup.specs.Endings.{KeepsFromStarting, status_by, message_by}
+use Rattle.hub_startup.specs.declared.fault.StartFault.{StartFault}
 
 pub ends-server : {E : Type 0} (contents : E → Option (List ℕ)) (served : Result ℕ StartFault) (old new : E) (status : ℕ) → IfErr served KeepsFromStarting → IfOk served (EndsServing contents old)
     → MatchResult served (λ its. status ≡ its) (λ fault. status ≡ status_by fault)

@@ -7,9 +7,9 @@ use Rattle.hub_settings.specs.declared.hash_name.HashName.{HashName}
 use Rattle.hub_settings.specs.declared.hash_name.HashName.TheVariants as names
 use Rattle.flushed_writes.specs.Parts.{AppendsFront}
 use Rattle.hub_server.specs.Reporting.{EndsServing}
-use Rattle.hub_starts.specs.Endings.{KeepsFromStarting, status_by, message_by}
-use Rattle.hub_starts.specs.Files.{AreTables, HasAt, IsSeed, StartsAt}
-use Rattle.hub_starts.specs.declared.fault.StartFault.{StartFault}
+use Rattle.hub_startup.specs.Endings.{KeepsFromStarting, status_by, message_by}
+use Rattle.hub_startup.specs.Files.{AreTables, HasAt, IsSeed, StartsAt}
+use Rattle.hub_startup.specs.declared.fault.StartFault.{StartFault}
 
 -- the digests are those of the hash with this name, Tiger's with the tables of the file at this path
 abbrev pub IsHash : {R F : Type 0} → (R → List ℕ → F → Type 0) → (F → Option (List ℕ)) → R → HashName → List ℕ → (List ℕ → List ℕ) → Type 0

@@ -2,11 +2,11 @@ ghost use Rattle.std.specs.Prelude.{◌≡◌, ℕ, map};
 ghost use Rattle.std.specs.String.{string_bytes};
 ghost use Rattle.hub_program.specs.Starting.{EndsServer};
 ghost use Rattle.hub_server.specs.Reporting.{Reports};
-ghost use Rattle.hub_starts.specs.Endings.{AsksToServe, EndsOver, Tells};
+ghost use Rattle.hub_startup.specs.Endings.{AsksToServe, EndsOver, Tells};
 
 use crate::start::serve_file;
 use flushed_writes::{CountedRead, CountedWrite};
-use hub_starts::{Opens, serve_stdin_if_asked, settings_path};
+use hub_startup::{Opens, serve_stdin_if_asked, settings_path};
 use std::alloc::AllocGlobal;
 use std::env::Env;
 use std::io::Write;

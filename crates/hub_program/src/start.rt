@@ -1,13 +1,13 @@
 ghost use Rattle.std.specs.Prelude.{◌≡◌, ℕ, IfOk, IfErr, MatchResult};
 ghost use Rattle.std.specs.Arc.{arc_value};
 ghost use Rattle.flushed_writes.specs.Parts.{AppendsFront};
-ghost use Rattle.hub_starts.specs.Endings.{status_by, message_by, KeepsFromStarting};
+ghost use Rattle.hub_startup.specs.Endings.{status_by, message_by, KeepsFromStarting};
 ghost use Rattle.hub_program.specs.Starting.{AreAt, EndsServer, IsHash, IsSeedAt};
 ghost use Rattle.hub_server.specs.Reporting.{EndsServing, Reports};
 
 use hub_server::{serve_for_journal, serve_on};
 use hub_settings::{HashName, Settings};
-use hub_starts::{Opens, StartFault, has_journal, seed_in, settings_in, tables_in};
+use hub_startup::{Opens, StartFault, has_journal, seed_in, settings_in, tables_in};
 use session_hash::{First24, SessionHash};
 use std::alloc::AllocGlobal;
 use std::env::Env;

@@ -1,6 +1,6 @@
 -- What a server owes a connection that came: which hub it is served by, with which challenge, and what it is told if there is no place for it.
 use Rattle.hub_server.specs.Naming.{hub_in}
-use Rattle.std.specs.Prelude.{◌≡◌, ℕ, List, Option, Some, take}
+use Rattle.std.specs.Prelude.{◌≡◌, ℕ, List, Option, Some, Result, take}
 use Rattle.rand_chacha.specs.ChaCha.{of_seed}
 use Rattle.adc_sessions.specs.declared.ending.End.{End}
 use Rattle.adc_sessions.specs.Events.{StreamCall}
@@ -26,9 +26,13 @@ module _ {H R S : Type 0} (digest : H → List ℕ → List ℕ) (tells : R → 
     pub came : HasComeFrom pass peer (challenge_of terms.seed.value number)
     pub served : ServedByHub (hub_in terms).setup (digest (hub_in terms).hash) told (tells terms.clock.value) stream pass end stream' visitor
 
--- the connection was told that the hub is full, or the first bytes of that, and nothing else
-abbrev pub IsToldFull : {S : Type 0} → (S → List ℕ → S → Type 0) → S → S → Type 0
-IsToldFull writes stream stream' = (count : ℕ) × writes stream (take count hub_full) stream'
+-- one call tried to tell the connection that the hub is full, whatever came of it, and there was no other
+abbrev pub IsToldFull : {S E : Type 0} → (S → List ℕ → Result ℕ E → S → Type 0) → S → S → Type 0
+IsToldFull {E} tries stream stream' = (result : Result ℕ E) × tries stream hub_full result stream'
+
+-- the connection was written that the hub is full, or the first bytes of that, and nothing else
+abbrev pub WritesFull : {S : Type 0} → (S → List ℕ → S → Type 0) → S → S → Type 0
+WritesFull writes stream stream' = (count : ℕ) × writes stream (take count hub_full) stream'
 
 -- once the named hub has served this stream for a pass that came so, what is owed to the connection holds
 abbrev pub OwesService : {H S : Type 0} → Option (HubState H) → (H → List ℕ → List ℕ) → (S → StreamCall → S → Type 0) → (ℕ → Type 0) → List ℕ → List ℕ → S → (End → S → Type 0) → Type 0

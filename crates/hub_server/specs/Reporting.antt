@@ -3,8 +3,8 @@ use Rattle.std.specs.Prelude.{◌≡◌, ◌⊎◌, ⊤, ℕ, List, ◌++◌, co
 use Rattle.std.specs.Fmt.{decimal}
 use Rattle.std.specs.Io.KnownBytes.{Appends}
 use Rattle.adc_sessions.specs.Events.{StreamCall}
-use Rattle.connection_slots.specs.declared.state.Fault.{Fault}
-use Rattle.connection_slots.specs.declared.state.Fault.TheVariants as faults
+use Rattle.server_tasks.specs.declared.state.Fault.{Fault}
+use Rattle.server_tasks.specs.declared.state.Fault.TheVariants as faults
 use Rattle.flushed_writes.specs.Parts.{AppendsFront}
 use Rattle.hub_endings.specs.Endings.{status_of, message_of}
 use Rattle.hub_endings.specs.declared.ending.Ending.{Ending}

@@ -3,11 +3,11 @@ use Rattle.std.specs.Prelude.{◌≡◌, ◌⊎◌, ℕ, Bool, true, false, Opti
 use Rattle.futures.specs.declared.spin.GaveUp.{GaveUp}
 use Rattle.adc_sessions.specs.Acts.{BellCall, heard, asked, noted}
 use Rattle.adc_sessions.specs.Events.{PortCall, handed, took, refused}
-use Rattle.connection_slots.specs.declared.amount.Amount.{Amount}
-use Rattle.connection_slots.specs.declared.slots.Deed.{Deed}
-use Rattle.connection_slots.specs.declared.slots.Deed.TheVariants.{WokeOne, WokeEverybody, Looked}
-use Rattle.connection_slots.specs.GivingWay.{IsAnswered}
-use Rattle.connection_slots.specs.declared.permission.Permission.{Permission}
+use Rattle.server_tasks.specs.declared.amount.Amount.{Amount}
+use Rattle.server_tasks.specs.declared.slots.Deed.{Deed}
+use Rattle.server_tasks.specs.declared.slots.Deed.TheVariants.{WokeOne, WokeEverybody, Looked}
+use Rattle.server_tasks.specs.GivingWay.{IsAnswered}
+use Rattle.server_tasks.specs.declared.permission.Permission.{Permission}
 use Rattle.hub_core.specs.declared.share.Touched.{Touched}
 use Rattle.hub_core.specs.declared.share.Touched.TheVariants as touches
 use Rattle.hub_server.specs.declared.waking.Woken.{Woken}

@@ -1,9 +1,12 @@
 ghost use Rattle.std.specs.Prelude.{◌≡◌, Some};
+ghost use Rattle.hub_listener.specs.Peers.{octets_of};
 ghost use Rattle.hub_server.specs.Naming.{home_in};
 ghost use Rattle.hub_server.specs.Owing.{IsServed, OwesServiceOf};
 ghost use Rattle.hub_server.specs.Visits.{HasEntered};
 
+use crate::cut_off::CutOff;
 use crate::free_slot::OfHub;
+use crate::slot::Slot;
 use crate::ticket::Ticket;
 use adc_sessions::Stream;
 use hub_listener::Moments;
@@ -26,9 +29,11 @@ pub(crate) struct Accepted<
     pub(crate) socket: S,
     pub(crate) pass: Pass<H>,
     pub(crate) challenge: [u8; 24],
+    pub(crate) slot: Slot,
     pub(crate) peer: SocketAddrV4,
     pub(crate) of: PhantomData<(B, Snapshot<C>)>,
     pub(crate) ghost began: { T.began ticket ≡ socket },
+    pub(crate) ghost from: { T.peer ticket ≡ octets_of peer },
     pub(crate) ghost here: { home_in B.hub ≡ Some pass.home },
     pub(crate) ghost challenged: { pass.challenge ≡ challenge },
     pub(crate) ghost entered: { HasEntered ⟦<S as Stream>⟧.told B.tells B.arrives socket pass },
@@ -43,18 +48,20 @@ impl<B: OfHub<H, S>, S: Stream, T: Ticket<S, H, C>, H: SessionHash, C: Moments> 
     H,
     C,
 > {
-    /// Ends it, where the server's runtime ended before a task took it.
-    pub(crate) fn cut_off(self) {
+    /// Ends it, where no task took it, as this word says.
+    pub(crate) fn cut_off(self, why: CutOff) {
         let Accepted {
             ticket,
             socket,
             pass,
             challenge: _,
+            slot,
             peer: _,
             of: _,
         } = self;
         drop(socket);
         drop(pass);
-        ticket.cut_off();
+        slot.cut_off(&why);
+        ticket.cut_off(why);
     }
 }

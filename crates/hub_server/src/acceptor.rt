@@ -1,25 +1,31 @@
 ghost use Rattle.std.specs.Prelude.{◌≡◌, Some, IfOk, Err};
+ghost use Rattle.server_tasks.specs.declared.places.PlacesDeed.TheVariants.{Put};
 ghost use Rattle.hub_listener.specs.Peers.{octets_of};
 ghost use Rattle.hub_server.specs.Naming.{home_in};
-ghost use Rattle.hub_server.specs.Owing.{IsToldFull, challenge_of};
+ghost use Rattle.hub_server.specs.Owing.{challenge_of};
 ghost use Rattle.hub_server.specs.Peers.{HasComeFrom};
 ghost use Rattle.hub_server.specs.Turning.{WasRefused};
 ghost use Rattle.hub_server.specs.declared.no_place.NoPlace.TheVariants.{HubFull};
 ghost use Rattle.hub_server.specs.Visits.{HasEntered};
 
 use crate::accepted::Accepted;
+use crate::cut_off::CutOff;
 use crate::free_slot::{FreeSlot, OfHub};
 use crate::newcomer::Newcomer;
+use crate::no_memory::NoMemory;
 use crate::no_place::NoPlace;
 use crate::refusal::Refusal;
 use crate::server::Server;
+use crate::slot::Slot;
 use crate::ticket::Ticket;
+use crate::told_full::say_full;
 use adc_sessions::{Peer, Starter, Stream};
 use hub_core::JoinRefused;
 use hub_listener::{Arrived, Moments, Socket};
 use hub_shared::Pass;
 use hub_warnings::{Cause, Warnings};
 use log::Log;
+use server_tasks::PlacesWord;
 use session_hash::SessionHash;
 use std::alloc::AllocGlobal;
 use std::marker::PhantomData;
@@ -76,7 +82,7 @@ impl<
         address: SocketAddrV4,
         challenge: [u8; 24],
         socket: &S,
-    ) -> Result<(Pass<H>, usize), NoPlace<B, S, H>>
+    ) -> Result<(Pass<H>, Slot), NoPlace<B, S, H>>
         requires arrives { ∥ B.arrives (octets_of address) challenge socket.now ∥₁ }
         ensures here { IfOk result (λ r. home_in B.hub ≡ Some r.0.home) }
         ensures challenged { IfOk result (λ r. r.0.challenge ≡ challenge) }
@@ -87,10 +93,15 @@ impl<
         // It only says which stream the connection has.
         let _ = socket;
         let server = self.server;
-        let FreeSlot { visitor, slot, .. } = match server.take_slot() {
+        let FreeSlot {
+            visitor,
+            slot,
+            of: _,
+        } = match server.take_slot() {
             Ok(free) => free,
             Err(no_slot) => return Err(NoPlace::NoSlot(no_slot)),
         };
+        let before = Snapshot::of(&visitor);
         let moment = server.moment_of_call();
         let peer = address.ip().octets();
         let alloc = server.rt.alloc();
@@ -106,31 +117,40 @@ impl<
             Err((refused, visitor)) => {
                 let free = FreeSlot::new(visitor, slot);
                 match refused {
-                    JoinRefused::Memory => Err(NoPlace::NoMemory(free)),
+                    JoinRefused::Memory => {
+                        let why = NoMemory::of_join(server.hub, before, &free.visitor);
+                        Err(NoPlace::NoMemory(free, why))
+                    }
                     JoinRefused::Full | JoinRefused::JoinsSpent => Err(NoPlace::HubFull(free)),
                 }
             }
         }
     }
 
-    /// Leaves the connection for the task of its slot. It is let go where that cannot be.
-    fn hand_over(&self, accepted: Accepted<B, S, T, H, C>, slot: usize) {
+    /// Leaves the connection for the task of its slot, and gives the word of it. It is cut off where that cannot be.
+    fn hand_over(&self, accepted: Accepted<B, S, T, H, C>) -> PlacesWord
+        ensures { result ≡ Put accepted.slot }
+    {
         let server = self.server;
-        let (_word, before) = server.shared.handoff.put(server.rt, slot, accepted);
+        let place = accepted.slot.number();
+        let (word, before) = server.shared.handoff.put(server.rt, place, accepted);
         if let Some(accepted) = before {
             let Accepted {
                 ticket,
                 socket,
                 pass,
                 challenge: _,
+                slot,
                 peer: _,
                 of: _,
             } = accepted;
+            drop(socket);
             let visitor = server.hub.quit(server.rt, pass);
             server.free(FreeSlot::new(visitor, slot));
-            ticket.lost(socket);
+            ticket.cut_off(CutOff::given_back(&word, place));
             server.shared.wakers.make_room();
         }
+        word
     }
 
     /// Ends a connection for which there is no place: it is told so, or let go where memory was refused.
@@ -146,20 +166,20 @@ impl<
             address,
         } = arrived;
         match why {
-            NoPlace::NoMemory(free) => {
+            NoPlace::NoMemory(free, no_memory) => {
                 server.free(free);
-                ticket.lost(socket);
+                ticket.lost(socket, no_memory);
                 self.warnings.warn(server.rt, Some(address), Cause::Refused);
             }
             NoPlace::HubFull(free) => {
                 let why = Refusal::HubFull(Snapshot::of(&free.visitor));
                 server.free(free);
-                say_full(&mut socket);
-                server.let_out(ticket.refused(socket, why));
+                let told = say_full(&mut socket);
+                server.let_out(ticket.refused(socket, why, told));
             }
             NoPlace::NoSlot(no_slot) => {
-                say_full(&mut socket);
-                server.let_out(ticket.refused(socket, Refusal::NoSlot(no_slot)));
+                let told = say_full(&mut socket);
+                server.let_out(ticket.refused(socket, Refusal::NoSlot(no_slot), told));
             }
         }
         server.shared.wakers.make_room();
@@ -206,20 +226,13 @@ impl<
                     socket,
                     pass,
                     challenge,
+                    slot,
                     peer: address,
                     of: PhantomData,
                 };
-                self.hand_over(accepted, slot);
+                let _ = self.hand_over(accepted);
             }
             Err(why) => self.turn_away(why, arrived),
         }
     }
-}
-
-/// Says on a socket that the hub is full, and nothing else. It is one line on a fresh socket, which takes all of it or is not
-/// worth more.
-fn say_full<S: Socket>(stream: &mut S)
-    ensures said { ∥ IsToldFull S.writes stream.old stream.new ∥₁ }
-{
-    let _ = stream.try_write(b"ISTA 211 Hub\\sfull\n");
 }

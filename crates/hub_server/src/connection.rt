@@ -1,5 +1,5 @@
 ghost use Rattle.std.specs.Prelude.{◌≡◌, true, false, None, IfOk, IfErr, OnErr, IsSomeAnd};
-ghost use Rattle.connection_slots.specs.declared.slots.Deed.TheVariants.{Named};
+ghost use Rattle.server_tasks.specs.declared.slots.Deed.TheVariants.{Cleared, Named};
 ghost use Rattle.hub_core.specs.declared.share.Touched.TheVariants.{One};
 ghost use Rattle.hub_rules.specs.Prepared.{prepared_line};
 ghost use Rattle.hub_server.specs.PortCalls.{Leaves};
@@ -9,17 +9,19 @@ ghost use Rattle.hub_shared.specs.Calls.{SaysLine, Saw};
 
 use crate::free_slot::OfHub;
 use crate::left_slot::LeftSlot;
+use crate::no_memory::{NoMemory, session};
 use crate::server::Server;
+use crate::slot::Slot;
 use crate::slot_bell::SlotBell;
 use crate::ticket::Ticket;
 use crate::waking::{Concerned, Woken};
 use adc_sessions::{Port, Session, Stream};
-use connection_slots::{Amount, Receipt};
 use futures::Future;
 use futures::spin::GaveUp;
 use hub_core::{LineRefused, Prepared, Setup, TakeRefused, Taken, Touched, Verdict, prepare};
 use hub_listener::{CallMoment, Moments};
 use hub_shared::{Hub, Pass};
+use server_tasks::{Amount, Receipt};
 use session_hash::SessionHash;
 use std::alloc::{AllocGlobal, Global};
 use std::sync::Wait;
@@ -43,7 +45,8 @@ pub struct Connection<
     pass: Pass<H>,
     challenge: [u8; 24],
     slot: usize,
-    // The receipt of the slot's name, once the connection has a session identifier.
+    // The receipt of the slot's having been given to this session, and of its name, once the connection has a session identifier.
+    occupied: Result<Receipt, GaveUp>,
     named: Option<Result<Receipt, GaveUp>>,
     // Lines for everybody for which nobody was woken yet, and the second of the last of them.
     owes: bool,
@@ -54,6 +57,7 @@ pub struct Connection<
     rung: Option<Result<Receipt, GaveUp>>,
     ghost here: { pass.home ≡ server.now.hub.now.home },
     ghost challenged: { pass.challenge ≡ challenge },
+    ghost occupies: { ∥ IfOk occupied (λ deed. deed ≡ Cleared slot true) ∥₁ },
 }
 
 impl<'a, B: OfHub<H, S>, S: Stream, T: Ticket<S, H, C>, H: SessionHash, R, C: Moments> Drop
@@ -64,6 +68,7 @@ impl<'a, B: OfHub<H, S>, S: Stream, T: Ticket<S, H, C>, H: SessionHash, R, C: Mo
             pass,
             challenge: _,
             slot: _,
+            occupied,
             named,
             owes: _,
             owed: _,
@@ -72,6 +77,7 @@ impl<'a, B: OfHub<H, S>, S: Stream, T: Ticket<S, H, C>, H: SessionHash, R, C: Mo
             rung,
         } = self;
         drop(pass);
+        drop(occupied);
         drop(named);
         drop(woken);
         drop(rung);
@@ -100,12 +106,12 @@ impl<
         ensures pass { result.pass ≡ pass }
         ensures slot { result.slot ≡ slot }
     {
-        let _ = server.shared.wakers.occupy(slot);
         Connection {
             server,
             pass,
             challenge,
             slot,
+            occupied: server.shared.wakers.occupy(slot),
             named: None,
             owes: false,
             owed: Amount::NONE,
@@ -288,6 +294,7 @@ impl<
             pass,
             challenge: _,
             slot,
+            occupied,
             named,
             owes: _,
             owed: _,
@@ -295,6 +302,7 @@ impl<
             woken,
             rung,
         } = self;
+        drop(occupied);
         drop(named);
         drop(woken);
         let visitor = server.hub.quit(server.rt, pass);
@@ -322,7 +330,7 @@ pub type HubSession<'a, B, S, T, H, R, C> = Session<
 /// was written the first bytes of what the hub gave the connection, which has quit. All these calls stand in one legal
 /// history, as the caller's only ones after those that it had made (`specs/ServedByHub` has all that is promised).
 ///
-/// Refused for want of memory; then the connection has quit, and the stream and the slot are given back.
+/// Refused for want of memory; then the connection has quit, and the stream and the slot are given back, with the word of that.
 pub fn serve_connection<
     'a,
     B: OfHub<H, S>,
@@ -336,8 +344,8 @@ pub fn serve_connection<
     stream: S,
     pass: Pass<H>,
     challenge: [u8; 24],
-    slot: usize,
-) -> Result<HubSession<'a, B, S, T, H, R, C>, (S, LeftSlot<H>)>
+    slot: &Slot,
+) -> Result<HubSession<'a, B, S, T, H, R, C>, (S, LeftSlot<H>, NoMemory)>
     requires here { pass.home ≡ server.now.hub.now.home }
     requires challenged { pass.challenge ≡ challenge }
     ensures serves { IfOk result (λ session. ServesByHub server.now.hub.now.setup (H.digest_of server.now.hub.now.hash) ⟦<S as Stream>⟧.told B.tells stream pass
@@ -345,10 +353,10 @@ pub fn serve_connection<
     ensures stream { IfErr result (λ back. back.0 ≡ stream) }
     ensures left { IfErr result (λ back. Leaves server.now.hub.now.setup (H.digest_of server.now.hub.now.hash) pass back.1.visitor) }
 {
-    let connection = Connection::new(server, pass, challenge, slot);
+    let connection = Connection::new(server, pass, challenge, slot.number());
     let bell = connection.bell();
-    match Session::new(server.rt.alloc(), stream, connection, bell) {
+    match session(server.rt.alloc(), stream, connection, bell) {
         Ok(session) => Ok(session),
-        Err((_, stream, connection, _bell)) => Err((stream, connection.quit())),
+        Err((no_memory, stream, connection, _bell)) => Err((stream, connection.quit(), no_memory)),
     }
 }

@@ -2,6 +2,7 @@ ghost use Rattle.std.specs.Prelude.{◌≡◌, Some};
 ghost use Rattle.hub_server.specs.Naming.{home_in};
 ghost use Rattle.hub_server.specs.Visits.{HasVisited};
 
+use crate::slot::Slot;
 use adc_sessions::Stream;
 use hub_shared::Visitor;
 use session_hash::SessionHash;
@@ -40,19 +41,18 @@ impl<H, S> OfHub<H, S> for Brand {
 }
 
 /// A slot without a connection, and the visitor of the named hub who joins for the next one. All its calls so far are visits,
-/// whose connections were streams `S`.
-#[derive(Drop)]
+/// whose connections were streams `S`. It cannot be dropped, since the slot cannot.
 pub struct FreeSlot<B: OfHub<H, S>, S: Stream, H> {
     pub(crate) visitor: Visitor<H>,
-    pub(crate) slot: usize,
-    of: PhantomData<(B, S)>,
+    pub(crate) slot: Slot,
+    pub(crate) of: PhantomData<(B, S)>,
     pub(crate) ghost here: { home_in B.hub ≡ Some visitor.home },
     pub(crate) ghost visits: { HasVisited ⟦<S as Stream>⟧.told B.tells B.arrives visitor },
 }
 
 impl<B: OfHub<H, S>, S: AsyncRead + AsyncWrite, H> FreeSlot<B, S, H> {
     /// Gives this slot to a visitor of the named hub whose calls are visits.
-    pub fn new(visitor: Visitor<H>, slot: usize) -> FreeSlot<B, S, H>
+    pub fn new(visitor: Visitor<H>, slot: Slot) -> FreeSlot<B, S, H>
         requires here { home_in B.hub ≡ Some visitor.home }
         requires visits { HasVisited ⟦<S as Stream>⟧.told B.tells B.arrives visitor }
         ensures { result.visitor ≡ visitor }

@@ -1,7 +1,7 @@
 use crate::waking::Woken;
-use connection_slots::Receipt;
 use futures::spin::GaveUp;
 use hub_shared::Visitor;
+use server_tasks::Receipt;
 
 /// A slot whose connection has quit, the visitor whose connection it was, and the receipts of those whom the quit concerned.
 #[derive(Drop)]

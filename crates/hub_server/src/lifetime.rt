@@ -8,7 +8,8 @@ ghost use Rattle.hub_server.specs.ServedAll.{Arrives, ServedAll};
 ghost use Rattle.hub_server.specs.Stopping.{AreTerms, HasStopped};
 ghost use Rattle.hub_server.specs.Visits.{HasVisited};
 
-use crate::free_slot::{FreeSlot, OfHub, Stop};
+use crate::all_free::AllFree;
+use crate::free_slot::{OfHub, Stop};
 use crate::listening::run_on_threads;
 use crate::port::BindPort;
 use crate::served::Served;
@@ -155,9 +156,8 @@ where
     let alloc = plan.rt.alloc();
     let count = slot_count(plan.settings);
     let visitors = Vec::with_capacity(alloc, count)?;
-    let free = admit::<B, S, H>(alloc, host, hub, count)?;
     let (free, _stop) = run_slots::<B, S, T, I, H, R, C, W, L>(
-        plan, hub, free, seed, terms, address, output,
+        plan, hub, host, seed, terms, address, output,
     )?;
     Ok(leave(free, visitors))
 }
@@ -169,39 +169,19 @@ pub(crate) fn slot_count(settings: &Settings) -> usize
     settings.setup().max_users() as usize + 1
 }
 
-/// Admits so many visitors, who take the slots in their order.
-fn admit<B: OfHub<H, S>, S: AsyncRead + AsyncWrite, H: SessionHash>(
-    alloc: Global,
-    host: &mut Host<H>,
-    hub: &Hub<H>,
-    count: usize,
-) -> Result<Vec<FreeSlot<B, S, H>>, Ending>
-    requires here { home_in B.hub ≡ Some hub.now.home }
-    requires host { host.old ≡ record { home = hub.now.home; admitted = 0 } }
-    requires few { count ≤ 65_536 }
-    ensures host { host.new.home ≡ hub.now.home }
-    ensures ending { IfErr result IsServerFault }
-{
-    let mut free = Vec::with_capacity(alloc, count)?;
-    for slot in 0..count {
-        free.push(FreeSlot::new(host.admit(hub), slot))?;
-    }
-    Ok(free)
-}
-
 /// All slots of a server that has stopped, and the word that it has.
-type AllFree<B, S, H> = (Vec<FreeSlot<B, S, H>>, Stop<B, S, H>);
+type Stopped<B, S, H> = (AllFree<B, S, H>, Stop<B, S, H>);
 
-/// Runs the server with these slots, and gives back those that are left.
+/// Runs the server, and gives back the slots that are left.
 fn run_slots<'a, B, S, T, I, H, R, C, W, L>(
     plan: &Plan<'a, H, R, C, L>,
     hub: &'a Hub<H>,
-    free: Vec<FreeSlot<B, S, H>>,
+    host: &mut Host<H>,
     seed: [u8; 32],
     terms: &Terms<H, C>,
     address: I::Address,
     output: &mut W,
-) -> Result<AllFree<B, S, H>, Ending>
+) -> Result<Stopped<B, S, H>, Ending>
 where
     B: OfHub<H, S> + Send + Sync,
     S: Socket + Send,
@@ -219,22 +199,16 @@ where
     requires arrives { (peer challenge : List ℕ) (stream : S)
         → Arrives T.terms T.number T.peer T.began terms.now peer challenge stream → ∥ B.arrives peer challenge stream ∥₁ }
     requires stops { HasStopped I.terms I.accepted terms.now plan.now.settings.now.stop_after → ∥ B.stops ∥₁ }
+    requires host { host.old ≡ record { home = hub.now.home; admitted = 0 } }
     requires set { hub.now.setup ≡ plan.now.settings.now.hub }
     requires hashed { hub.now.hash ≡ plan.now.hash.now }
+    ensures host { OnOk result (host.new.home ≡ hub.now.home) }
     ensures ending { IfErr result IsServerFault }
 {
     let (rt, setup) = (plan.rt, plan.settings.setup());
     let count = slot_count(plan.settings);
-    let server = Server::new(
-        rt.alloc(),
-        rt,
-        plan.clock,
-        hub,
-        plan.hash,
-        setup,
-        count,
-        free,
-    )?;
+    let server = Server::new(rt.alloc(), rt, plan.clock, hub, plan.hash, setup, count)?;
+    server.admit(host, count);
     let served = run_on_threads::<B, S, T, I, H, R, C, W, L>(
         plan,
         &server,
@@ -249,19 +223,16 @@ where
 
 /// Gives the visitors of these slots, as many as there is room for.
 fn leave<B: OfHub<H, S>, S: AsyncRead + AsyncWrite, H>(
-    free: Vec<FreeSlot<B, S, H>>,
+    free: AllFree<B, S, H>,
     visitors: Vec<Visitor<H>>,
 ) -> Vec<Visitor<H>>
     requires none { visitors.items ≡ [] }
     ensures here { (home : Home (About H)) → home_in B.hub ≡ Some home → All (λ v. v.home ≡ home) result.items }
     ensures visits { All (λ v. HasVisited ⟦<S as Stream>⟧.told B.tells B.arrives v) result.items }
 {
-    let mut visitors = visitors;
-    for slot in free {
-        let FreeSlot { visitor, .. } = slot;
-        if visitors.push(visitor).is_err() {
-            return visitors;
-        }
+    let (mut free, mut visitors) = (free, visitors);
+    while let Some(visitor) = free.next() {
+        let _ = visitors.push(visitor);
     }
     visitors
 }

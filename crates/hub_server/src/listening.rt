@@ -1,5 +1,7 @@
-ghost use Rattle.std.specs.Prelude.{◌≡◌, ℕ, List, Some, Err, IfOk, IfErr};
-ghost use Rattle.connection_slots.specs.declared.state.Fault.{Fault};
+ghost use Rattle.std.specs.Prelude.{◌≡◌, ◌≢◌, ℕ, List, Some, None, Err, IfOk, IfErr, OnOk};
+ghost use Rattle.std.specs.IoError.{error_kind};
+ghost use Rattle.server_tasks.specs.declared.state.Told.TheVariants.{Asked};
+ghost use Rattle.server_tasks.specs.declared.state.Fault.{Fault};
 ghost use Rattle.hub_server.specs.Reporting.{IsServerFault, ending_by};
 ghost use Rattle.hub_server.specs.ServedAll.{Arrives};
 ghost use Rattle.hub_server.specs.Stopping.{AreTerms, HasStopped, stop_of};
@@ -15,17 +17,17 @@ use crate::tasks::Tasks;
 use crate::terms::Terms;
 use crate::ticket::Ticket;
 use adc_sessions::Accept;
-use connection_slots::{Fault, Startup, Ticker};
+use futures::spin::GaveUp;
 use hub_endings::Ending;
 use hub_listener::{Listener, Listens, Moments, Socket, say_start, warn_of_descriptors};
 use hub_settings::Settings;
 use hub_warnings::Warnings;
 use hub_workers::Workers;
 use log::Log;
+use server_tasks::{Fault, Startup, Ticker, Word};
 use session_hash::SessionHash;
 use std::alloc::AllocGlobal;
-use std::io;
-use std::io::Write;
+use std::io::{self, ErrorKind, Write};
 use std::net::{Net, SocketAddr};
 use std::random::RandomSource;
 use std::snapshot::Snapshot;
@@ -118,15 +120,19 @@ where
     let ticker = Ticker::new(&server.shared, server.rt, ticking);
     let count = slot_count(settings);
     let tasks = Tasks::new(ticker, count, accept, startup, server, warnings);
-    run_tasks(workers, server, tasks)
+    let _ = run_tasks(workers, server, tasks)?;
+    Ok(())
 }
 
-/// Runs these tasks to their end, and says how the server ends.
+/// The word that a server was asked for a fault and had met none, or that its lock was given up.
+type NoFault = Result<Word, GaveUp>;
+
+/// Runs these tasks to their end, and gives the word that no fault was met; or says how the server ends.
 fn run_tasks<'a, B, S, T, I, H, R, C, W, L>(
     workers: &mut Workers,
     server: &'a Server<'a, B, S, T, H, R, C>,
     tasks: Tasks<'a, B, S, T, H, R, C, L, I, W>,
-) -> Result<(), Ending>
+) -> Result<NoFault, Ending>
 where
     B: OfHub<H, S> + Send + Sync,
     S: Socket + Send,
@@ -137,10 +143,15 @@ where
     C: Moments + Sync,
     W: Write,
     L: Log + Sync,
+    ensures asked { IfOk result (λ asked. IfOk asked (λ word. word ≡ Asked None)) }
     ensures ending { IfErr result IsServerFault }
 {
     match workers.run_all(server.rt, tasks) {
-        Ok(()) => ending_by(server.shared.fault().1),
+        Ok(()) => {
+            let (asked, fault) = server.shared.fault();
+            ending_by(fault)?;
+            Ok(asked)
+        }
         Err(_) => Err(Ending::Memory),
     }
 }
@@ -265,6 +276,7 @@ fn stop_after(settings: &Settings) -> Option<u64>
 /// Says how the server ends where no more connections came because of this.
 fn ending_by(fault: Option<Fault>) -> Result<(), Ending>
     ensures by { (met : Fault) → fault ≡ Some met → result ≡ Err (ending_by met) }
+    ensures none { OnOk result (fault ≡ None) }
     ensures ending { IfErr result IsServerFault }
 {
     match fault {
@@ -277,10 +289,12 @@ fn ending_by(fault: Option<Fault>) -> Result<(), Ending>
 
 /// Says how the server ends where its address cannot be had.
 fn ending_of(error: &io::Error) -> Ending
+    ensures memory { error_kind error.now ≡ ErrorKind.OutOfMemory → result ≡ Ending.Memory }
+    ensures others { error_kind error.now ≢ ErrorKind.OutOfMemory → result ≡ Ending.Address }
     ensures ending { IsServerFault result }
 {
-    if error.kind() == io::ErrorKind::OutOfMemory {
-        return Ending::Memory;
+    match error.kind() {
+        ErrorKind::OutOfMemory => Ending::Memory,
+        _ => Ending::Address,
     }
-    Ending::Address
 }

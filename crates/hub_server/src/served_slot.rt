@@ -2,6 +2,7 @@ ghost use Rattle.std.specs.Prelude.{◌≡◌, Some, ℕ, List, true, false, is_
 ghost use Rattle.std.specs.Option.{ForSome};
 ghost use Rattle.futures.specs.Poll.{OnPending, IfReady};
 ghost use Rattle.futures.specs.Task.{IsArmed, Keeps};
+ghost use Rattle.hub_listener.specs.Peers.{octets_of};
 ghost use Rattle.hub_server.specs.Ending.{EndsVisit};
 ghost use Rattle.hub_server.specs.Owing.{IsServed};
 ghost use Rattle.hub_server.specs.PortCalls.{Calls, Leaves};
@@ -10,7 +11,9 @@ ghost use Rattle.hub_server.specs.declared.left_slot.LeftSlot.{LeftSlot};
 ghost use Rattle.hub_server.specs.Waking.{AreWoken, OwesOn, Wakes};
 
 use crate::connection::HubSession;
+use crate::cut_off::CutOff;
 use crate::free_slot::{FreeSlot, OfHub};
+use crate::guest::Guest;
 use crate::left_slot::LeftSlot;
 use crate::ticket::Ticket;
 use adc_sessions::{End, Stream};
@@ -20,6 +23,7 @@ use hub_listener::Moments;
 use session_hash::SessionHash;
 use std::alloc::AllocGlobal;
 use std::marker::PhantomData;
+use std::net::SocketAddrV4;
 use std::snapshot::Snapshot;
 use std::sync::Wait;
 use std::time::Clock;
@@ -32,17 +36,29 @@ struct Meaning<H: SessionHash> {
     ghost digests: { (hash : _) (bytes : List ℕ) → H.digest_of hash bytes ≡ H.digest_of hash bytes },
 }
 
-/// A connection whose session is over: how it ended, its ticket and its socket, and the slot that is free again.
+/// The word that the session of a slot is gone before its end. It cannot be dropped.
+pub(crate) struct Unfinished(());
+
+impl Unfinished {
+    /// Ends it.
+    pub(crate) fn end(self) {
+        let Unfinished(()) = self;
+    }
+}
+
+/// A connection whose session is over: how it ended, its ticket, its address and its socket, and the slot that is free again.
 pub(crate) struct Over<B: OfHub<H, S>, S: Stream, T: Ticket<S, H, C>, H: SessionHash, C: Moments> {
     pub(crate) end: End,
     pub(crate) ticket: T,
+    pub(crate) peer: SocketAddrV4,
     pub(crate) socket: S,
     pub(crate) free: FreeSlot<B, S, H>,
     pub(crate) of: PhantomData<Snapshot<C>>,
+    pub(crate) ghost from: { T.peer ticket ≡ octets_of peer },
     pub(crate) ghost owed: { ∥ IsServed H.digest_of C.tells ⟦<S as Stream>⟧.told (T.terms ticket) (T.number ticket) (T.peer ticket) (T.began ticket) end socket ∥₁ },
 }
 
-/// The session of a slot, while it serves a connection of the named hub, and the connection's ticket. Whatever the session ends
+/// The session of a slot, while it serves a connection of the named hub, and that connection. Whatever the session ends
 /// with, what is owed to the connection holds, and all calls of the visitor who is left are visits of that hub.
 pub(crate) struct ServedSlot<
     'a,
@@ -55,15 +71,16 @@ pub(crate) struct ServedSlot<
 > {
     meaning: Meaning<H>,
     session: Option<HubSession<'a, B, S, T, H, R, C>>,
-    ticket: Option<T>,
-    ghost has_ticket: { ForSome session (λ _. is_some ticket ≡ true) },
-    ghost ends: { ForSome session (λ running. ForSome ticket (λ held. EndsVisit running ⟦<S as Stream>⟧.told
+    guest: Option<Guest<T>>,
+    ghost has_guest: { ForSome session (λ _. is_some guest ≡ true) },
+    ghost from: { ForSome guest (λ held. T.peer held.ticket ≡ octets_of held.peer) },
+    ghost ends: { ForSome session (λ running. ForSome guest (λ held. EndsVisit running ⟦<S as Stream>⟧.told
         (λ a call b. (b.server ≡ a.server) × Calls a.server.now.hub.now.setup (H.digest_of a.server.now.hub.now.hash) B.tells a.pass call b.pass
         × (b.slot ≡ a.slot) × Wakes call b.pass.touched a.slot a.owes b.owes b.woken b.rung)
         (λ a left. Leaves a.server.now.hub.now.setup (H.digest_of a.server.now.hub.now.hash) a.pass left.visitor
         × (left.slot ≡ a.slot) × AreWoken left.visitor.touched a.slot 10 a.second left.woken × OwesOn a.owes false a.slot left.rung)
         (λ (left : LeftSlot H). left.visitor) B.hub (HasVisited ⟦<S as Stream>⟧.told B.tells B.arrives)
-        (λ end later. IsServed H.digest_of C.tells ⟦<S as Stream>⟧.told (T.terms held) (T.number held) (T.peer held) (T.began held) end later))) },
+        (λ end later. IsServed H.digest_of C.tells ⟦<S as Stream>⟧.told (T.terms held.ticket) (T.number held.ticket) (T.peer held.ticket) (T.began held.ticket) end later))) },
 }
 
 impl<
@@ -79,15 +96,12 @@ impl<
         let ServedSlot {
             meaning,
             session,
-            ticket,
+            guest,
         } = self;
         drop(meaning);
         drop(session);
         // The runtime has ended before the session did.
-        match ticket {
-            Some(ticket) => ticket.cut_off(),
-            None => {}
-        }
+        cut_off_any::<S, T, H, C>(guest);
     }
 }
 
@@ -105,25 +119,23 @@ impl<
         ServedSlot {
             meaning: Meaning { of: PhantomData },
             session: None,
-            ticket: None,
+            guest: None,
         }
     }
 
-    /// Serves the connection with this ticket by this session.
-    pub(crate) fn begin(&mut self, session: HubSession<'a, B, S, T, H, R, C>, ticket: T)
+    /// Serves this connection by this session.
+    pub(crate) fn begin(&mut self, session: HubSession<'a, B, S, T, H, R, C>, guest: Guest<T>)
+        requires from { T.peer guest.ticket ≡ octets_of guest.peer }
         requires ends { EndsVisit session ⟦<S as Stream>⟧.told
             (λ a call b. (b.server ≡ a.server) × Calls a.server.now.hub.now.setup (H.digest_of a.server.now.hub.now.hash) B.tells a.pass call b.pass
             × (b.slot ≡ a.slot) × Wakes call b.pass.touched a.slot a.owes b.owes b.woken b.rung)
             (λ a left. Leaves a.server.now.hub.now.setup (H.digest_of a.server.now.hub.now.hash) a.pass left.visitor
             × (left.slot ≡ a.slot) × AreWoken left.visitor.touched a.slot 10 a.second left.woken × OwesOn a.owes false a.slot left.rung)
             (λ (left : LeftSlot H). left.visitor) B.hub (HasVisited ⟦<S as Stream>⟧.told B.tells B.arrives)
-            (λ end later. IsServed H.digest_of C.tells ⟦<S as Stream>⟧.told (T.terms ticket) (T.number ticket) (T.peer ticket) (T.began ticket) end later) }
+            (λ end later. IsServed H.digest_of C.tells ⟦<S as Stream>⟧.told (T.terms guest.ticket) (T.number guest.ticket) (T.peer guest.ticket) (T.began guest.ticket) end later) }
     {
         self.session = Some(session);
-        match self.ticket.replace(ticket) {
-            Some(before) => before.cut_off(),
-            None => {}
-        }
+        cut_off_any::<S, T, H, C>(self.guest.replace(guest));
     }
 
     /// Works as the session does. At its end it gives what is over; at once nothing where there is no session.
@@ -138,12 +150,13 @@ impl<
             Poll::Pending => Poll::Pending,
             Poll::Ready((end, socket, left)) => {
                 self.session = None;
-                let Some(ticket) = self.ticket.take() else {
+                let Some(guest) = self.guest.take() else {
                     unreachable!()
                 };
+                let Guest { ticket, slot, peer } = guest;
                 let LeftSlot {
                     visitor,
-                    slot,
+                    slot: _,
                     woken,
                     rung,
                 } = left;
@@ -152,11 +165,30 @@ impl<
                 Poll::Ready(Some(Over {
                     end,
                     ticket,
+                    peer,
                     socket,
                     free: FreeSlot::new(visitor, slot),
                     of: PhantomData,
                 }))
             }
         }
+    }
+}
+
+/// Ends a connection, if there is one, whose server's runtime ended before its session did.
+fn cut_off_any<S: Stream, T: Ticket<S, H, C>, H: SessionHash, C: Moments>(guest: Option<Guest<T>>) {
+    match guest {
+        Some(
+            Guest {
+                ticket,
+                slot,
+                peer: _,
+            },
+        ) => {
+            let why = CutOff::unfinished(Unfinished(()));
+            slot.cut_off(&why);
+            ticket.cut_off(why);
+        }
+        None => {}
     }
 }

@@ -1,15 +1,18 @@
-ghost use Rattle.std.specs.Prelude.{◌≡◌, [], Some, ℕ, IfOk, IfErr};
+ghost use Rattle.std.specs.Prelude.{◌≡◌, ◌≤◌, [], Some, ℕ, IfOk, IfErr};
 ghost use Rattle.hub_server.specs.Reporting.{IsServerFault};
 
 use crate::accepted::Accepted;
+use crate::all_free::AllFree;
+use crate::cut_off::CutOff;
 use crate::free_slot::{FreeSlot, OfHub, Stop};
+use crate::slot::Slot;
 use crate::ticket::Ticket;
 use adc_sessions::Stream;
-use connection_slots::{Fault, LeavingSocket, Shared};
 use hub_core::Setup;
 use hub_endings::Ending;
 use hub_listener::{CallMoment, Moments};
-use hub_shared::Hub;
+use hub_shared::{Host, Hub};
+use server_tasks::{Fault, LeavingSocket, Shared};
 use session_hash::SessionHash;
 use std::alloc::{AllocError, Global};
 use std::sync::{Mutex, Wait};
@@ -53,8 +56,7 @@ impl<
     R: Wait,
     C: Moments,
 > Server<'a, B, S, T, H, R, C> {
-    /// Makes the server of this hub, with `count` slots, numbered from 0, of which these are free. Refused only where memory
-    /// runs out.
+    /// Makes the server of this hub, with room for `count` slots, numbered from 0. Refused only where memory runs out.
     pub fn new(
         alloc: Global,
         rt: &'a R,
@@ -63,7 +65,6 @@ impl<
         hash: &'a H,
         setup: &'a Setup,
         count: usize,
-        free: Vec<FreeSlot<B, S, H>>,
     ) -> Result<Server<'a, B, S, T, H, R, C>, AllocError>
         requires set { hub.now.setup ≡ setup.now }
         requires hashed { hub.now.hash ≡ hash.now }
@@ -73,7 +74,14 @@ impl<
         ensures hub { IfOk result (λ server. server.hub ≡ hub.entry) }
         ensures clock { IfOk result (λ server. server.clock ≡ clock.entry) }
     {
-        let shared = Shared::new(alloc, count)?;
+        let free = Vec::with_capacity(alloc, count)?;
+        let shared = match Shared::new(alloc, count) {
+            Ok(shared) => shared,
+            Err(refused) => {
+                free.destroy_empty();
+                return Err(refused);
+            }
+        };
         Ok(Server {
             rt,
             clock,
@@ -84,6 +92,17 @@ impl<
             free: Mutex::new(free),
             stop: Mutex::new(None),
         })
+    }
+
+    /// Admits a visitor for each of so many slots, which are free from then on.
+    pub(crate) fn admit(&self, host: &mut Host<H>, count: usize)
+        requires host { host.old ≡ record { home = self.now.hub.now.home; admitted = 0 } }
+        requires few { count ≤ 65_536 }
+        ensures host { host.new ≡ record host.old { admitted = count } }
+    {
+        for slot in 0..count {
+            self.free(FreeSlot::new(host.admit(self.hub), Slot::new(slot)));
+        }
     }
 
     /// Tells the moment of a call of the hub that follows.
@@ -100,9 +119,29 @@ impl<
 
     /// Takes a slot back that has no connection any more.
     pub(crate) fn free(&self, free: FreeSlot<B, S, H>) {
-        self.shared.wakers.vacate(free.slot);
-        // There is room; else the hub could not be closed, which would be seen.
-        let _ = self.free.lock(self.rt).push(free);
+        self.shared.wakers.vacate(free.slot.number());
+        match self.keep(free) {
+            None => {}
+            // It does not come to this, since there is room for all.
+            Some(
+                FreeSlot {
+                    visitor,
+                    slot,
+                    of: _,
+                },
+            ) => {
+                drop(visitor);
+                slot.give_up(self.shared.close(self.rt, Some(Fault::Start)));
+            }
+        }
+    }
+
+    /// Keeps a slot that is free, or gives it back where there is no room.
+    fn keep(&self, free: FreeSlot<B, S, H>) -> Option<FreeSlot<B, S, H>> {
+        match self.free.lock(self.rt).push(free) {
+            Ok(()) => None,
+            Err(refused) => Some(refused.value),
+        }
     }
 
     /// Lets a socket go by and by whose last bytes are to reach its client.
@@ -110,8 +149,11 @@ impl<
     where
         R: Clock,
     {
-        if let Some(socket) = socket {
-            let _ = self.shared.lingering.let_out(self.rt, socket);
+        match socket {
+            Some(socket) => {
+                let _ = self.shared.lingering.let_out(self.rt, socket);
+            }
+            None => {}
         }
     }
 
@@ -131,7 +173,7 @@ impl<
     pub(crate) fn into_free_after(
         self,
         served: Result<(), Ending>,
-    ) -> Result<(Vec<FreeSlot<B, S, H>>, Stop<B, S, H>), Ending>
+    ) -> Result<(AllFree<B, S, H>, Stop<B, S, H>), Ending>
         requires ending { IfErr served IsServerFault }
         ensures ending { IfErr result IsServerFault }
     {
@@ -158,7 +200,7 @@ impl<
         drop(stop);
     }
 
-    fn into_parts(self) -> (Vec<FreeSlot<B, S, H>>, Option<Stop<B, S, H>>) {
+    pub(crate) fn into_parts(self) -> (AllFree<B, S, H>, Option<Stop<B, S, H>>) {
         let Server {
             rt: _,
             clock: _,
@@ -169,12 +211,12 @@ impl<
             free,
             stop,
         } = self;
-        let (_word, mut left) = shared.into_left();
+        let (word, mut left) = shared.into_left();
         while let Some(accepted) = left.next() {
-            accepted.cut_off();
+            accepted.cut_off(CutOff::left(&word));
         }
         left.end();
-        (free.into_inner(), stop.into_inner())
+        (AllFree::new(free.into_inner(), word), stop.into_inner())
     }
 }
 

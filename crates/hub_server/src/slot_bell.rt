@@ -1,9 +1,9 @@
 ghost use Rattle.std.specs.Prelude.{◌≡◌};
 
 use adc_sessions::Bell;
-use connection_slots::{Permission, Receipt, Throttle, Wakers};
 use futures::spin::GaveUp;
 use futures::task::Context;
+use server_tasks::{Permission, Receipt, Throttle, Wakers};
 
 /// The bell of a session: the waker of its slot.
 #[derive(Drop)]

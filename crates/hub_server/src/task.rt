@@ -1,9 +1,10 @@
-ghost use Rattle.std.specs.Prelude.{◌≡◌};
+ghost use Rattle.std.specs.Prelude.{◌≡◌, IsSomeAnd};
 ghost use Rattle.futures.specs.Task.{IsArmed, Keeps};
-ghost use Rattle.futures.specs.Poll.{OnPending};
+ghost use Rattle.futures.specs.Poll.{IfReady, OnPending};
+ghost use Rattle.server_tasks.specs.declared.places.PlacesDeed.TheVariants.{Asked, TaskEnded};
 ghost use Rattle.adc_sessions.specs.Accepting.{incoming_of, left_of};
 ghost use Rattle.hub_listener.specs.Rests.{socket_of};
-ghost use Rattle.hub_server.specs.Ending.{cause_by};
+ghost use Rattle.hub_server.specs.Ending.{IsWarnedOf, cause_by};
 ghost use Rattle.hub_server.specs.Stopping.{StopsWhen};
 
 use crate::accepted::Accepted;
@@ -11,18 +12,19 @@ use crate::acceptor::Acceptor;
 use crate::arrivals::Arrivals;
 use crate::connection::serve_connection;
 use crate::free_slot::{FreeSlot, OfHub, Stop};
+use crate::guest::Guest;
 use crate::left_slot::LeftSlot;
 use crate::port::HubPort;
 use crate::served_slot::{Over, ServedSlot};
 use crate::server::Server;
 use crate::ticket::Ticket;
 use adc_sessions::{Accept, AcceptEnd, End, Stream};
-use connection_slots::{Fault, Ticker};
 use futures::Future;
 use futures::task::{Context, Poll};
 use hub_listener::{Moments, Socket};
-use hub_warnings::{Cause, Warnings};
+use hub_warnings::{Cause, Said, Warning, Warnings};
 use log::Log;
+use server_tasks::{Fault, OneEnded, PlacesWord, Ticker};
 use session_hash::SessionHash;
 use std::alloc::AllocGlobal;
 use std::net::SocketAddrV4;
@@ -189,8 +191,9 @@ pub(crate) struct SlotTask<
     served: ServedSlot<'a, B, S, T, H, R, C>,
     server: &'a Server<'a, B, S, T, H, R, C>,
     slot: usize,
-    // The address from which the connection of the session comes.
-    peer: Option<SocketAddrV4>,
+    // The word of the last look for a connection, and of the task's end.
+    asked: Option<PlacesWord>,
+    ended: Option<OneEnded>,
     warnings: &'a Warnings<L>,
 }
 
@@ -209,10 +212,13 @@ impl<
             served,
             server: _,
             slot: _,
-            peer: _,
+            asked,
+            ended,
             warnings: _,
         } = self;
         drop(served);
+        drop(asked);
+        drop(ended);
     }
 }
 
@@ -230,18 +236,22 @@ impl<
         server: &'a Server<'a, B, S, T, H, R, C>,
         slot: usize,
         warnings: &'a Warnings<L>,
-    ) -> SlotTask<'a, B, S, T, H, R, C, L> {
+    ) -> SlotTask<'a, B, S, T, H, R, C, L>
+        ensures { result.slot ≡ slot }
+    {
         SlotTask {
             served: ServedSlot::new(),
             server,
             slot,
-            peer: None,
+            asked: None,
+            ended: None,
             warnings,
         }
     }
 
-    /// Works as a task does. It is over once nobody comes any more.
+    /// Works as a task does. It is over once nobody comes any more, and is counted then.
     pub(crate) fn poll_over(&mut self, cx: &mut Context<'_>) -> Poll<()>
+        ensures counted { IfReady result (λ _. IsSomeAnd self.new.ended (λ deed. deed ≡ TaskEnded)) }
         ensures registered { OnPending result (IsArmed cx.new) }
         ensures kept { Keeps cx.old cx.new }
     {
@@ -249,23 +259,26 @@ impl<
             Poll::Pending => Poll::Pending,
             Poll::Ready(None) => self.wait(cx),
             Poll::Ready(Some(over)) => {
-                self.end(over);
+                let _ = self.end(over);
                 cx.yield_now()
             }
         }
     }
 
-    /// Waits for the next connection.
+    /// Waits for the next connection of this slot.
     fn wait(&mut self, cx: &mut Context<'_>) -> Poll<()>
+        ensures asked { IsSomeAnd self.new.asked (λ deed. deed ≡ Asked self.old.slot) }
+        ensures counted { IfReady result (λ _. IsSomeAnd self.new.ended (λ deed. deed ≡ TaskEnded)) }
         ensures registered { OnPending result (IsArmed cx.new) }
         ensures kept { Keeps cx.old cx.new }
     {
         let server = self.server;
-        let (_word, next) = server.shared.handoff.poll_next(server.rt, self.slot, cx);
+        let (word, next) = server.shared.handoff.poll_next(server.rt, self.slot, cx);
+        self.asked = Some(word);
         match next {
             Poll::Pending => Poll::Pending,
             Poll::Ready(None) => {
-                server.shared.end_one(server.rt);
+                self.ended = Some(server.shared.end_one(server.rt));
                 Poll::Ready(())
             }
             Poll::Ready(Some(accepted)) => {
@@ -276,47 +289,55 @@ impl<
     }
 
     /// Serves this connection. It is lost where memory is refused.
-    fn begin(&mut self, accepted: Accepted<B, S, T, H, C>) {
+    fn begin(&mut self, accepted: Accepted<B, S, T, H, C>)
+        ensures asked { self.new.asked ≡ self.old.asked }
+    {
         let server = self.server;
         let Accepted {
             ticket,
             socket,
             pass,
             challenge,
+            slot,
             peer,
             of: _,
         } = accepted;
-        self.peer = Some(peer);
-        match serve_connection(server, socket, pass, challenge, self.slot) {
-            Ok(session) => self.served.begin(session, ticket),
-            Err((socket, left)) => {
-                let LeftSlot { visitor, slot, .. } = left;
+        match serve_connection(server, socket, pass, challenge, &slot) {
+            Ok(session) => self.served.begin(session, Guest { ticket, slot, peer }),
+            Err((socket, left, no_memory)) => {
+                let LeftSlot { visitor, .. } = left;
                 server.free(FreeSlot::new(visitor, slot));
-                ticket.lost(socket);
-                self.note_end(End::Memory);
+                ticket.lost(socket, no_memory);
+                let _ = self.note_end(End::Memory, peer);
             }
         }
     }
 
-    /// Gives the slot back, and ends the connection.
-    fn end(&self, over: Over<B, S, T, H, C>) {
+    /// Gives the slot back, and ends the connection. Returns what was warned of it.
+    fn end(&self, over: Over<B, S, T, H, C>) -> Option<Said<Warning>>
+        ensures { IsWarnedOf over.end over.peer result }
+    {
         let Over {
             end,
             ticket,
+            peer,
             socket,
             free,
             of: _,
         } = over;
         self.server.free(free);
         self.server.let_out(ticket.served(socket, end));
-        self.note_end(end);
+        self.note_end(end, peer)
     }
 
-    /// Notes that a connection is over, and warns where it ended by a fault.
-    fn note_end(&self, end: End) {
+    /// Notes that a connection from this address is over, and warns where it ended by a fault.
+    fn note_end(&self, end: End, peer: SocketAddrV4) -> Option<Said<Warning>>
+        ensures { IsWarnedOf end peer result }
+    {
         self.server.shared.wakers.make_room();
-        if let Some(cause) = cause_of(end) {
-            self.warnings.warn(self.server.rt, self.peer, cause);
+        match cause_of(end) {
+            Some(cause) => Some(self.warnings.warn(self.server.rt, Some(peer), cause)),
+            None => None,
         }
     }
 }

@@ -1,15 +1,17 @@
+ghost use Rattle.std.specs.Prelude.{◌≡◌, ◌+◌, ◌≤◌, None, IfSome};
+
 use crate::accepted::Accepted;
 use crate::free_slot::OfHub;
 use crate::port::HubPort;
 use crate::server::Server;
 use crate::task::{AcceptTask, SlotTask, Task};
 use crate::ticket::Ticket;
-use connection_slots::{Startup, Ticker};
 use futures::Stream;
 use futures::task::{Context, Poll};
 use hub_listener::{Moments, Socket};
 use hub_warnings::Warnings;
 use log::Log;
+use server_tasks::{Startup, Ticker};
 use session_hash::SessionHash;
 use std::alloc::AllocGlobal;
 use std::io::Write;
@@ -99,6 +101,20 @@ impl<
             warnings,
         }
     }
+
+    /// Makes the task of the next slot, or nothing where each has one.
+    fn next_slot(&mut self) -> Option<SlotTask<'a, B, S, T, H, R, C, L>>
+        ensures slot { IfSome result (λ task. task.slot ≡ self.old.next) }
+        ensures next { IfSome result (λ _. self.new.next ≡ self.old.next + 1) }
+        ensures all { result ≡ None → self.old.count ≤ self.old.next }
+    {
+        let slot = self.next;
+        if slot >= self.count {
+            return None;
+        }
+        self.next = slot + 1;
+        Some(SlotTask::new(self.server, slot, self.warnings))
+    }
 }
 
 impl<
@@ -120,10 +136,7 @@ impl<
         if let Some(ticker) = self.ticker.take() {
             return Poll::Ready(Some(Task::Ticking(ticker)));
         }
-        let slot = self.next;
-        if slot < self.count {
-            self.next = slot + 1;
-            let task = SlotTask::new(self.server, slot, self.warnings);
+        if let Some(task) = self.next_slot() {
             return Poll::Ready(Some(Task::Serving(task)));
         }
         if let Some(accept) = self.accept.take() {

@@ -1,13 +1,16 @@
 ghost use Rattle.std.specs.Prelude.{◌≡◌};
 
+use crate::cut_off::CutOff;
+use crate::no_memory::NoMemory;
 use crate::port::{BindPort, HubPort};
 use crate::refusal::Refusal;
 use crate::terms::Terms;
 use crate::ticket::Ticket;
+use crate::told_full::ToldFull;
 use adc_sessions::End;
-use connection_slots::LeavingSocket;
 use futures::task::{Context, Poll};
 use hub_listener::{Arrived, Listens, Moments, listen};
+use server_tasks::LeavingSocket;
 use session_hash::SessionHash;
 use std::io;
 use std::net::{Net, SocketAddr, SocketAddrV4};
@@ -155,8 +158,9 @@ impl<H: SessionHash, C> TcpTicket<H, C> {
 }
 
 impl<H: SessionHash, C: Moments> Ticket<TcpStream, H, C> for TcpTicket<H, C> {
+    ghost use Rattle.std.specs.Prelude.{IsSome};
     ghost use Rattle.hub_listener.specs.Peers.{octets_of};
-    ghost use Rattle.hub_server.specs.Owing.{IsToldFull, challenge_of};
+    ghost use Rattle.hub_server.specs.Owing.{WritesFull, challenge_of};
     ghost use Rattle.hub_server.specs.Turning.{IsRefusal};
 
     ghost terms = { λ ticket. ticket.terms.value.value };
@@ -176,21 +180,30 @@ impl<H: SessionHash, C: Moments> Ticket<TcpStream, H, C> for TcpTicket<H, C> {
         }
     }
 
-    fn refused(self, socket: TcpStream, why: Refusal<H>) -> Option<LeavingSocket<TcpStream>>
-        requires told { ∥ IsToldFull ⟦<TcpStream as AsyncWrite>⟧.writes self.began.value socket ∥₁ }
+    fn refused(
+        self,
+        socket: TcpStream,
+        why: Refusal<H>,
+        told: ToldFull,
+    ) -> Option<LeavingSocket<TcpStream>>
+        requires told { ∥ WritesFull ⟦<TcpStream as AsyncWrite>⟧.writes self.began.value socket ∥₁ }
         requires why { IsRefusal (octets_of self.address) (challenge_of self.terms.value.value.seed.value self.number) why }
+        ensures lingers { IsSome result }
     {
         self.end();
         why.end();
+        told.end();
         Some(LeavingSocket::new(socket))
     }
 
-    fn lost(self, socket: TcpStream) {
+    fn lost(self, socket: TcpStream, why: NoMemory) {
         self.end();
+        why.end();
         drop(socket);
     }
 
-    fn cut_off(self) {
+    fn cut_off(self, why: CutOff) {
         self.end();
+        why.end();
     }
 }

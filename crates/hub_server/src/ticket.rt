@@ -1,16 +1,20 @@
+use crate::cut_off::CutOff;
+use crate::no_memory::NoMemory;
 use crate::refusal::Refusal;
 use crate::terms::Terms;
+use crate::told_full::ToldFull;
 use adc_sessions::{End, Stream};
-use connection_slots::LeavingSocket;
 use hub_listener::Moments;
+use server_tasks::LeavingSocket;
 use session_hash::SessionHash;
 
 /// A connection over a socket `S` that was accepted and is not over. It cannot be dropped: exactly one of its four calls ends it.
 /// So what a server owes it is the condition of each call.
 pub trait Ticket<S: Stream, H: SessionHash, C: Moments> {
-    ghost use Rattle.std.specs.Prelude.{◌≡◌, ℕ, List};
+    ghost use Rattle.std.specs.Prelude.{◌≡◌, IsSome, is_some, ℕ, List};
     ghost use Rattle.hub_server.specs.declared.terms.Terms.{Terms};
-    ghost use Rattle.hub_server.specs.Owing.{IsServed, IsToldFull, challenge_of};
+    ghost use Rattle.hub_server.specs.Ending.{lingers_at};
+    ghost use Rattle.hub_server.specs.Owing.{IsServed, WritesFull, challenge_of};
     ghost use Rattle.hub_server.specs.Turning.{IsRefusal};
 
     /// What the server promised when it began to listen.
@@ -27,17 +31,19 @@ pub trait Ticket<S: Stream, H: SessionHash, C: Moments> {
 
     /// Ends a connection that was served until this end. Returns the socket if its last bytes are to reach the client.
     fn served(self, socket: S, end: End) -> Option<LeavingSocket<S>>
-        requires served { ∥ IsServed H.digest_of C.tells ⟦<S as Stream>⟧.told (terms self) (number self) (peer self) (began self) end socket ∥₁ };
+        requires served { ∥ IsServed H.digest_of C.tells ⟦<S as Stream>⟧.told (terms self) (number self) (peer self) (began self) end socket ∥₁ }
+        ensures lingers { is_some result ≡ lingers_at end };
 
     /// Ends a connection that the server refused. Returns the socket if what it was told is to reach the client.
-    fn refused(self, socket: S, why: Refusal<H>) -> Option<LeavingSocket<S>>
-        requires told { ∥ IsToldFull S.writes (began self) socket ∥₁ }
-        requires why { IsRefusal (peer self) (challenge_of (terms self).seed.value (number self)) why };
+    fn refused(self, socket: S, why: Refusal<H>, told: ToldFull) -> Option<LeavingSocket<S>>
+        requires told { ∥ WritesFull S.writes (began self) socket ∥₁ }
+        requires why { IsRefusal (peer self) (challenge_of (terms self).seed.value (number self)) why }
+        ensures lingers { IsSome result };
 
     /// Ends a connection that memory was refused for. Nothing was read from it or written to it.
-    fn lost(self, socket: S)
+    fn lost(self, socket: S, why: NoMemory)
         requires untouched { socket ≡ began self };
 
-    /// Ends a connection that was served when the server's runtime ended. Its socket is gone.
-    fn cut_off(self);
+    /// Ends a connection that was served, or waited to be, when the server's runtime ended. Its socket is gone.
+    fn cut_off(self, why: CutOff);
 }

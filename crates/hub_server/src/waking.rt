@@ -2,9 +2,9 @@ ghost use Rattle.std.specs.Prelude.{◌≡◌};
 ghost use Rattle.hub_core.specs.declared.share.Touched.TheVariants.{Everybody};
 ghost use Rattle.hub_server.specs.Waking.{AreWoken};
 
-use connection_slots::{Amount, Receipt, Wakers};
 use futures::spin::GaveUp;
 use hub_core::Touched;
+use server_tasks::{Amount, Receipt, Wakers};
 use std::marker::Model;
 
 /// Whom a call of the hub concerned. It cannot be dropped: who wakes them uses it up. Contracts see whom.

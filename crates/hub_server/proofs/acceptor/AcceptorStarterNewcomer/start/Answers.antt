@@ -8,6 +8,7 @@ use Rattle.hub_server.proofs.acceptor.AcceptorStarterNewcomer.start.Goals as goa
 pub invariant_of-accepted : goal.invariant_of-accepted
 invariant_of-accepted g c = record {
   began = c.args.newcomer.began;
+  from = c.args.newcomer.peer;
   here = c.in-Ok.ensures.here;
   challenged = c.in-Ok.ensures.challenged;
   entered = c.in-Ok.ensures.entered;

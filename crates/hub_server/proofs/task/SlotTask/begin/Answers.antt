@@ -5,6 +5,7 @@ use Rattle.hub_server.proofs.task.SlotTask.begin.Goals as goal
 -- the session serves the visit of its pass to the end, and by that what is owed to the connection
 pub begin-requires : goal.begin-requires
 begin-requires g c = record {
+  from = c.args.accepted.from;
   ends = λ end stream' left gives.
       let server = c.args.self.now.server.now in
       let accepted = c.args.accepted in

@@ -1,6 +1,0 @@
--- A bell that nobody has rung, and at which nobody waits.
-use Rattle.std.proofs.Common.{◌≡◌, None, false}
-use Rattle.connection_slots.specs.declared.bells.Bell.{Bell}
-
-abbrev pub IsSilent : Bell → Type 0
-IsSilent bell = (bell.heard ≡ 0) × (bell.waits ≡ false) × (bell.waker ≡ None)

@@ -1,7 +1,0 @@
-use Rattle.std.proofs.Common.{◌≡◌, ℕ, Some, slice_get}
-use Rattle.connection_slots.specs.declared.bells.Bell.{Bell}
-use Rattle.connection_slots.proofs.Silent.{IsSilent}
-use Rattle.connection_slots.proofs.bells.Bells.new.Given as goal
-
-abbrev pub invariant-loop-slot : goal.invariant-loop-slot
-invariant-loop-slot l = (slot : ℕ) (bell : Bell) → slice_get l.bells.items slot ≡ Some bell → IsSilent bell

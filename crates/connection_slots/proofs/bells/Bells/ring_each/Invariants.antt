@@ -1,5 +1,0 @@
-use Rattle.connection_slots.proofs.Each.{RungBelow}
-use Rattle.connection_slots.proofs.bells.Bells.ring_each.Given as goal
-
-abbrev pub invariant-loop-slot : goal.invariant-loop-slot
-invariant-loop-slot l = RungBelow l.own l.fn.self l.slot l.self

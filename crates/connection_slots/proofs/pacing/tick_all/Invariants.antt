@@ -1,6 +1,0 @@
-use Rattle.connection_slots.specs.Clients.{ticked_slot}
-use Rattle.connection_slots.proofs.Mapped.{ChangedBelow}
-use Rattle.connection_slots.proofs.pacing.tick_all.Given as goal
-
-abbrev pub invariant-loop-slot : goal.invariant-loop-slot
-invariant-loop-slot l = ChangedBelow (ticked_slot l.said l.due) l.fn.slots.items l.slot-index l.slot-items

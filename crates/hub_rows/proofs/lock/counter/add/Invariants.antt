@@ -1,4 +1,0 @@
-use Rattle.hub_rows.proofs.lock.counter.add.Given as goal
-
-abbrev pub ghosts-enter : goal.ghosts-enter
-ghosts-enter g a = record { entry = a.line.now }

@@ -1,0 +1,64 @@
+ghost use Rattle.std.specs.Prelude.{◌≡◌, ◌+◌, Some, IfSome, length};
+ghost use Rattle.server_tasks.specs.declared.places.PlacesDeed.TheVariants.{Emptied};
+ghost use Rattle.hub_server.specs.Naming.{home_in};
+ghost use Rattle.hub_server.specs.Visits.{HasVisited};
+
+use crate::free_slot::{FreeSlot, OfHub};
+use adc_sessions::Stream;
+use hub_shared::Visitor;
+use server_tasks::PlacesWord;
+
+/// The slots that are free once their server is over: they end, and their visitors are left.
+pub(crate) struct AllFree<B: OfHub<H, S>, S: Stream, H> {
+    free: Vec<FreeSlot<B, S, H>>,
+    word: PlacesWord,
+    ghost emptied: { word ≡ Emptied },
+}
+
+impl<B: OfHub<H, S>, S: Stream, H> AllFree<B, S, H> {
+    /// Makes these of a server of which nothing is left.
+    pub(crate) fn new(free: Vec<FreeSlot<B, S, H>>, word: PlacesWord) -> AllFree<B, S, H>
+        requires emptied { word ≡ Emptied }
+    {
+        AllFree { free, word }
+    }
+
+    /// Ends one, and gives its visitor, or nothing where none is left.
+    pub(crate) fn next(&mut self) -> Option<Visitor<H>>
+        ensures here { IfSome result (λ visitor. home_in B.hub ≡ Some visitor.home) }
+        ensures visits { IfSome result (λ visitor. HasVisited ⟦<S as Stream>⟧.told B.tells B.arrives visitor) }
+        ensures fewer { IfSome result (λ _. length self.new.free.items + 1 ≡ length self.old.free.items) }
+    {
+        match self.free.pop() {
+            Some(free) => {
+                let FreeSlot {
+                    visitor,
+                    slot,
+                    of: _,
+                } = free;
+                slot.end(&self.word);
+                Some(visitor)
+            }
+            None => None,
+        }
+    }
+}
+
+impl<B: OfHub<H, S>, S: Stream, H> Drop for AllFree<B, S, H> {
+    fn drop(self) {
+        let AllFree { mut free, word } = self;
+        while let Some(
+            FreeSlot {
+                visitor,
+                slot,
+                of: _,
+            },
+        ) = free.pop()
+        {
+            drop(visitor);
+            slot.end(&word);
+        }
+        free.destroy_empty();
+        drop(word);
+    }
+}

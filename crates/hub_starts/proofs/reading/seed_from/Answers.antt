@@ -1,6 +1,0 @@
-use Rattle.std.proofs.Common.{rules}
-use Rattle.hub_starts.proofs.Read.{seed-of}
-use Rattle.hub_starts.proofs.reading.seed_from.Goals as goal
-
-pub returns-clause-seed : goal.returns-clause-seed
-returns-clause-seed g c = seed-of _ _ c.read_exact.new.buf (search rules) c.in_ok-read_exact.ensures.bytes

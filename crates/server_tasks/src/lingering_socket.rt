@@ -1,0 +1,137 @@
+ghost use Rattle.std.specs.Prelude.{◌≡◌, ◌≤◌, true, false};
+ghost use Rattle.futures.specs.Task.{Keeps};
+ghost use Rattle.server_tasks.specs.Lingers.{is_past, is_due, next_by};
+
+use futures::task::{Context, Poll};
+use std::io;
+use std::time::Instant;
+use tokio::io::{AsyncRead, AsyncWrite};
+
+/// The number of bytes of a client that are read and dropped at most.
+const MOST_BYTES: usize = 1_048_576;
+
+/// The number of reads that one poll makes at most.
+const READS: u8 = 16;
+
+/// The number of bytes that one read may give.
+const ROOM: usize = 4_096;
+
+/// A socket whose session is over. Its client may still send, and is read until it ends: a socket that is closed with
+/// bytes unread resets the connection, and what the client was told last is lost.
+#[derive(Drop)]
+pub(crate) struct LingeringSocket<S> {
+    stream: S,
+    soon: Instant,
+    until: Instant,
+    left: usize,
+    is_shut: bool,
+}
+
+impl<S> LingeringSocket<S> {
+    /// Gives the moment at which it is closed at the end.
+    pub(crate) fn soon(&self) -> Instant
+        ensures { result ≡ self.now.soon }
+    {
+        self.soon
+    }
+
+    /// Gives the moment at which it is closed at last.
+    pub(crate) fn until(&self) -> Instant
+        ensures { result ≡ self.now.until }
+    {
+        self.until
+    }
+}
+
+impl<S: AsyncRead + AsyncWrite> LingeringSocket<S> {
+    /// Holds a socket until the later moment at most, or at the end until the sooner one.
+    pub(crate) fn new(stream: S, soon: Instant, until: Instant) -> LingeringSocket<S>
+        ensures { result ≡ record { stream = stream; soon = soon; until = until; left = 1_048_576; is_shut = false } }
+    {
+        LingeringSocket {
+            stream,
+            soon,
+            until,
+            left: MOST_BYTES,
+            is_shut: false,
+        }
+    }
+
+    /// Ends what is sent, once.
+    fn shut(&mut self, cx: &mut Context<'_>)
+        ensures shut { self.new.is_shut ≡ true }
+        ensures soon { self.new.soon ≡ self.old.soon }
+        ensures until { self.new.until ≡ self.old.until }
+        ensures left { self.new.left ≡ self.old.left }
+        ensures kept { Keeps cx.old cx.new }
+    {
+        if !self.is_shut {
+            // That this fails changes nothing.
+            let _ = self.stream.poll_shutdown(cx);
+            self.is_shut = true;
+        }
+    }
+
+    /// Ends what is sent, then reads and drops. Answers whether it is to be held on.
+    pub(crate) fn lingers(&mut self, cx: &mut Context<'_>, now: Instant, is_end: bool) -> bool
+        ensures due { is_due self.old.soon self.old.until now is_end ≡ true → result ≡ false }
+        ensures soon { self.new.soon ≡ self.old.soon }
+        ensures until { self.new.until ≡ self.old.until }
+        ensures left { self.new.left ≤ self.old.left }
+        ensures shut { result ≡ true → self.new.is_shut ≡ true }
+        ensures kept { Keeps cx.old cx.new }
+    {
+        if is_due(self.soon, self.until, now, is_end) {
+            return false;
+        }
+        self.shut(cx);
+        let mut bytes = [0; ROOM];
+        for read in 0..READS {
+            match next_of(&self.stream.poll_read(cx, &mut bytes), self.left) {
+                Next::Again(left) => self.left = left,
+                Next::Rest => return true,
+                Next::Over => return false,
+            }
+        }
+        let _: Poll<()> = cx.yield_now();
+        true
+    }
+}
+
+/// What follows a read.
+pub(crate) enum Next {
+    /// The socket is held no longer.
+    Over,
+    /// It is waited until there is more.
+    Rest,
+    /// There may be more, of which so many bytes are dropped at most.
+    Again(usize),
+}
+
+/// Tells what follows a read, where so many bytes are dropped at most.
+fn next_of(read: &Poll<io::Result<usize>>, left: usize) -> Next
+    ensures { result ≡ next_by read.now left }
+{
+    match read {
+        Poll::Ready(Ok(0)) | Poll::Ready(Err(_)) => Next::Over,
+        Poll::Ready(Ok(count)) => match left.checked_sub(*count) {
+            Some(left) => Next::Again(left),
+            None => Next::Over,
+        },
+        Poll::Pending => Next::Rest,
+    }
+}
+
+/// Answers whether the moment is past, or now.
+pub(crate) fn is_past(moment: Instant, now: Instant) -> bool
+    ensures { result ≡ is_past moment now }
+{
+    now.checked_duration_since(moment).is_some()
+}
+
+/// Answers whether a socket is held no longer, that is held until the later moment at most, or at the end until the sooner.
+fn is_due(soon: Instant, until: Instant, now: Instant, is_end: bool) -> bool
+    ensures { result ≡ is_due soon until now is_end }
+{
+    is_past(until, now) || is_end && is_past(soon, now)
+}
