@@ -1,10 +1,10 @@
 use crate::checking::check;
-use crate::ending::Ending;
-use crate::operating::{Deed, Hash, Login, operate};
-use crate::pinging::{Form, ping, show_topic};
+use crate::ending::ToolEnding;
+use crate::operating::{Hash, Login, Operation, operate};
+use crate::pinging::{PingForm, ping, show_topic};
 use adc_ids::NickFault;
 use clap::ArgMatches;
-use hub_client::{HubAddress, NickText, Request};
+use hub_client::{HubAddress, HubRequest, NickText};
 use std::alloc::{AllocGlobal, Global};
 use std::fs::Files;
 use std::net::Net;
@@ -12,12 +12,16 @@ use std::random::RandomSource;
 use std::time::Clock;
 
 /// Does what a command line asks for. Standard input is a terminal or not.
-pub(crate) fn run_matches<R>(rt: &R, matches: &ArgMatches<'_>, is_typed: bool) -> Result<(), Ending>
+pub(crate) fn run_matches<R>(
+    rt: &R,
+    matches: &ArgMatches<'_>,
+    is_typed: bool,
+) -> Result<(), ToolEnding>
 where
     R: Net + Clock + Files + RandomSource + Input + Print + Eprint + AllocGlobal,
 {
     let Some((name, words)) = matches.subcommand() else {
-        return Err(Ending::Arguments("a subcommand is missing"));
+        return Err(ToolEnding::Arguments("a subcommand is missing"));
     };
     if name == "check" {
         return check(rt, text_of(words, "SETTINGS"), words.get_flag("listen"));
@@ -33,14 +37,14 @@ where
     operate(rt, &login_of(rt.alloc(), words, address, is_typed)?, &deed)
 }
 
-fn form_of(words: &ArgMatches<'_>) -> Form {
+fn form_of(words: &ArgMatches<'_>) -> PingForm {
     if words.get_flag("json") {
-        return Form::Json;
+        return PingForm::Json;
     }
     if words.get_flag("prometheus") {
-        return Form::Prometheus;
+        return PingForm::Prometheus;
     }
-    Form::Lines
+    PingForm::Lines
 }
 
 /// Tests whether the topic is asked for, and not to be changed.
@@ -57,45 +61,49 @@ fn seconds_of(words: &ArgMatches<'_>) -> u32 {
     words.get_one::<u32>("seconds").unwrap_or(10)
 }
 
-fn deed_of<'a>(alloc: Global, name: &str, words: &ArgMatches<'a>) -> Result<Deed<'a>, Ending> {
+fn deed_of<'a>(
+    alloc: Global,
+    name: &str,
+    words: &ArgMatches<'a>,
+) -> Result<Operation<'a>, ToolEnding> {
     match name {
         "kick" => kick_of(alloc, words),
         "ban" => ban_of(alloc, words),
-        "unban" => match Request::unban(text_of(words, "CID")) {
-            Some(request) => Ok(Deed::Ask(request)),
-            None => Err(Ending::Arguments("CID is no client identifier")),
+        "unban" => match HubRequest::unban(text_of(words, "CID")) {
+            Some(request) => Ok(Operation::Ask(request)),
+            None => Err(ToolEnding::Arguments("CID is no client identifier")),
         },
         "topic" => topic_of(words),
-        "say" => Ok(Deed::Say(text_of(words, "TEXT"))),
-        _ => Ok(Deed::ListUsers {
+        "say" => Ok(Operation::Say(text_of(words, "TEXT"))),
+        _ => Ok(Operation::ListUsers {
             is_json: words.get_flag("json"),
         }),
     }
 }
 
 /// An empty text takes no topic away: a variable that is not set would do so unseen.
-fn topic_of<'a>(words: &ArgMatches<'a>) -> Result<Deed<'a>, Ending> {
+fn topic_of<'a>(words: &ArgMatches<'a>) -> Result<Operation<'a>, ToolEnding> {
     let text = text_of(words, "TOPIC");
     if text.is_empty() && !words.get_flag("clear") {
-        return Err(Ending::Arguments("TOPIC is empty; --clear takes the topic away"));
+        return Err(ToolEnding::Arguments("TOPIC is empty; --clear takes the topic away"));
     }
-    Ok(Deed::Ask(Request::topic(text)))
+    Ok(Operation::Ask(HubRequest::topic(text)))
 }
 
-fn kick_of<'a>(alloc: Global, words: &ArgMatches<'a>) -> Result<Deed<'a>, Ending> {
-    match Request::kick(alloc, text_of(words, "USER"), text_of(words, "REASON")) {
-        Ok(request) => Ok(Deed::Ask(request)),
+fn kick_of<'a>(alloc: Global, words: &ArgMatches<'a>) -> Result<Operation<'a>, ToolEnding> {
+    match HubRequest::kick(alloc, text_of(words, "USER"), text_of(words, "REASON")) {
+        Ok(request) => Ok(Operation::Ask(request)),
         Err(fault) => Err(no_user(fault)),
     }
 }
 
-fn ban_of<'a>(alloc: Global, words: &ArgMatches<'a>) -> Result<Deed<'a>, Ending> {
+fn ban_of<'a>(alloc: Global, words: &ArgMatches<'a>) -> Result<Operation<'a>, ToolEnding> {
     let Some(seconds) = words.get_one::<u32>("SECONDS") else {
-        return Err(Ending::Arguments("SECONDS is a number below 4294967296"));
+        return Err(ToolEnding::Arguments("SECONDS is a number below 4294967296"));
     };
     let (user, reason) = (text_of(words, "USER"), text_of(words, "REASON"));
-    match Request::ban(alloc, user, seconds, reason) {
-        Ok(request) => Ok(Deed::Ban(request)),
+    match HubRequest::ban(alloc, user, seconds, reason) {
+        Ok(request) => Ok(Operation::Ban(request)),
         Err(fault) => Err(no_user(fault)),
     }
 }
@@ -105,11 +113,11 @@ fn login_of<'a>(
     words: &ArgMatches<'a>,
     address: HubAddress<'a>,
     is_typed: bool,
-) -> Result<Login<'a>, Ending> {
+) -> Result<Login<'a>, ToolEnding> {
     let nick = match NickText::parse(alloc, text_of(words, "nick")) {
         Ok(nick) => nick,
-        Err(NickFault::Memory) => return Err(Ending::Memory),
-        Err(NickFault::Invalid) => return Err(Ending::Arguments("NICK is no nick")),
+        Err(NickFault::Memory) => return Err(ToolEnding::Memory),
+        Err(NickFault::Invalid) => return Err(ToolEnding::Arguments("NICK is no nick")),
     };
     Ok(Login {
         address,
@@ -124,9 +132,9 @@ fn login_of<'a>(
     })
 }
 
-fn no_user(fault: NickFault) -> Ending {
+fn no_user(fault: NickFault) -> ToolEnding {
     match fault {
-        NickFault::Memory => Ending::Memory,
-        NickFault::Invalid => Ending::Arguments("USER is no nick"),
+        NickFault::Memory => ToolEnding::Memory,
+        NickFault::Invalid => ToolEnding::Arguments("USER is no nick"),
     }
 }

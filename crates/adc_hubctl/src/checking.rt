@@ -1,5 +1,5 @@
-use crate::ending::{Ending, unread};
-use settings_report::{Report, Summary, Warning, report_file};
+use crate::ending::{ToolEnding, unread};
+use settings_report::{SettingsReport, SettingsWarning, Summary, report_file};
 use std::alloc::{AllocGlobal, Global};
 use std::fs::{self, Files};
 use std::io;
@@ -11,13 +11,13 @@ pub(crate) fn check<R: Net + Files + AllocGlobal + Print + Eprint>(
     rt: &R,
     path: &str,
     listen: bool,
-) -> Result<(), Ending> {
+) -> Result<(), ToolEnding> {
     let bytes = match fs::read(rt, path) {
         Ok(bytes) => bytes,
         Err(error) => return Err(unread(rt.alloc(), path, &error)),
     };
     match report_file(rt.alloc(), &bytes)? {
-        Report::Well(summary, warnings) => {
+        SettingsReport::Well(summary, warnings) => {
             let told = tell(rt, path, &summary, &warnings);
             drop(warnings);
             told?;
@@ -26,10 +26,10 @@ pub(crate) fn check<R: Net + Files + AllocGlobal + Print + Eprint>(
             }
             Ok(())
         }
-        Report::Faulty(fault) => {
+        SettingsReport::Faulty(fault) => {
             // Nobody may be left to read it; the status says it too.
             let _ = eprintln!(rt; "{path}:{fault}");
-            Err(Ending::Told)
+            Err(ToolEnding::Told)
         }
     }
 }
@@ -38,7 +38,7 @@ fn tell<R: Print + Eprint>(
     rt: &R,
     path: &str,
     summary: &Summary,
-    warnings: &[Warning],
+    warnings: &[SettingsWarning],
 ) -> io::Result<()> {
     for warning in warnings {
         eprintln!(rt; "warning: {path}:{warning}")?;
@@ -62,7 +62,7 @@ fn print_summary(rt: &impl Print, path: &str, summary: &Summary) -> io::Result<(
 }
 
 /// Listens at an address and stops at once. Refused: `Unreachable` where it cannot be had.
-fn try_address<R: Net + AllocGlobal>(rt: &R, address: SocketAddrV4) -> Result<(), Ending> {
+fn try_address<R: Net + AllocGlobal>(rt: &R, address: SocketAddrV4) -> Result<(), ToolEnding> {
     match TcpListener::bind(rt, SocketAddr::V4(address)) {
         Ok(listener) => {
             drop(listener);
@@ -72,16 +72,16 @@ fn try_address<R: Net + AllocGlobal>(rt: &R, address: SocketAddrV4) -> Result<()
     }
 }
 
-fn unlistened(alloc: Global, address: SocketAddrV4, error: &io::Error) -> Ending {
+fn unlistened(alloc: Global, address: SocketAddrV4, error: &io::Error) -> ToolEnding {
     let words = match error.kind() {
-        io::ErrorKind::OutOfMemory => return Ending::Memory,
+        io::ErrorKind::OutOfMemory => return ToolEnding::Memory,
         io::ErrorKind::AddrInUse => "is in use: a hub may run there",
         io::ErrorKind::AddrNotAvailable => "is no address of this machine",
         io::ErrorKind::PermissionDenied => "is not permitted, as ports below 1024 often are not",
         _ => "cannot be listened at",
     };
     match address.to_string(alloc) {
-        Ok(address) => Ending::Unreachable(address, words),
-        Err(_) => Ending::Memory,
+        Ok(address) => ToolEnding::Unreachable(address, words),
+        Err(_) => ToolEnding::Memory,
     }
 }

@@ -1,10 +1,10 @@
-use hub_client::{AddressFault, ClientFault, Refusal, Status};
+use hub_client::{AddressFault, ClientFault, LoginRefusal, Status};
 use std::alloc::{AllocError, AllocFailed, Global};
 use std::io;
 
 /// A reason why the tool did not do what it was asked for.
 #[derive(Drop)]
-pub(crate) enum Ending {
+pub(crate) enum ToolEnding {
     /// The arguments or the settings are at fault, and this was said.
     Told,
     /// The arguments are at fault, as these words say.
@@ -33,53 +33,53 @@ pub(crate) enum Ending {
     Unread,
 }
 
-impl From<AllocError> for Ending {
-    fn from(_: AllocError) -> Ending {
-        Ending::Memory
+impl From<AllocError> for ToolEnding {
+    fn from(_: AllocError) -> ToolEnding {
+        ToolEnding::Memory
     }
 }
 
-impl<T: Drop> From<AllocFailed<T>> for Ending {
-    fn from(_: AllocFailed<T>) -> Ending {
-        Ending::Memory
+impl<T: Drop> From<AllocFailed<T>> for ToolEnding {
+    fn from(_: AllocFailed<T>) -> ToolEnding {
+        ToolEnding::Memory
     }
 }
 
-impl From<io::Error> for Ending {
-    fn from(error: io::Error) -> Ending {
+impl From<io::Error> for ToolEnding {
+    fn from(error: io::Error) -> ToolEnding {
         match error.kind() {
-            io::ErrorKind::OutOfMemory => Ending::Memory,
-            io::ErrorKind::BrokenPipe => Ending::Unread,
-            _ => Ending::Transfer,
+            io::ErrorKind::OutOfMemory => ToolEnding::Memory,
+            io::ErrorKind::BrokenPipe => ToolEnding::Unread,
+            _ => ToolEnding::Transfer,
         }
     }
 }
 
-impl From<ClientFault> for Ending {
-    fn from(fault: ClientFault) -> Ending {
-        Ending::Client(fault)
+impl From<ClientFault> for ToolEnding {
+    fn from(fault: ClientFault) -> ToolEnding {
+        ToolEnding::Client(fault)
     }
 }
 
-impl From<AddressFault> for Ending {
-    fn from(fault: AddressFault) -> Ending {
-        Ending::Address(fault)
+impl From<AddressFault> for ToolEnding {
+    fn from(fault: AddressFault) -> ToolEnding {
+        ToolEnding::Address(fault)
     }
 }
 
 /// Gives why this file was not read.
-pub(crate) fn unread(alloc: Global, path: &str, error: &io::Error) -> Ending {
+pub(crate) fn unread(alloc: Global, path: &str, error: &io::Error) -> ToolEnding {
     match error.kind() {
-        io::ErrorKind::OutOfMemory => Ending::Memory,
+        io::ErrorKind::OutOfMemory => ToolEnding::Memory,
         kind => file(alloc, path, why_unread(kind)),
     }
 }
 
 /// Gives that this file is at fault, as these words say.
-pub(crate) fn file(alloc: Global, path: &str, words: &'static str) -> Ending {
+pub(crate) fn file(alloc: Global, path: &str, words: &'static str) -> ToolEnding {
     match String::from_str(alloc, path) {
-        Ok(path) => Ending::File(path, words),
-        Err(_) => Ending::Memory,
+        Ok(path) => ToolEnding::File(path, words),
+        Err(_) => ToolEnding::Memory,
     }
 }
 
@@ -92,53 +92,55 @@ fn why_unread(kind: io::ErrorKind) -> &'static str {
     }
 }
 
-impl Ending {
+impl ToolEnding {
     /// Says on standard error what went wrong, in one line, and gives the exit status, 0 to 9: 0 where nobody reads on.
     pub(crate) fn tell(self, rt: &impl Eprint) -> u8 {
         // Nobody is left to hear that the message could not be written.
         let _ = match &self {
-            Ending::Told | Ending::Unread => Ok(()),
-            Ending::Arguments(words) => eprintln!(rt; "adc_hubctl: {words}"),
-            Ending::Address(fault) => eprintln!(rt; "adc_hubctl: {fault}"),
-            Ending::File(path, words) | Ending::Tables(path, words) => {
+            ToolEnding::Told | ToolEnding::Unread => Ok(()),
+            ToolEnding::Arguments(words) => eprintln!(rt; "adc_hubctl: {words}"),
+            ToolEnding::Address(fault) => eprintln!(rt; "adc_hubctl: {fault}"),
+            ToolEnding::File(path, words) | ToolEnding::Tables(path, words) => {
                 eprintln!(rt; "adc_hubctl: {path}: {words}")
             }
-            Ending::NoPassword => eprintln!(rt; "adc_hubctl: no password was given"),
-            Ending::NoTables => eprintln!(rt;
+            ToolEnding::NoPassword => eprintln!(rt; "adc_hubctl: no password was given"),
+            ToolEnding::NoTables => eprintln!(rt;
                 "adc_hubctl: there are no tables of Tiger: neither tiger.bin nor /usr/share/adc-hub/tiger.bin; --tables names another file"
             ),
-            Ending::NoHost(host) => eprintln!(rt; "adc_hubctl: there is no host {host}"),
-            Ending::Unreachable(address, words) => eprintln!(rt; "adc_hubctl: {address} {words}"),
-            Ending::Memory => eprintln!(rt; "adc_hubctl: memory ran out"),
-            Ending::Client(ClientFault::Refused(status)) => tell_refusal(rt, status),
-            Ending::Client(fault) => eprintln!(rt; "adc_hubctl: {fault}"),
-            Ending::Transfer => eprintln!(rt; "adc_hubctl: input or output failed"),
+            ToolEnding::NoHost(host) => eprintln!(rt; "adc_hubctl: there is no host {host}"),
+            ToolEnding::Unreachable(address, words) => eprintln!(rt;
+                "adc_hubctl: {address} {words}"
+            ),
+            ToolEnding::Memory => eprintln!(rt; "adc_hubctl: memory ran out"),
+            ToolEnding::Client(ClientFault::Refused(status)) => tell_refusal(rt, status),
+            ToolEnding::Client(fault) => eprintln!(rt; "adc_hubctl: {fault}"),
+            ToolEnding::Transfer => eprintln!(rt; "adc_hubctl: input or output failed"),
         };
         self.status()
     }
 
     fn status(&self) -> u8 {
         match self {
-            Ending::Unread => 0,
-            Ending::Told
-            | Ending::Arguments(_)
-            | Ending::Address(_)
-            | Ending::File(..)
-            | Ending::NoPassword => 1,
-            Ending::Tables(..) | Ending::NoTables => 2,
-            Ending::NoHost(_) | Ending::Unreachable(..) => 3,
-            Ending::Memory => 4,
-            Ending::Transfer => 5,
-            Ending::Client(fault) => status_of(fault),
+            ToolEnding::Unread => 0,
+            ToolEnding::Told
+            | ToolEnding::Arguments(_)
+            | ToolEnding::Address(_)
+            | ToolEnding::File(..)
+            | ToolEnding::NoPassword => 1,
+            ToolEnding::Tables(..) | ToolEnding::NoTables => 2,
+            ToolEnding::NoHost(_) | ToolEnding::Unreachable(..) => 3,
+            ToolEnding::Memory => 4,
+            ToolEnding::Transfer => 5,
+            ToolEnding::Client(fault) => status_of(fault),
         }
     }
 }
 
 fn tell_refusal(rt: &impl Eprint, status: &Status) -> io::Result<()> {
     match status.refusal() {
-        Refusal::Password => eprintln!(rt; "adc_hubctl: wrong password"),
-        Refusal::Banned => eprintln!(rt; "adc_hubctl: banned: {status}"),
-        Refusal::Other => eprintln!(rt; "adc_hubctl: refused: {status}"),
+        LoginRefusal::Password => eprintln!(rt; "adc_hubctl: wrong password"),
+        LoginRefusal::Banned => eprintln!(rt; "adc_hubctl: banned: {status}"),
+        LoginRefusal::Other => eprintln!(rt; "adc_hubctl: refused: {status}"),
     }
 }
 
@@ -148,9 +150,9 @@ fn status_of(fault: &ClientFault) -> u8 {
         ClientFault::Memory => 4,
         ClientFault::Closed | ClientFault::Broken | ClientFault::NotAdc => 5,
         ClientFault::Refused(status) => match status.refusal() {
-            Refusal::Password => 6,
-            Refusal::Banned => 7,
-            Refusal::Other => 8,
+            LoginRefusal::Password => 6,
+            LoginRefusal::Banned => 7,
+            LoginRefusal::Other => 8,
         },
         ClientFault::TimedOut | ClientFault::Unanswered => 9,
     }

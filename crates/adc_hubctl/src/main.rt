@@ -18,7 +18,7 @@ use arguments::commands;
 use asked::run_matches;
 use clap::error::ErrorKind;
 use descriptors::fill_standard;
-use ending::Ending;
+use ending::ToolEnding;
 use std::alloc::Global;
 use std::env;
 use std::io::IsTerminal;
@@ -31,25 +31,25 @@ fn main(rt: HostRuntime) -> ExitCode {
     }
 }
 
-fn run(rt: &HostRuntime) -> Result<(), Ending> {
+fn run(rt: &HostRuntime) -> Result<(), ToolEnding> {
     fill_standard(rt)?;
     let words = words(rt, rt.alloc())?;
     match commands(rt.alloc())?.try_get_matches_from(words.as_slice()) {
         Ok(matches) => run_matches(rt, &matches, rt.stdin().is_terminal()),
         Err(error) => {
             if error.kind() == ErrorKind::OutOfMemory {
-                return Err(Ending::Memory);
+                return Err(ToolEnding::Memory);
             }
             let printed = error.print(rt);
             if error.use_stderr() {
-                return Err(Ending::Told);
+                return Err(ToolEnding::Told);
             }
             Ok(printed?)
         }
     }
 }
 
-fn words(rt: &HostRuntime, alloc: Global) -> Result<Vec<String>, Ending> {
+fn words(rt: &HostRuntime, alloc: Global) -> Result<Vec<String>, ToolEnding> {
     let words = env::args(rt)?;
     Ok(words.collect(alloc)?)
 }

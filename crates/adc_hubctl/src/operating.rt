@@ -1,12 +1,12 @@
-use crate::ending::{Ending, file, unread};
+use crate::ending::{ToolEnding, file, unread};
 use crate::showing::{print_json, print_table, printable};
 use crate::stream::{TimedStream, connect};
 use crate::taking_back::taking_back;
 use adc_base32::Sid;
 use adc_line::{Line, LineFault};
 use hub_client::{
-    Client, ClientFault, Entry, HubAddress, Identity, NickText, Request, User, act_line, chat_line,
-    login_line, password_line,
+    Client, ClientFault, ClientIdentity, HubAddress, HubRequest, HubUser, LoginStep, NickText,
+    act_line, chat_line, login_line, password_line,
 };
 use session_hash::{First24, SessionHash, TableTiger, TablesFault};
 use std::alloc::{AllocGlobal, Global};
@@ -45,16 +45,16 @@ const INSTALLED_TABLES: &str = "/usr/share/adc-hub/tiger.bin";
 
 /// A deed for a client that is present.
 #[derive(Clone, Copy)]
-pub(crate) enum Deed<'a> {
-    Ask(Request<'a>),
+pub(crate) enum Operation<'a> {
+    Ask(HubRequest<'a>),
     /// The request of a ban, of which is said how it is taken back.
-    Ban(Request<'a>),
+    Ban(HubRequest<'a>),
     Say(&'a str),
     ListUsers { is_json: bool },
 }
 
 /// Logs in, does one thing, prints what the hub answered, and leaves.
-pub(crate) fn operate<R>(rt: &R, login: &Login<'_>, deed: &Deed<'_>) -> Result<(), Ending>
+pub(crate) fn operate<R>(rt: &R, login: &Login<'_>, deed: &Operation<'_>) -> Result<(), ToolEnding>
 where
     R: Net + Clock + Files + RandomSource + Input + Print + Eprint + AllocGlobal,
 {
@@ -68,7 +68,7 @@ where
     done
 }
 
-fn tiger<R: Files + AllocGlobal>(rt: &R, path: Option<&str>) -> Result<TableTiger, Ending> {
+fn tiger<R: Files + AllocGlobal>(rt: &R, path: Option<&str>) -> Result<TableTiger, ToolEnding> {
     let Some(path) = path else {
         return found_tiger(rt);
     };
@@ -79,36 +79,41 @@ fn tiger<R: Files + AllocGlobal>(rt: &R, path: Option<&str>) -> Result<TableTige
 }
 
 /// Looks for the tables where they may be.
-fn found_tiger<R: Files + AllocGlobal>(rt: &R) -> Result<TableTiger, Ending> {
+fn found_tiger<R: Files + AllocGlobal>(rt: &R) -> Result<TableTiger, ToolEnding> {
     for path in [TABLES, INSTALLED_TABLES] {
         match fs::read(rt, path) {
             Ok(bytes) => return tiger_of(rt.alloc(), path, &bytes),
             Err(error) if error.kind() == io::ErrorKind::OutOfMemory => {
-                return Err(Ending::Memory);
+                return Err(ToolEnding::Memory);
             }
             Err(_) => {}
         }
     }
-    Err(Ending::NoTables)
+    Err(ToolEnding::NoTables)
 }
 
-fn tiger_of(alloc: Global, path: &str, bytes: &[u8]) -> Result<TableTiger, Ending> {
+fn tiger_of(alloc: Global, path: &str, bytes: &[u8]) -> Result<TableTiger, ToolEnding> {
     match TableTiger::from_bytes(alloc, bytes) {
         Ok(tiger) => Ok(tiger),
         Err(TablesFault::Length) => Err(of_tables(file(alloc, path, "it has no tables of Tiger"))),
-        Err(TablesFault::Memory) => Err(Ending::Memory),
+        Err(TablesFault::Memory) => Err(ToolEnding::Memory),
     }
 }
 
 /// Gives the fault of a file as one of Tiger's tables.
-fn of_tables(ending: Ending) -> Ending {
+fn of_tables(ending: ToolEnding) -> ToolEnding {
     match ending {
-        Ending::File(path, words) => Ending::Tables(path, words),
+        ToolEnding::File(path, words) => ToolEnding::Tables(path, words),
         other => other,
     }
 }
 
-fn operate_by<R, H>(rt: &R, login: &Login<'_>, deed: &Deed<'_>, hash: &H) -> Result<(), Ending>
+fn operate_by<R, H>(
+    rt: &R,
+    login: &Login<'_>,
+    deed: &Operation<'_>,
+    hash: &H,
+) -> Result<(), ToolEnding>
 where
     R: Net + Clock + Files + RandomSource + Input + Print + Eprint + AllocGlobal,
     H: SessionHash,
@@ -125,21 +130,21 @@ fn operate_client<R, H>(
     rt: &R,
     client: &mut Client<TimedStream<'_, R>>,
     login: &Login<'_>,
-    deed: &Deed<'_>,
+    deed: &Operation<'_>,
     hash: &H,
-) -> Result<(), Ending>
+) -> Result<(), ToolEnding>
 where
     R: Net + Clock + Files + RandomSource + Input + Print + Eprint + AllocGlobal,
     H: SessionHash,
 {
     let sid = greet(client)?;
-    if let Entry::Challenged(challenge) = enter(rt, client, sid, login, hash)? {
+    if let LoginStep::Challenged(challenge) = enter(rt, client, sid, login, hash)? {
         answer(rt, client, sid, login, hash, &challenge)?;
     }
     act(rt, client, sid, login, deed)
 }
 
-fn greet<R: Net + Clock>(client: &mut Client<TimedStream<'_, R>>) -> Result<Sid, Ending> {
+fn greet<R: Net + Clock>(client: &mut Client<TimedStream<'_, R>>) -> Result<Sid, ToolEnding> {
     let welcome = client.hello(false)?;
     let sid = welcome.sid;
     drop(welcome);
@@ -153,14 +158,19 @@ fn enter<R, H>(
     sid: Sid,
     login: &Login<'_>,
     hash: &H,
-) -> Result<Entry, Ending>
+) -> Result<LoginStep, ToolEnding>
 where
     R: Net + Clock + RandomSource + AllocGlobal,
     H: SessionHash,
 {
     let mut private = [0; 24];
     rt.fill_bytes(&mut private)?;
-    let line = login_line(rt.alloc(), sid, &Identity::of(hash, private), &login.nick)?;
+    let line = login_line(
+        rt.alloc(),
+        sid,
+        &ClientIdentity::of(hash, private),
+        &login.nick,
+    )?;
     let entry = client.enter(sid, &line);
     drop(line);
     Ok(entry?)
@@ -174,7 +184,7 @@ fn answer<R, H>(
     login: &Login<'_>,
     hash: &H,
     challenge: &[u8; 24],
-) -> Result<(), Ending>
+) -> Result<(), ToolEnding>
 where
     R: Net + Clock + Files + Input + Eprint + AllocGlobal,
     H: SessionHash,
@@ -183,8 +193,8 @@ where
     let entry = client.enter(sid, &line);
     drop(line);
     match entry? {
-        Entry::Inside => Ok(()),
-        Entry::Challenged(_) => Err(Ending::Client(ClientFault::NotAdc)),
+        LoginStep::Inside => Ok(()),
+        LoginStep::Challenged(_) => Err(ToolEnding::Client(ClientFault::NotAdc)),
     }
 }
 
@@ -193,7 +203,7 @@ fn answer_line<R, H>(
     login: &Login<'_>,
     hash: &H,
     challenge: &[u8; 24],
-) -> Result<Line, Ending>
+) -> Result<Line, ToolEnding>
 where
     R: Files + Input + Eprint + AllocGlobal,
     H: SessionHash,
@@ -203,7 +213,7 @@ where
 }
 
 /// The first line of the file, or of standard input. Refused: `NoPassword` or `File` where it is empty or missing.
-fn password<R>(rt: &R, login: &Login<'_>) -> Result<String, Ending>
+fn password<R>(rt: &R, login: &Login<'_>) -> Result<String, ToolEnding>
 where
     R: Files + Input + Eprint + AllocGlobal,
 {
@@ -213,7 +223,7 @@ where
     };
     let first = first_line(&text);
     match login.password_file {
-        None if first.is_empty() => Err(Ending::NoPassword),
+        None if first.is_empty() => Err(ToolEnding::NoPassword),
         Some(path) if first.is_empty() => Err(file(rt.alloc(), path, "its first line is empty")),
         _ => Ok(String::from_str(rt.alloc(), first)?),
     }
@@ -225,7 +235,7 @@ fn first_line(text: &str) -> &str {
 }
 
 /// The line that is typed at the terminal, after a question, or that standard input has. It is shown while it is typed.
-fn typed<R>(rt: &R, login: &Login<'_>) -> Result<String, Ending>
+fn typed<R>(rt: &R, login: &Login<'_>) -> Result<String, ToolEnding>
 where
     R: Input + Eprint + AllocGlobal,
 {
@@ -238,7 +248,7 @@ where
     Ok(line)
 }
 
-fn password_text<R: Files + AllocGlobal>(rt: &R, path: &str) -> Result<String, Ending> {
+fn password_text<R: Files + AllocGlobal>(rt: &R, path: &str) -> Result<String, ToolEnding> {
     let bytes = match fs::read(rt, path) {
         Ok(bytes) => bytes,
         Err(error) => return Err(unread(rt.alloc(), path, &error)),
@@ -254,16 +264,16 @@ fn act<R: Net + Clock + Print + AllocGlobal>(
     client: &mut Client<TimedStream<'_, R>>,
     sid: Sid,
     login: &Login<'_>,
-    deed: &Deed<'_>,
-) -> Result<(), Ending> {
+    deed: &Operation<'_>,
+) -> Result<(), ToolEnding> {
     match deed {
-        Deed::Ask(request) => ask(rt, client, request),
-        Deed::Ban(request) => {
+        Operation::Ask(request) => ask(rt, client, request),
+        Operation::Ban(request) => {
             ask(rt, client, request)?;
             tell_ban(rt, client, sid, login)
         }
-        Deed::Say(text) => say(rt.alloc(), client, sid, text),
-        Deed::ListUsers { is_json } => list_users(rt, client.users(), *is_json),
+        Operation::Say(text) => say(rt.alloc(), client, sid, text),
+        Operation::ListUsers { is_json } => list_users(rt, client.users(), *is_json),
     }
 }
 
@@ -271,8 +281,8 @@ fn act<R: Net + Clock + Print + AllocGlobal>(
 fn ask<R: Net + Clock + Print + AllocGlobal>(
     rt: &R,
     client: &mut Client<TimedStream<'_, R>>,
-    request: &Request<'_>,
-) -> Result<(), Ending> {
+    request: &HubRequest<'_>,
+) -> Result<(), ToolEnding> {
     let text = answer_text(rt.alloc(), client, request)?;
     let shown = printable(rt.alloc(), &text);
     drop(text);
@@ -286,7 +296,7 @@ fn tell_ban<R: Net + Clock + Print + AllocGlobal>(
     client: &Client<TimedStream<'_, R>>,
     sid: Sid,
     login: &Login<'_>,
-) -> Result<(), Ending> {
+) -> Result<(), ToolEnding> {
     let who = client.sent_away(sid)?;
     let text = taking_back(rt.alloc(), who.as_ref(), login);
     drop(who);
@@ -297,8 +307,8 @@ fn tell_ban<R: Net + Clock + Print + AllocGlobal>(
 fn answer_text<R: Net + Clock>(
     alloc: Global,
     client: &mut Client<TimedStream<'_, R>>,
-    request: &Request<'_>,
-) -> Result<String, Ending> {
+    request: &HubRequest<'_>,
+) -> Result<String, ToolEnding> {
     let line = act_line(alloc, request).map_err(unsayable)?;
     let answer = client.ask(&line);
     drop(line);
@@ -311,14 +321,18 @@ fn say<R: Net + Clock>(
     client: &mut Client<TimedStream<'_, R>>,
     sid: Sid,
     text: &str,
-) -> Result<(), Ending> {
+) -> Result<(), ToolEnding> {
     let line = chat_line(alloc, sid, text)?;
     let said = client.chat(&line);
     drop(line);
     Ok(said?)
 }
 
-fn list_users<R: Print + AllocGlobal>(rt: &R, lines: &[Line], is_json: bool) -> Result<(), Ending> {
+fn list_users<R: Print + AllocGlobal>(
+    rt: &R,
+    lines: &[Line],
+    is_json: bool,
+) -> Result<(), ToolEnding> {
     let users = read_users(rt.alloc(), lines)?;
     let done = if is_json {
         print_json(rt, &users)
@@ -329,17 +343,17 @@ fn list_users<R: Print + AllocGlobal>(rt: &R, lines: &[Line], is_json: bool) -> 
     done
 }
 
-fn read_users(alloc: Global, lines: &[Line]) -> Result<Vec<User>, Ending> {
+fn read_users(alloc: Global, lines: &[Line]) -> Result<Vec<HubUser>, ToolEnding> {
     let mut users = Vec::new(alloc);
     for line in lines {
-        users.push(User::read(alloc, line)?)?;
+        users.push(HubUser::read(alloc, line)?)?;
     }
     Ok(users)
 }
 
-fn unsayable(fault: LineFault) -> Ending {
+fn unsayable(fault: LineFault) -> ToolEnding {
     match fault {
-        LineFault::Memory => Ending::Memory,
-        _ => Ending::Client(ClientFault::Unsayable),
+        LineFault::Memory => ToolEnding::Memory,
+        _ => ToolEnding::Client(ClientFault::Unsayable),
     }
 }

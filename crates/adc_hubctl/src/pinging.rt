@@ -1,4 +1,4 @@
-use crate::ending::Ending;
+use crate::ending::ToolEnding;
 use crate::figures::{FIGURES, Figure};
 use crate::showing::{number_or_text, print_value, printable, text_value};
 use crate::stream::connect;
@@ -11,7 +11,7 @@ use std::time::Clock;
 
 /// The form in which a hub's figures are printed.
 #[derive(Clone, Copy)]
-pub(crate) enum Form {
+pub(crate) enum PingForm {
     /// A line for each.
     Lines,
     /// An object of JSON.
@@ -25,13 +25,13 @@ pub(crate) fn ping<R: Net + Clock + Print + AllocGlobal>(
     rt: &R,
     address: &HubAddress<'_>,
     seconds: u32,
-    form: Form,
-) -> Result<(), Ending> {
+    form: PingForm,
+) -> Result<(), ToolEnding> {
     let hub = ask(rt, address, seconds, true)?;
     let told = match form {
-        Form::Lines => print_fields(rt, &hub),
-        Form::Json => print_facts(rt, &hub),
-        Form::Prometheus => print_metrics(rt, &hub),
+        PingForm::Lines => print_fields(rt, &hub),
+        PingForm::Json => print_facts(rt, &hub),
+        PingForm::Prometheus => print_metrics(rt, &hub),
     };
     drop(hub);
     told
@@ -42,7 +42,7 @@ pub(crate) fn show_topic<R: Net + Clock + Print + Eprint + AllocGlobal>(
     rt: &R,
     address: &HubAddress<'_>,
     seconds: u32,
-) -> Result<(), Ending> {
+) -> Result<(), ToolEnding> {
     let hub = ask(rt, address, seconds, false)?;
     let topic = printable_field(rt.alloc(), &hub, "DE");
     drop(hub);
@@ -61,14 +61,14 @@ fn ask<R: Net + Clock + AllocGlobal>(
     address: &HubAddress<'_>,
     seconds: u32,
     pinger: bool,
-) -> Result<Line, Ending> {
+) -> Result<Line, ToolEnding> {
     let mut client = Client::new(rt.alloc(), connect(rt, address, seconds)?);
     let told = client.hello(pinger);
     drop(client);
     Ok(told?.hub)
 }
 
-fn print_fields<R: Print + AllocGlobal>(rt: &R, hub: &Line) -> Result<(), Ending> {
+fn print_fields<R: Print + AllocGlobal>(rt: &R, hub: &Line) -> Result<(), ToolEnding> {
     for figure in FIGURES {
         if field(hub, figure.name).is_some() {
             print_field(rt, hub, figure)?;
@@ -77,18 +77,22 @@ fn print_fields<R: Print + AllocGlobal>(rt: &R, hub: &Line) -> Result<(), Ending
     Ok(())
 }
 
-fn print_field<R: Print + AllocGlobal>(rt: &R, hub: &Line, figure: Figure) -> Result<(), Ending> {
+fn print_field<R: Print + AllocGlobal>(
+    rt: &R,
+    hub: &Line,
+    figure: Figure,
+) -> Result<(), ToolEnding> {
     let text = printable_field(rt.alloc(), hub, figure.name)?;
     let key = figure.key;
     Ok(println!(rt; "{key}: {text}")?)
 }
 
-fn printable_field(alloc: Global, hub: &Line, name: &str) -> Result<String, Ending> {
+fn printable_field(alloc: Global, hub: &Line, name: &str) -> Result<String, ToolEnding> {
     let text = field_text(alloc, hub, name)?;
     Ok(printable(alloc, &text)?)
 }
 
-fn print_metrics<R: Print + AllocGlobal>(rt: &R, hub: &Line) -> Result<(), Ending> {
+fn print_metrics<R: Print + AllocGlobal>(rt: &R, hub: &Line) -> Result<(), ToolEnding> {
     for figure in FIGURES {
         if let (Some((name, help)), Some(number)) = (figure.metric, number_of(hub, figure.name)) {
             print_metric(rt, name, help, number)?;
@@ -104,13 +108,13 @@ fn number_of(hub: &Line, name: &str) -> Option<u64> {
     }
 }
 
-fn print_metric<R: Print>(rt: &R, name: &str, help: &str, number: u64) -> Result<(), Ending> {
+fn print_metric<R: Print>(rt: &R, name: &str, help: &str, number: u64) -> Result<(), ToolEnding> {
     println!(rt; "# HELP {name} {help}")?;
     println!(rt; "# TYPE {name} gauge")?;
     Ok(println!(rt; "{name} {number}")?)
 }
 
-fn print_facts<R: Print + AllocGlobal>(rt: &R, hub: &Line) -> Result<(), Ending> {
+fn print_facts<R: Print + AllocGlobal>(rt: &R, hub: &Line) -> Result<(), ToolEnding> {
     let mut facts = Map::new(rt.alloc());
     match add_facts(rt.alloc(), hub, &mut facts) {
         Ok(()) => print_value(rt, Value::Object(facts)),
@@ -121,7 +125,7 @@ fn print_facts<R: Print + AllocGlobal>(rt: &R, hub: &Line) -> Result<(), Ending>
     }
 }
 
-fn add_facts(alloc: Global, hub: &Line, facts: &mut Map<String, Value>) -> Result<(), Ending> {
+fn add_facts(alloc: Global, hub: &Line, facts: &mut Map<String, Value>) -> Result<(), ToolEnding> {
     for figure in FIGURES {
         if field(hub, figure.name).is_some() {
             add_fact(alloc, facts, figure.key, fact(alloc, hub, figure)?)?;
@@ -130,7 +134,7 @@ fn add_facts(alloc: Global, hub: &Line, facts: &mut Map<String, Value>) -> Resul
     Ok(())
 }
 
-fn fact(alloc: Global, hub: &Line, figure: Figure) -> Result<Value, Ending> {
+fn fact(alloc: Global, hub: &Line, figure: Figure) -> Result<Value, ToolEnding> {
     let text = printable_field(alloc, hub, figure.name)?;
     let value = if figure.metric.is_some() {
         number_or_text(alloc, &text)
@@ -146,7 +150,7 @@ fn add_fact(
     facts: &mut Map<String, Value>,
     key: &str,
     value: Value,
-) -> Result<(), Ending> {
+) -> Result<(), ToolEnding> {
     facts.insert(String::from_str(alloc, key)?, value)?;
     Ok(())
 }

@@ -1,5 +1,5 @@
-use crate::ending::Ending;
-use hub_client::User;
+use crate::ending::ToolEnding;
+use hub_client::HubUser;
 use serde_json::{Value, json};
 use std::alloc::{AllocError, AllocGlobal, Global};
 use ucd_category::GeneralCategory;
@@ -36,7 +36,7 @@ pub(crate) fn text_value(alloc: Global, text: &str) -> Result<Value, AllocError>
 }
 
 /// Prints JSON in one line.
-pub(crate) fn print_value<R: Print + AllocGlobal>(rt: &R, value: Value) -> Result<(), Ending> {
+pub(crate) fn print_value<R: Print + AllocGlobal>(rt: &R, value: Value) -> Result<(), ToolEnding> {
     let text = value.to_string(rt.alloc());
     drop(value);
     let text = text?;
@@ -55,7 +55,7 @@ struct Shown {
 }
 
 impl Shown {
-    fn of(alloc: Global, user: &User) -> Result<Shown, AllocError> {
+    fn of(alloc: Global, user: &HubUser) -> Result<Shown, AllocError> {
         Ok(Shown {
             nick: printable(alloc, &user.nick)?,
             role: String::from_str(alloc, user.role.name())?,
@@ -86,7 +86,10 @@ fn or_dash(cell: &str) -> &str {
 const HEAD: [&str; 5] = ["NICK", "ROLE", "CID", "ADDRESS", "SHARE"];
 
 /// Prints users as a table: nick, role, client identifier, address, share in bytes, description.
-pub(crate) fn print_table<R: Print + AllocGlobal>(rt: &R, users: &[User]) -> Result<(), Ending> {
+pub(crate) fn print_table<R: Print + AllocGlobal>(
+    rt: &R,
+    users: &[HubUser],
+) -> Result<(), ToolEnding> {
     let mut shown = Vec::new(rt.alloc());
     let done = match add_shown(rt.alloc(), users, &mut shown) {
         Ok(()) => print_rows(rt, &shown),
@@ -96,14 +99,14 @@ pub(crate) fn print_table<R: Print + AllocGlobal>(rt: &R, users: &[User]) -> Res
     done
 }
 
-fn add_shown(alloc: Global, users: &[User], shown: &mut Vec<Shown>) -> Result<(), AllocError> {
+fn add_shown(alloc: Global, users: &[HubUser], shown: &mut Vec<Shown>) -> Result<(), AllocError> {
     for user in users {
         shown.push(Shown::of(alloc, user)?)?;
     }
     Ok(())
 }
 
-fn print_rows<R: Print + AllocGlobal>(rt: &R, rows: &[Shown]) -> Result<(), Ending> {
+fn print_rows<R: Print + AllocGlobal>(rt: &R, rows: &[Shown]) -> Result<(), ToolEnding> {
     let mut widths = [0; 5];
     widen(&mut widths, HEAD);
     for row in rows {
@@ -128,7 +131,7 @@ fn print_row<R: Print + AllocGlobal>(
     cells: [&str; 5],
     widths: [usize; 5],
     last: &str,
-) -> Result<(), Ending> {
+) -> Result<(), ToolEnding> {
     let mut row = String::new(rt.alloc());
     for (cell, width) in cells.into_iter().zip(widths) {
         row.push_str(cell)?;
@@ -143,7 +146,10 @@ fn print_row<R: Print + AllocGlobal>(
 }
 
 /// Prints users as a list in JSON.
-pub(crate) fn print_json<R: Print + AllocGlobal>(rt: &R, users: &[User]) -> Result<(), Ending> {
+pub(crate) fn print_json<R: Print + AllocGlobal>(
+    rt: &R,
+    users: &[HubUser],
+) -> Result<(), ToolEnding> {
     let mut list = Vec::new(rt.alloc());
     match add_users(rt.alloc(), users, &mut list) {
         Ok(()) => print_value(rt, Value::Array(list)),
@@ -154,14 +160,14 @@ pub(crate) fn print_json<R: Print + AllocGlobal>(rt: &R, users: &[User]) -> Resu
     }
 }
 
-fn add_users(alloc: Global, users: &[User], list: &mut Vec<Value>) -> Result<(), AllocError> {
+fn add_users(alloc: Global, users: &[HubUser], list: &mut Vec<Value>) -> Result<(), AllocError> {
     for user in users {
         list.push(user_value(alloc, user)?)?;
     }
     Ok(())
 }
 
-fn user_value(alloc: Global, user: &User) -> Result<Value, AllocError> {
+fn user_value(alloc: Global, user: &HubUser) -> Result<Value, AllocError> {
     let shown = Shown::of(alloc, user)?;
     let value = shown_value(alloc, &shown);
     drop(shown);

@@ -1,4 +1,4 @@
-use crate::ending::Ending;
+use crate::ending::ToolEnding;
 use hub_client::HubAddress;
 use std::alloc::{AllocGlobal, Global};
 use std::io::{self, Read, Write};
@@ -19,7 +19,7 @@ pub(crate) fn connect<'a, R: Net + Clock + AllocGlobal>(
     rt: &'a R,
     address: &HubAddress<'_>,
     seconds: u32,
-) -> Result<TimedStream<'a, R>, Ending> {
+) -> Result<TimedStream<'a, R>, ToolEnding> {
     let limit = Duration::from_secs(u64::from(seconds));
     let found = match (address.host(), address.port()).to_socket_addrs(rt) {
         Ok(found) => found,
@@ -46,25 +46,25 @@ pub(crate) fn connect<'a, R: Net + Clock + AllocGlobal>(
 }
 
 /// Gives that an address cannot be reached. That one of a host's addresses refused tells more than that others cannot be reached.
-fn unreachable(alloc: Global, address: &HubAddress<'_>, is_refused: bool) -> Ending {
+fn unreachable(alloc: Global, address: &HubAddress<'_>, is_refused: bool) -> ToolEnding {
     let words = if is_refused {
         "refused the connection: no hub runs there"
     } else {
         "cannot be reached"
     };
     match address.to_string(alloc) {
-        Ok(address) => Ending::Unreachable(address, words),
-        Err(_) => Ending::Memory,
+        Ok(address) => ToolEnding::Unreachable(address, words),
+        Err(_) => ToolEnding::Memory,
     }
 }
 
-fn no_host(alloc: Global, host: &str, error: &io::Error) -> Ending {
+fn no_host(alloc: Global, host: &str, error: &io::Error) -> ToolEnding {
     if error.kind() == io::ErrorKind::OutOfMemory {
-        return Ending::Memory;
+        return ToolEnding::Memory;
     }
     match String::from_str(alloc, host) {
-        Ok(host) => Ending::NoHost(host),
-        Err(_) => Ending::Memory,
+        Ok(host) => ToolEnding::NoHost(host),
+        Err(_) => ToolEnding::Memory,
     }
 }
 

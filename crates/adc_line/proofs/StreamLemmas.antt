@@ -3,7 +3,7 @@ use Rattle.std.proofs.Common.{◌≡◌, ℕ, List, [], ◌∷◌, ◌++◌, All
 use Rattle.std.proofs.lemmas.List.Elements.{All-head, All-tail, All-cons, All-nil}
 use Rattle.adc_line.specs.Frames.{lf}
 use Rattle.adc_line.specs.declared.framer.Next.TheVariants.{Line, More, TooLong}
-use Rattle.adc_line.specs.Runs.{Deed, fed, told, Follows, all_fed, all_out}
+use Rattle.adc_line.specs.Runs.{FramerCall, fed, told, Follows, all_fed, all_out}
 use Rattle.adc_line.specs.Stream.{lines, joined_lines, IsLine}
 use Rattle.adc_line.proofs.FrameLemmas.{lines-line}
 
@@ -15,7 +15,7 @@ lines-joined (line ∷ more) rest h =
     ∙ ap (λ xs. line ∷ xs) (lines-joined more rest (All-tail IsLine line more h))
 
 -- from any unread bytes on: those and what was fed are what came out and what is left
-pub run_conserves : (unread : List ℕ) (deeds : List Deed) (left : List ℕ) → Follows unread deeds left → unread ++ all_fed deeds ≡ joined_lines (all_out deeds) ++ left
+pub run_conserves : (unread : List ℕ) (deeds : List FramerCall) (left : List ℕ) → Follows unread deeds left → unread ++ all_fed deeds ≡ joined_lines (all_out deeds) ++ left
 run_conserves unread [] left h = append-nil unread ∙ sym h
 run_conserves unread (fed piece ∷ deeds) left h = sym (append_assoc unread piece (all_fed deeds)) ∙ run_conserves (unread ++ piece) deeds left h
 run_conserves unread (told Line held out ∷ deeds) left h =
@@ -25,12 +25,12 @@ run_conserves unread (told More held out ∷ deeds) left h = ap (λ xs. xs ++ al
 run_conserves unread (told TooLong held out ∷ deeds) left h = ap (λ xs. xs ++ all_fed deeds) (sym h.1.0) ∙ run_conserves h.0 deeds left h.2
 
 -- what came out may stand in a stream
-pub run_gives_lines : (unread : List ℕ) (deeds : List Deed) (left : List ℕ) → Follows unread deeds left → All IsLine (all_out deeds)
+pub run_gives_lines : (unread : List ℕ) (deeds : List FramerCall) (left : List ℕ) → Follows unread deeds left → All IsLine (all_out deeds)
 run_gives_lines unread [] left h = All-nil IsLine
 run_gives_lines unread (fed piece ∷ deeds) left h = run_gives_lines (unread ++ piece) deeds left h
 run_gives_lines unread (told Line held out ∷ deeds) left h = All-cons IsLine out (all_out deeds) (h.1.1, h.1.2) (run_gives_lines h.0 deeds left h.2)
 run_gives_lines unread (told More held out ∷ deeds) left h = run_gives_lines h.0 deeds left h.2
 run_gives_lines unread (told TooLong held out ∷ deeds) left h = run_gives_lines h.0 deeds left h.2
 
-pub run_gives_prefix : (deeds : List Deed) (left : List ℕ) → Follows [] deeds left → lines (all_fed deeds) ≡ all_out deeds ++ lines left
+pub run_gives_prefix : (deeds : List FramerCall) (left : List ℕ) → Follows [] deeds left → lines (all_fed deeds) ≡ all_out deeds ++ lines left
 run_gives_prefix deeds left h = ap lines (run_conserves [] deeds left h) ∙ lines-joined (all_out deeds) left (run_gives_lines [] deeds left h)

@@ -5,18 +5,18 @@ use Rattle.adc_line.specs.declared.framer.Next.TheVariants.{Line, More, TooLong}
 use Rattle.adc_line.specs.NextLine.{IsNext}
 
 -- a piece was fed; or `next` answered, with what the vector held before and after
-pub data Deed : Type 0 where
-  fed : List ℕ → Deed
-  told : Next → List ℕ → List ℕ → Deed
+pub data FramerCall : Type 0 where
+  fed : List ℕ → FramerCall
+  told : Next → List ℕ → List ℕ → FramerCall
 
 -- the calls, each as its contract says, lead from some unread bytes to others
-abbrev pub Follows : List ℕ → List Deed → List ℕ → Type 0
+abbrev pub Follows : List ℕ → List FramerCall → List ℕ → Type 0
 Follows unread [] left = left ≡ unread
 Follows unread (fed piece ∷ deeds) left = Follows (unread ++ piece) deeds left
 Follows unread (told said held out ∷ deeds) left = (between : List ℕ) × IsNext unread held said between out × Follows between deeds left
 
 -- all bytes that were fed
-abbrev pub all_fed : List Deed → List ℕ
+abbrev pub all_fed : List FramerCall → List ℕ
 all_fed [] = []
 all_fed (fed piece ∷ deeds) = piece ++ all_fed deeds
 all_fed (told said held out ∷ deeds) = all_fed deeds
@@ -27,7 +27,7 @@ with_line More out more = more
 with_line TooLong out more = more
 
 -- the lines that came out
-abbrev pub all_out : List Deed → List (List ℕ)
+abbrev pub all_out : List FramerCall → List (List ℕ)
 all_out [] = []
 all_out (fed piece ∷ deeds) = all_out deeds
 all_out (told said held out ∷ deeds) = with_line said out (all_out deeds)

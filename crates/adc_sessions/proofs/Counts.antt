@@ -7,7 +7,7 @@ use Rattle.adc_sessions.specs.declared.accept.AcceptEnd.{AcceptEnd}
 use Rattle.adc_sessions.specs.declared.accept.AcceptEnd.TheVariants.{Stopped, AcceptFailed}
 use Rattle.adc_sessions.specs.declared.incoming.Peer.{Peer}
 use Rattle.adc_sessions.specs.Arrivals.{Arrival, came, failed, waited, Brings, who_came, streams_of, streams, faults_by, answers_of, EndsInFaults}
-use Rattle.adc_sessions.specs.Accepting.{LeavesAfter, AcceptsIn, OverBy, AcceptGives}
+use Rattle.adc_sessions.specs.AcceptEnds.{LeavesAfter, AcceptsIn, OverBy, AcceptGives}
 use Rattle.adc_sessions.specs.Accepted.{AcceptCause, Accepted}
 
 LeavesAfter-none : (left : Option ℕ) → LeavesAfter left 0 left

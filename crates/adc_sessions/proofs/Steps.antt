@@ -24,8 +24,8 @@ pub StopsAtFault-append : (before events : List Event) → HasNoFault before →
 StopsAtFault-append [] events first second = second
 StopsAtFault-append (event ∷ before) events first second = (λ fault. absurd (first.0 fault), StopsAtFault-append before events first.1 second)
 
-module _ {S P : Type 0} (told : S → StreamCall → S → Type 0) (calls : P → PortCall → P → Type 0) where
-  pub did_read : (x y : State S P) (bytes : List ℕ) → told x.stream (read bytes) y.stream → y.port ≡ x.port → y.unread ≡ x.unread ++ bytes → y.pending ≡ x.pending → y.met ≡ x.met → y.told ≡ x.told → y.over ≡ x.over → y.owes ≡ x.owes → x.over ≡ false → length bytes ≤ most_read → Step told calls x (on_stream (read bytes)) y
+module _ {S P : Type 0} (reports : S → StreamCall → S → Type 0) (calls : P → PortCall → P → Type 0) where
+  pub did_read : (x y : State S P) (bytes : List ℕ) → reports x.stream (read bytes) y.stream → y.port ≡ x.port → y.unread ≡ x.unread ++ bytes → y.pending ≡ x.pending → y.met ≡ x.met → y.told ≡ x.told → y.over ≡ x.over → y.owes ≡ x.owes → x.over ≡ false → length bytes ≤ most_read → Step reports calls x (on_stream (read bytes)) y
   did_read x y bytes step port unread pending met last over owes hearing few = record {
     happened = (step, port);
     lines_kept = sym unread;
@@ -40,7 +40,7 @@ module _ {S P : Type 0} (told : S → StreamCall → S → Type 0) (calls : P �
     hears = λ was. absurd (true≢false (sym was ∙ hearing));
   }
 
-  pub did_meet_end : (x y : State S P) → told x.stream met_end y.stream → y.port ≡ x.port → y.unread ≡ x.unread → y.pending ≡ x.pending → y.met ≡ true → y.told ≡ x.told → y.over ≡ x.over → y.owes ≡ true → x.over ≡ false → Step told calls x (on_stream met_end) y
+  pub did_meet_end : (x y : State S P) → reports x.stream met_end y.stream → y.port ≡ x.port → y.unread ≡ x.unread → y.pending ≡ x.pending → y.met ≡ true → y.told ≡ x.told → y.over ≡ x.over → y.owes ≡ true → x.over ≡ false → Step reports calls x (on_stream met_end) y
   did_meet_end x y step port unread pending met last over owes hearing = record {
     happened = (step, port);
     lines_kept = append-nil x.unread ∙ sym unread;
@@ -55,7 +55,7 @@ module _ {S P : Type 0} (told : S → StreamCall → S → Type 0) (calls : P �
     hears = λ was. absurd (true≢false (sym was ∙ hearing));
   }
 
-  pub did_fail_to_read : (x y : State S P) → told x.stream read_failed y.stream → y.port ≡ x.port → y.unread ≡ x.unread → y.pending ≡ x.pending → y.met ≡ x.met → y.told ≡ x.told → y.over ≡ x.over → y.owes ≡ x.owes → x.over ≡ false → Step told calls x (on_stream read_failed) y
+  pub did_fail_to_read : (x y : State S P) → reports x.stream read_failed y.stream → y.port ≡ x.port → y.unread ≡ x.unread → y.pending ≡ x.pending → y.met ≡ x.met → y.told ≡ x.told → y.over ≡ x.over → y.owes ≡ x.owes → x.over ≡ false → Step reports calls x (on_stream read_failed) y
   did_fail_to_read x y step port unread pending met last over owes hearing = record {
     happened = (step, port);
     lines_kept = append-nil x.unread ∙ sym unread;
@@ -70,7 +70,7 @@ module _ {S P : Type 0} (told : S → StreamCall → S → Type 0) (calls : P �
     hears = λ was. absurd (true≢false (sym was ∙ hearing));
   }
 
-  pub did_write : (x y : State S P) (bytes : List ℕ) → told x.stream (wrote bytes) y.stream → y.port ≡ x.port → y.unread ≡ x.unread → x.pending ≡ bytes ++ y.pending → y.met ≡ x.met → y.told ≡ x.told → y.over ≡ x.over → y.owes ≡ x.owes → Step told calls x (on_stream (wrote bytes)) y
+  pub did_write : (x y : State S P) (bytes : List ℕ) → reports x.stream (wrote bytes) y.stream → y.port ≡ x.port → y.unread ≡ x.unread → x.pending ≡ bytes ++ y.pending → y.met ≡ x.met → y.told ≡ x.told → y.over ≡ x.over → y.owes ≡ x.owes → Step reports calls x (on_stream (wrote bytes)) y
   did_write x y bytes step port unread pending met last over owes = record {
     happened = (step, port);
     lines_kept = append-nil x.unread ∙ sym unread;
@@ -85,7 +85,7 @@ module _ {S P : Type 0} (told : S → StreamCall → S → Type 0) (calls : P �
     hears = λ was. tt {0};
   }
 
-  pub did_fail_to_write : (x y : State S P) → told x.stream write_failed y.stream → y.port ≡ x.port → y.unread ≡ x.unread → y.pending ≡ x.pending → y.met ≡ x.met → y.told ≡ x.told → y.over ≡ x.over → y.owes ≡ x.owes → Step told calls x (on_stream write_failed) y
+  pub did_fail_to_write : (x y : State S P) → reports x.stream write_failed y.stream → y.port ≡ x.port → y.unread ≡ x.unread → y.pending ≡ x.pending → y.met ≡ x.met → y.told ≡ x.told → y.over ≡ x.over → y.owes ≡ x.owes → Step reports calls x (on_stream write_failed) y
   did_fail_to_write x y step port unread pending met last over owes = record {
     happened = (step, port);
     lines_kept = append-nil x.unread ∙ sym unread;
@@ -100,7 +100,7 @@ module _ {S P : Type 0} (told : S → StreamCall → S → Type 0) (calls : P �
     hears = λ was. tt {0};
   }
 
-  pub did_hand : (x y : State S P) (line : List ℕ) (verdict : Verdict) → calls x.port (handed line verdict) y.port → y.stream ≡ x.stream → x.unread ≡ line ++ lf ∷ y.unread → IsLine line → y.pending ≡ x.pending → y.met ≡ x.met → y.told ≡ x.told → y.over ≡ over_by x.over (on_port (handed line verdict)) → y.owes ≡ true → x.pending ≡ [] → x.over ≡ false → Step told calls x (on_port (handed line verdict)) y
+  pub did_hand : (x y : State S P) (line : List ℕ) (verdict : Verdict) → calls x.port (handed line verdict) y.port → y.stream ≡ x.stream → x.unread ≡ line ++ lf ∷ y.unread → IsLine line → y.pending ≡ x.pending → y.met ≡ x.met → y.told ≡ x.told → y.over ≡ over_by x.over (on_port (handed line verdict)) → y.owes ≡ true → x.pending ≡ [] → x.over ≡ false → Step reports calls x (on_port (handed line verdict)) y
   did_hand x y line verdict step stream unread is pending met last over owes none hearing = record {
     happened = (step, stream);
     lines_kept = append-nil x.unread ∙ unread ∙ sym (append_assoc line (lf ∷ []) y.unread) ∙ ap (λ front. front ++ y.unread) (sym (append-nil (line ++ lf ∷ [])));
@@ -115,7 +115,7 @@ module _ {S P : Type 0} (told : S → StreamCall → S → Type 0) (calls : P �
     hears = λ was. absurd (true≢false (sym was ∙ hearing));
   }
 
-  pub did_take : (x y : State S P) (count : ℕ) (bytes : List ℕ) (taken : Taken) → calls x.port (took count bytes taken) y.port → y.stream ≡ x.stream → y.unread ≡ x.unread → y.pending ≡ x.pending ++ bytes → y.met ≡ x.met → y.told ≡ Some taken → y.over ≡ x.over → y.owes ≡ leb count taken.lines → x.pending ≡ [] → Step told calls x (on_port (took count bytes taken)) y
+  pub did_take : (x y : State S P) (count : ℕ) (bytes : List ℕ) (taken : Taken) → calls x.port (took count bytes taken) y.port → y.stream ≡ x.stream → y.unread ≡ x.unread → y.pending ≡ x.pending ++ bytes → y.met ≡ x.met → y.told ≡ Some taken → y.over ≡ x.over → y.owes ≡ leb count taken.lines → x.pending ≡ [] → Step reports calls x (on_port (took count bytes taken)) y
   did_take x y count bytes taken step stream unread pending met last over owes none = record {
     happened = (step, stream);
     lines_kept = append-nil x.unread ∙ sym unread;
@@ -130,7 +130,7 @@ module _ {S P : Type 0} (told : S → StreamCall → S → Type 0) (calls : P �
     hears = λ was. tt {0};
   }
 
-  pub was_refused : (x y : State S P) → calls x.port refused y.port → y.stream ≡ x.stream → y.unread ≡ x.unread → y.pending ≡ x.pending → y.met ≡ x.met → y.told ≡ x.told → y.over ≡ x.over → y.owes ≡ true → x.pending ≡ [] → Step told calls x (on_port refused) y
+  pub was_refused : (x y : State S P) → calls x.port refused y.port → y.stream ≡ x.stream → y.unread ≡ x.unread → y.pending ≡ x.pending → y.met ≡ x.met → y.told ≡ x.told → y.over ≡ x.over → y.owes ≡ true → x.pending ≡ [] → Step reports calls x (on_port refused) y
   was_refused x y step stream unread pending met last over owes none = record {
     happened = (step, stream);
     lines_kept = append-nil x.unread ∙ sym unread;
@@ -145,8 +145,8 @@ module _ {S P : Type 0} (told : S → StreamCall → S → Type 0) (calls : P �
     hears = λ was. tt {0};
   }
 
-  pub Moves-append : (before events : List Event) (x y z : State S P) → Moves told calls x before y → Moves told calls y events z → Moves told calls x (before ++ events) z
-  Moves-append = Runs-append (Step told calls)
+  pub Moves-append : (before events : List Event) (x y z : State S P) → Moves reports calls x before y → Moves reports calls y events z → Moves reports calls x (before ++ events) z
+  Moves-append = Runs-append (Step reports calls)
 
 pub EndsWith-append : {A : Type 0} (last : A) (before all : List A) → EndsWith last all → EndsWith last (before ++ all)
 EndsWith-append last before all ends = (before ++ ends.0, ap (λ es. before ++ es) ends.1 ∙ sym (append_assoc before ends.0 (last ∷ [])))
@@ -159,12 +159,12 @@ EndsAs-append ends.WriteFailed before events z is = EndsWith-append (on_stream w
 EndsAs-append ends.TooLong before events z is = is
 EndsAs-append ends.Memory before events z is = is
 
-module _ {S P : Type 0} (told : S → StreamCall → S → Type 0) (calls : P → PortCall → P → Type 0) where
-  pub FinishesIn-append : (n m most : ℕ) (x y : State S P) (end : End) (stream : S) (port : P) → n + m ≤ most → MovesIn told calls n x y → FinishesIn told calls m y end stream port → FinishesIn told calls most x end stream port
+module _ {S P : Type 0} (reports : S → StreamCall → S → Type 0) (calls : P → PortCall → P → Type 0) where
+  pub FinishesIn-append : (n m most : ℕ) (x y : State S P) (end : End) (stream : S) (port : P) → n + m ≤ most → MovesIn reports calls n x y → FinishesIn reports calls m y end stream port → FinishesIn reports calls most x end stream port
   FinishesIn-append n m most x y end stream port enough first last = (
     first.0 ++ last.0,
     last.1,
-    Moves-append told calls first.0 last.0 x y last.1 first.1 last.2,
+    Moves-append reports calls first.0 last.0 x y last.1 first.1 last.2,
     EndsAs-append end first.0 last.0 last.1 last.3,
     last.4,
     last.5,
@@ -173,7 +173,7 @@ module _ {S P : Type 0} (told : S → StreamCall → S → Type 0) (calls : P �
   )
 
   -- what may come out of a later state may come out of an earlier one
-  pub Gives-append : {Left : Type 0} (leaves : P → Left → Type 0) (n : ℕ) (x y : State S P) (end : End) (stream : S) (left : Left) → MovesIn told calls n x y → Gives told calls leaves y end stream left → Gives told calls leaves x end stream left
+  pub Gives-append : {Left : Type 0} (leaves : P → Left → Type 0) (n : ℕ) (x y : State S P) (end : End) (stream : S) (left : Left) → MovesIn reports calls n x y → Gives reports calls leaves y end stream left → Gives reports calls leaves x end stream left
   Gives-append leaves n x y end stream left first gives =
       (n + gives.0, gives.1, FinishesIn-append n gives.0 (n + gives.0) x y end stream gives.1 (omega arith) first gives.2, gives.3)
 

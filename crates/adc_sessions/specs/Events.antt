@@ -54,10 +54,10 @@ abbrev pub Runs : {A C : Type 0} → (A → C → A → Type 0) → A → List C
 Runs step a [] b = a ≡ b
 Runs {A} step a (call ∷ calls) b = (m : A) × step a call m × Runs step m calls b
 
-module _ {S P : Type 0} (told : S → StreamCall → S → Type 0) (calls : P → PortCall → P → Type 0) where
+module _ {S P : Type 0} (reports : S → StreamCall → S → Type 0) (calls : P → PortCall → P → Type 0) where
   -- one call, which leaves the other side as it was
   abbrev pub Happens : S → P → Event → S → P → Type 0
-  Happens s p (on_stream call) s' p' = told s call s' × (p' ≡ p)
+  Happens s p (on_stream call) s' p' = reports s call s' × (p' ≡ p)
   Happens s p (on_port call) s' p' = calls p call p' × (s' ≡ s)
 
   -- one call after another
@@ -155,24 +155,24 @@ CallsWhenWritten count [] = ⊤
 CallsWhenWritten count (event ∷ events) = (IsOfPort event → count ≡ 0) × CallsWhenWritten (waiting_by count event) events
 
 -- a call that failed, or was refused
-abbrev pub IsFault : Event → Type 0
-IsFault (on_stream (read bytes)) = ⊥
-IsFault (on_stream met_end) = ⊥
-IsFault (on_stream read_failed) = ⊤
-IsFault (on_stream (wrote bytes)) = ⊥
-IsFault (on_stream write_failed) = ⊤
-IsFault (on_port (handed line verdict)) = ⊥
-IsFault (on_port (took count bytes taken)) = ⊥
-IsFault (on_port refused) = ⊤
+abbrev pub IsFailedCall : Event → Type 0
+IsFailedCall (on_stream (read bytes)) = ⊥
+IsFailedCall (on_stream met_end) = ⊥
+IsFailedCall (on_stream read_failed) = ⊤
+IsFailedCall (on_stream (wrote bytes)) = ⊥
+IsFailedCall (on_stream write_failed) = ⊤
+IsFailedCall (on_port (handed line verdict)) = ⊥
+IsFailedCall (on_port (took count bytes taken)) = ⊥
+IsFailedCall (on_port refused) = ⊤
 
 abbrev pub HasNoFault : List Event → Type 0
 HasNoFault [] = ⊤
-HasNoFault (event ∷ events) = (IsFault event → ⊥) × HasNoFault events
+HasNoFault (event ∷ events) = (IsFailedCall event → ⊥) × HasNoFault events
 
 -- nothing comes after a call that failed or was refused
 abbrev pub StopsAtFault : List Event → Type 0
 StopsAtFault [] = ⊤
-StopsAtFault (event ∷ events) = (IsFault event → events ≡ []) × StopsAtFault events
+StopsAtFault (event ∷ events) = (IsFailedCall event → events ≡ []) × StopsAtFault events
 
 -- what all events make of a value
 abbrev pub after : {A : Type 0} → (A → Event → A) → A → List Event → A

@@ -1,5 +1,5 @@
 pub mod Accepted
-pub mod Accepting
+pub mod AcceptEnds
 pub mod Acts
 pub mod Arrivals
 pub mod Events

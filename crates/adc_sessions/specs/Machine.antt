@@ -21,10 +21,10 @@ pub record State (S P : Type 0) : Type 0 where
   pub over : Bool
   pub owes : Bool
 
-module _ {S P : Type 0} (told : S → StreamCall → S → Type 0) (calls : P → PortCall → P → Type 0) where
+module _ {S P : Type 0} (reports : S → StreamCall → S → Type 0) (calls : P → PortCall → P → Type 0) where
   -- one call: no byte is lost or made up between what comes in and what goes out
   pub record Step (a : State S P) (event : Event) (b : State S P) : Type 0 where
-    pub happened : Happens told calls a.stream a.port event b.stream b.port
+    pub happened : Happens reports calls a.stream a.port event b.stream b.port
     pub lines_kept : a.unread ++ bytes_read event ≡ joined_lines (lines_handed event) ++ b.unread
     pub bytes_kept : a.pending ++ bytes_taken event ≡ bytes_written event ++ b.pending
     pub are_lines : All IsLine (lines_handed event)
@@ -57,7 +57,7 @@ EndsAs ends.WriteFailed events state = EndsWith (on_stream write_failed) events
 EndsAs ends.TooLong events state = (max_line < length state.unread) × HasNoLf (take (max_line + 1) state.unread)
 EndsAs ends.Memory events state = ⊤
 
-module _ {S P : Type 0} (told : S → StreamCall → S → Type 0) (calls : P → PortCall → P → Type 0) where
+module _ {S P : Type 0} (reports : S → StreamCall → S → Type 0) (calls : P → PortCall → P → Type 0) where
   -- from a state on, an end is come to with this stream and this port, by at most so many calls
   abbrev pub FinishesIn : ℕ → State S P → End → S → P → Type 0
   FinishesIn most a end stream port =

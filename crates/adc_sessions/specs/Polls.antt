@@ -4,10 +4,10 @@ use Rattle.futures.specs.declared.task.Poll.{Poll}
 use Rattle.futures.specs.declared.task.Poll.TheVariants.{Ready, Pending}
 use Rattle.adc_line.specs.Frames.{HasNoLf}
 use Rattle.adc_sessions.specs.declared.ending.End.{End}
-use Rattle.adc_sessions.specs.declared.live.Turn.{Turn}
-use Rattle.adc_sessions.specs.declared.live.Turn.TheVariants.{Again, Rest, Over}
+use Rattle.adc_sessions.specs.declared.running.Turn.{Turn}
+use Rattle.adc_sessions.specs.declared.running.Turn.TheVariants.{Again, Rest, Over}
 use Rattle.adc_sessions.specs.Events.{StreamCall, PortCall, read, wrote, on_stream, Runs, IsCaughtUp, HasNoFault, StopsAtFault, EndsWith, TakesFirst}
-use Rattle.adc_sessions.specs.Acts.{BellCall, Act, did, on_bell, events_of, fresh_after, rung_after, may_after, reads_after, untold_after, full_after, TellsBell, IsTake, IsHandOver, IsRead, MayBegin, TellsNothing}
+use Rattle.adc_sessions.specs.Acts.{BellCall, SessionAct, did, on_bell, events_of, fresh_after, rung_after, may_after, reads_after, untold_after, full_after, TellsBell, IsTake, IsHandOver, IsReadAct, MayBegin, TellsNothing}
 use Rattle.adc_sessions.specs.Machine.{State, Step, LastTook, EndsAs}
 
 -- what the session holds, and its bell; whether the port was not called yet in this poll; whether the bell had been rung when it was last heard in
@@ -43,7 +43,7 @@ most_kept = 512
 
 -- the reason for which nothing more is read now: a read was tried last, and had to wait; or the port hears nothing more; or the bell said that no line
 -- may be handed over
-abbrev pub ReadsNoMore : {S P B : Type 0} → List Act → Polled S P B → Type 0
+abbrev pub ReadsNoMore : {S P B : Type 0} → List SessionAct → Polled S P B → Type 0
 ReadsNoMore acts b = EndsWith (did (on_stream (read []))) acts ⊎ ((b.state.over ≡ true) ⊎ (b.may_hand ≡ Some false))
 
 -- a take may follow a take with no read between them: the port hears nothing more; or the input is over, and no whole line waits; or the bell said that
@@ -57,13 +57,13 @@ WantsTake a =
     (a.state.owes ≡ true)
     ⊎ ((a.rung ≡ Some true) ⊎ ((a.state.met ≡ true) × HasNoLf a.state.unread × (LastTook a.state (λ taken. taken.lines ≡ 0) → ⊥)))
 
-module _ {S P B : Type 0} (told : S → StreamCall → S → Type 0) (calls : P → PortCall → P → Type 0) (hears : B → BellCall → B → Type 0) where
-  abbrev pub Acted : Polled S P B → Act → Polled S P B → Type 0
-  Acted a (did event) b = Step told calls a.state event b.state × (b.bell ≡ a.bell)
+module _ {S P B : Type 0} (reports : S → StreamCall → S → Type 0) (calls : P → PortCall → P → Type 0) (hears : B → BellCall → B → Type 0) where
+  abbrev pub Acted : Polled S P B → SessionAct → Polled S P B → Type 0
+  Acted a (did event) b = Step reports calls a.state event b.state × (b.bell ≡ a.bell)
   Acted a (on_bell call) b = hears a.bell call b.bell × (b.state ≡ a.state)
 
   -- one call, and the rules that all calls of a poll keep
-  pub record Acts (a : Polled S P B) (act : Act) (b : Polled S P B) : Type 0 where
+  pub record Acts (a : Polled S P B) (act : SessionAct) (b : Polled S P B) : Type 0 where
     pub acted : Acted a act b
     pub fresh_kept : b.fresh ≡ fresh_after a.fresh act
     pub rung_kept : b.rung ≡ rung_after a.rung act
@@ -80,7 +80,7 @@ module _ {S P B : Type 0} (told : S → StreamCall → S → Type 0) (calls : P 
     -- each further take of a poll is wanted
     pub takes_for : IsTake act → a.fresh ≡ false → WantsTake a
     -- nothing is read while a whole line waits, or behind the end of the input
-    pub reads_on : IsRead act → HasNoLf a.state.unread × (a.state.met ≡ false)
+    pub reads_on : IsReadAct act → HasNoLf a.state.unread × (a.state.met ≡ false)
     -- nothing is read and no line is handed over where the bell said that no line may be
     pub waits_for_bell : a.may_hand ≡ Some false → TellsNothing act
     -- the bell is asked before each line that is handed over, and says that it may be
@@ -90,11 +90,11 @@ module _ {S P B : Type 0} (told : S → StreamCall → S → Type 0) (calls : P 
 
   -- exactly so many calls of the stream and the port
   abbrev pub ActsBy : ℕ → Polled S P B → Polled S P B → Type 0
-  ActsBy count a b = (acts : List Act) × Runs Acts a acts b × (length (events_of acts) ≡ count) × HasNoFault (events_of acts)
+  ActsBy count a b = (acts : List SessionAct) × Runs Acts a acts b × (length (events_of acts) ≡ count) × HasNoFault (events_of acts)
 
   -- The reason for which a turn rests: the stream would not take what waits to be written; or all is written, the port has no more to give, the bell had
   -- not been rung when it was heard in this poll, and nothing more is read now.
-  abbrev pub Rests : List Act → Polled S P B → Type 0
+  abbrev pub Rests : List SessionAct → Polled S P B → Type 0
   Rests acts b =
       (EndsWith (did (on_stream (wrote []))) acts × (b.state.pending ≢ []))
       ⊎ ((b.state.pending ≡ []) × (b.state.owes ≡ false) × (b.fresh ≡ false) × (b.rung ≡ Some false) × ReadsNoMore acts b)
@@ -102,19 +102,19 @@ module _ {S P B : Type 0} (told : S → StreamCall → S → Type 0) (calls : P 
   -- a session comes to this end with this stream and this port, by at most so many calls
   abbrev pub PollEnds : ℕ → Polled S P B → End → S → P → Type 0
   PollEnds most a end stream port =
-      (acts : List Act) × (b : Polled S P B) × Runs Acts a acts b × EndsAs end (events_of acts) b.state × (b.state.stream ≡ stream) × (b.state.port ≡ port)
+      (acts : List SessionAct) × (b : Polled S P B) × Runs Acts a acts b × EndsAs end (events_of acts) b.state × (b.state.stream ≡ stream) × (b.state.port ≡ port)
       × (length (events_of acts) ≤ most) × StopsAtFault (events_of acts)
 
   -- one turn makes at most one call of the stream or the port, and exactly one where another may follow
   abbrev pub Turned : Polled S P B → Turn → Polled S P B → Type 0
   Turned a Again b = ActsBy 1 a b
-  Turned a Rest b = (acts : List Act) × Runs Acts a acts b × (length (events_of acts) ≤ 1) × HasNoFault (events_of acts) × Rests acts b
+  Turned a Rest b = (acts : List SessionAct) × Runs Acts a acts b × (length (events_of acts) ≤ 1) × HasNoFault (events_of acts) × Rests acts b
   Turned a (Over end) b = PollEnds 1 a end b.state.stream b.state.port
 
   -- The reason for which a poll ends, which made at most so many calls: it made them all, and the task is woken; or the stream would not take what waits
   -- to be written; or all is written, the port has no more to give, the bell had not been rung when it was heard in this poll, nothing more is read now, and
   -- little room is kept.
-  abbrev pub Pauses : Bool → ℕ → ℕ → List Act → Polled S P B → Type 0
+  abbrev pub Pauses : Bool → ℕ → ℕ → List SessionAct → Polled S P B → Type 0
   Pauses is_woken room most acts b =
       ((length (events_of acts) ≡ most) × (is_woken ≡ true))
       ⊎ ((EndsWith (did (on_stream (wrote []))) acts × (b.state.pending ≢ []))
@@ -123,7 +123,7 @@ module _ {S P B : Type 0} (told : S → StreamCall → S → Type 0) (calls : P 
   -- a poll that is pending, which began in one state and left another
   abbrev pub PausesIn : Bool → ℕ → ℕ → Polled S P B → Polled S P B → Type 0
   PausesIn is_woken room most a b =
-      (acts : List Act) × Runs Acts a acts b × (length (events_of acts) ≤ most) × HasNoFault (events_of acts) × TakesFirst true (events_of acts)
+      (acts : List SessionAct) × Runs Acts a acts b × (length (events_of acts) ≤ most) × HasNoFault (events_of acts) × TakesFirst true (events_of acts)
       × Pauses is_woken room most acts b
 
   -- one poll makes at most so many calls

@@ -30,18 +30,18 @@ abbrev pub IsTooLong : List Event → Type 0
 IsTooLong events = (rest : List ℕ) × (all_read events ≡ joined_lines (all_handed events) ++ rest) × (max_line < length rest) × HasNoLf (take (max_line + 1) rest)
 
 -- why a session ended
-abbrev pub Cause : End → List Event → Type 0
-Cause ends.Closed events = IsDrained events
-Cause ends.Ended events = IsSomeAnd (after told_by None events) (λ taken. taken.ended ≡ true)
-Cause ends.ReadFailed events = EndsWith (on_stream read_failed) events
-Cause ends.WriteFailed events = EndsWith (on_stream write_failed) events
-Cause ends.TooLong events = IsTooLong events
-Cause ends.Memory events = ⊤
+abbrev pub IsCauseOf : End → List Event → Type 0
+IsCauseOf ends.Closed events = IsDrained events
+IsCauseOf ends.Ended events = IsSomeAnd (after told_by None events) (λ taken. taken.ended ≡ true)
+IsCauseOf ends.ReadFailed events = EndsWith (on_stream read_failed) events
+IsCauseOf ends.WriteFailed events = EndsWith (on_stream write_failed) events
+IsCauseOf ends.TooLong events = IsTooLong events
+IsCauseOf ends.Memory events = ⊤
 
 -- what these events of a session come to that was made over this stream and ended with that, in the words of the stream alone
-pub record Conversed {S : Type 0} (told : S → StreamCall → S → Type 0) (stream : S) (end : End) (stream' : S) (events : List Event) : Type 0 where
+pub record Conversed {S : Type 0} (reports : S → StreamCall → S → Type 0) (stream : S) (end : End) (stream' : S) (events : List Event) : Type 0 where
   -- all calls of the stream, in order
-  pub streams : Runs told stream (stream_calls events) stream'
+  pub streams : Runs reports stream (stream_calls events) stream'
   -- the lines handed over are the first lines of the bytes read
   pub first_lines : (more : List (List ℕ)) × (lines (all_read events) ≡ all_handed events ++ more)
   pub all_lines : handed_all end ≡ true → lines (all_read events) ≡ all_handed events
@@ -56,12 +56,12 @@ pub record Conversed {S : Type 0} (told : S → StreamCall → S → Type 0) (st
   pub stops : StopsAtFault events
   -- once the port said that it hears nothing more, nothing is read and no line is handed over
   pub silent : FallsSilent false events
-  pub cause : Cause end events
+  pub cause : IsCauseOf end events
 
 -- what a session that was made of this stream and this port ends with: its end, the stream and what its port left
-pub record Served {S P Left : Type 0} (told : S → StreamCall → S → Type 0) (calls : P → PortCall → P → Type 0) (leaves : P → Left → Type 0) (stream : S) (port : P) (end : End) (stream' : S) (left : Left) : Type 0 where
+pub record Served {S P Left : Type 0} (reports : S → StreamCall → S → Type 0) (calls : P → PortCall → P → Type 0) (leaves : P → Left → Type 0) (stream : S) (port : P) (end : End) (stream' : S) (left : Left) : Type 0 where
   pub events : List Event
-  pub conversed : Conversed told stream end stream' events
+  pub conversed : Conversed reports stream end stream' events
   pub port' : P
   -- all calls of the port, in order; then the port was left
   pub called : Runs calls port (port_calls events) port'
@@ -69,5 +69,5 @@ pub record Served {S P Left : Type 0} (told : S → StreamCall → S → Type 0)
 
 -- whatever a session of this stream and this port ends with, that holds of it
 abbrev pub Serves : {S P Left : Type 0} → (S → StreamCall → S → Type 0) → (P → PortCall → P → Type 0) → (P → Left → Type 0) → S → P → (End × S × Left → Type 0) → Type 0
-Serves {S} {P} {Left} told calls leaves stream port gives =
-    (end : End) (stream' : S) (left : Left) → gives (end, stream', left) → Served told calls leaves stream port end stream' left
+Serves {S} {P} {Left} reports calls leaves stream port gives =
+    (end : End) (stream' : S) (left : Left) → gives (end, stream', left) → Served reports calls leaves stream port end stream' left

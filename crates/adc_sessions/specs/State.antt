@@ -1,7 +1,7 @@
 -- The state of a session that runs, read off its fields.
 use Rattle.std.specs.Prelude.{◌∷◌, ◌++◌, ℕ, true, false, List, [], None, drop}
 use Rattle.std.specs.Vec.{vec_capacity}
-use Rattle.adc_sessions.specs.declared.live.Live.{Live}
+use Rattle.adc_sessions.specs.declared.running.Live.{Live}
 use Rattle.adc_line.specs.Frames.{lf}
 use Rattle.adc_sessions.specs.Machine.{State}
 use Rattle.adc_sessions.specs.Polls.{Polled, poll_begins}
@@ -13,7 +13,7 @@ state_of live = record {
   unread = live.framer;
   pending = drop live.written live.output.items;
   met = live.has_met_end;
-  told = live.taken;
+  reports = live.taken;
   over = live.is_over;
   owes = live.owes_take;
 }
@@ -47,7 +47,7 @@ fresh stream port = record {
   unread = [];
   pending = [];
   met = false;
-  told = None;
+  reports = None;
   over = false;
   owes = true;
 }

@@ -55,7 +55,7 @@ impl<I: Drop, T: Drop> Drop for Accept<I, T> {
 }
 
 impl<I: Incoming, T: Starter<I::Stream>> Accept<I, T> {
-    ghost use Rattle.adc_sessions.specs.Accepting.{incoming_of, starter_of, left_of, faults_of, AcceptsIn, OverBy};
+    ghost use Rattle.adc_sessions.specs.AcceptEnds.{incoming_of, starter_of, left_of, faults_of, AcceptsIn, OverBy};
     ghost use Rattle.adc_sessions.specs.Accepted.{Accepted};
 
     /// Accepts so many streams, or without end where no number is given. What comes of it stands in `serves` (definitions in
@@ -107,7 +107,7 @@ impl<I: Incoming, T: Starter<I::Stream>> Accept<I, T> {
 }
 
 impl<I: Incoming, T: Starter<I::Stream>> Future for Accept<I, T> {
-    ghost use Rattle.adc_sessions.specs.Accepting.{AcceptsIn, OverBy, AcceptGives};
+    ghost use Rattle.adc_sessions.specs.AcceptEnds.{AcceptsIn, OverBy, AcceptGives};
 
     type Output = AcceptEnd;
 

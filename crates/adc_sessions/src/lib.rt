@@ -5,8 +5,8 @@ mod accept;
 mod bell;
 mod ending;
 mod incoming;
-mod live;
 mod port;
+mod running;
 mod session;
 mod stream;
 

@@ -5,8 +5,8 @@ ghost use Rattle.adc_sessions.specs.Served.{Serves};
 
 use crate::bell::Bell;
 use crate::ending::{End, SessionRefused};
-use crate::live::Live;
 use crate::port::Port;
+use crate::running::Live;
 use crate::stream::Stream;
 use futures::Future;
 use futures::task::{Context, Poll};
@@ -53,7 +53,7 @@ impl<S: AsyncRead + AsyncWrite, P: Port, B: Bell> Session<S, P, B> {
         port: P,
         bell: B,
     ) -> Result<Session<S, P, B>, (SessionRefused, S, P, B)>
-        ensures serves { IfOk result (λ session. Serves ⟦<S as Stream>⟧.told P.step P.leaves stream port (⟦<Session<S, P, B> as Future>⟧.gives session)) }
+        ensures serves { IfOk result (λ session. Serves ⟦<S as Stream>⟧.reports P.step P.leaves stream port (⟦<Session<S, P, B> as Future>⟧.gives session)) }
         ensures back { IfErr result (λ back. (back.1 ≡ stream) × (back.2 ≡ port) × (back.3 ≡ bell)) }
     {
         let Ok(input) = input(alloc) else {
@@ -76,7 +76,7 @@ impl<S: AsyncRead + AsyncWrite, P: Port, B: Bell> Future for Session<S, P, B> {
 
     type Output = (End, S, P::Left);
 
-    ghost gives = { λ session out. SessionGives ⟦<S as Stream>⟧.told P.step P.leaves session out };
+    ghost gives = { λ session out. SessionGives ⟦<S as Stream>⟧.reports P.step P.leaves session out };
 
     /// Makes at most 64 calls of the stream and the port together: so it hands over at most 64 lines and writes
     /// at most 64 times. The first call that is no write is a take, before which the bell is heard. Where it is pending, it has
@@ -85,10 +85,10 @@ impl<S: AsyncRead + AsyncWrite, P: Port, B: Bell> Future for Session<S, P, B> {
     /// rung; and a read had to wait, the port hears nothing more, or the bell holds lines back. The rules of its calls stand in
     /// `specs/Polls`. After the end it does nothing but ask to be polled again.
     fn poll(&mut self, cx: &mut Context<'_>) -> Poll<Self::Output>
-        ensures value { IfReady result (λ out. SessionGives ⟦<S as Stream>⟧.told P.step P.leaves self.old out) }
-        ensures same { OnPending result (GivesAsBefore ⟦<S as Stream>⟧.told P.step P.leaves self.old self.new) }
-        ensures ends_in_few { IfReady result (λ out. EndsIn ⟦<S as Stream>⟧.told P.step B.hears P.leaves 64 self.old out) }
-        ensures goes_on_in_few { OnPending result (GoesOnIn ⟦<S as Stream>⟧.told P.step B.hears 64 cx.new self.old self.new) }
+        ensures value { IfReady result (λ out. SessionGives ⟦<S as Stream>⟧.reports P.step P.leaves self.old out) }
+        ensures same { OnPending result (GivesAsBefore ⟦<S as Stream>⟧.reports P.step P.leaves self.old self.new) }
+        ensures ends_in_few { IfReady result (λ out. EndsIn ⟦<S as Stream>⟧.reports P.step B.hears P.leaves 64 self.old out) }
+        ensures goes_on_in_few { OnPending result (GoesOnIn ⟦<S as Stream>⟧.reports P.step B.hears 64 cx.new self.old self.new) }
         ensures registered { OnPending result (IsArmed cx.new) }
         ensures kept { Keeps cx.old cx.new }
     {

@@ -1,7 +1,7 @@
 ghost use Rattle.std.specs.Prelude.{◌≡◌, ℕ, List, IfOk};
 ghost use Rattle.feature_route.specs.Matching.{feature_set, has};
 
-use crate::features::Features;
+use crate::features::FeatureSource;
 use std::alloc::{AllocError, Global};
 use std::collections::BTreeSet;
 use std::marker::Model;
@@ -39,7 +39,7 @@ impl FeatureSet {
     }
 }
 
-impl Features for FeatureSet {
+impl FeatureSource for FeatureSet {
     ghost words = { λ set. set };
 
     fn has(&self, name: [u8; 4]) -> bool {

@@ -2,7 +2,7 @@ ghost use Rattle.std.specs.Prelude.{◌≡◌, ℕ, List};
 ghost use Rattle.feature_route.specs.Matching.{has};
 
 /// A source of a user's features: the text of the field SU, or a set made of it.
-pub(crate) trait Features {
+pub(crate) trait FeatureSource {
     ghost words: { Self → List (List ℕ) };
 
     /// Tests whether a feature is among them.

@@ -1,7 +1,7 @@
 ghost use Rattle.std.specs.Prelude.{◌≡◌};
 ghost use Rattle.feature_route.specs.Matching.{has, su_words};
 
-use crate::features::Features;
+use crate::features::FeatureSource;
 
 /// The text of the field SU.
 #[derive(Clone, Copy)]
@@ -9,7 +9,7 @@ pub(crate) struct Su<'a> {
     pub(crate) text: &'a str,
 }
 
-impl<'a> Features for Su<'a> {
+impl<'a> FeatureSource for Su<'a> {
     ghost words = { λ su. su_words su.text.now };
 
     fn has(&self, name: [u8; 4]) -> bool {

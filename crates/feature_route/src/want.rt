@@ -4,7 +4,7 @@ ghost use Rattle.feature_route.specs.Wants.{want_at, wants_of};
 ghost use Rattle.feature_route.specs.Matching.{feature_set, matches, meets, suits};
 
 use crate::feature_set::FeatureSet;
-use crate::features::Features;
+use crate::features::FeatureSource;
 use crate::su::Su;
 use adc_line::is_feature_word;
 use std::marker::Model;
@@ -67,7 +67,7 @@ impl<'a> Want<'a> {
 }
 
 /// Tests whether the features are as a feature word wants them.
-fn meets<F: Features>(word: &[u8], features: &F) -> bool
+fn meets<F: FeatureSource>(word: &[u8], features: &F) -> bool
     ensures { result ≡ meets (wants_of word.now) (F.words features.now) }
 {
     let mut rest = word;

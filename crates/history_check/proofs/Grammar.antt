@@ -7,9 +7,9 @@ use Rattle.std.specs.Str.{bytes_eq}
 use Rattle.adc_base32.specs.Spelled.{spelled_bytes}
 use Rattle.history_check.proofs.Bytes.{bytes-again, bytes-take, nothing}
 use Rattle.history_check.proofs.Parts.{address-again, address-no-blank, address-takes, challenge-filled, challenge-no-blank, count-again, count-filled, count-takes, number-again, number-filled, number-no-blank, number-some, number-takes}
-use Rattle.history_check.proofs.Splitting.{NoBlank, chosen, chosen-of, same-word, some-of, behind-blank, behind-none, cut, cut-filled, first-all, first-blank}
+use Rattle.history_check.proofs.Splits.{NoBlank, chosen, chosen-of, same-word, some-of, behind-blank, behind-none, cut, cut-filled, first-all, first-blank}
 use Rattle.history_check.specs.Reading.{behind_word, first_word, read_address, read_bytes, read_call, read_count, read_end, read_entry, read_join, read_joined, read_line, read_number, read_quit, read_take, read_verdict}
-use Rattle.history_check.specs.Text.{EndsWith, Writes, WritesCall, WritesJoin, WritesJoinReply, WritesLine, WritesQuit, WritesTake, call_word, end_word, verdict_word, words}
+use Rattle.history_check.specs.Text.{EndsWithWord, Writes, WritesCall, WritesJoin, WritesJoinReply, WritesLine, WritesQuit, WritesTake, call_word, end_word, verdict_word, words}
 use Rattle.hub_rules.specs.declared.history.Call.{Call}
 use Rattle.hub_rules.specs.declared.history.Call.TheVariants.{Join, Line, Quit, Take}
 use Rattle.hub_rules.specs.declared.history.Entry.{Entry}
@@ -20,7 +20,7 @@ use Rattle.hub_rules.specs.declared.history.Verdict.TheVariants.{Kept, Ended}
 
 -- ---- bytes behind the last word
 
-pub ends-take : (text bytes : List ℕ) → read_bytes (behind_word text) ≡ Some bytes → EndsWith text (first_word text) bytes
+pub ends-take : (text bytes : List ℕ) → read_bytes (behind_word text) ≡ Some bytes → EndsWithWord text (first_word text) bytes
 ends-take text bytes e = elim (cut text) [
   | inl is ↦ inr (behind_word text, is, bytes-take (behind_word text) bytes e)
   | inr is ↦ inl (is.0, sym (nothing bytes (ap read_bytes (sym is.1) ∙ e)))
@@ -30,7 +30,7 @@ none-read : read_bytes [] ≡ Some []
 unfolding read_bytes
 none-read = refl
 
-pub ends-again : (text word bytes : List ℕ) → NoBlank word → EndsWith text word bytes → (first_word text ≡ word) × (read_bytes (behind_word text) ≡ Some bytes)
+pub ends-again : (text word bytes : List ℕ) → NoBlank word → EndsWithWord text word bytes → (first_word text ≡ word) × (read_bytes (behind_word text) ≡ Some bytes)
 ends-again text word bytes none (inl is) = (
   ap first_word is.0 ∙ first-all word none,
   ap (λ (t : List ℕ). read_bytes (behind_word t)) is.0 ∙ ap read_bytes (behind-none word none) ∙ none-read ∙ ap Some (sym is.1),
@@ -170,7 +170,7 @@ line-takes text said e =
     option_and_then_some _ (read_bytes (behind_word t₂)) said e₃ λ bytes is-bytes e₄.
     let second = cut-filled t₁ (verdict-nil t₂ verdict is-verdict) in
     let first = cut-filled text (number-filled t₁ now is-now) ∙ onto-words (first_word text) t₁ _ second in
-    let ends = subst (λ (word : List ℕ). EndsWith t₂ word bytes) (verdict-takes (first_word t₂) verdict is-verdict) (ends-take t₂ bytes is-bytes) in
+    let ends = subst (λ (word : List ℕ). EndsWithWord t₂ word bytes) (verdict-takes (first_word t₂) verdict is-verdict) (ends-take t₂ bytes is-bytes) in
     subst (λ (s : Call × Reply). Called (codes "line") text s) (same_Some _ _ e₄)
     (refl, (verdict, first_word text, first_word t₁, t₂, first, number-takes (first_word text) connection is-connection, number-takes (first_word t₁) now is-now, ends, refl))
 
@@ -258,7 +258,7 @@ take-takes text said e =
     let second = cut-filled t₁ (number-filled t₂ lines is-lines) ∙ onto-words (first_word t₁) t₂ _ third in
     let first = cut-filled text (count-filled t₁ count is-count) ∙ onto-words (first_word text) t₁ _ second in
     let asked = count-takes (first_word t₁) count is-count in
-    let ends = subst (λ (word : List ℕ). EndsWith t₃ word bytes) (end-takes (first_word t₃) ended is-ended) (ends-take t₃ bytes is-bytes) in
+    let ends = subst (λ (word : List ℕ). EndsWithWord t₃ word bytes) (end-takes (first_word t₃) ended is-ended) (ends-take t₃ bytes is-bytes) in
     subst (λ (s : Call × Reply). Called (codes "take") text s) (same_Some _ _ e₅) (
       refl,
       (

@@ -10,8 +10,8 @@ use Rattle.std.specs.List.{All}
 use Rattle.history_check.proofs.Grammar.{one-entry}
 use Rattle.history_check.specs.declared.check.Demand.{Demand}
 use Rattle.history_check.specs.declared.check.Demand.TheVariants.{NoCall, Gives}
-use Rattle.history_check.specs.declared.written.Entry as written
-use Rattle.history_check.specs.Judged.{Demands, IsFault}
+use Rattle.history_check.specs.declared.written.WrittenEntry as written
+use Rattle.history_check.specs.Judged.{Demands, IsFaultAt}
 use Rattle.history_check.specs.Reported.{written_byte, written_bytes}
 use Rattle.history_check.specs.Text.{IsFirstFault, IsHistory, IsNumber, WriteAll, Writes, WritesByte, WritesBytes, entry_lines, hex_digit}
 use Rattle.history_check.specs.Written.{entries_of, entry_of, history_of}
@@ -80,7 +80,7 @@ reverse-around before behind e =
     ∙ ap (λ (h : List Entry). h ++ reverse before) (reverse-append (e ∷ []) behind)
     ∙ append_assoc (reverse behind) (e ∷ []) (reverse before)
 
-pub history-reverse : (es : List written.Entry) (h : List Entry) → history_of es h ≡ reverse (entries_of es) ++ h
+pub history-reverse : (es : List written.WrittenEntry) (h : List Entry) → history_of es h ≡ reverse (entries_of es) ++ h
 unfolding history_of
 history-reverse [] h = refl
 history-reverse (e ∷ es) h =
@@ -91,38 +91,38 @@ history-reverse (e ∷ es) h =
 -- ---- what is at fault
 
 -- an element of a list, between those before it and those behind it
-pub at-place : (es : List written.Entry) (i : ℕ) → i < length es → (e : written.Entry) × (e ≡ get_or es i e) × (es ≡ take i es ++ e ∷ drop (suc i) es)
+pub at-place : (es : List written.WrittenEntry) (i : ℕ) → i < length es → (e : written.WrittenEntry) × (e ≡ get_or es i e) × (es ≡ take i es ++ e ∷ drop (suc i) es)
 at-place [] i within = absurd (omega (arith, within))
 at-place (e ∷ es) zero within = (e, refl, refl)
 at-place (x ∷ es) (suc i) within =
     let found = at-place es i (omega (arith, within)) in
-    (found.0, found.1, ap (λ (xs : List written.Entry). x ∷ xs) found.2)
+    (found.0, found.1, ap (λ (xs : List written.WrittenEntry). x ∷ xs) found.2)
 
-pub not-demanded : (setup : Configured) (hash : List ℕ → List ℕ) (h : List Entry) (e : written.Entry) (demand : Demand) → Demands setup hash h e demand
+pub not-demanded : (setup : Configured) (hash : List ℕ → List ℕ) (h : List Entry) (e : written.WrittenEntry) (demand : Demand) → Demands setup hash h e demand
     → Legal setup hash (entry_of e ∷ h) → ⊥
 not-demanded setup hash h e NoCall demands legal = demands (legal-first setup hash (entry_of e) h legal).0
 not-demanded setup hash h e (Gives other) demands legal = demands.2 ((legal-first setup hash (entry_of e) h legal).1 ∙ sym demands.1)
 
-history-append : (xs ys : List written.Entry) (h : List Entry) → history_of (xs ++ ys) h ≡ history_of ys (history_of xs h)
+history-append : (xs ys : List written.WrittenEntry) (h : List Entry) → history_of (xs ++ ys) h ≡ history_of ys (history_of xs h)
 unfolding history_of
 history-append [] ys h = refl
 history-append (x ∷ xs) ys h = history-append xs ys (entry_of x ∷ h)
 
-history-on : (es : List written.Entry) (h : List Entry) → (newer : List Entry) × (history_of es h ≡ newer ++ h)
+history-on : (es : List written.WrittenEntry) (h : List Entry) → (newer : List Entry) × (history_of es h ≡ newer ++ h)
 history-on es h = (reverse (entries_of es), history-reverse es h)
 
-cons-history : (e : written.Entry) (es : List written.Entry) (h : List Entry) → history_of (e ∷ es) h ≡ history_of es (entry_of e ∷ h)
+cons-history : (e : written.WrittenEntry) (es : List written.WrittenEntry) (h : List Entry) → history_of (e ∷ es) h ≡ history_of es (entry_of e ∷ h)
 unfolding history_of
 cons-history e es h = refl
 
-pub fault-not-legal : (setup : Configured) (hash : List ℕ → List ℕ) (entries : List written.Entry) (place : ℕ) (demand : Demand)
-    → IsFault setup hash entries place demand → Legal setup hash (history_of entries []) → ⊥
+pub fault-not-legal : (setup : Configured) (hash : List ℕ → List ℕ) (entries : List written.WrittenEntry) (place : ℕ) (demand : Demand)
+    → IsFaultAt setup hash entries place demand → Legal setup hash (history_of entries []) → ⊥
 fault-not-legal setup hash entries place demand (within, before, demands) legal =
     let (e, is, parts) = at-place entries place within in
     let h = history_of (take place entries) [] in
     let newer = reverse (entries_of (drop (suc place) entries)) in
     let shown : history_of entries [] ≡ newer ++ entry_of e ∷ h =
-    ap (λ (es : List written.Entry). history_of es []) parts
+    ap (λ (es : List written.WrittenEntry). history_of es []) parts
     ∙ history-append (take place entries) (e ∷ drop (suc place) entries) []
     ∙ cons-history e (drop (suc place) entries) h
     ∙ history-reverse (drop (suc place) entries) (entry_of e ∷ h) in

@@ -9,7 +9,7 @@ use Rattle.std.proofs.lemmas.List.Elements.{filter-append}
 use Rattle.std.proofs.lemmas.List.FromFn.{get_or-enumerate_from, length-enumerate_from}
 use Rattle.std.proofs.lemmas.Slice.Eq.{starts_is}
 use Rattle.std.specs.List.{enumerate_from, filter, slice_split, starts_with}
-use Rattle.history_check.specs.declared.written.Entry as written
+use Rattle.history_check.specs.declared.written.WrittenEntry as written
 use Rattle.history_check.specs.Read.{line_numbers}
 use Rattle.history_check.specs.Text.{IsFirstFault, IsHistory, WriteAll, Writes, has_entry, is_line_feed, is_silent}
 use Rattle.history_check.specs.Written.{entries_of, entry_of}
@@ -20,7 +20,7 @@ abbrev pub numbered : ℕ → List (List ℕ) → List (ℕ × List ℕ)
 numbered n lines = filter has_entry (enumerate_from n lines)
 
 -- the first so many lines were read
-abbrev pub ReadSoFar : List (List ℕ) → ℕ → List written.Entry → List ℕ → Type 0
+abbrev pub ReadSoFar : List (List ℕ) → ℕ → List written.WrittenEntry → List ℕ → Type 0
 ReadSoFar lines count entries numbers =
     WriteAll (numbered 1 (take count lines)) (entries_of entries) × (numbers ≡ map (λ (l : ℕ × List ℕ). l.0) (numbered 1 (take count lines)))
 
@@ -54,11 +54,11 @@ write-push [] (x ∷ es) l e all one = absurd all
 write-push (x ∷ ls) [] l e all one = absurd all
 write-push (x ∷ ls) (y ∷ es) l e all one = (all.0, write-push ls es l e all.1 one)
 
-pub read-none : (lines : List (List ℕ)) (entries : List written.Entry) (numbers : List ℕ) → entries ≡ [] → numbers ≡ [] → ReadSoFar lines 0 entries numbers
+pub read-none : (lines : List (List ℕ)) (entries : List written.WrittenEntry) (numbers : List ℕ) → entries ≡ [] → numbers ≡ [] → ReadSoFar lines 0 entries numbers
 read-none lines entries numbers none nothing =
-    (subst (λ (es : List written.Entry). WriteAll [] (entries_of es)) (sym none) tt, nothing)
+    (subst (λ (es : List written.WrittenEntry). WriteAll [] (entries_of es)) (sym none) tt, nothing)
 
-pub read-silent : (lines : List (List ℕ)) (k : ℕ) (line : List ℕ) (entries : List written.Entry) (numbers : List ℕ) → k < length lines → line ≡ get_or lines k line
+pub read-silent : (lines : List (List ℕ)) (k : ℕ) (line : List ℕ) (entries : List written.WrittenEntry) (numbers : List ℕ) → k < length lines → line ≡ get_or lines k line
     → is_silent line ≡ true → ReadSoFar lines k entries numbers → ReadSoFar lines (k + 1) entries numbers
 read-silent lines k line entries numbers within is silent so =
     let none : cond (has_entry (k + 1, line)) ((k + 1, line) ∷ []) [] ≡ [] = rw silent refl in
@@ -74,7 +74,7 @@ next-entry lines k line within is spoken =
     let one : cond (has_entry (k + 1, line)) ((k + 1, line) ∷ []) [] ≡ (k + 1, line) ∷ [] = rw spoken refl in
     next-line lines k line within is ∙ ap (λ (ls : List (ℕ × List ℕ)). numbered 1 (take k lines) ++ ls) one
 
-pub read-entry : (lines : List (List ℕ)) (k : ℕ) (line : List ℕ) (entries : List written.Entry) (numbers : List ℕ) (e : written.Entry) (number : ℕ)
+pub read-entry : (lines : List (List ℕ)) (k : ℕ) (line : List ℕ) (entries : List written.WrittenEntry) (numbers : List ℕ) (e : written.WrittenEntry) (number : ℕ)
     → k < length lines → line ≡ get_or lines k line → is_silent line ≡ false → number ≡ k + 1 → Writes line (entry_of e)
     → ReadSoFar lines k entries numbers → ReadSoFar lines (k + 1) (entries ++ e ∷ []) (numbers ++ number ∷ [])
 read-entry lines k line entries numbers e number within is spoken at writes so =
@@ -88,7 +88,7 @@ read-entry lines k line entries numbers e number within is spoken at writes so =
           ∙ ap (map (λ (l : ℕ × List ℕ). l.0)) (sym same),
     )
 
-pub read-all : (text : List ℕ) (k : ℕ) (entries : List written.Entry) (numbers : List ℕ) → k ≡ length (slice_split is_line_feed text)
+pub read-all : (text : List ℕ) (k : ℕ) (entries : List written.WrittenEntry) (numbers : List ℕ) → k ≡ length (slice_split is_line_feed text)
     → ReadSoFar (slice_split is_line_feed text) k entries numbers → IsHistory text (entries_of entries) × (numbers ≡ line_numbers text)
 read-all text k entries numbers all so =
     let lines = slice_split is_line_feed text in
@@ -97,7 +97,7 @@ read-all text k entries numbers all so =
       so.1 ∙ ap (λ (ls : List (List ℕ)). map (λ (l : ℕ × List ℕ). l.0) (numbered 1 ls)) whole,
     )
 
-pub read-fault : (text : List ℕ) (k : ℕ) (line : List ℕ) (entries : List written.Entry) (numbers : List ℕ) (number : ℕ) → k < length (slice_split is_line_feed text)
+pub read-fault : (text : List ℕ) (k : ℕ) (line : List ℕ) (entries : List written.WrittenEntry) (numbers : List ℕ) (number : ℕ) → k < length (slice_split is_line_feed text)
     → line ≡ get_or (slice_split is_line_feed text) k line → is_silent line ≡ false → number ≡ k + 1 → ((e : Entry) → Writes line e → ⊥)
     → ReadSoFar (slice_split is_line_feed text) k entries numbers → IsFirstFault text number
 read-fault text k line entries numbers number within is spoken at none so =

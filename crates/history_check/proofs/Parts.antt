@@ -21,7 +21,7 @@ use Rattle.std.specs.Str.Parse.{AllDigits, IsNumeral, ParsesUnsigned, digits_val
 use Rattle.adc_base32.specs.Digits.{value_at}
 use Rattle.adc_base32.specs.Spelled.{numbers_from, is_digit as is_base32, spelled_bytes, spells}
 use Rattle.adc_base32.specs.Bits.{text_bits}
-use Rattle.history_check.proofs.Splitting.{NoBlank}
+use Rattle.history_check.proofs.Splits.{NoBlank}
 use Rattle.history_check.specs.Reading.{first_word, is_number, read_address, read_count, read_number}
 use Rattle.history_check.specs.Text.{IsChallenge, IsNumber}
 

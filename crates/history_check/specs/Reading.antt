@@ -7,8 +7,8 @@ use Rattle.std.specs.Option.{option_and_then, option_map}
 use Rattle.std.specs.Str.{bytes_eq}
 use Rattle.std.specs.Str.Parse.{digits_value}
 use Rattle.adc_base32.specs.Spelled.{spelled_bytes}
-use Rattle.history_check.specs.declared.written.Call as written_call
-use Rattle.history_check.specs.declared.written.Reply as written_reply
+use Rattle.history_check.specs.declared.written.WrittenCall as written_call
+use Rattle.history_check.specs.declared.written.WrittenReply as written_reply
 use Rattle.history_check.specs.Written.{call_of, reply_of}
 use Rattle.hub_rules.specs.declared.history.Call.{Call}
 use Rattle.hub_rules.specs.declared.history.Call.TheVariants.{Join, Line, Quit, Take}
@@ -23,7 +23,7 @@ abbrev pub ◌>>=◌ : {A B : Type 0} → Option A → (A → Option B) → Opti
 o >>= f = option_and_then f o
 
 -- a call and its reply, as the rules have them
-abbrev pub said_of : written_call.Call × written_reply.Reply → Call × Reply
+abbrev pub said_of : written_call.WrittenCall × written_reply.WrittenReply → Call × Reply
 said_of said = (call_of said.0, reply_of said.1)
 
 abbrev pub is_blank : ℕ → Bool

@@ -82,8 +82,8 @@ ReportsReply setup hash text report =
     × rules.MayCall (facts setup hash (reverse before)) e.caller e.call
     × (reply ≡ rules.reply setup hash (facts setup hash (reverse before)) e.caller e.call) × (e.reply ≢ reply)
 
-abbrev pub Reports : Configured → (List ℕ → List ℕ) → List ℕ → List ℕ → Type 0
-Reports setup hash text report =
+abbrev pub ReportsHistory : Configured → (List ℕ → List ℕ) → List ℕ → List ℕ → Type 0
+ReportsHistory setup hash text report =
     ReportsLegal setup hash text report
     ⊎ (ReportsNoEntry text report
     ⊎ (ReportsNoCall setup hash text report

@@ -43,8 +43,8 @@ WritesBytes text [] = text ≡ []
 WritesBytes text (byte ∷ bytes) = (piece rest : List ℕ) × (text ≡ piece ++ rest) × WritesByte piece byte × WritesBytes rest bytes
 
 -- a word and, behind one blank, bytes; the blank may be missing if there are no bytes
-abbrev pub EndsWith : List ℕ → List ℕ → List ℕ → Type 0
-EndsWith text word bytes =
+abbrev pub EndsWithWord : List ℕ → List ℕ → List ℕ → Type 0
+EndsWithWord text word bytes =
     ((text ≡ word) × (bytes ≡ []))
     ⊎ ((written : List ℕ) × (text ≡ words (word ∷ written ∷ [])) × WritesBytes written bytes)
 
@@ -82,7 +82,7 @@ WritesJoin text peer challenge now reply =
 abbrev pub WritesLine : List ℕ → ℕ → List ℕ → ℕ → Reply → Type 0
 WritesLine text c bytes now reply =
     (verdict : Verdict) × (connection moment told : List ℕ) × (text ≡ words (connection ∷ moment ∷ told ∷ []))
-    × IsNumber connection c × IsNumber moment now × EndsWith told (verdict_word verdict) bytes × (reply ≡ Said verdict)
+    × IsNumber connection c × IsNumber moment now × EndsWithWord told (verdict_word verdict) bytes × (reply ≡ Said verdict)
 
 abbrev pub WritesQuit : List ℕ → ℕ → Reply → Type 0
 WritesQuit text c reply =
@@ -93,7 +93,7 @@ WritesTake text c count reply =
     (bytes : List ℕ) × (lines : ℕ) × (ended : Bool) × (connection asked taken told : List ℕ)
     × (text ≡ words (connection ∷ asked ∷ taken ∷ told ∷ []))
     × IsNumber connection c × IsNumber asked count × (1 ≤ count) × (count ≤ 256) × IsNumber taken lines
-    × EndsWith told (end_word ended) bytes × (reply ≡ Took bytes lines ended)
+    × EndsWithWord told (end_word ended) bytes × (reply ≡ Took bytes lines ended)
 
 -- what stands behind the word of a call
 abbrev pub WritesCall : List ℕ → Call → Reply → Type 0

@@ -3,11 +3,11 @@ ghost use Rattle.std.specs.Arc.{arc_value};
 ghost use Rattle.hub_core.specs.Moves.{Moves, StandsAt};
 ghost use Rattle.hub_core.specs.State.{IsSeated};
 ghost use Rattle.hub_rules.specs.declared.history.Call.TheVariants.{Take};
-ghost use Rattle.history_check.specs.Following.{Finds, IsJoin, IsMade, IsSaid, Looks};
+ghost use Rattle.history_check.specs.Following.{Finds, IsJoin, IsMade, IsSaidLine, Looks};
 ghost use Rattle.history_check.specs.Judged.{IsJudged};
 ghost use Rattle.history_check.specs.Written.{call_of, reply_of};
 
-use crate::written::{Call, Entry, LineCount, Reply, is_same};
+use crate::written::{LineCount, WrittenCall, WrittenEntry, WrittenReply, is_same};
 use hub_core::{Conn, Core, JoinRefused, Setup, prepare};
 use session_hash::SessionHash;
 use std::alloc::{AllocError, Global};
@@ -19,7 +19,7 @@ pub enum Demand {
     /// The call may not be made there: it names a connection that is not open, or that another caller joined.
     NoCall,
     /// The call is answered by this reply.
-    Gives(Reply),
+    Gives(WrittenReply),
 }
 
 /// The judgement on a written history.
@@ -47,7 +47,7 @@ pub fn check_history<H: SessionHash>(
     alloc: Global,
     setup: Arc<Setup>,
     hash: &H,
-    entries: &[Entry],
+    entries: &[WrittenEntry],
 ) -> Result<Judgement, AllocError>
     ensures { IfOk result (λ judgement. IsJudged (arc_value setup) (H.digest_of hash.now) entries.now judgement) }
 {
@@ -67,7 +67,7 @@ fn play<H: SessionHash>(
     setup: &Setup,
     hash: &H,
     core: &mut Core,
-    entries: &[Entry],
+    entries: &[WrittenEntry],
 ) -> Result<Judgement, AllocError>
     requires new { StandsAt setup.now (H.digest_of hash.now) [] core.old }
     ensures { IfOk result (λ judgement. IsJudged setup.now (H.digest_of hash.now) entries.now judgement) }
@@ -88,7 +88,7 @@ fn look<H: SessionHash>(
     hash: &H,
     core: &mut Core,
     joined: &mut Vec<Joined>,
-    entry: &Entry,
+    entry: &WrittenEntry,
 ) -> Result<Option<Demand>, AllocError>
     ensures { IfOk result (λ demand. Looks setup.now (H.digest_of hash.now) entry.now demand core.old joined.old.items core.new joined.new.items) }
 {
@@ -110,27 +110,27 @@ fn make<H: SessionHash>(
     core: &mut Core,
     joined: &mut Vec<Joined>,
     caller: u64,
-    call: &Call,
-) -> Result<Option<Reply>, AllocError>
+    call: &WrittenCall,
+) -> Result<Option<WrittenReply>, AllocError>
     ensures { IfOk result (λ reply. IsMade setup.now (H.digest_of hash.now) caller (call_of call.now) reply core.old joined.old.items core.new joined.new.items) }
 {
     match call {
-        Call::Join(peer, challenge, now) => {
+        WrittenCall::Join(peer, challenge, now) => {
             let reply = join(alloc, core, joined, caller, *peer, *challenge, *now)?;
             Ok(Some(reply))
         }
-        Call::Line(connection, bytes, now) => match find(core, joined, caller, *connection) {
+        WrittenCall::Line(connection, bytes, now) => match find(core, joined, caller, *connection) {
             Some(found) => Ok(Some(say(alloc, setup, hash, core, found, bytes, *now)?)),
             None => Ok(None),
         },
-        Call::Quit(connection) => match find(core, joined, caller, *connection) {
+        WrittenCall::Quit(connection) => match find(core, joined, caller, *connection) {
             Some(found) => {
                 core.quit(found.connection);
-                Ok(Some(Reply::Left))
+                Ok(Some(WrittenReply::Left))
             }
             None => Ok(None),
         },
-        Call::Take(connection, count) => match find(core, joined, caller, *connection) {
+        WrittenCall::Take(connection, count) => match find(core, joined, caller, *connection) {
             Some(found) => Ok(Some(take(alloc, core, found, *count)?)),
             None => Ok(None),
         },
@@ -167,15 +167,15 @@ fn say<H: SessionHash>(
     found: Joined,
     bytes: &[u8],
     now: u64,
-) -> Result<Reply, AllocError>
+) -> Result<WrittenReply, AllocError>
     requires { IsSeated found.connection core.old }
-    ensures { IfOk result (λ reply. IsSaid setup.now (H.digest_of hash.now) found.connection found.challenge bytes.now now reply core.old core.new) }
+    ensures { IfOk result (λ reply. IsSaidLine setup.now (H.digest_of hash.now) found.connection found.challenge bytes.now now reply core.old core.new) }
 {
     let Ok(line) = prepare(alloc, setup, hash, found.challenge, bytes) else {
         return Err(AllocError);
     };
     match core.line(alloc, found.connection, &line, now) {
-        Ok(verdict) => Ok(Reply::Said(verdict)),
+        Ok(verdict) => Ok(WrittenReply::Said(verdict)),
         Err(_) => Err(AllocError),
     }
 }
@@ -188,7 +188,7 @@ fn join(
     peer: [u8; 4],
     challenge: [u8; 24],
     now: u64,
-) -> Result<Reply, AllocError>
+) -> Result<WrittenReply, AllocError>
     ensures { IfOk result (λ reply. IsJoin caller peer challenge now reply core.old joined.old.items core.new joined.new.items) }
 {
     match core.join(alloc, peer, challenge, now) {
@@ -198,10 +198,10 @@ fn join(
                 caller,
                 challenge,
             })?;
-            Ok(Reply::Joined(core.joins()))
+            Ok(WrittenReply::Joined(core.joins()))
         }
-        Err(JoinRefused::Full) => Ok(Reply::Full),
-        Err(JoinRefused::JoinsSpent) => Ok(Reply::JoinsSpent),
+        Err(JoinRefused::Full) => Ok(WrittenReply::Full),
+        Err(JoinRefused::JoinsSpent) => Ok(WrittenReply::JoinsSpent),
         Err(JoinRefused::Memory) => Err(AllocError),
     }
 }
@@ -211,13 +211,13 @@ fn take(
     core: &mut Core,
     found: Joined,
     count: LineCount,
-) -> Result<Reply, AllocError>
+) -> Result<WrittenReply, AllocError>
     requires { IsSeated found.connection core.old }
     ensures { IfOk result (λ reply. Moves core.old (Take found.connection count) (reply_of reply) core.new) }
 {
     let mut bytes = Vec::new(alloc);
     match core.take(found.connection, count.get(), &mut bytes) {
-        Ok(taken) => Ok(Reply::Took(bytes, taken.lines, taken.ended)),
+        Ok(taken) => Ok(WrittenReply::Took(bytes, taken.lines, taken.ended)),
         Err(_) => Err(AllocError),
     }
 }

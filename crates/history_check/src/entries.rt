@@ -8,14 +8,14 @@ ghost use Rattle.history_check.specs.Written.{entry_of, reply_of};
 
 use crate::escapes::read_bytes;
 use crate::words::{address, number, word};
-use crate::written::{Call, Entry, LineCount, Reply};
+use crate::written::{LineCount, WrittenCall, WrittenEntry, WrittenReply};
 use adc_base32::decode24;
 use hub_core::Verdict;
 use std::alloc::{AllocError, Global};
 
 /// Reads the entry of a line; `None` if the line writes none.
 #[tactic(auto, unfolding(crate::specs::Reading::read_entry))]
-pub(crate) fn read_entry(alloc: Global, line: &[u8]) -> Result<Option<Entry>, AllocError>
+pub(crate) fn read_entry(alloc: Global, line: &[u8]) -> Result<Option<WrittenEntry>, AllocError>
     ensures { IfOk result (λ entry. option_map entry_of entry ≡ read_entry line.now) }
 {
     let (caller, rest) = word(line);
@@ -26,7 +26,7 @@ pub(crate) fn read_entry(alloc: Global, line: &[u8]) -> Result<Option<Entry>, Al
     let Some((call, reply)) = read_call(alloc, kind, rest)? else {
         return Ok(None);
     };
-    Ok(Some(Entry {
+    Ok(Some(WrittenEntry {
         caller,
         call,
         reply,
@@ -36,7 +36,11 @@ pub(crate) fn read_entry(alloc: Global, line: &[u8]) -> Result<Option<Entry>, Al
 // Words are compared: a body that matches on them is dear to prove.
 
 #[tactic(auto, unfolding(crate::specs::Reading::read_call))]
-fn read_call(alloc: Global, kind: &[u8], text: &[u8]) -> Result<Option<(Call, Reply)>, AllocError>
+fn read_call(
+    alloc: Global,
+    kind: &[u8],
+    text: &[u8],
+) -> Result<Option<(WrittenCall, WrittenReply)>, AllocError>
     ensures { IfOk result (λ said. option_map said_of said ≡ read_call kind.now text.now) }
 {
     if kind == b"join".as_slice() {
@@ -53,7 +57,7 @@ fn read_call(alloc: Global, kind: &[u8], text: &[u8]) -> Result<Option<(Call, Re
 }
 
 #[tactic(auto, unfolding(crate::specs::Reading::read_join))]
-fn read_join(text: &[u8]) -> Option<(Call, Reply)>
+fn read_join(text: &[u8]) -> Option<(WrittenCall, WrittenReply)>
     ensures { option_map said_of result ≡ read_join text.now }
 {
     let (peer, rest) = word(text);
@@ -63,7 +67,7 @@ fn read_join(text: &[u8]) -> Option<(Call, Reply)>
     let challenge = challenge_of(challenge)?;
     let now = number(now)?;
     let reply = read_joined(rest)?;
-    Some((Call::Join(peer, challenge, now), reply))
+    Some((WrittenCall::Join(peer, challenge, now), reply))
 }
 
 fn challenge_of(word: &[u8]) -> Option<[u8; 24]>
@@ -77,25 +81,25 @@ fn challenge_of(word: &[u8]) -> Option<[u8; 24]>
 
 /// Reads the reply to a join, up to the end of the line.
 #[tactic(auto, unfolding(crate::specs::Reading::read_joined))]
-fn read_joined(text: &[u8]) -> Option<Reply>
+fn read_joined(text: &[u8]) -> Option<WrittenReply>
     ensures { option_map reply_of result ≡ read_joined text.now }
 {
     if text == b"full".as_slice() {
-        return Some(Reply::Full);
+        return Some(WrittenReply::Full);
     }
     if text == b"joins-spent".as_slice() {
-        return Some(Reply::JoinsSpent);
+        return Some(WrittenReply::JoinsSpent);
     }
     let (told, connection) = word(text);
     if told != b"joined".as_slice() {
         return None;
     }
     let connection = number(connection)?;
-    Some(Reply::Joined(connection))
+    Some(WrittenReply::Joined(connection))
 }
 
 #[tactic(auto, unfolding(crate::specs::Reading::read_line))]
-fn read_line(alloc: Global, text: &[u8]) -> Result<Option<(Call, Reply)>, AllocError>
+fn read_line(alloc: Global, text: &[u8]) -> Result<Option<(WrittenCall, WrittenReply)>, AllocError>
     ensures { IfOk result (λ said. option_map said_of said ≡ read_line text.now) }
 {
     let (connection, rest) = word(text);
@@ -113,7 +117,10 @@ fn read_line(alloc: Global, text: &[u8]) -> Result<Option<(Call, Reply)>, AllocE
     let Some(bytes) = read_bytes(alloc, rest)? else {
         return Ok(None);
     };
-    Ok(Some((Call::Line(connection, bytes, now), Reply::Said(verdict))))
+    Ok(Some((
+        WrittenCall::Line(connection, bytes, now),
+        WrittenReply::Said(verdict),
+    )))
 }
 
 #[tactic(auto, unfolding(crate::specs::Reading::read_verdict))]
@@ -130,7 +137,7 @@ fn verdict_of(word: &[u8]) -> Option<Verdict>
 }
 
 #[tactic(auto, unfolding(crate::specs::Reading::read_quit))]
-fn read_quit(text: &[u8]) -> Option<(Call, Reply)>
+fn read_quit(text: &[u8]) -> Option<(WrittenCall, WrittenReply)>
     ensures { option_map said_of result ≡ read_quit text.now }
 {
     let (connection, rest) = word(text);
@@ -138,11 +145,11 @@ fn read_quit(text: &[u8]) -> Option<(Call, Reply)>
     if rest != b"left".as_slice() {
         return None;
     }
-    Some((Call::Quit(connection), Reply::Left))
+    Some((WrittenCall::Quit(connection), WrittenReply::Left))
 }
 
 #[tactic(auto, unfolding(crate::specs::Reading::read_take))]
-fn read_take(alloc: Global, text: &[u8]) -> Result<Option<(Call, Reply)>, AllocError>
+fn read_take(alloc: Global, text: &[u8]) -> Result<Option<(WrittenCall, WrittenReply)>, AllocError>
     ensures { IfOk result (λ said. option_map said_of said ≡ read_take text.now) }
 {
     let (connection, rest) = word(text);
@@ -164,8 +171,8 @@ fn read_take(alloc: Global, text: &[u8]) -> Result<Option<(Call, Reply)>, AllocE
     let Some(bytes) = read_bytes(alloc, rest)? else {
         return Ok(None);
     };
-    let reply = Reply::Took(bytes, lines, ended);
-    Ok(Some((Call::Take(connection, count), reply)))
+    let reply = WrittenReply::Took(bytes, lines, ended);
+    Ok(Some((WrittenCall::Take(connection, count), reply)))
 }
 
 /// Reads a number of lines that a take may ask for.

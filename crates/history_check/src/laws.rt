@@ -4,8 +4,8 @@ ghost use Rattle.std.specs.Prelude.{◌≡◌, ◌<◌, ◌^◌, ℕ, List, []};
 ghost use Rattle.std.specs.Fmt.{decimal};
 ghost use Rattle.std.specs.List.{All};
 ghost use Rattle.history_check.specs.declared.check.Demand.{Demand};
-ghost use Rattle.history_check.specs.declared.written.Entry as written;
-ghost use Rattle.history_check.specs.Judged.{IsFault};
+ghost use Rattle.history_check.specs.declared.written.WrittenEntry as written;
+ghost use Rattle.history_check.specs.Judged.{IsFaultAt};
 ghost use Rattle.history_check.specs.Reported.{written_bytes};
 ghost use Rattle.history_check.specs.Text.{IsFirstFault, IsHistory, IsNumber, Writes, WritesBytes};
 ghost use Rattle.history_check.specs.Written.{history_of};
@@ -27,6 +27,6 @@ pub fn text_laws()
 
 /// States that what is judged to be at fault is not legal. It does nothing.
 pub fn judging_laws()
-    ensures { (setup : Configured) (hash : List ℕ → List ℕ) (entries : List written.Entry) (place : ℕ) (demand : Demand)
-        → IsFault setup hash entries place demand → Legal setup hash (history_of entries []) → ⊥ }
+    ensures { (setup : Configured) (hash : List ℕ → List ℕ) (entries : List written.WrittenEntry) (place : ℕ) (demand : Demand)
+        → IsFaultAt setup hash entries place demand → Legal setup hash (history_of entries []) → ⊥ }
 {}

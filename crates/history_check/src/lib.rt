@@ -15,4 +15,4 @@ pub use hub_core::Verdict;
 pub use laws::{judging_laws, text_laws};
 pub use reading::{ReadFault, Written, read_history};
 pub use report::report_history;
-pub use written::{Call, Entry, LineCount, Reply};
+pub use written::{LineCount, WrittenCall, WrittenEntry, WrittenReply};

@@ -4,14 +4,14 @@ ghost use Rattle.std.specs.Prelude.{IfErr, IfOk};
 ghost use Rattle.history_check.specs.Read.{IsReadAs, IsReadFault};
 
 use crate::entries::read_entry;
-use crate::written::Entry;
+use crate::written::WrittenEntry;
 use std::alloc::{AllocError, AllocFailed, Global};
 
 /// A history as it is written, with the number of the line of each entry.
 #[derive(Drop)]
 pub struct Written {
     /// The entries, oldest first.
-    pub entries: Vec<Entry>,
+    pub entries: Vec<WrittenEntry>,
     /// The numbers of their lines, from 1 on.
     pub lines: Vec<usize>,
 }

@@ -2,13 +2,13 @@
 
 ghost use Rattle.std.specs.Prelude.{◌≡◌, ◌++◌, ◌<◌, ◌↔◌, List, codes, IfOk, OnOk};
 ghost use Rattle.std.specs.Arc.{arc_value};
-ghost use Rattle.history_check.specs.Reported.{IsLegalText, Reports, demand_text, judgement_text, line_text, reply_text, written_byte, written_bytes};
+ghost use Rattle.history_check.specs.Reported.{IsLegalText, ReportsHistory, demand_text, judgement_text, line_text, reply_text, written_byte, written_bytes};
 ghost use Rattle.history_check.specs.Text.{hex_digit};
 ghost use Rattle.history_check.specs.Written.{reply_of};
 
 use crate::check::{Demand, Judgement, check_history};
 use crate::reading::{ReadFault, read_history};
-use crate::written::Reply;
+use crate::written::WrittenReply;
 use hub_core::{Setup, Verdict};
 use session_hash::SessionHash;
 use std::alloc::{AllocError, Global};
@@ -24,7 +24,7 @@ pub fn report_history<H: SessionHash>(
     hash: &H,
     text: &[u8],
 ) -> Result<Vec<u8>, AllocError>
-    ensures reports { IfOk result (λ report. Reports (arc_value setup) (H.digest_of hash.now) text.now report.items) }
+    ensures reports { IfOk result (λ report. ReportsHistory (arc_value setup) (H.digest_of hash.now) text.now report.items) }
     ensures legal { IfOk result (λ report. (report.items ≡ codes "legal") ↔ IsLegalText (arc_value setup) (H.digest_of hash.now) text.now) }
 {
     let written = match read_history(alloc, text) {
@@ -73,20 +73,20 @@ fn tell_line(alloc: Global, number: usize, what: &str) -> Result<Vec<u8>, AllocE
 }
 
 #[tactic(auto, unfolding(crate::specs::Reported::reply_text))]
-fn append_reply(text: &mut Vec<u8>, alloc: Global, reply: &Reply) -> Result<(), AllocError>
+fn append_reply(text: &mut Vec<u8>, alloc: Global, reply: &WrittenReply) -> Result<(), AllocError>
     ensures { OnOk result (text.new.items ≡ text.old.items ++ reply_text (reply_of reply.now)) }
 {
     match reply {
-        Reply::Joined(number) => {
+        WrittenReply::Joined(number) => {
             let number = *number;
             text.extend_from_slice(format!(in alloc; "joined {number}")?.as_bytes())
         }
-        Reply::Full => text.extend_from_slice(b"full"),
-        Reply::JoinsSpent => text.extend_from_slice(b"joins-spent"),
-        Reply::Said(Verdict::Kept) => text.extend_from_slice(b"kept"),
-        Reply::Said(Verdict::Ended) => text.extend_from_slice(b"ended"),
-        Reply::Left => text.extend_from_slice(b"left"),
-        Reply::Took(bytes, lines, ended) => {
+        WrittenReply::Full => text.extend_from_slice(b"full"),
+        WrittenReply::JoinsSpent => text.extend_from_slice(b"joins-spent"),
+        WrittenReply::Said(Verdict::Kept) => text.extend_from_slice(b"kept"),
+        WrittenReply::Said(Verdict::Ended) => text.extend_from_slice(b"ended"),
+        WrittenReply::Left => text.extend_from_slice(b"left"),
+        WrittenReply::Took(bytes, lines, ended) => {
             let lines = *lines;
             let end = if *ended { "over" } else { "more" };
             text.extend_from_slice(format!(in alloc; "{lines} {end} ")?.as_bytes())?;

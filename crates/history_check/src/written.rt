@@ -48,7 +48,7 @@ impl LineCount {
 
 /// A call as it is written. Connections are numbered from 1 on by their joins, and moments are seconds.
 #[derive(Drop)]
-pub enum Call {
+pub enum WrittenCall {
     /// A connection asks to be admitted: the peer's address, its challenge, the moment.
     Join([u8; 4], [u8; 24], u64),
     /// A connection sent a line: the connection, the bytes without line feed, the moment.
@@ -61,7 +61,7 @@ pub enum Call {
 
 /// A reply as it is written.
 #[derive(Drop)]
-pub enum Reply {
+pub enum WrittenReply {
     /// The join was accepted, as the connection of this number.
     Joined(u64),
     /// The hub is full: as many connections are open as it admits.
@@ -78,36 +78,36 @@ pub enum Reply {
 
 /// A call with who made it and what was answered.
 #[derive(Drop)]
-pub struct Entry {
+pub struct WrittenEntry {
     /// The number of the caller.
     pub caller: u64,
     /// The call.
-    pub call: Call,
+    pub call: WrittenCall,
     /// The reply.
-    pub reply: Reply,
+    pub reply: WrittenReply,
 }
 
 /// Answers whether two replies are the same, to the byte.
-pub(crate) fn is_same(one: &Reply, other: &Reply) -> bool
+pub(crate) fn is_same(one: &WrittenReply, other: &WrittenReply) -> bool
     ensures same { IsTrue result → reply_of one.now ≡ reply_of other.now }
     ensures other { IsFalse result → (reply_of one.now ≡ reply_of other.now → ⊥) }
 {
     match one {
-        Reply::Joined(one) => matches!(other, Reply::Joined(other) if one == other),
-        Reply::Full => matches!(other, Reply::Full),
-        Reply::JoinsSpent => matches!(other, Reply::JoinsSpent),
-        Reply::Said(one) => matches!(other, Reply::Said(other) if one == other),
-        Reply::Left => matches!(other, Reply::Left),
-        Reply::Took(bytes, lines, ended) => took_same(bytes, *lines, *ended, other),
+        WrittenReply::Joined(one) => matches!(other, WrittenReply::Joined(other) if one == other),
+        WrittenReply::Full => matches!(other, WrittenReply::Full),
+        WrittenReply::JoinsSpent => matches!(other, WrittenReply::JoinsSpent),
+        WrittenReply::Said(one) => matches!(other, WrittenReply::Said(other) if one == other),
+        WrittenReply::Left => matches!(other, WrittenReply::Left),
+        WrittenReply::Took(bytes, lines, ended) => took_same(bytes, *lines, *ended, other),
     }
 }
 
-fn took_same(bytes: &[u8], lines: u64, ended: bool, other: &Reply) -> bool
+fn took_same(bytes: &[u8], lines: u64, ended: bool, other: &WrittenReply) -> bool
     ensures same { IsTrue result → Took bytes.now lines ended ≡ reply_of other.now }
     ensures other { IsFalse result → (Took bytes.now lines ended ≡ reply_of other.now → ⊥) }
 {
     match other {
-        Reply::Took(others, count, end) => {
+        WrittenReply::Took(others, count, end) => {
             bytes == others.as_slice() && lines == *count && ended == *end
         }
         _ => false,

@@ -3,7 +3,7 @@ use std::io;
 
 /// A reason why nothing was said of a history.
 #[derive(Drop)]
-pub(crate) enum Ending {
+pub(crate) enum CheckerEnding {
     /// The arguments are at fault, and this was said.
     Told,
     /// A file cannot be read.
@@ -18,37 +18,40 @@ pub(crate) enum Ending {
     Output,
 }
 
-impl From<AllocError> for Ending {
-    fn from(_: AllocError) -> Ending {
-        Ending::Memory
+impl From<AllocError> for CheckerEnding {
+    fn from(_: AllocError) -> CheckerEnding {
+        CheckerEnding::Memory
     }
 }
 
-impl<T: Drop> From<AllocFailed<T>> for Ending {
-    fn from(_: AllocFailed<T>) -> Ending {
-        Ending::Memory
+impl<T: Drop> From<AllocFailed<T>> for CheckerEnding {
+    fn from(_: AllocFailed<T>) -> CheckerEnding {
+        CheckerEnding::Memory
     }
 }
 
-impl From<io::Error> for Ending {
-    fn from(error: io::Error) -> Ending {
+impl From<io::Error> for CheckerEnding {
+    fn from(error: io::Error) -> CheckerEnding {
         if error.kind() == io::ErrorKind::OutOfMemory {
-            return Ending::Memory;
+            return CheckerEnding::Memory;
         }
-        Ending::Output
+        CheckerEnding::Output
     }
 }
 
-impl Ending {
+impl CheckerEnding {
     /// Says on standard error why, in one line, and gives the exit status, 2 to 5.
     pub(crate) fn tell(self, rt: &impl Eprint) -> u8 {
         let (status, why) = match self {
-            Ending::Told => return 3,
-            Ending::File => (3, "a file cannot be read"),
-            Ending::Settings => (3, "the settings are at fault; adc_hubctl check says where"),
-            Ending::Tables => (2, "Tiger's tables cannot be had"),
-            Ending::Memory => (4, "memory ran out"),
-            Ending::Output => (5, "output failed"),
+            CheckerEnding::Told => return 3,
+            CheckerEnding::File => (3, "a file cannot be read"),
+            CheckerEnding::Settings => (
+                3,
+                "the settings are at fault; adc_hubctl check says where",
+            ),
+            CheckerEnding::Tables => (2, "Tiger's tables cannot be had"),
+            CheckerEnding::Memory => (4, "memory ran out"),
+            CheckerEnding::Output => (5, "output failed"),
         };
         // Nobody is left to hear that the message could not be written.
         let _ = eprintln!(rt; "history_checker: {why}");

@@ -6,8 +6,8 @@ mod ending;
 
 use clap::error::ErrorKind;
 use clap::{Arg, ArgAction, ArgMatches, Command, value_parser};
-use ending::Ending;
-use flushed_writes::write_and_flush;
+use counted_io::write_and_flush;
+use ending::CheckerEnding;
 use history_check::report_history;
 use hub_settings::{HashName, Settings, SettingsFault, read_settings};
 use session_hash::{First24, TableTiger, TablesFault};
@@ -33,17 +33,17 @@ fn main(rt: HostRuntime) -> ExitCode {
 }
 
 /// Answers whether the history is legal, after what is said of it was written; also that help was printed.
-fn run(rt: &HostRuntime, alloc: Global) -> Result<bool, Ending> {
+fn run(rt: &HostRuntime, alloc: Global) -> Result<bool, CheckerEnding> {
     let words = words(rt, alloc)?;
     match command(alloc)?.try_get_matches_from(words.as_slice()) {
         Ok(matches) => run_matches(rt, alloc, &matches),
         Err(error) => {
             if error.kind() == ErrorKind::OutOfMemory {
-                return Err(Ending::Memory);
+                return Err(CheckerEnding::Memory);
             }
             let printed = error.print(rt);
             if error.use_stderr() {
-                return Err(Ending::Told);
+                return Err(CheckerEnding::Told);
             }
             printed?;
             Ok(true)
@@ -79,18 +79,22 @@ fn file<'a>(alloc: Global, name: &'a str, help: &'a str) -> Arg<'a> {
 }
 
 /// The words of the command line. One that is no UTF-8 cannot be read.
-fn words(rt: &HostRuntime, alloc: Global) -> Result<Vec<String>, Ending> {
+fn words(rt: &HostRuntime, alloc: Global) -> Result<Vec<String>, CheckerEnding> {
     match env::args(rt) {
         Ok(words) => Ok(words.collect(alloc)?),
-        Err(error) if error.kind() == io::ErrorKind::OutOfMemory => Err(Ending::Memory),
-        Err(_) => Err(Ending::File),
+        Err(error) if error.kind() == io::ErrorKind::OutOfMemory => Err(CheckerEnding::Memory),
+        Err(_) => Err(CheckerEnding::File),
     }
 }
 
-fn run_matches(rt: &HostRuntime, alloc: Global, matches: &ArgMatches<'_>) -> Result<bool, Ending> {
+fn run_matches(
+    rt: &HostRuntime,
+    alloc: Global,
+    matches: &ArgMatches<'_>,
+) -> Result<bool, CheckerEnding> {
     let opened = matches.get_one::<u64>("opened").unwrap_or(0);
     let settings = settings_of(rt, alloc, word_of(matches, "SETTINGS"), opened)?;
-    let history = read(rt, word_of(matches, "HISTORY"), Ending::File)?;
+    let history = read(rt, word_of(matches, "HISTORY"), CheckerEnding::File)?;
     let mut report = report(rt, alloc, &settings, &history)?;
     let is_legal = report.as_slice() == b"legal".as_slice();
     report.push(b'\n')?;
@@ -109,15 +113,15 @@ fn settings_of<R: Files + AllocGlobal>(
     alloc: Global,
     path: &str,
     opened: u64,
-) -> Result<Settings, Ending> {
-    let bytes = read(rt, path, Ending::File)?;
+) -> Result<Settings, CheckerEnding> {
+    let bytes = read(rt, path, CheckerEnding::File)?;
     let Ok(text) = str::from_utf8(&bytes) else {
-        return Err(Ending::Settings);
+        return Err(CheckerEnding::Settings);
     };
     match read_settings(alloc, text, opened) {
         Ok(settings) => Ok(settings),
-        Err(SettingsFault::Memory) => Err(Ending::Memory),
-        Err(_) => Err(Ending::Settings),
+        Err(SettingsFault::Memory) => Err(CheckerEnding::Memory),
+        Err(_) => Err(CheckerEnding::Settings),
     }
 }
 
@@ -127,25 +131,29 @@ fn report<R: Files + AllocGlobal>(
     alloc: Global,
     settings: &Settings,
     history: &[u8],
-) -> Result<Vec<u8>, Ending> {
+) -> Result<Vec<u8>, CheckerEnding> {
     let setup = settings.setup().clone()?;
     match settings.hash() {
         HashName::First24 => Ok(report_history(alloc, setup, &First24, history)?),
         HashName::Tiger => {
-            let bytes = read(rt, settings.tables(), Ending::Tables)?;
+            let bytes = read(rt, settings.tables(), CheckerEnding::Tables)?;
             match TableTiger::from_bytes(alloc, &bytes) {
                 Ok(tiger) => Ok(report_history(alloc, setup, &tiger, history)?),
-                Err(TablesFault::Length) => Err(Ending::Tables),
-                Err(TablesFault::Memory) => Err(Ending::Memory),
+                Err(TablesFault::Length) => Err(CheckerEnding::Tables),
+                Err(TablesFault::Memory) => Err(CheckerEnding::Memory),
             }
         }
     }
 }
 
-fn read<R: Files + AllocGlobal>(rt: &R, path: &str, otherwise: Ending) -> Result<Vec<u8>, Ending> {
+fn read<R: Files + AllocGlobal>(
+    rt: &R,
+    path: &str,
+    otherwise: CheckerEnding,
+) -> Result<Vec<u8>, CheckerEnding> {
     match fs::read(rt, path) {
         Ok(bytes) => Ok(bytes),
-        Err(error) if error.kind() == io::ErrorKind::OutOfMemory => Err(Ending::Memory),
+        Err(error) if error.kind() == io::ErrorKind::OutOfMemory => Err(CheckerEnding::Memory),
         Err(_) => Err(otherwise),
     }
 }

@@ -10,7 +10,7 @@ use Rattle.adc_line.specs.Escapes.{escaped_text}
 use Rattle.adc_line.specs.Frames.{max_line}
 use Rattle.adc_line.specs.Grammar.{Reads, IsParameter}
 use Rattle.adc_line.specs.Lines.{Reading}
-use Rattle.hub_client.specs.Requests.{Says, IsOverlong, message_bytes}
+use Rattle.hub_client.specs.Requests.{SaysText, IsOverlong, message_bytes}
 
 -- the message with this text
 abbrev pub message_saying : List ℕ → Reading
@@ -44,7 +44,7 @@ reads-bytes bytes text is some utf8 short =
 
 -- what is read of it
 pub says-read : (bytes text : List ℕ) (r : Result Reading LineFault) → bytes ≡ message_bytes text → text ≢ [] → IsUtf8 bytes → length bytes ≤ max_line
-    → ((line : Reading) → Reads bytes line → MatchResult r (λ read. read ≡ line) (λ fault. fault ≡ faults.Memory)) → IfOk r (λ line. Says line text)
+    → ((line : Reading) → Reads bytes line → MatchResult r (λ read. read ≡ line) (λ fault. fault ≡ faults.Memory)) → IfOk r (λ line. SaysText line text)
 says-read bytes text (Ok read) is some utf8 short only =
     let reads : Reads bytes (message_saying text) = reads-bytes bytes text is some utf8 short in
     let same : read ≡ message_saying text = only (message_saying text) reads in

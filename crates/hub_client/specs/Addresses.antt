@@ -24,8 +24,8 @@ abbrev pub HasNoColon : List ℕ → Type 0
 HasNoColon bytes = EachIndex bytes (λ k. slice_index bytes k ≢ colon)
 
 -- the rest of a text behind this front; the whole text where it begins otherwise
-abbrev pub IsBehind : List ℕ → List ℕ → List ℕ → Type 0
-IsBehind front text rest = (text ≡ front ++ rest) ⊎ (((more : List ℕ) → text ≢ front ++ more) × (rest ≡ text))
+abbrev pub IsRestBehind : List ℕ → List ℕ → List ℕ → Type 0
+IsRestBehind front text rest = (text ≡ front ++ rest) ⊎ (((more : List ℕ) → text ≢ front ++ more) × (rest ≡ text))
 
 -- the rest of a text before this end; the whole text where it ends otherwise
 abbrev pub IsBefore : List ℕ → List ℕ → List ℕ → Type 0
@@ -33,7 +33,7 @@ IsBefore end text rest = (text ≡ rest ++ end) ⊎ (((more : List ℕ) → text
 
 -- the text without what may stand around it
 abbrev pub IsBare : List ℕ → List ℕ → Type 0
-IsBare text bare = (rest : List ℕ) × IsBehind (codes "adc://") text rest × IsBefore (codes "/") rest bare
+IsBare text bare = (rest : List ℕ) × IsRestBehind (codes "adc://") text rest × IsBefore (codes "/") rest bare
 
 -- one colon, with this before it and that behind it
 abbrev pub IsSplit : List ℕ → List ℕ → List ℕ → Type 0

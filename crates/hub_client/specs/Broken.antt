@@ -1,7 +1,7 @@
 -- The fault of a stream, by the kind of its error, and of a word.
 use Rattle.std.specs.Prelude.{◌≡◌, true}
 use Rattle.std.specs.declared.io.ErrorKind.{ErrorKind}
-use Rattle.flushed_writes.specs.declared.failures.Failures.{Failures}
+use Rattle.counted_io.specs.declared.failures.Failures.{Failures}
 use Rattle.std.specs.declared.io.ErrorKind.TheVariants.{OutOfMemory, WouldBlock, TimedOut}
 use Rattle.adc_line.specs.declared.fault.UnescapeFault.{UnescapeFault}
 use Rattle.adc_line.specs.declared.fault.UnescapeFault.TheVariants as words

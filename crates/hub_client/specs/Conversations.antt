@@ -4,33 +4,33 @@ use Rattle.std.specs.List.{All, filter}
 use Rattle.adc_base32.specs.Sids.{sid_at}
 use Rattle.adc_line.specs.Lines.{Reading}
 use Rattle.hub_client.specs.declared.client.Client.{Client}
-use Rattle.hub_client.specs.declared.client.Entry.{Entry}
+use Rattle.hub_client.specs.declared.client.LoginStep.{LoginStep}
 use Rattle.hub_client.specs.declared.client.Welcome.{Welcome}
 use Rattle.hub_client.specs.declared.fault.ClientFault.{ClientFault}
 use Rattle.hub_client.specs.declared.fault.ClientFault.TheVariants.{Memory, Unsayable, TimedOut, Unanswered, Closed, Broken, NotAdc, Refused}
 use Rattle.hub_client.specs.declared.status.Status.{Status}
-use Rattle.hub_client.specs.Entries.{IsInfo, IsEntry, IsAnswer, IsBadStatus, IsSentAway, IsSuccess, is_user_line, is_quit_line}
+use Rattle.hub_client.specs.Entries.{IsHubInfo, IsLoginStep, IsAnswer, IsBadStatus, IsSentAway, IsSuccess, is_user_line, is_quit_line}
 use Rattle.hub_client.specs.Users.{IsTold, IsUntold}
 use Rattle.hub_client.specs.declared.user.Who.{Who}
-use Rattle.hub_client.specs.Talks.{HasFailed, Hears, IsJunk, IsOver, IsSpent, Sends, gone_of, unheard, users_of}
+use Rattle.hub_client.specs.Talks.{HasFailed, HearsLines, IsJunk, IsStreamOver, IsSpent, Sends, gone_of, unheard, users_of}
 
 -- a line was said, and then these were heard, up to some bytes
 abbrev pub Waits : {S : Type 0} → (S → Option (List ℕ)) → (S → Option (List ℕ)) → Client S → List ℕ → List Reading → Option (List ℕ) → Type 0
-Waits {S} remaining contents client text heard left = (sent : Client S) × Sends contents client sent text × Hears (unheard remaining sent) left heard
+Waits {S} remaining contents client text heard left = (sent : Client S) × Sends contents client sent text × HearsLines (unheard remaining sent) left heard
 
 -- a line was said, and of those that were heard the last one gives the answer, by what a line says
 abbrev pub Concludes : {S X : Type 0} → (S → Option (List ℕ)) → (S → Option (List ℕ)) → (Reading → Option X → Type 0) → Client S
     → Client S → List ℕ → List Reading → X → Type 0
 Concludes remaining contents says before after text heard answer =
     (left : Option (List ℕ)) × (last : Reading) × Waits remaining contents before text heard left × All (λ line. says line None) heard
-    × Hears left (unheard remaining after) (last ∷ []) × says last (Some answer)
+    × HearsLines left (unheard remaining after) (last ∷ []) × says last (Some answer)
 
 -- a line was said, and of those that were heard each but the last one says nothing; the last one is the fault
-abbrev pub EndsBy : {S : Type 0} → (S → Option (List ℕ)) → (S → Option (List ℕ)) → (Reading → Type 0)
+abbrev pub EndsByFault : {S : Type 0} → (S → Option (List ℕ)) → (S → Option (List ℕ)) → (Reading → Type 0)
     → (List Reading → Reading → Type 0) → Client S → Client S → List ℕ → Type 0
-EndsBy remaining contents silent faulty before after text =
+EndsByFault remaining contents silent faulty before after text =
     (heard : List Reading) × (left : Option (List ℕ)) × (last : Reading) × Waits remaining contents before text heard left × All silent heard
-    × Hears left (unheard remaining after) (last ∷ []) × faulty heard last
+    × HearsLines left (unheard remaining after) (last ∷ []) × faulty heard last
 
 -- a line was said, those that were heard say nothing, and then comes what is no message
 abbrev pub EndsInJunk : {S : Type 0} → (S → Option (List ℕ)) → (S → Option (List ℕ)) → (Reading → Type 0) → Client S → List ℕ → Type 0
@@ -40,7 +40,7 @@ EndsInJunk remaining contents silent before text =
 -- a line was said, those that were heard say nothing, and they are all that come
 abbrev pub EndsClosed : {S : Type 0} → (S → Option (List ℕ)) → (S → Option (List ℕ)) → (Reading → Type 0) → Client S → Client S → List ℕ → Type 0
 EndsClosed remaining contents silent before after text =
-    (heard : List Reading) × Waits remaining contents before text heard (unheard remaining after) × All silent heard × IsOver remaining after
+    (heard : List Reading) × Waits remaining contents before text heard (unheard remaining after) × All silent heard × IsStreamOver remaining after
 
 -- why a conversation failed, by the lines that say nothing and those that are a fault; a stream at fault failed in its last call, and memory has no reason here
 abbrev pub Fails : {S : Type 0} → (S → Option (List ℕ)) → (S → Option (List ℕ)) → (Reading → Type 0)
@@ -50,21 +50,21 @@ Fails remaining contents silent faulty before after text TimedOut = HasFailed af
 Fails remaining contents silent faulty before after text Broken = HasFailed after ⊎ IsSpent after
 Fails remaining contents silent faulty before after text Closed = EndsClosed remaining contents silent before after text
 Fails remaining contents silent faulty before after text NotAdc =
-    EndsInJunk remaining contents silent before text ⊎ EndsBy remaining contents silent (λ heard last. faulty heard last NotAdc) before after text
+    EndsInJunk remaining contents silent before text ⊎ EndsByFault remaining contents silent (λ heard last. faulty heard last NotAdc) before after text
 Fails remaining contents silent faulty before after text (Refused status) =
-    EndsBy remaining contents silent (λ heard last. faulty heard last (Refused status)) before after text
+    EndsByFault remaining contents silent (λ heard last. faulty heard last (Refused status)) before after text
 Fails remaining contents silent faulty before after text Unsayable = ⊥
 Fails remaining contents silent faulty before after text Unanswered = ⊥
 
 -- how far the client of this session identifier came by a login, with the messages of users that came before
-abbrev pub Comes : {S : Type 0} → (S → Option (List ℕ)) → (S → Option (List ℕ)) → Client S → Client S → ℕ → List ℕ → Entry → Type 0
+abbrev pub Comes : {S : Type 0} → (S → Option (List ℕ)) → (S → Option (List ℕ)) → Client S → Client S → ℕ → List ℕ → LoginStep → Type 0
 Comes remaining contents before after sid text entry =
-    (heard : List Reading) × Concludes remaining contents (λ line. IsEntry line sid) before after text heard entry
+    (heard : List Reading) × Concludes remaining contents (λ line. IsLoginStep line sid) before after text heard entry
     × (users_of after ≡ users_of before ++ filter is_user_line heard) × (gone_of after ≡ gone_of before)
 
 -- the status by which the hub answers a request, with the messages of users and departures that came before
-abbrev pub IsAnswered : {S : Type 0} → (S → Option (List ℕ)) → (S → Option (List ℕ)) → Client S → Client S → List ℕ → Status → Type 0
-IsAnswered remaining contents before after text status =
+abbrev pub HasStatus : {S : Type 0} → (S → Option (List ℕ)) → (S → Option (List ℕ)) → Client S → Client S → List ℕ → Status → Type 0
+HasStatus remaining contents before after text status =
     (heard : List Reading) × Concludes remaining contents IsAnswer before after text heard status
     × (users_of after ≡ users_of before ++ filter is_user_line heard) × (gone_of after ≡ gone_of before ++ filter is_quit_line heard)
 
@@ -74,29 +74,29 @@ kept_with None lines = lines
 kept_with (Some answer) lines = []
 
 -- how far the client came by the next line, which is kept where it tells of another user
-abbrev pub HearsEntry : {S : Type 0} → (S → Option (List ℕ)) → Client S → Client S → ℕ → Option Entry → Type 0
+abbrev pub HearsEntry : {S : Type 0} → (S → Option (List ℕ)) → Client S → Client S → ℕ → Option LoginStep → Type 0
 HearsEntry remaining before after sid entry =
-    (line : Reading) × Hears (unheard remaining before) (unheard remaining after) (line ∷ []) × IsEntry line sid entry
+    (line : Reading) × HearsLines (unheard remaining before) (unheard remaining after) (line ∷ []) × IsLoginStep line sid entry
     × (users_of after ≡ users_of before ++ kept_with entry (filter is_user_line (line ∷ [])))
 
 -- the answer that the next line is, which is kept where it tells of a user
 abbrev pub HearsAnswer : {S : Type 0} → (S → Option (List ℕ)) → Client S → Client S → Option Status → Type 0
 HearsAnswer remaining before after answer =
-    (line : Reading) × Hears (unheard remaining before) (unheard remaining after) (line ∷ []) × IsAnswer line answer
+    (line : Reading) × HearsLines (unheard remaining before) (unheard remaining after) (line ∷ []) × IsAnswer line answer
     × (users_of after ≡ users_of before ++ kept_with answer (filter is_user_line (line ∷ [])))
     × (gone_of after ≡ gone_of before ++ kept_with answer (filter is_quit_line (line ∷ [])))
 
 -- what a line is for who waits until these words of its own come back: they, or nothing unless it is a status of a failure
 abbrev pub IsEcho : List ℕ → Reading → Option (Unit {0}) → Type 0
 IsEcho text line (Some done) = line.text ≡ text
-IsEcho text line None = (line.text ≢ text) × (IsInfo line (codes "STA") → (status : Status) × IsSuccess line status)
+IsEcho text line None = (line.text ≢ text) × (IsHubInfo line (codes "STA") → (status : Status) × IsSuccess line status)
 
 -- the hub tells of itself
 abbrev pub IsHub : Reading → Type 0
-IsHub line = IsInfo line (codes "INF")
+IsHub line = IsHubInfo line (codes "INF")
 
 abbrev pub IsSid : Reading → Type 0
-IsSid line = IsInfo line (codes "SID")
+IsSid line = IsHubInfo line (codes "SID")
 
 -- the session identifier that a hub gave last, if it gave one
 abbrev pub IsGiven : List Reading → Option ℕ → Type 0
@@ -107,7 +107,7 @@ IsGiven heard sid =
 
 -- a line before the one by which a hub tells of itself: no status of a failure
 abbrev pub IsPrelude : Reading → Type 0
-IsPrelude line = (IsHub line → ⊥) × (IsInfo line (codes "STA") → (status : Status) × IsSuccess line status)
+IsPrelude line = (IsHub line → ⊥) × (IsHubInfo line (codes "STA") → (status : Status) × IsSuccess line status)
 
 -- a status of a failure, one that is no status, or the hub's own words with no session identifier before them
 abbrev pub IsNoWelcome : List Reading → Reading → ClientFault → Type 0
@@ -124,7 +124,7 @@ IsNoWelcome heard line Unanswered = ⊥
 abbrev pub IsWelcome : {S : Type 0} → (S → Option (List ℕ)) → (S → Option (List ℕ)) → Client S → Client S → List ℕ → Welcome → Type 0
 IsWelcome remaining contents before after text welcome =
     (heard : List Reading) × (left : Option (List ℕ)) × Waits remaining contents before text heard left × All IsPrelude heard
-    × Hears left (unheard remaining after) (welcome.hub ∷ []) × IsHub welcome.hub × IsGiven heard (Some welcome.sid)
+    × HearsLines left (unheard remaining after) (welcome.hub ∷ []) × IsHub welcome.hub × IsGiven heard (Some welcome.sid)
 
 -- the first departure that names this operator has a user of whom the messages tell what spells no text
 abbrev pub IsNotAway : List Reading → List Reading → ℕ → Type 0

@@ -12,8 +12,8 @@ use Rattle.operator_acts.specs.declared.act.Act.{Act}
 use Rattle.operator_acts.specs.declared.act.Act.TheVariants as acts
 use Rattle.hub_client.specs.declared.cid_text.CidText.{CidText}
 use Rattle.hub_client.specs.declared.nick_text.NickText.{NickText}
-use Rattle.hub_client.specs.declared.request.Request.{Request}
-use Rattle.hub_client.specs.declared.request.Request.TheVariants.{Kick, Ban, Unban, Topic}
+use Rattle.hub_client.specs.declared.request.HubRequest.{HubRequest}
+use Rattle.hub_client.specs.declared.request.HubRequest.TheVariants.{Kick, Ban, Unban, Topic}
 
 abbrev pub nick_bytes : NickText → List ℕ
 nick_bytes nick = nick.text.now
@@ -25,7 +25,7 @@ abbrev pub cid_value : CidText → List ℕ
 cid_value cid = cid.cid
 
 -- the act that is asked for
-abbrev pub act_asked : Request → Act
+abbrev pub act_asked : HubRequest → Act
 act_asked (Kick nick reason) = acts.Kick (chars (nick_bytes nick)) reason.now
 act_asked (Ban nick seconds reason) = acts.Ban (chars (nick_bytes nick)) seconds reason.now
 act_asked (Unban cid) = acts.Unban (cid_value cid)
@@ -37,26 +37,26 @@ behind [] = []
 behind (b ∷ bs) = 32 ∷ b ∷ bs
 
 -- the text that asks for it
-unfoldable pub request_bytes : Request → List ℕ
+unfoldable pub request_bytes : HubRequest → List ℕ
 request_bytes (Kick nick reason) = codes "!kick" ++ 32 ∷ (nick_bytes nick ++ behind reason.now)
 request_bytes (Ban nick seconds reason) = (codes "!ban" ++ 32 ∷ (nick_bytes nick ++ 32 ∷ decimal seconds)) ++ behind reason.now
 request_bytes (Unban cid) = codes "!unban" ++ 32 ∷ cid_bytes cid
 request_bytes (Topic text) = codes "!topic" ++ behind text.now
 
 -- the seconds are a number of 32 bits
-abbrev pub SecondsFit : Request → Type 0
+abbrev pub SecondsFit : HubRequest → Type 0
 SecondsFit (Kick nick reason) = Unit {0}
 SecondsFit (Ban nick seconds reason) = seconds < 4_294_967_296
 SecondsFit (Unban cid) = Unit {0}
 SecondsFit (Topic text) = Unit {0}
 
 -- the message is one to the hub, with this text
-abbrev pub Says : Reading → List ℕ → Type 0
-Says line text = (line.kind ≡ kinds.Hub) × (line.command ≡ codes "MSG") × (line.params ≡ escaped_text text ∷ [])
+abbrev pub SaysText : Reading → List ℕ → Type 0
+SaysText line text = (line.kind ≡ kinds.Hub) × (line.command ≡ codes "MSG") × (line.params ≡ escaped_text text ∷ [])
 
 -- the message is one to the hub, whose text asks for this act
 abbrev pub AsksFor : Reading → Act → Type 0
-AsksFor line act = (text : List ℕ) × Says line text × (act_at text ≡ Some act)
+AsksFor line act = (text : List ℕ) × SaysText line text × (act_at text ≡ Some act)
 
 -- the message as it is written
 abbrev pub message_bytes : List ℕ → List ℕ

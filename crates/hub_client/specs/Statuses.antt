@@ -3,8 +3,8 @@ use Rattle.std.specs.Prelude.{◌≡◌, ◌≢◌, ◌⊎◌, ℕ, ◌==◌, �
 use Rattle.std.specs.String.{string_bytes}
 use Rattle.adc_line.specs.Escapes.{unescaped_text}
 use Rattle.hub_client.specs.Fields.{IsFieldText, IsFirstField, IsMisspelt, spelt_text}
-use Rattle.hub_client.specs.declared.status.Refusal.{Refusal}
-use Rattle.hub_client.specs.declared.status.Refusal.TheVariants.{Password, Banned, Other}
+use Rattle.hub_client.specs.declared.status.LoginRefusal.{LoginRefusal}
+use Rattle.hub_client.specs.declared.status.LoginRefusal.TheVariants.{Password, Banned, Other}
 use Rattle.hub_client.specs.declared.status.Status.{Status}
 
 -- the text of the first of the fields I4, FB, FM and FC that there is; empty where there is none
@@ -37,7 +37,7 @@ abbrev pub has_code : List ℕ → ℕ → ℕ → Bool
 has_code number tens ones = slice_index number 1 == tens && slice_index number 2 == ones
 
 -- the meaning of a refusal by the two digits of its code: 23 is a wrong password, 31 and 32 are bans
-abbrev pub refusal_by : List ℕ → Refusal
+abbrev pub refusal_by : List ℕ → LoginRefusal
 refusal_by number =
     if has_code number 50 51 then Password
     else if has_code number 51 49 || has_code number 51 50 then Banned

@@ -6,7 +6,7 @@ use Rattle.std.specs.Result.{is_ok}
 use Rattle.adc_line.specs.Frames.{lf, max_line, HasNoLf}
 use Rattle.adc_line.specs.Lines.{Reading, reading}
 use Rattle.adc_line.specs.Stream.{joined_lines}
-use Rattle.flushed_writes.specs.Calls.{failures_of, inner_of}
+use Rattle.counted_io.specs.Calls.{failures_of, inner_of}
 use Rattle.hub_client.specs.declared.client.Client.{Client}
 use Rattle.hub_client.specs.declared.fault.ClientFault.{ClientFault}
 use Rattle.hub_client.specs.declared.fault.ClientFault.TheVariants.{Memory, Unsayable, TimedOut, Unanswered, Closed, Broken, NotAdc, Refused}
@@ -32,27 +32,27 @@ abbrev pub has_bytes : List ℕ → Bool
 has_bytes frame = not (length frame == 0)
 
 -- from some bytes on, so many were heard that these are the messages of their lines
-pub record Hears (before after : Option (List ℕ)) (heard : List Reading) : Type 0 where
+pub record HearsLines (before after : Option (List ℕ)) (heard : List Reading) : Type 0 where
   pub frames : List (List ℕ)
   pub whole : All HasNoLf frames
   pub taken : Consumes before after (joined_lines frames)
   pub read : map reading (filter has_bytes frames) ≡ map Ok heard
 
 -- the stream is at its end, and no whole line is left
-abbrev pub IsOver : {S : Type 0} → (S → Option (List ℕ)) → Client S → Type 0
-IsOver remaining client = IsAtEnd (remaining (inner_of client.stream)) × HasNoLf client.framer
+abbrev pub IsStreamOver : {S : Type 0} → (S → Option (List ℕ)) → Client S → Type 0
+IsStreamOver remaining client = IsAtEnd (remaining (inner_of client.stream)) × HasNoLf client.framer
 
 -- the next line is no message
 abbrev pub IsNoMessage : List ℕ → Type 0
 IsNoMessage bytes = (frame : List ℕ) × (left : List ℕ) × (bytes ≡ frame ++ lf ∷ left) × HasNoLf frame × (is_ok (reading frame) ≡ false)
 
 -- the next line is longer than a message may be
-abbrev pub IsTooLong : List ℕ → Type 0
-IsTooLong bytes = (max_line < length bytes) × HasNoLf (take (max_line + 1) bytes)
+abbrev pub IsNextTooLong : List ℕ → Type 0
+IsNextTooLong bytes = (max_line < length bytes) × HasNoLf (take (max_line + 1) bytes)
 
 abbrev pub IsJunk : Option (List ℕ) → Type 0
 IsJunk None = Unit {0}
-IsJunk (Some bytes) = IsTooLong bytes ⊎ IsNoMessage bytes
+IsJunk (Some bytes) = IsNextTooLong bytes ⊎ IsNoMessage bytes
 
 -- how often the client may still read on or take a line out
 abbrev pub turns_of : {S : Type 0} → Client S → ℕ
@@ -82,8 +82,8 @@ abbrev pub HearsNone : {S : Type 0} → (S → Option (List ℕ)) → Client S �
 HearsNone remaining before after Memory = Unit {0}
 HearsNone remaining before after TimedOut = HasFailed after
 HearsNone remaining before after Broken = HasFailed after ⊎ IsSpent after
-HearsNone remaining before after Closed = Hears (unheard remaining before) (unheard remaining after) [] × IsOver remaining after
-HearsNone remaining before after NotAdc = (left : Option (List ℕ)) × Hears (unheard remaining before) left [] × IsJunk left
+HearsNone remaining before after Closed = HearsLines (unheard remaining before) (unheard remaining after) [] × IsStreamOver remaining after
+HearsNone remaining before after NotAdc = (left : Option (List ℕ)) × HearsLines (unheard remaining before) left [] × IsJunk left
 HearsNone remaining before after Unsayable = ⊥
 HearsNone remaining before after Unanswered = ⊥
 HearsNone remaining before after (Refused status) = ⊥
@@ -95,11 +95,11 @@ FailsAt remaining faulty before after TimedOut = HasFailed after
 FailsAt remaining faulty before after Broken = HasFailed after ⊎ IsSpent after
 FailsAt remaining faulty before after Closed = HearsNone remaining before after Closed
 FailsAt remaining faulty before after NotAdc =
-    HearsNone remaining before after NotAdc ⊎ ((line : Reading) × Hears (unheard remaining before) (unheard remaining after) (line ∷ []) × faulty line NotAdc)
+    HearsNone remaining before after NotAdc ⊎ ((line : Reading) × HearsLines (unheard remaining before) (unheard remaining after) (line ∷ []) × faulty line NotAdc)
 FailsAt remaining faulty before after Unsayable = ⊥
 FailsAt remaining faulty before after Unanswered = ⊥
 FailsAt remaining faulty before after (Refused status) =
-    (line : Reading) × Hears (unheard remaining before) (unheard remaining after) (line ∷ []) × faulty line (Refused status)
+    (line : Reading) × HearsLines (unheard remaining before) (unheard remaining after) (line ∷ []) × faulty line (Refused status)
 
 -- the bytes that the client has said
 abbrev pub said_by : {S : Type 0} → (S → Option (List ℕ)) → Client S → Option (List ℕ)

@@ -7,18 +7,18 @@ use Rattle.adc_line.specs.Escapes.{unescaped_text}
 use Rattle.hub_client.specs.Fields.{IsField, IsFieldText, IsMisspelt, spelt_text}
 use Rattle.hub_client.specs.Roles.{role_of}
 use Rattle.hub_client.specs.declared.role.Role.{Role}
-use Rattle.hub_client.specs.declared.user.User.{User}
+use Rattle.hub_client.specs.declared.user.HubUser.{HubUser}
 use Rattle.hub_client.specs.declared.user.Who.{Who}
 use Rattle.adc_line.specs.Lines.{Reading}
 
 -- decimal digits of a number of 32 bits
-abbrev pub IsNumber : List ℕ → Type 0
-IsNumber digits = IsNumeral 10 (without_leading_plus digits) × (digits_value 10 (without_leading_plus digits) < 2 ^ 32)
+abbrev pub IsSmallNumber : List ℕ → Type 0
+IsSmallNumber digits = IsNumeral 10 (without_leading_plus digits) × (digits_value 10 (without_leading_plus digits) < 2 ^ 32)
 
 -- the bits of a client type: 0 if none are there, or none that are a number
 abbrev pub AreBits : Option (List ℕ) → ℕ → Type 0
 AreBits None bits = bits ≡ 0
-AreBits (Some digits) bits = (IsNumber digits → bits ≡ digits_value 10 (without_leading_plus digits)) × ((IsNumber digits → ⊥) → bits ≡ 0)
+AreBits (Some digits) bits = (IsSmallNumber digits → bits ≡ digits_value 10 (without_leading_plus digits)) × ((IsSmallNumber digits → ⊥) → bits ≡ 0)
 
 abbrev pub IsRole : List (List ℕ) → Role → Type 0
 IsRole params role = (value : Option (List ℕ)) × (bits : ℕ) × IsField (codes "CT") params value × AreBits value bits × (role ≡ role_of bits)
@@ -28,18 +28,18 @@ abbrev pub IsAddressBeside : List (List ℕ) → Option (List ℕ) → List ℕ 
 IsAddressBeside params (Some value) text = unescaped_text value ≡ Some text
 IsAddressBeside params None text = IsFieldText (codes "I6") params text
 
-abbrev pub IsAddress : List (List ℕ) → List ℕ → Type 0
-IsAddress params text = (value : Option (List ℕ)) × IsField (codes "I4") params value × IsAddressBeside params value text
+abbrev pub IsUserAddress : List (List ℕ) → List ℕ → Type 0
+IsUserAddress params text = (value : Option (List ℕ)) × IsField (codes "I4") params value × IsAddressBeside params value text
 
 -- the value from which the address is taken spells no text
 abbrev pub IsMisspeltAddress : List (List ℕ) → Type 0
 IsMisspeltAddress params = IsMisspelt (codes "I4") params ⊎ (IsField (codes "I4") params None × IsMisspelt (codes "I6") params)
 
-pub record IsUser (params : List (List ℕ)) (user : User) : Type 0 where
+pub record IsUserMessage (params : List (List ℕ)) (user : HubUser) : Type 0 where
   pub nick : IsFieldText (codes "NI") params (string_bytes user.nick)
   pub cid : IsFieldText (codes "ID") params (string_bytes user.cid)
   pub role : IsRole params user.role
-  pub address : IsAddress params (string_bytes user.address)
+  pub address : IsUserAddress params (string_bytes user.address)
   pub share : IsFieldText (codes "SS") params (string_bytes user.share)
   pub description : IsFieldText (codes "DE") params (string_bytes user.description)
 

@@ -1,5 +1,5 @@
 ghost use Rattle.std.specs.Prelude.{◌≡◌, ◌≢◌, ℕ, [], IfErr, IfOk, MatchOption, MatchResult, Some};
-ghost use Rattle.hub_client.specs.Addresses.{IsAddress, IsBare, IsBefore, IsBehind, IsNoAddress, IsPort, IsSplit, IsUnsplit};
+ghost use Rattle.hub_client.specs.Addresses.{IsAddress, IsBare, IsBefore, IsRestBehind, IsNoAddress, IsPort, IsSplit, IsUnsplit};
 ghost use Rattle.hub_client.specs.Addresses.{address_host, address_port, address_text};
 
 use std::fmt;
@@ -74,7 +74,7 @@ fn bare(text: &str) -> &str
 }
 
 fn without_front<'a>(text: &'a str, front: &str) -> &'a str
-    ensures { IsBehind front.now text.now result.now }
+    ensures { IsRestBehind front.now text.now result.now }
 {
     text.strip_prefix(front).unwrap_or(text)
 }

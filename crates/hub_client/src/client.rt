@@ -4,12 +4,12 @@ ghost use Rattle.std.specs.Io.KnownBytes.{Keeps, prepend_known};
 ghost use Rattle.std.specs.List.{cons_option};
 ghost use Rattle.adc_line.specs.Lines.{Reading};
 ghost use Rattle.hub_client.specs.declared.status.Status.{Status};
-ghost use Rattle.hub_client.specs.Conversations.{Comes, Concludes, Fails, HearsAnswer, HearsEntry, IsAnswered, IsAway, IsNotAway};
+ghost use Rattle.hub_client.specs.Conversations.{Comes, Concludes, Fails, HearsAnswer, HearsEntry, HasStatus, IsAway, IsNotAway};
 ghost use Rattle.hub_client.specs.Conversations.{IsEcho, IsNoWelcome, IsPrelude, IsWelcome};
-ghost use Rattle.hub_client.specs.Entries.{Enters, IsAnswer, IsBadStatus, IsEntry, IsInfo, IsNoChallenge, IsRefusal, IsSuccess};
+ghost use Rattle.hub_client.specs.Entries.{Enters, IsAnswer, IsBadStatus, IsLoginStep, IsHubInfo, IsNoChallenge, IsLoginRefusal, IsSuccess};
 ghost use Rattle.hub_client.specs.Entries.{IsUserLine, TellsOf, is_quit_line, is_user_line};
 ghost use Rattle.hub_client.specs.Sayings.{support_text};
-ghost use Rattle.hub_client.specs.Talks.{FailsAt, HasFailed, Hears, HearsNone, ReadsNone, gone_of, said_by, turns_of, unheard, users_of};
+ghost use Rattle.hub_client.specs.Talks.{FailsAt, HasFailed, HearsLines, HearsNone, ReadsNone, gone_of, said_by, turns_of, unheard, users_of};
 
 use crate::departures::{sent_away_by, sid_in};
 use crate::fault::{ClientFault, unanswered};
@@ -19,7 +19,7 @@ use crate::status::Status;
 use crate::user::Who;
 use adc_base32::{Sid, decode24};
 use adc_line::{Framer, Kind, Line, Next};
-use flushed_writes::Counting;
+use counted_io::Counting;
 use std::alloc::Global;
 use std::io::{self, Read, Write};
 
@@ -46,7 +46,7 @@ pub struct Welcome {
 
 /// The outcome of a login.
 #[derive(Drop)]
-pub enum Entry {
+pub enum LoginStep {
     /// The client is present.
     Inside,
     /// The hub asks for the password, with this challenge.
@@ -101,10 +101,10 @@ impl<S: Read + Write> Client<S> {
     }
 
     /// Sends a login, or the answer to a challenge, and gives how far the client of this session identifier then came.
-    pub fn enter(&mut self, sid: Sid, login: &Line) -> Result<Entry, ClientFault>
+    pub fn enter(&mut self, sid: Sid, login: &Line) -> Result<LoginStep, ClientFault>
         ensures comes { IfOk result (Comes S.remaining S.contents self.old self.new sid login.now.text) }
         ensures fails { IfErr result
-            (Fails S.remaining S.contents (λ line. IsEntry line sid None) (λ _ last. IsRefusal last) self.old self.new login.now.text) }
+            (Fails S.remaining S.contents (λ line. IsLoginStep line sid None) (λ _ last. IsLoginRefusal last) self.old self.new login.now.text) }
         ensures gone { gone_of self.new ≡ gone_of self.old }
     {
         say(self.alloc, &mut self.stream, login)?;
@@ -117,9 +117,9 @@ impl<S: Read + Write> Client<S> {
     }
 
     /// Hears a message, and gives how far the client of this session identifier came, if it says so.
-    fn next_entry(&mut self, sid: Sid) -> Result<Option<Entry>, ClientFault>
+    fn next_entry(&mut self, sid: Sid) -> Result<Option<LoginStep>, ClientFault>
         ensures heard { IfOk result (HearsEntry S.remaining self.old self.new sid) }
-        ensures fails { IfErr result (FailsAt S.remaining IsRefusal self.old self.new) }
+        ensures fails { IfErr result (FailsAt S.remaining IsLoginRefusal self.old self.new) }
         ensures gone { gone_of self.new ≡ gone_of self.old }
         ensures fewer { OnOk result (turns_of self.new < turns_of self.old) }
     {
@@ -144,7 +144,7 @@ impl<S: Read + Write> Client<S> {
     /// Asks something of the hub, and gives what it answers. Refused: `Refused` where it does not do it, `Unanswered` where no answer
     /// comes in time.
     pub fn ask(&mut self, line: &Line) -> Result<Status, ClientFault>
-        ensures answered { IfOk result (IsAnswered S.remaining S.contents self.old self.new line.now.text) }
+        ensures answered { IfOk result (HasStatus S.remaining S.contents self.old self.new line.now.text) }
         ensures unanswered { IfErr result (λ fault. fault ≡ ClientFault.Unanswered → HasFailed self.new) }
         ensures fails { IfErr result (λ fault. fault ≢ ClientFault.Unanswered
             → Fails S.remaining S.contents (λ heard. IsAnswer heard None) (λ _ last. IsBadStatus last) self.old self.new line.now.text fault) }
@@ -213,7 +213,7 @@ impl<S: Read + Write> Client<S> {
 
     /// Hears a message, and tests whether it is this one.
     fn hears_echo(&mut self, line: &Line) -> Result<bool, ClientFault>
-        ensures heard { IfOk result (λ is_echo. (heard : Reading) × Hears (unheard S.remaining self.old) (unheard S.remaining self.new) (heard ∷ [])
+        ensures heard { IfOk result (λ is_echo. (heard : Reading) × HearsLines (unheard S.remaining self.old) (unheard S.remaining self.new) (heard ∷ [])
             × IsEcho line.now.text heard (if is_echo then Some tt else None)) }
         ensures fails { IfErr result (FailsAt S.remaining IsBadStatus self.old self.new) }
         ensures users { users_of self.new ≡ users_of self.old }
@@ -232,8 +232,8 @@ impl<S: Read + Write> Client<S> {
 
     /// Hears a message that is no status of a failure. Refused: `Refused` with such a status, else as [`Client::hear`].
     fn hear_well(&mut self) -> Result<Line, ClientFault>
-        ensures heard { IfOk result (λ line. Hears (unheard S.remaining self.old) (unheard S.remaining self.new) (line ∷ [])) }
-        ensures well { IfOk result (λ line. IsInfo line (codes "STA") → (status : Status) × IsSuccess line status) }
+        ensures heard { IfOk result (λ line. HearsLines (unheard S.remaining self.old) (unheard S.remaining self.new) (line ∷ [])) }
+        ensures well { IfOk result (λ line. IsHubInfo line (codes "STA") → (status : Status) × IsSuccess line status) }
         ensures fails { IfErr result (FailsAt S.remaining IsBadStatus self.old self.new) }
         ensures users { users_of self.new ≡ users_of self.old }
         ensures gone { gone_of self.new ≡ gone_of self.old }
@@ -248,7 +248,7 @@ impl<S: Read + Write> Client<S> {
 
     /// The next message; empty lines are none.
     fn hear(&mut self) -> Result<Line, ClientFault>
-        ensures heard { IfOk result (λ line. Hears (unheard S.remaining self.old) (unheard S.remaining self.new) (line ∷ [])) }
+        ensures heard { IfOk result (λ line. HearsLines (unheard S.remaining self.old) (unheard S.remaining self.new) (line ∷ [])) }
         ensures none { IfErr result (HearsNone S.remaining self.old self.new) }
         ensures users { users_of self.new ≡ users_of self.old }
         ensures gone { gone_of self.new ≡ gone_of self.old }
@@ -265,7 +265,7 @@ impl<S: Read + Write> Client<S> {
 
     /// Reads on, or takes the next line out; gives the message that it is, unless it is empty.
     fn hear_some(&mut self) -> Result<Option<Line>, ClientFault>
-        ensures heard { IfOk result (λ line. Hears (unheard S.remaining self.old) (unheard S.remaining self.new) (cons_option line [])) }
+        ensures heard { IfOk result (λ line. HearsLines (unheard S.remaining self.old) (unheard S.remaining self.new) (cons_option line [])) }
         ensures none { IfErr result (HearsNone S.remaining self.old self.new) }
         ensures users { users_of self.new ≡ users_of self.old }
         ensures gone { gone_of self.new ≡ gone_of self.old }
@@ -302,8 +302,8 @@ impl<S: Read + Write> Client<S> {
 
 /// Tests whether a line is of the type I and has this command.
 fn is_info(line: &Line, command: [u8; 3]) -> bool
-    ensures yes { IsTrue result → IsInfo line.now command }
-    ensures no { IsFalse result → IsInfo line.now command → ⊥ }
+    ensures yes { IsTrue result → IsHubInfo line.now command }
+    ensures no { IsFalse result → IsHubInfo line.now command → ⊥ }
 {
     line.kind() == Kind::Info && line.command() == command
 }
@@ -336,9 +336,9 @@ fn is_of(line: &Line, sid: Sid) -> bool
 /// Returns how far the client of this session identifier came, if a line says so; `None` if the line says nothing of that.
 ///
 /// Refused: `Refused` with the status of a failure that the line is; `NotAdc`; `Memory`.
-fn entry_in(alloc: Global, line: &Line, sid: Sid) -> Result<Option<Entry>, ClientFault>
-    ensures entry { IfOk result (λ entry. IsEntry line.now sid entry) }
-    ensures refused { IfErr result (λ fault. IsRefusal line.now fault) }
+fn entry_in(alloc: Global, line: &Line, sid: Sid) -> Result<Option<LoginStep>, ClientFault>
+    ensures entry { IfOk result (λ entry. IsLoginStep line.now sid entry) }
+    ensures refused { IfErr result (λ fault. IsLoginRefusal line.now fault) }
 {
     if is_info(line, *b"GPA") {
         return Ok(Some(challenge_in(line)?));
@@ -347,7 +347,7 @@ fn entry_in(alloc: Global, line: &Line, sid: Sid) -> Result<Option<Entry>, Clien
         success_in(alloc, line)?;
         return Ok(None);
     }
-    Ok(is_of(line, sid).then_some(Entry::Inside))
+    Ok(is_of(line, sid).then_some(LoginStep::Inside))
 }
 
 /// Returns the status of a success that a line is; `None` if it is no status. Refused as [`success_in`] says.
@@ -363,9 +363,9 @@ fn answer_in(alloc: Global, line: &Line) -> Result<Option<Status>, ClientFault>
 
 /// Returns the status that a line is. Refused: `Refused` with a status of a failure; `NotAdc` if it is none; `Memory`.
 fn success_in(alloc: Global, line: &Line) -> Result<Status, ClientFault>
-    requires { IsInfo line.now (codes "STA") }
+    requires { IsHubInfo line.now (codes "STA") }
     ensures success { IfOk result (λ status. IsSuccess line.now status) }
-    ensures refused { IfErr result (λ fault. IsRefusal line.now fault) }
+    ensures refused { IfErr result (λ fault. IsLoginRefusal line.now fault) }
 {
     let status = Status::read(alloc, line)?;
     if status.is_success() {
@@ -375,15 +375,15 @@ fn success_in(alloc: Global, line: &Line) -> Result<Status, ClientFault>
 }
 
 /// Returns the challenge that the hub sends. Refused: `NotAdc` if it sends none.
-fn challenge_in(line: &Line) -> Result<Entry, ClientFault>
-    requires { IsInfo line.now (codes "GPA") }
+fn challenge_in(line: &Line) -> Result<LoginStep, ClientFault>
+    requires { IsHubInfo line.now (codes "GPA") }
     ensures challenge { IfOk result (λ entry. (sid : ℕ) → Enters line.now sid entry) }
     ensures refused { IfErr result (λ fault. fault ≡ ClientFault.NotAdc) }
     ensures none { IfErr result (λ _. IsNoChallenge line.now) }
 {
     let word = line.params().next().unwrap_or("");
     match decode24(word.as_bytes()) {
-        Ok(bytes) => Ok(Entry::Challenged(bytes)),
+        Ok(bytes) => Ok(LoginStep::Challenged(bytes)),
         Err(_) => Err(ClientFault::NotAdc),
     }
 }

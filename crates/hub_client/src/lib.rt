@@ -18,13 +18,13 @@ mod user;
 
 pub use address::{AddressFault, HubAddress};
 pub use cid_text::CidText;
-pub use client::{Client, Entry, Welcome};
+pub use client::{Client, LoginStep, Welcome};
 pub use fault::ClientFault;
 pub use fields::{field, field_text};
-pub use login::{Identity, chat_line, login_line, password_line, support_line};
+pub use login::{ClientIdentity, chat_line, login_line, password_line, support_line};
 pub use nick_text::NickText;
 pub use operator_line::act_line;
-pub use request::Request;
+pub use request::HubRequest;
 pub use role::Role;
-pub use status::{Refusal, Status};
-pub use user::{User, Who};
+pub use status::{LoginRefusal, Status};
+pub use user::{HubUser, Who};

@@ -7,7 +7,7 @@ ghost use Rattle.hub_client.specs.Broken.{IsCut};
 
 use crate::fault::{ClientFault, not_adc};
 use adc_line::Line;
-use flushed_writes::{CountedWrite, write_and_flush_counted};
+use counted_io::{CountedWrite, write_and_flush_counted};
 use std::alloc::Global;
 
 /// Returns the message that a line is. Refused: `NotAdc` if it is none; `Memory`.

@@ -18,19 +18,19 @@ const SIDS: u32 = 1_048_576;
 
 /// The identity of a client: a private identifier and the client identifier that is its hash.
 #[derive(Clone, Copy)]
-pub struct Identity {
+pub struct ClientIdentity {
     private: [u8; 24],
     cid: Cid,
 }
 
-impl Identity {
+impl ClientIdentity {
     ghost use Rattle.hub_client.specs.Identities.{IsHashed};
 
     /// The identity with this private identifier.
-    pub fn of<H: SessionHash>(hash: &H, private: [u8; 24]) -> Identity
+    pub fn of<H: SessionHash>(hash: &H, private: [u8; 24]) -> ClientIdentity
         ensures { IsHashed (H.digest_of hash.now) private result }
     {
-        Identity {
+        ClientIdentity {
             private,
             cid: Cid::from_bytes(hash.digest(&private)),
         }
@@ -54,7 +54,7 @@ pub fn support_line(alloc: Global, pinger: bool) -> Result<Line, ClientFault>
 pub fn login_line(
     alloc: Global,
     sid: Sid,
-    identity: &Identity,
+    identity: &ClientIdentity,
     nick: &NickText<'_>,
 ) -> Result<Line, ClientFault>
     ensures exact { IfOk result (λ line. line.text ≡ login_text sid identity.now.cid identity.now.private (nick_bytes nick.now)) }
@@ -69,7 +69,7 @@ pub fn login_line(
 }
 
 /// Makes the front of a login, with the three identifiers of the client.
-fn identifiers(alloc: Global, sid: Sid, identity: &Identity) -> Result<Vec<u8>, AllocError>
+fn identifiers(alloc: Global, sid: Sid, identity: &ClientIdentity) -> Result<Vec<u8>, AllocError>
     ensures exact { IfOk result (λ line. line.items ≡ identifiers_text sid identity.now.cid identity.now.private) }
     ensures cid { IfOk result (λ _. IsSpelt identity.now.cid) }
     ensures private { IfOk result (λ _. IsSpelt identity.now.private) }

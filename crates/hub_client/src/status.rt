@@ -25,7 +25,7 @@ pub struct Status {
 
 /// The meaning of a refusal for whoever asked.
 #[derive(Clone, Copy, Debug, PartialEq, Eq)]
-pub enum Refusal {
+pub enum LoginRefusal {
     /// The password is wrong.
     Password,
     /// The client is banned.
@@ -62,13 +62,13 @@ impl Status {
     }
 
     /// Returns the meaning of the status as a refusal.
-    pub fn refusal(&self) -> Refusal
+    pub fn refusal(&self) -> LoginRefusal
         ensures { result ≡ refusal_by self.now.number }
     {
         match self.number {
-            [_, b'2', b'3'] => Refusal::Password,
-            [_, b'3', b'1' | b'2'] => Refusal::Banned,
-            _ => Refusal::Other,
+            [_, b'2', b'3'] => LoginRefusal::Password,
+            [_, b'3', b'1' | b'2'] => LoginRefusal::Banned,
+            _ => LoginRefusal::Other,
         }
     }
 }

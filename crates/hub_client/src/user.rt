@@ -2,8 +2,8 @@ ghost use Rattle.std.specs.Prelude.{◌≡◌, ◌⊎◌, Some, IfErr, IfNone, I
 ghost use Rattle.std.specs.Option.{option_copied};
 ghost use Rattle.std.specs.String.{string_bytes};
 ghost use Rattle.hub_client.specs.Fields.{IsField};
-ghost use Rattle.hub_client.specs.Users.{AreBits, IsAddress, IsLastField, IsMisspeltAddress, IsMisspeltLast, IsNoUser, IsRole};
-ghost use Rattle.hub_client.specs.Users.{IsSaidLast, IsSilentOn, IsTold, IsUntold, IsUser};
+ghost use Rattle.hub_client.specs.Users.{AreBits, IsUserAddress, IsLastField, IsMisspeltAddress, IsMisspeltLast, IsNoUser, IsRole};
+ghost use Rattle.hub_client.specs.Users.{IsSaidLast, IsSilentOn, IsTold, IsUntold, IsUserMessage};
 
 use crate::fault::ClientFault;
 use crate::fields::{field, field_text};
@@ -14,7 +14,7 @@ use std::alloc::Global;
 
 /// A user as others see it.
 #[derive(Drop)]
-pub struct User {
+pub struct HubUser {
     /// The nick.
     pub nick: String,
     /// The client identifier, in base32.
@@ -29,14 +29,14 @@ pub struct User {
     pub description: String,
 }
 
-impl User {
+impl HubUser {
     /// Reads a message of the type INF. Refused: `NotAdc` if a field of it spells no text; `Memory`.
-    pub fn read(alloc: Global, line: &Line) -> Result<User, ClientFault>
-        ensures user { IfOk result (λ user. IsUser line.now.params user) }
+    pub fn read(alloc: Global, line: &Line) -> Result<HubUser, ClientFault>
+        ensures user { IfOk result (λ user. IsUserMessage line.now.params user) }
         ensures refused { IfErr result (λ fault. (fault ≡ ClientFault.Memory) ⊎ (fault ≡ ClientFault.NotAdc)) }
         ensures none { IfErr result (λ fault. fault ≡ ClientFault.NotAdc → IsNoUser line.now.params) }
     {
-        Ok(User {
+        Ok(HubUser {
             nick: field_text(alloc, line, "NI")?,
             cid: field_text(alloc, line, "ID")?,
             role: role(line),
@@ -48,7 +48,7 @@ impl User {
 }
 
 fn address(alloc: Global, line: &Line) -> Result<String, ClientFault>
-    ensures text { IfOk result (λ text. IsAddress line.now.params (string_bytes text)) }
+    ensures text { IfOk result (λ text. IsUserAddress line.now.params (string_bytes text)) }
     ensures refused { IfErr result (λ fault. (fault ≡ ClientFault.Memory) ⊎ (fault ≡ ClientFault.NotAdc)) }
     ensures misspelt { IfErr result (λ fault. fault ≡ ClientFault.NotAdc → IsMisspeltAddress line.now.params) }
 {

@@ -11,8 +11,8 @@ use Rattle.hub_core.specs.declared.delivery.Delivery.{Delivery}
 use Rattle.hub_core.specs.declared.delivery.Delivery.TheVariants.{All as ToAll, Each}
 use Rattle.hub_core.specs.declared.seat.Seat.{Seat}
 use Rattle.hub_core.specs.Deliveries.{IsDelivery, WaitsAs, delivered, named_in}
-use Rattle.hub_core.specs.Leaving.{others_of, told_of}
-use Rattle.hub_core.specs.Waiting.{AreBeside, at_backlog, backlog_after_take, backlog_in, backlogs_but, backlogs_of, given_each, here_in, is_here, members_of, no_backlog}
+use Rattle.hub_core.specs.Departures.{others_of, told_of}
+use Rattle.hub_core.specs.Backlogs.{AreBeside, at_backlog, backlog_after_take, backlog_in, backlogs_but, backlogs_of, given_each, here_in, is_here, members_of, no_backlog}
 use Rattle.hub_rules.specs.declared.effect.Effect.{Effect}
 use Rattle.hub_rules.specs.Shares.{change_at}
 use Rattle.hub_core.proofs.Places.{StandsFirst, rest_first}

@@ -1,5 +1,5 @@
 -- A decision that is carried out: a hub that stands at a history then stands at the next.
-use Rattle.hub_invariants.proofs.Becoming.{about_parts, happens-parts}
+use Rattle.hub_invariants.proofs.CallCases.{about_parts, happens-parts}
 use Rattle.std.specs.List.{find}
 use Rattle.std.proofs.Common.{◌≡◌, ◌∙◌, sym, ap, ap₂, refl, subst, ℕ, Bool, true, false, ◌||◌, ◌==◌, eqb, List, [], ◌∷◌, map, length, get_or, slice_set, Option, Some}
 use Rattle.std.specs.Prelude.{if◌then◌else◌}
@@ -17,7 +17,7 @@ use Rattle.hub_core.specs.CoreState.{CoreState}
 use Rattle.hub_core.specs.Decided.{Decided, DecidedFor, sight_in, user_at}
 use Rattle.hub_core.specs.Phases.{phase_at}
 use Rattle.hub_core.specs.Seats.{at_seat, changed_seat, seat_after_change_at, seat_of, seat_share}
-use Rattle.hub_core.specs.Waiting.{given_backlog, given_each}
+use Rattle.hub_core.specs.Backlogs.{given_backlog, given_each}
 use Rattle.outboxes.specs.Backlogs.{Backlog}
 use Rattle.hub_core.specs.State.{carried_out, core_of, users_after}
 use Rattle.hub_rules.specs.declared.effect.Effect.{Effect}
@@ -27,17 +27,17 @@ use Rattle.hub_rules.specs.Effects.{entrant, effect_of_reading, is_over, is_pres
 use Rattle.hub_rules.specs.Facts.{Facts, bans_after, happens, own_of, sight_of, topic_after, user_of}
 use Rattle.hub_rules.specs.Identities.{listed_user}
 use Rattle.hub_rules.specs.Quiet.{nothing}
-use Rattle.hub_rules.specs.Shares.{About, change_at}
-use Rattle.hub_rules.specs.Sights.{Own, PreparedLine, Sight}
+use Rattle.hub_rules.specs.Shares.{ConnState, change_at}
+use Rattle.hub_rules.specs.Views.{SenderView, PreparedLine, HubView}
 use Rattle.hub_invariants.proofs.Kept.{differs-sid}
 use Rattle.hub_invariants.proofs.Members.{has}
 use Rattle.hub_invariants.proofs.Sids.{Numbered}
 use Rattle.hub_invariants.proofs.Sound.{Sound, not-over, or-true}
 use Rattle.hub_invariants.proofs.Suits.{Suits, listed-sid}
 use Rattle.hub_invariants.proofs.Tidy.{Tidy, is_unasked, is_unnamed}
-use Rattle.hub_core.proofs.Seating.{at-one, backlog_at, each-given, each-same, in-open, map-seats, not-self, seat_one}
+use Rattle.hub_core.proofs.OpenSeats.{at-one, backlog_at, each-given, each-same, in-open, map-seats, not-self, seat_one}
 use Rattle.hub_core.proofs.Places.{StandsFirst, phase-at, set-read, sid-at}
-use Rattle.hub_core.proofs.Sharing.{backlog-by, seat-by, share-same}
+use Rattle.hub_core.proofs.SeatShares.{backlog-by, seat-by, share-same}
 use Rattle.hub_core.proofs.Users.{users-carried}
 
 -- ---- one equation for a hub
@@ -78,15 +78,15 @@ carried-out setup c effect f sound n tidy open_c suits =
 
 -- ---- the decision
 
-abbrev own_with : About → Stage → List Field → List ℕ → Own
+abbrev own_with : ConnState → Stage → List Field → List ℕ → SenderView
 own_with a stage fields expected =
     record { sender = a.sender; stage = stage; fields = fields; expected = expected }
 
-own-is : (a : About) (stage : Stage) (fields : List Field) (expected : List ℕ) → a.stage ≡ stage → a.fields ≡ fields → a.expected ≡ expected → own_with a stage fields expected ≡ own_of a
+own-is : (a : ConnState) (stage : Stage) (fields : List Field) (expected : List ℕ) → a.stage ≡ stage → a.fields ≡ fields → a.expected ≡ expected → own_with a stage fields expected ≡ own_of a
 own-is a stage fields expected s fs e =
     ap (λ x. own_with a x fields expected) (sym s) ∙ ap (λ x. own_with a a.stage x expected) (sym fs) ∙ ap (λ x. own_with a a.stage a.fields x) (sym e)
 
-quiet-by : (hub : Sight) (own : Own) (line : PreparedLine) (now : ℕ) → is_over own.stage ≡ true → line_effect hub own line now ≡ nothing
+quiet-by : (hub : HubView) (own : SenderView) (line : PreparedLine) (now : ℕ) → is_over own.stage ≡ true → line_effect hub own line now ≡ nothing
 unfolding line_effect
 quiet-by hub own line now over = ap (λ b. if b then nothing else (if length line.bytes == 0 then nothing else effect_of_reading hub own line now (lines.reading line.bytes))) over
 

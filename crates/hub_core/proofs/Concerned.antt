@@ -1,5 +1,5 @@
 -- Whom a call concerned, by what it made of each connection.
-use Rattle.hub_invariants.proofs.Becoming.{about-parts}
+use Rattle.hub_invariants.proofs.CallCases.{about-parts}
 use Rattle.std.proofs.Common.{◌≡◌, ◌∙◌, sym, ap, refl, subst, ℕ, ◌+◌, ◌<◌, ◌≤◌, Bool, true, false, not, ◌&&◌, ◌==◌, List, [], ◌∷◌, ◌++◌, length, filter, arith, length-drop, Option, None}
 use Rattle.std.specs.Prelude.{◌≢◌, cond}
 use Rattle.std.proofs.lemmas.Bool.{false≢true, eqb-true, eq-eqb}
@@ -15,7 +15,7 @@ use Rattle.hub_core.specs.Decided.{Decided, sight_in}
 use Rattle.hub_core.specs.Phases.{stage_in}
 use Rattle.hub_core.specs.Seats.{in_seat, phase_in, seat_with, sid_in}
 use Rattle.hub_core.specs.State.{Stands}
-use Rattle.hub_core.specs.Touching.{LineTouches, NamesEffect, NamesOne, NamesOwed, Touches, falls, names}
+use Rattle.hub_core.specs.Touched.{LineTouches, NamesEffect, NamesOne, NamesOwed, Touches, falls, names}
 use Rattle.hub_rules.specs.declared.effect.Change.{Change}
 use Rattle.hub_rules.specs.declared.effect.Change.TheVariants.{Hub, Nothing, Sender}
 use Rattle.hub_rules.specs.declared.effect.Effect.{Effect}
@@ -25,19 +25,19 @@ use Rattle.hub_rules.specs.declared.history.Call.TheVariants.{Join, Quit, Take}
 use Rattle.hub_rules.specs.Configured.{most_users}
 use Rattle.hub_rules.specs.Effects.{departure, is_over, is_present}
 use Rattle.hub_rules.specs.Facts.{Facts, after, effect_of_line, facts, happens, has_joins, has_place, newcomer, next_sid, own_of, with_connection, with_lines_taken, without_connection}
-use Rattle.hub_rules.specs.Shares.{About, change_at, hears_those, lags_with, owed_with, owes, waiting}
+use Rattle.hub_rules.specs.Shares.{ConnState, change_at, hears_those, lags_with, owed_with, owes, waiting}
 use Rattle.hub_invariants.specs.Afterwards.{is_gone_at, is_removed, removed_by, stage_after, affected_parts}
-use Rattle.hub_rules.specs.Sights.{PreparedLine}
+use Rattle.hub_rules.specs.Views.{PreparedLine}
 use Rattle.hub_invariants.proofs.Members.{both, has, has-filter}
 use Rattle.hub_invariants.proofs.Suits.{Routed, Suits}
 use Rattle.hub_invariants.proofs.Tidy.{Tidy, suits_of, tidy_of, waiting-given}
-use Rattle.hub_core.proofs.Seating.{in-open}
-use Rattle.hub_core.proofs.Sharing.{share-same, stage-kept, with-nothing}
-use Rattle.hub_core.proofs.Standing.{effect-is}
+use Rattle.hub_core.proofs.OpenSeats.{in-open}
+use Rattle.hub_core.proofs.SeatShares.{share-same, stage-kept, with-nothing}
+use Rattle.hub_core.proofs.NextHistory.{effect-is}
 
 -- ---- one connection
 
-pub same-named : (touched : Touched) (a : About) → NamesOne touched a a
+pub same-named : (touched : Touched) (a : ConnState) → NamesOne touched a a
 same-named touched a = record {
   told = λ more. absurd (omega (arith, more));
   lags = λ was is. absurd (false≢true (sym was ∙ is));
@@ -45,12 +45,12 @@ same-named touched a = record {
 }
 
 -- more lines wait for a connection only where it is owed some
-told-by : (touched : Touched) (a : About) (share : List (List ℕ)) → Tidy a → (share ≢ [] → names touched a.sender.sid ≡ true)
+told-by : (touched : Touched) (a : ConnState) (share : List (List ℕ)) → Tidy a → (share ≢ [] → names touched a.sender.sid ≡ true)
     → length (waiting a) < length (waiting (record a { owed = owed_with a share })) → names touched a.sender.sid ≡ true
 told-by touched a [] tidy some more = absurd (omega (arith, more, ap (λ (o : Backlog). length o.lines) (with-nothing a tidy.lines tidy.bytes)))
 told-by touched a (line ∷ lines) tidy some more = some (λ none. cc)
 
-lags-by : (touched : Touched) (a : About) (share : List (List ℕ)) → Tidy a → (share ≢ [] → names touched a.sender.sid ≡ true) → a.lags ≡ false → lags_with a share ≡ true → names touched a.sender.sid ≡ true
+lags-by : (touched : Touched) (a : ConnState) (share : List (List ℕ)) → Tidy a → (share ≢ [] → names touched a.sender.sid ≡ true) → a.lags ≡ false → lags_with a share ≡ true → names touched a.sender.sid ≡ true
 lags-by touched a [] tidy some was is = absurd (false≢true (sym was ∙ ap (λ (o : Backlog). o.lags) (with-nothing a tidy.lines tidy.bytes) ∙ is))
 lags-by touched a (line ∷ lines) tidy some was is = some (λ none. cc)
 
@@ -74,7 +74,7 @@ over-by touched sid false true change stage gone fallen was is = fallen refl (fa
 over-by touched sid false false change stage gone fallen was is = absurd (false≢true (sym was ∙ is))
 
 -- whoever is named where it is owed lines or shut out is named where an effect concerns it
-affected-named : (touched : Touched) (effect : Effect) (is_caller : Bool) (a : About) → Tidy a → (owes is_caller effect a ≢ [] → names touched a.sender.sid ≡ true)
+affected-named : (touched : Touched) (effect : Effect) (is_caller : Bool) (a : ConnState) → Tidy a → (owes is_caller effect a ≢ [] → names touched a.sender.sid ≡ true)
     → (is_removed effect.change a.sender.sid ≡ true → names touched a.sender.sid ≡ true) → (is_caller ≡ true → falls effect.change ≡ true → names touched a.sender.sid ≡ true)
     → NamesOne touched a (affected_parts is_caller effect a)
 affected-named touched effect is_caller a tidy some gone fallen = record {
@@ -90,12 +90,12 @@ affected-named touched effect is_caller a tidy some gone fallen = record {
 pub removed-none : (change : Change) (sid : ℕ) → change_at change ≡ None → is_removed change sid ≡ true → ⊥
 removed-none change sid none is = false≢true (ap (λ (at : Option (ℕ × SeatChange)). is_gone_at at sid) (sym none) ∙ is)
 
-owed-named : (touched : Touched) (own c d : ℕ) (effect : Effect) (a : About) → NamesOwed touched own effect → Routed effect.hearers → ((d == c) ≡ true → a.sender.sid ≡ own)
+owed-named : (touched : Touched) (own c d : ℕ) (effect : Effect) (a : ConnState) → NamesOwed touched own effect → Routed effect.hearers → ((d == c) ≡ true → a.sender.sid ≡ own)
     → owes (d == c) effect a ≢ [] → names touched a.sender.sid ≡ true
 owed-named touched own c d effect a owed routed is_own some =
     owed c (seat_with d a) (λ is. is_own (eq-eqb d c is)) (λ none. some (sym (share-same c d effect a routed) ∙ none))
 
-line-named : (touched : Touched) (own c d : ℕ) (effect : Effect) (a : About) → NamesEffect touched own effect → Routed effect.hearers → ((d == c) ≡ true → a.sender.sid ≡ own) → Tidy a
+line-named : (touched : Touched) (own c d : ℕ) (effect : Effect) (a : ConnState) → NamesEffect touched own effect → Routed effect.hearers → ((d == c) ≡ true → a.sender.sid ≡ own) → Tidy a
     → NamesOne touched a (affected_parts (d == c) effect a)
 line-named touched own c d effect a n routed is_own tidy =
     affected-named touched effect (d == c) a tidy (owed-named touched own c d effect a n.owed routed is_own) (n.removed a.sender.sid)
@@ -129,7 +129,7 @@ farewell-none false true false sid is = refl
 farewell-none false false true sid is = refl
 farewell-none false false false sid is = refl
 
-left-told : (touched : Touched) (stage : Stage) (sid : ℕ) (is_caller : Bool) (a : About) (here : Bool) → is_present stage ≡ here
+left-told : (touched : Touched) (stage : Stage) (sid : ℕ) (is_caller : Bool) (a : ConnState) (here : Bool) → is_present stage ≡ here
     → (here ≡ true → (s : ℕ) → names touched s ≡ true) → owes is_caller (departure stage sid) a ≢ [] → names touched a.sender.sid ≡ true
 left-told touched stage sid is_caller a true is all some = all refl a.sender.sid
 left-told touched stage sid is_caller a false is all some =
@@ -155,7 +155,7 @@ quit-touches old new c all setup hash h caller reply at may d there =
 
 -- ---- takes and joins, which concern nobody
 
-taken-named : (touched : Touched) (count : ℕ) (a : About) (same : Bool) → NamesOne touched a (cond same (with_lines_taken count a) a)
+taken-named : (touched : Touched) (count : ℕ) (a : ConnState) (same : Bool) → NamesOne touched a (cond same (with_lines_taken count a) a)
 taken-named touched count a true = record {
   told = λ more. absurd (omega (arith, more, ap length (waiting-given count a), length-drop count (waiting a)));
   lags = λ was is. absurd (false≢true (sym was ∙ is));
@@ -167,7 +167,7 @@ pub take-touches : (old new : CoreState) (c count : ℕ) → Touches old (Take c
 unfolding facts after
 take-touches old new c count setup hash h caller reply at may d there = taken-named new.touched count ((facts setup hash h).about d) (d == c)
 
-new-named : (touched : Touched) (owner sid : ℕ) (peer challenge : List ℕ) (a : About) (same : Bool) → NamesOne touched a (cond same (newcomer owner sid peer challenge) a)
+new-named : (touched : Touched) (owner sid : ℕ) (peer challenge : List ℕ) (a : ConnState) (same : Bool) → NamesOne touched a (cond same (newcomer owner sid peer challenge) a)
 new-named touched owner sid peer challenge a true = record {
   told = λ more. absurd (omega (arith, more));
   lags = λ was is. absurd (false≢true is);

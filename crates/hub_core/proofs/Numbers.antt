@@ -13,7 +13,7 @@ use Rattle.std.proofs.lemmas.List.Sorted.{IsNonDecreasingBy-from_default}
 use Rattle.std.proofs.lemmas.List.Sums.{position_or_len_is}
 use Rattle.hub_core.specs.declared.seat.Seat.{Seat}
 use Rattle.hub_core.specs.Index.{keys}
-use Rattle.hub_core.specs.Leaving.{others_of}
+use Rattle.hub_core.specs.Departures.{others_of}
 use Rattle.hub_core.specs.Numbers.{Above, Ordered, Rising, UpTo, numbers}
 use Rattle.hub_core.specs.Seats.{at_seat, changed_seat, new_seat}
 use Rattle.hub_core.specs.State.{IsPlace, carried_out}

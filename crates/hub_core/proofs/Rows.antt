@@ -4,7 +4,7 @@ use Rattle.std.specs.Prelude.{◌==◌, ◌≢◌, cond, nat_le}
 use Rattle.std.proofs.lemmas.Bool.Decides.{nat_tests}
 use Rattle.std.proofs.lemmas.List.{at_drop_all, at_drop_more, length-drop, length-map}
 use Rattle.feature_route.specs.Audiences.{holds_words}
-use Rattle.feature_route.specs.declared.hearers.Audience.TheVariants as audiences
+use Rattle.feature_route.specs.declared.audience.Audience.TheVariants as audiences
 use Rattle.outboxes.specs.Backlogs.{Backlog}
 use Rattle.hub_core.specs.declared.delivery.Delivery.{Delivery}
 use Rattle.hub_core.specs.declared.delivery.Delivery.TheVariants.{All as ToAll, Each}
@@ -15,7 +15,7 @@ use Rattle.hub_core.specs.Deliveries.{AreAll, IsDelivery, IsForAll, delivered, g
 use Rattle.hub_core.specs.Owed.{share_at, shares_from}
 use Rattle.hub_core.specs.Phases.{phase_hears, stage_in}
 use Rattle.hub_core.specs.Seats.{seat_share}
-use Rattle.hub_core.specs.Waiting.{backlogs_of, ends_by, given_backlog, given_each, here_in, is_here, members_of}
+use Rattle.hub_core.specs.Backlogs.{backlogs_of, ends_by, given_backlog, given_each, here_in, is_here, members_of}
 use Rattle.hub_rules.specs.declared.effect.Effect.{Effect}
 use Rattle.hub_rules.specs.declared.effect.Hearers.TheVariants.{Others, Those}
 use Rattle.hub_rules.specs.Effects.{is_present}

@@ -1,5 +1,5 @@
 -- The list of present users after an effect.
-use Rattle.hub_invariants.proofs.Becoming.{about_parts, present_parts}
+use Rattle.hub_invariants.proofs.CallCases.{about_parts, present_parts}
 use Rattle.std.proofs.Common.{◌≡◌, ◌∙◌, sym, ap, ap₂, refl, ℕ, Bool, true, false, cond, not, ◌&&◌, ◌||◌, ◌==◌, eqb, List, [], ◌∷◌, ◌++◌, map, filter, append-nil, Option}
 use Rattle.std.proofs.lemmas.Bool.{false≢true, eqb-true, eq-eqb}
 use Rattle.std.proofs.lemmas.List.{map-append}
@@ -23,14 +23,14 @@ use Rattle.hub_rules.specs.Effects.{is_present}
 use Rattle.hub_rules.specs.Facts.{Facts, enters, own_of, user_of}
 use Rattle.hub_rules.specs.Identities.{listed_user}
 use Rattle.hub_rules.specs.Senders.{is_removal}
-use Rattle.hub_rules.specs.Shares.{About}
+use Rattle.hub_rules.specs.Shares.{ConnState}
 use Rattle.hub_invariants.specs.Afterwards.{fields_after, is_removed, removed_by, stage_after}
 use Rattle.hub_invariants.proofs.Kept.{differs-sid}
 use Rattle.hub_invariants.proofs.Members.{and-false, has}
 use Rattle.hub_invariants.proofs.Sids.{Numbered}
 use Rattle.hub_invariants.proofs.Sound.{Sound, not-over, or-true, stage_next}
 use Rattle.hub_invariants.proofs.Suits.{Suited, Suits, listed-sid}
-use Rattle.hub_core.proofs.Seating.{not-self}
+use Rattle.hub_core.proofs.OpenSeats.{not-self}
 
 -- ---- lists of connections
 
@@ -79,7 +79,7 @@ chosen-same false x y same = refl
 -- ---- one user
 
 module _ (setup : Configured) (f : Facts) (c : ℕ) (effect : Effect) where
-  abbrev next : ℕ → About
+  abbrev next : ℕ → ConnState
   next d = about_parts c effect f.about d
 
   abbrev stays : ℕ → Bool

@@ -3,10 +3,10 @@ use Rattle.std.specs.Prelude.{◌<◌, ◌≤◌}
 use Rattle.std.specs.Arc.{arc_value}
 use Rattle.hub_core.specs.declared.hub.Core.TheInside.{Inside}
 use Rattle.hub_core.specs.CoreState.{CoreState}
-use Rattle.hub_core.specs.Index.{AreIndexed, keys}
+use Rattle.hub_core.specs.Index.{AreIndexedBySid, keys}
 use Rattle.hub_core.specs.Numbers.{Ordered}
 use Rattle.hub_core.specs.Told.{AreTold}
-use Rattle.hub_core.specs.Waiting.{AreBeside, backlogs_of}
+use Rattle.hub_core.specs.Backlogs.{AreBeside, backlogs_of}
 use Rattle.hub_rules.specs.Configured.{most_users}
 
 abbrev pub core_view : Inside → CoreState
@@ -26,5 +26,5 @@ core_view c = record {
 -- and are found by their session identifiers; what waits stands beside them; the lines that are kept are those of the users who are present
 abbrev pub IsCore : Inside → Type 0
 IsCore c =
-    ((arc_value c.setup).plain.max_users ≤ most_users) × (c.last < 1_048_576) × Ordered c.joins c.seats.items × AreIndexed c.index (keys c.seats.items)
+    ((arc_value c.setup).plain.max_users ≤ most_users) × (c.last < 1_048_576) × Ordered c.joins c.seats.items × AreIndexedBySid c.index (keys c.seats.items)
     × AreTold (arc_value c.setup) c.commons.present × AreBeside c.backlogs c.seats.items

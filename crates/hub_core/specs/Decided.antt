@@ -11,15 +11,15 @@ use Rattle.hub_core.specs.CoreState.{CoreState, noted}
 use Rattle.hub_core.specs.Phases.{stage_in}
 use Rattle.hub_core.specs.Seats.{in_seat, sid_in}
 use Rattle.hub_core.specs.State.{carried_out}
-use Rattle.hub_core.specs.Touching.{NamesEffect}
+use Rattle.hub_core.specs.Touched.{NamesEffect}
 use Rattle.hub_decisions.specs.Known.{IsKnown}
 use Rattle.hub_rules.specs.declared.effect.Effect.{Effect}
 use Rattle.hub_rules.specs.Effects.{line_effect}
-use Rattle.hub_rules.specs.Sights.{Own, PreparedLine, Sight}
+use Rattle.hub_rules.specs.Views.{SenderView, PreparedLine, HubView}
 use Rattle.hub_rules.specs.Configured.{most_users}
 
 -- the hub
-abbrev pub sight_in : CoreState → Sight
+abbrev pub sight_in : CoreState → HubView
 sight_in core = record { setup = core.setup; users = core.users; bans = core.bans; topic = core.topic }
 
 -- the user of a connection at this phase, where it has one
@@ -34,7 +34,7 @@ expected_at (phases.Verify newcomer expected) = expected
 expected_at phase = []
 
 -- the connection of a seat
-abbrev pub own_at : Seat → Option Listed → Own
+abbrev pub own_at : Seat → Option Listed → SenderView
 own_at seat user = record {
   sender = seat.sender;
   stage = stage_in seat.phase;
@@ -42,11 +42,11 @@ own_at seat user = record {
   expected = expected_at seat.phase;
 }
 
-abbrev pub DecidedFor : Option Listed → Sight → Seat → PreparedLine → ℕ → Effect → Type 0
+abbrev pub DecidedFor : Option Listed → HubView → Seat → PreparedLine → ℕ → Effect → Type 0
 DecidedFor user hub seat line now effect = IsKnown (own_at seat user) user → effect ≡ line_effect hub (own_at seat user) line now
 
 -- of a user who is known by what its fields say, it is what the rules say that the line leads to
-abbrev pub Decided : Sight → Seat → PreparedLine → ℕ → Effect → Type 0
+abbrev pub Decided : HubView → Seat → PreparedLine → ℕ → Effect → Type 0
 Decided hub seat line now effect = DecidedFor (user_at seat.phase seat.sender.sid hub.users) hub seat line now effect
 
 -- so it was decided at the seat of connection c

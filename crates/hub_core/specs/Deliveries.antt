@@ -9,7 +9,7 @@ use Rattle.hub_core.specs.declared.share.Share.{Share}
 use Rattle.hub_core.specs.Owed.{shares_from}
 use Rattle.hub_core.specs.Phases.{phase_hears, stage_in}
 use Rattle.hub_core.specs.Seats.{seat_share}
-use Rattle.hub_core.specs.Waiting.{given_backlog}
+use Rattle.hub_core.specs.Backlogs.{given_backlog}
 use Rattle.hub_rules.specs.declared.effect.Effect.{Effect}
 use Rattle.hub_rules.specs.declared.effect.Hearers.{Hearers}
 use Rattle.hub_rules.specs.declared.sender.SeatChange.{SeatChange}

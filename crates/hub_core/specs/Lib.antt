@@ -3,7 +3,7 @@ pub mod CoreView
 pub mod Decided
 pub mod Deliveries
 pub mod Index
-pub mod Leaving
+pub mod Departures
 pub mod Moves
 pub mod Numbers
 pub mod Owed
@@ -13,5 +13,5 @@ pub mod Runs
 pub mod Seats
 pub mod State
 pub mod Told
-pub mod Touching
-pub mod Waiting
+pub mod Touched
+pub mod Backlogs

@@ -12,7 +12,7 @@ use Rattle.hub_rules.specs.Configured.{Configured}
 use Rattle.hub_rules.specs.Facts.{facts}
 use Rattle.hub_rules.specs.Legal.{Legal, MayCall}
 use Rattle.hub_rules.specs.Prepared.{prepared_line}
-use Rattle.hub_rules.specs.Sights.{PreparedLine}
+use Rattle.hub_rules.specs.Views.{PreparedLine}
 
 abbrev pub entry : ℕ → Call → Reply → Entry
 entry caller call reply = record { caller = caller; call = call; reply = reply }

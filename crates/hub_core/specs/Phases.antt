@@ -14,7 +14,7 @@ use Rattle.hub_rules.specs.declared.effect.Hearers.TheVariants.{Others, Those}
 use Rattle.hub_rules.specs.declared.effect.SenderChange.TheVariants as senders
 use Rattle.hub_rules.specs.Effects.{entrant}
 use Rattle.hub_rules.specs.Identities.{listed_user, su_in}
-use Rattle.hub_rules.specs.Shares.{About}
+use Rattle.hub_rules.specs.Shares.{ConnState}
 
 abbrev pub stage_in : Phase → Stage
 stage_in phases.Protocol = stages.Protocol
@@ -24,14 +24,14 @@ stage_in (phases.Normal support) = stages.Normal
 stage_in phases.Gone = stages.Gone
 
 -- what is kept of a connection at this stage
-abbrev pub phase_at : Stage → About → Phase
+abbrev pub phase_at : Stage → ConnState → Phase
 phase_at stages.Protocol a = phases.Protocol
 phase_at stages.Identify a = phases.Identify
 phase_at stages.Verify a = phases.Verify (entrant (listed_user a.sender.sid a.fields)) a.expected
 phase_at stages.Normal a = phases.Normal (feature_set (su_in a.fields))
 phase_at stages.Gone a = phases.Gone
 
-abbrev pub phase_of : About → Phase
+abbrev pub phase_of : ConnState → Phase
 phase_of a = phase_at a.stage a
 
 -- the user who may enter once its password is right

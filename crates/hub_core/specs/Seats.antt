@@ -11,17 +11,17 @@ use Rattle.hub_rules.specs.declared.sender.Sender.{Sender}
 use Rattle.hub_rules.specs.Effects.{is_present}
 use Rattle.hub_invariants.specs.Afterwards.{sender_after}
 use Rattle.hub_rules.specs.Senders.{is_removal, notes_by}
-use Rattle.hub_rules.specs.Shares.{About}
+use Rattle.hub_rules.specs.Shares.{ConnState}
 
 -- what is kept of a connection of which this is known
-abbrev pub seat_with : ℕ → About → Seat
+abbrev pub seat_with : ℕ → ConnState → Seat
 seat_with c a = record {
   number = c;
   sender = a.sender;
   phase = phase_of a;
 }
 
-abbrev pub seat_of : (ℕ → About) → ℕ → Seat
+abbrev pub seat_of : (ℕ → ConnState) → ℕ → Seat
 seat_of about c = seat_with c (about c)
 
 -- the seat of a connection that has just joined

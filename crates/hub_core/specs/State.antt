@@ -10,7 +10,7 @@ use Rattle.hub_core.specs.declared.share.Touched.TheVariants.{Nobody}
 use Rattle.hub_core.specs.CoreState.{CoreState, noted}
 use Rattle.hub_core.specs.Phases.{users_awaited}
 use Rattle.hub_core.specs.Seats.{at_seat, changed_seat, phase_in, seat_after_change_at, seat_of, seat_share, sid_in}
-use Rattle.hub_core.specs.Waiting.{backlog_of, given_each}
+use Rattle.hub_core.specs.Backlogs.{backlog_of, given_each}
 use Rattle.hub_rules.specs.declared.effect.Change.{Change}
 use Rattle.hub_rules.specs.declared.effect.Change.TheVariants.{Hub, Sender}
 use Rattle.hub_rules.specs.declared.effect.Effect.{Effect}

@@ -21,13 +21,13 @@ use std::mem;
 
 /// The state that all connections share: the users who are present, the bans, the topic.
 #[derive(Drop)]
-pub struct Commons {
+pub struct SharedState {
     pub(crate) present: Present,
     pub(crate) bans: Bans,
     pub(crate) topic: Topic,
 }
 
-impl Commons {
+impl SharedState {
     /// Makes the change of a line, of the connection of this seat, whole or not at all.
     pub(crate) fn change(
         &mut self,

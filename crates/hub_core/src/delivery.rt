@@ -2,11 +2,11 @@ ghost use Rattle.std.specs.Prelude.{◌≡◌, ◌<◌, ◌≤◌, ◌++◌, tru
 ghost use Rattle.std.specs.List.{concat};
 ghost use Rattle.hub_core.specs.Deliveries.{AreAll, AreReady, AreSettled, HaveRoom, IsDelivery, IsForAll, WaitsAs};
 ghost use Rattle.hub_core.specs.Deliveries.{delivered, given_all, given_to_all, named_in, row_given, with_members};
-ghost use Rattle.hub_core.specs.Index.{AreIndexed, keys};
+ghost use Rattle.hub_core.specs.Index.{AreIndexedBySid, keys};
 ghost use Rattle.hub_core.specs.Numbers.{Rising, numbers};
 ghost use Rattle.hub_core.specs.Seats.{seat_after_change_at};
 ghost use Rattle.hub_core.specs.State.{IsPlace};
-ghost use Rattle.hub_core.specs.Waiting.{ends_by, here_in};
+ghost use Rattle.hub_core.specs.Backlogs.{ends_by, here_in};
 ghost use Rattle.shared_log.specs.Tables.{IsSettled, at_row, backlog_at, taken, with_membership, with_rows};
 
 use crate::seat::Seat;
@@ -40,7 +40,7 @@ pub(crate) fn plan(
 ) -> Result<Delivery, AllocError>
     requires place { IsPlace number place seats.now }
     requires rising { Rising (numbers seats.now) }
-    requires indexed { AreIndexed index.now (keys seats.now) }
+    requires indexed { AreIndexedBySid index.now (keys seats.now) }
     ensures { IfOk result (λ delivery. IsDelivery delivery place number effect.now seats.now) }
 {
     if is_for_all(effect) {

@@ -4,25 +4,25 @@ ghost use Rattle.hub_rules.specs.declared.history.Call.TheVariants.{Join, Quit, 
 ghost use Rattle.hub_rules.specs.declared.history.Reply.TheVariants.{Left};
 ghost use Rattle.hub_core.specs.CoreState.{noted};
 ghost use Rattle.hub_core.specs.Moves.{Moves, LineMoves, StandsAt};
-ghost use Rattle.hub_core.specs.Touching.{LineTouches, Touches, TouchesNobody};
-ghost use Rattle.hub_core.specs.Leaving.{left_core};
+ghost use Rattle.hub_core.specs.Touched.{LineTouches, Touches, TouchesNobody};
+ghost use Rattle.hub_core.specs.Departures.{left_core};
 ghost use Rattle.hub_core.specs.Decided.{IsDecided, IsHandled};
 ghost use Rattle.hub_core.specs.Phases.{stage_in};
 ghost use Rattle.hub_core.specs.Seats.{phase_in};
 ghost use Rattle.hub_core.specs.State.{IsPlace, IsSeated, carried_out};
 ghost use Rattle.hub_rules.specs.Legal.{verdict_of};
 
-use crate::change::Commons;
+use crate::change::SharedState;
 use crate::connection::Connection;
 use crate::delivery::{deliver, plan, prepare, take_lines};
-use crate::look::Look;
 use crate::present::Present;
 use crate::seat::{Seat, add, decide_at, has_seat, place, sids};
 use crate::share::{Touched, touched_by_line, touched_by_quit};
 use crate::sid_index::SidIndex;
+use crate::view::Look;
 use crate::{JoinRefused, OpenRefused};
 use adc_base32::Sid;
-use hub_decisions::Sight;
+use hub_decisions::HubFacts;
 use hub_rules::{Effect, LineRefused, Sender, Topic, Verdict};
 use hub_setup::{Prepared, Setup};
 use operator_acts::Bans;
@@ -53,7 +53,7 @@ pub struct Core {
     backlogs: Backlogs,
     /// Finds a seat by its session identifier, so that a line for one user is not held against each seat.
     index: SidIndex,
-    commons: Commons,
+    commons: SharedState,
     /// The users whom the last call concerned: a hint, which no history determines.
     touched: Touched,
 }
@@ -109,7 +109,7 @@ impl Core {
             seats,
             backlogs,
             index: SidIndex::new(alloc),
-            commons: Commons {
+            commons: SharedState {
                 present: Present::new(alloc),
                 bans: Bans::new(alloc),
                 topic,
@@ -305,7 +305,7 @@ impl Core {
         requires { IsPlace number place self.now.seats }
         ensures { IfOk result (λ effect. IsDecided number line.now now self.now effect) }
     {
-        let hub = Sight {
+        let hub = HubFacts {
             setup: &self.setup,
             users: &self.commons.present.users,
             lines: &self.commons.present.lines,

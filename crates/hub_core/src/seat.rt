@@ -1,7 +1,7 @@
 ghost use Rattle.std.specs.Prelude.{◌≡◌, ◌∷◌, [], Some, IfOk, ◌==◌, ◌++◌, map, position, OnOk, OnErr};
 ghost use Rattle.std.specs.Option.{unwrap_or, option_copied};
 ghost use Rattle.hub_core.specs.Decided.{expected_at, Decided, user_at};
-ghost use Rattle.hub_core.specs.Index.{IsSetAt};
+ghost use Rattle.hub_core.specs.Index.{IsSetAtSid};
 ghost use Rattle.hub_core.specs.Phases.{stage_in};
 ghost use Rattle.hub_core.specs.Seats.{new_seat, seat_after, seat_after_change_at};
 ghost use Rattle.hub_rules.specs.Effects.{is_over, is_present};
@@ -13,7 +13,7 @@ ghost use Rattle.hub_core.specs.State.{has_seat, HasSeat, IsPlace};
 use crate::sid_index::SidIndex;
 use adc_base32::Sid;
 use feature_route::FeatureSet;
-use hub_decisions::{Own, Sight, decide};
+use hub_decisions::{HubFacts, SenderFacts, decide};
 use hub_rules::{Effect, Entrant, SeatChange, Sender, Verdict};
 use hub_setup::Prepared;
 use login_state::Stage;
@@ -143,7 +143,7 @@ impl Seat {
 /// Decides what a line of the connection of a seat leads to.
 pub(crate) fn decide_at<'a>(
     alloc: Global,
-    hub: &Sight<'_>,
+    hub: &HubFacts<'_>,
     seat: &Seat,
     line: &'a Prepared,
     now: u64,
@@ -151,7 +151,7 @@ pub(crate) fn decide_at<'a>(
     ensures { IfOk result (λ effect. Decided hub.now seat.now line.now now effect) }
 {
     let user = user_at(hub.users, seat);
-    let own = Own {
+    let own = SenderFacts {
         sender: &seat.sender,
         stage: seat.phase.stage(),
         fields: match user {
@@ -208,7 +208,7 @@ pub(crate) fn has_seat(seats: &[Seat], number: u64) -> bool
 /// Puts a connection's seat behind the others, and its session identifier into the index, whole or not at all.
 pub(crate) fn add(seats: &mut Vec<Seat>, index: &mut SidIndex, seat: Seat) -> Result<(), AllocError>
     ensures seats { OnOk result (seats.new.items ≡ seats.old.items ++ seat ∷ []) }
-    ensures index { OnOk result (IsSetAt seat.sender.sid (Some seat.number) index.old index.new) }
+    ensures index { OnOk result (IsSetAtSid seat.sender.sid (Some seat.number) index.old index.new) }
     ensures err { OnErr result ((seats.new.items ≡ seats.old.items) × (index.new ≡ index.old)) }
 {
     let (sid, number, count) = (seat.sid(), seat.number, seats.len());

@@ -1,11 +1,11 @@
 ghost use Rattle.std.specs.Prelude.{◌≡◌, ◌≢◌, ◌<◌, ◌≤◌, ◌++◌, [], ℕ, Some, true, get_or, length, map, if◌then◌else◌, IfNone, IfOk, IfSome, OnOk};
-ghost use Rattle.hub_core.specs.Index.{AreIndexed, keys};
+ghost use Rattle.hub_core.specs.Index.{AreIndexedBySid, keys};
 ghost use Rattle.hub_core.specs.Numbers.{Rising, numbers};
 ghost use Rattle.hub_core.specs.Owed.{AreQuietBut, IsMeant, IsOnlyFor, share_at, shares_from};
 ghost use Rattle.hub_core.specs.Phases.{is_among, phase_hears, stage_in};
 ghost use Rattle.hub_core.specs.Seats.{own_share, seat_share};
 ghost use Rattle.hub_core.specs.State.{IsPlace};
-ghost use Rattle.hub_core.specs.Touching.{NamesEffect, NamesHearers, NamesOthers, NamesOwed, falls, names};
+ghost use Rattle.hub_core.specs.Touched.{NamesEffect, NamesHearers, NamesOthers, NamesOwed, falls, names};
 ghost use Rattle.hub_core.specs.declared.seat.Seat.{Seat};
 ghost use Rattle.hub_rules.specs.declared.effect.Change.TheVariants.{Sender};
 ghost use Rattle.hub_rules.specs.declared.effect.Hearers.TheVariants.{Those};
@@ -42,7 +42,7 @@ pub(crate) fn shares(
 ) -> Result<Vec<Share>, AllocError>
     requires place { IsPlace number place seats.now }
     requires rising { Rising (numbers seats.now) }
-    requires indexed { AreIndexed index.now (keys seats.now) }
+    requires indexed { AreIndexedBySid index.now (keys seats.now) }
     ensures { IfOk result (λ shares. shares.items ≡ shares_from 0 (seat_share number effect.now) seats.now) }
 {
     match reach(seats, index, number, place, effect) {
@@ -64,7 +64,7 @@ fn reach(
 ) -> Option<usize>
     requires place { IsPlace number place seats.now }
     requires rising { Rising (numbers seats.now) }
-    requires indexed { AreIndexed index.now (keys seats.now) }
+    requires indexed { AreIndexedBySid index.now (keys seats.now) }
     ensures { IfSome result (λ other. AreQuietBut place other (seat_share number effect.now) seats.now) }
 {
     let own = seats[place].sender.sid;
@@ -106,7 +106,7 @@ fn meant_by(audience: &Audience<'_>, own: Sid) -> Option<Sid>
 /// Finds the place of the seat with this session identifier.
 fn place_by_sid(seats: &[Seat], index: &SidIndex, sid: Sid) -> Option<usize>
     requires rising { Rising (numbers seats.now) }
-    requires indexed { AreIndexed index.now (keys seats.now) }
+    requires indexed { AreIndexedBySid index.now (keys seats.now) }
     ensures some { IfSome result (λ place. (i : ℕ) (d : Seat) → i < length seats.now → i ≢ place → (get_or seats.now i d).sender.sid ≢ sid) }
     ensures within { IfSome result (λ place. place < length seats.now) }
     ensures none { IfNone result ((i : ℕ) (d : Seat) → i < length seats.now → (get_or seats.now i d).sender.sid ≢ sid) }

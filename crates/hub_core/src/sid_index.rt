@@ -1,5 +1,5 @@
 ghost use Rattle.std.specs.Prelude.{◌≡◌, [], None, Some, OnErr, OnOk};
-ghost use Rattle.hub_core.specs.Index.{IsSetAt, number_at};
+ghost use Rattle.hub_core.specs.Index.{IsSetAtSid, number_at};
 
 use adc_base32::Sid;
 use std::alloc::{AllocError, Global};
@@ -39,7 +39,7 @@ impl SidIndex {
 
     /// Puts a connection in. Refused only where memory runs out; then the index is as before.
     pub(crate) fn put(&mut self, sid: Sid, number: u64) -> Result<(), AllocError>
-        ensures put { OnOk result (IsSetAt sid (Some number) self.old self.new) }
+        ensures put { OnOk result (IsSetAtSid sid (Some number) self.old self.new) }
         ensures unchanged { OnErr result (self.new ≡ self.old) }
     {
         match self.numbers.insert(sid, number) {
@@ -50,7 +50,7 @@ impl SidIndex {
 
     /// Takes out what stands under a session identifier. It takes no memory.
     pub(crate) fn remove(&mut self, sid: Sid)
-        ensures { IsSetAt sid None self.old self.new }
+        ensures { IsSetAtSid sid None self.old self.new }
     {
         self.numbers.remove(&sid);
     }

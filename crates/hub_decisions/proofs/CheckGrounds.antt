@@ -36,8 +36,8 @@ use Rattle.user_table.specs.Listed.{Listed}
 use Rattle.user_table.specs.Tables.{has_cid, has_key}
 use Rattle.hub_rules.specs.Grounds.{differs, entry_grounds, first_ground, ban_ground, is_bad, is_bad_nick, is_digest, is_empty, is_wrong_address, login_grounds, sup_grounds, touches_account, update_grounds, value_ground}
 use Rattle.hub_rules.specs.Identities.{value_or_empty, key_in, nick_in}
-use Rattle.hub_rules.specs.Sights as sights
-use Rattle.hub_rules.specs.Sights.{Sight, another_has_key, is_account, is_here}
+use Rattle.hub_rules.specs.Views as sights
+use Rattle.hub_rules.specs.Views.{HubView, another_has_key, is_account, is_here}
 use Rattle.hub_decisions.specs.Asks.{address_found, ban_found, denial_of, entry_ask, good_if, login_ask, nick_found, own_if_given, required_found, taken_if, update_ask, values_found}
 
 -- what a rule answers whose ground this is
@@ -141,7 +141,7 @@ sup-grounds features =
     step (not (has_feature base features)) denials.NoBase _ _ _ (unless-if (has_feature base features) denials.NoBase)
     (λ has. step (not (has_feature tigr features)) denials.NoHash _ _ _ (unless-if (has_feature tigr features) denials.NoHash) (λ both. refl))
 
-pub entry-grounds : (hub : Sight) (now : ℕ) (user : Listed) → Agree (entry_rules (entry_ask hub now user)) (entry_grounds hub now user)
+pub entry-grounds : (hub : HubView) (now : ℕ) (user : Listed) → Agree (entry_rules (entry_ask hub now user)) (entry_grounds hub now user)
 unfolding entry_grounds entry_ask
 entry-grounds hub now user =
     ban-step (left_of_bans hub.bans user.cid now) _ _
@@ -154,7 +154,7 @@ password-grounds expected (Some digest) = step (not (bytes_eq digest expected)) 
 
 -- ---- logins
 
-pub login-grounds : (hub : Sight) (own : sights.Own) (now : ℕ) (digest : Option (List ℕ)) (u : List Field) (user : Listed)
+pub login-grounds : (hub : HubView) (own : sights.SenderView) (now : ℕ) (digest : Option (List ℕ)) (u : List Field) (user : Listed)
     → Agree (inf_rules (login_ask hub now own.sender.peer digest u user)) (login_grounds hub own now digest u user)
 unfolding login_ask login_grounds entry_ask
 login-grounds hub own now digest u user =
@@ -208,7 +208,7 @@ size-if : (few : Bool) → too_many_fields (if few then Fits else TooMany) ≡ d
 size-if true = refl
 size-if false = refl
 
-pub update-grounds : (hub : Sight) (own : sights.Own) (u : List Field) (user : Listed) → Agree (update_rules (update_ask hub own u user)) (update_grounds hub own u user)
+pub update-grounds : (hub : HubView) (own : sights.SenderView) (u : List Field) (user : Listed) → Agree (update_rules (update_ask hub own u user)) (update_grounds hub own u user)
 unfolding update_ask update_grounds
 update-grounds hub own u user =
     let touched = touches_account hub (key_in own.fields) user.key in

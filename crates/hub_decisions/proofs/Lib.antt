@@ -3,10 +3,10 @@ pub mod GroundLists
 pub mod CheckGrounds
 pub mod Found
 pub mod Told
-pub mod Keeping
-pub mod Knowing
-pub mod Logging
+pub mod KeptLines
+pub mod KnownUsers
+pub mod Logins
 pub mod Rivals
-pub mod Updating
-pub mod Asking
-pub mod Commanding
+pub mod Updates
+pub mod Requests
+pub mod Acts

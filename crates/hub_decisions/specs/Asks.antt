@@ -37,8 +37,8 @@ use Rattle.operator_acts.specs.declared.left.Left.{Left}
 use Rattle.operator_acts.specs.declared.left.Left.TheVariants as lefts
 use Rattle.hub_rules.specs.Grounds.{is_bad, is_digest}
 use Rattle.hub_rules.specs.Identities.{value_or_empty, meaning, nick_in, key_in}
-use Rattle.hub_rules.specs.Sights as sights
-use Rattle.hub_rules.specs.Sights.{Sight, is_account, is_here, another_has_key}
+use Rattle.hub_rules.specs.Views as sights
+use Rattle.hub_rules.specs.Views.{HubView, is_account, is_here, another_has_key}
 use Rattle.user_table.specs.Listed.{Listed}
 use Rattle.user_table.specs.Tables.{has_key, has_cid}
 
@@ -74,11 +74,11 @@ ban_found lefts.Free = found_bans.Free
 ban_found (lefts.For seconds) = found_bans.For seconds
 ban_found lefts.Ever = found_bans.Ever
 
-abbrev pub admission_found : Sight → List ℕ → Admission
+abbrev pub admission_found : HubView → List ℕ → Admission
 admission_found hub key = if hub.setup.plain.registered_only && not (is_account hub key) then RegisteredOnly else Admitted
 
 -- of a user who is to enter: what may have changed since its login, once its password is right
-unfoldable pub entry_ask : Sight → ℕ → Listed → EntryAsk
+unfoldable pub entry_ask : HubView → ℕ → Listed → EntryAsk
 entry_ask hub now user = record {
   ban = ban_found (left_of_bans hub.bans user.cid now);
   nick_claim = taken_if (is_here (has_key user.key) hub);
@@ -86,7 +86,7 @@ entry_ask hub now user = record {
 }
 
 -- of a login: the hub, the moment, the peer, the digest of the private identifier, what the words say, the user that they make
-unfoldable pub login_ask : Sight → ℕ → List ℕ → Option (List ℕ) → List Field → Listed → InfAsk
+unfoldable pub login_ask : HubView → ℕ → List ℕ → Option (List ℕ) → List Field → Listed → InfAsk
 login_ask hub now peer digest u user = record {
   words = Good;
   id = required_found (is_some (spelled_bytes 24 (value_or_empty id_name u))) (value_or_empty id_name u);
@@ -110,12 +110,12 @@ nick_found None = Good
 nick_found (Some nick) = good_if (is_nick (chars (meaning nick)))
 
 -- nobody takes the nick of an account, or leaves it
-abbrev pub account_found : Sight → List ℕ → List ℕ → Account
+abbrev pub account_found : HubView → List ℕ → List ℕ → Account
 account_found hub before afterwards =
     if not (bytes_eq afterwards before) && (is_account hub before || is_account hub afterwards) then Touched else Untouched
 
 -- of an update by a user who is present: what the words say, and the user that they make
-unfoldable pub update_ask : Sight → sights.Own → List Field → Listed → UpdateAsk
+unfoldable pub update_ask : HubView → sights.SenderView → List Field → Listed → UpdateAsk
 update_ask hub own u user = record {
   words = Good;
   identity = own_if_given own.fields (value_of id_name u);

@@ -1,6 +1,6 @@
 pub mod Asks
 pub mod Known
-pub mod OwnView
+pub mod SenderFactsView
 pub mod Requested
 pub mod Commands
 pub mod Admissions

@@ -7,15 +7,15 @@ ghost use Rattle.hub_decisions.specs.Known.{IsUser};
 ghost use Rattle.hub_decisions.specs.Requested.{effect_of_act};
 ghost use Rattle.hub_rules.specs.declared.effect.HubChange.TheVariants as shared;
 ghost use Rattle.hub_rules.specs.Accounts.{operates};
-ghost use Rattle.hub_rules.specs.Sights.{account_of};
+ghost use Rattle.hub_rules.specs.Views.{account_of};
 ghost use Rattle.hub_rules.specs.Texts.{topic_line};
 ghost use Rattle.operator_acts.specs.Acts.{act_at};
 
 use crate::denial::denial;
 use crate::effect::{nothing, one};
-use crate::own::Own;
-use crate::sight::Sight;
-use crate::words::text_in;
+use crate::hub_facts::HubFacts;
+use crate::nick_words::text_in;
+use crate::sender_facts::SenderFacts;
 use adc_ids::{Cid, Nick};
 use adc_line::Words;
 use feature_route::Audience;
@@ -37,8 +37,8 @@ use user_table::{User, Users};
 #[tactic(auto, unfolding(hub_rules::specs::Acts::act_denied, hub_rules::specs::Acts::act_effect))]
 pub(crate) fn decide_hub_message<'a>(
     alloc: Global,
-    hub: &Sight<'_>,
-    own: &Own<'_>,
+    hub: &HubFacts<'_>,
+    own: &SenderFacts<'_>,
     user: &User,
     words: Words<'_>,
     now: u64,
@@ -66,8 +66,8 @@ fn is_command(text: &str) -> bool
 /// Decides what a command of a user leads to.
 fn decide_command<'a>(
     alloc: Global,
-    hub: &Sight<'_>,
-    own: &Own<'_>,
+    hub: &HubFacts<'_>,
+    own: &SenderFacts<'_>,
     user: &User,
     text: &str,
     now: u64,
@@ -85,7 +85,7 @@ fn decide_command<'a>(
 }
 
 /// Answers whether the account of this user is an operator's.
-fn is_operator(hub: &Sight<'_>, user: &User) -> bool
+fn is_operator(hub: &HubFacts<'_>, user: &User) -> bool
     ensures { result ≡ operates (account_of hub.now user.now.key) }
 {
     match hub.setup.account(user.key()) {
@@ -97,8 +97,8 @@ fn is_operator(hub: &Sight<'_>, user: &User) -> bool
 /// Decides what an act leads to that an operator asks for.
 fn decide_act<'a>(
     alloc: Global,
-    hub: &Sight<'_>,
-    own: &Own<'_>,
+    hub: &HubFacts<'_>,
+    own: &SenderFacts<'_>,
     act: &Act<'_>,
     now: u64,
 ) -> Result<Effect<'a>, AllocError>
@@ -118,8 +118,8 @@ fn decide_act<'a>(
 
 fn kick<'a>(
     alloc: Global,
-    hub: &Sight<'_>,
-    own: &Own<'_>,
+    hub: &HubFacts<'_>,
+    own: &SenderFacts<'_>,
     nick: &Nick,
     reason: &FreeText<'_>,
 ) -> Result<Effect<'a>, AllocError>
@@ -139,8 +139,8 @@ fn kick<'a>(
 
 fn ban<'a>(
     alloc: Global,
-    hub: &Sight<'_>,
-    own: &Own<'_>,
+    hub: &HubFacts<'_>,
+    own: &SenderFacts<'_>,
     nick: &Nick,
     seconds: u32,
     reason: &FreeText<'_>,
@@ -175,8 +175,8 @@ fn ban<'a>(
 
 fn unban<'a>(
     alloc: Global,
-    hub: &Sight<'_>,
-    own: &Own<'_>,
+    hub: &HubFacts<'_>,
+    own: &SenderFacts<'_>,
     cid: Cid,
 ) -> Result<Effect<'a>, AllocError>
     ensures { IfOk result (λ effect. effect ≡ answer_for own.now (unban hub.now.bans cid)) }

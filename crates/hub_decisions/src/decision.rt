@@ -8,8 +8,8 @@ ghost use Rattle.hub_rules.specs.Requests.{names_another};
 
 use crate::denial::denial;
 use crate::effect::nothing;
-use crate::own::Own;
-use crate::sight::Sight;
+use crate::hub_facts::HubFacts;
+use crate::sender_facts::SenderFacts;
 use crate::{act, login, message, password, sup, update};
 use adc_base32::Sid;
 use adc_line::Line;
@@ -32,8 +32,8 @@ use user_table::User;
 #[tactic(auto, unfolding(hub_rules::specs::Effects::line_effect))]
 pub fn decide<'a>(
     alloc: Global,
-    hub: &Sight<'_>,
-    own: &Own<'_>,
+    hub: &HubFacts<'_>,
+    own: &SenderFacts<'_>,
     user: Option<&User>,
     line: &'a Prepared,
     now: u64,
@@ -53,8 +53,8 @@ pub fn decide<'a>(
 /// Decides what a message leads to, which the prepared line says.
 fn decide_message<'a>(
     alloc: Global,
-    hub: &Sight<'_>,
-    own: &Own<'_>,
+    hub: &HubFacts<'_>,
+    own: &SenderFacts<'_>,
     user: Option<&User>,
     line: &'a Prepared,
     message: &'a Line,
@@ -74,8 +74,8 @@ fn decide_message<'a>(
 #[tactic(auto, unfolding(hub_rules::specs::Denied::request_denied, hub_rules::specs::Effects::accepted_effect))]
 fn decide_request<'a>(
     alloc: Global,
-    hub: &Sight<'_>,
-    own: &Own<'_>,
+    hub: &HubFacts<'_>,
+    own: &SenderFacts<'_>,
     user: Option<&User>,
     line: &'a Prepared,
     message: &'a Line,

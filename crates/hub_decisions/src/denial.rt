@@ -2,7 +2,7 @@ ghost use Rattle.std.specs.Prelude.{◌≡◌, IfOk};
 ghost use Rattle.hub_rules.specs.Effects.{denial, farewell};
 
 use crate::effect::one;
-use crate::own::Own;
+use crate::sender_facts::SenderFacts;
 use bytes::Bytes;
 use hub_rules::{Change, Effect, Hearers, SenderChange};
 use hub_setup::denial_line;
@@ -13,7 +13,11 @@ use std::alloc::{AllocError, Global};
 /// Makes the effect of a denied line (ADC 1.0, "STA"): its connection is told why, and shut out where that is fatal. Then
 /// the others who are present hear that its user left, where it was present. Refused only where memory runs out.
 #[tactic(auto, unfolding(hub_rules::specs::Effects::denial))]
-pub(crate) fn denial<'a>(alloc: Global, own: &Own<'_>, deny: Deny) -> Result<Effect<'a>, AllocError>
+pub(crate) fn denial<'a>(
+    alloc: Global,
+    own: &SenderFacts<'_>,
+    deny: Deny,
+) -> Result<Effect<'a>, AllocError>
     ensures { IfOk result (λ effect. effect ≡ denial own.now deny) }
 {
     let told = one(alloc, denial_line(alloc, deny)?)?;
@@ -35,7 +39,7 @@ pub(crate) fn denial<'a>(alloc: Global, own: &Own<'_>, deny: Deny) -> Result<Eff
 }
 
 /// Gives what the others hear where a connection is shut out.
-fn farewell(alloc: Global, own: &Own<'_>) -> Result<Batch, AllocError>
+fn farewell(alloc: Global, own: &SenderFacts<'_>) -> Result<Batch, AllocError>
     ensures { IfOk result (λ batch. batch ≡ farewell own.now.stage own.now.sender.sid) }
 {
     if own.stage == Stage::Normal {

@@ -7,9 +7,9 @@ ghost use Rattle.login_state.specs.Mentions.{ucmd};
 ghost use Rattle.login_state.specs.Support.{has_feature};
 
 use crate::effect::{one, push};
+use crate::hub_facts::HubFacts;
 use crate::lines::line_of;
-use crate::own::Own;
-use crate::sight::Sight;
+use crate::sender_facts::SenderFacts;
 use bytes::Bytes;
 use hub_rules::{Change, Effect, Hearers, SenderChange};
 use hub_setup::Setup;
@@ -23,8 +23,8 @@ use user_table::{User, Users};
 /// where memory runs out.
 pub(crate) fn effect_of_entry<'a>(
     alloc: Global,
-    hub: &Sight<'_>,
-    own: &Own<'_>,
+    hub: &HubFacts<'_>,
+    own: &SenderFacts<'_>,
     user: &User,
 ) -> Result<Effect<'a>, AllocError>
     ensures { IfOk result (λ effect. effect ≡ enters hub.now own.now user.now (Sender Enters)) }
@@ -42,7 +42,7 @@ pub(crate) fn effect_of_entry<'a>(
 /// Makes the batch that a newcomer hears, whose own line is at hand.
 fn welcome(
     alloc: Global,
-    hub: &Sight<'_>,
+    hub: &HubFacts<'_>,
     features: &Features,
     user: &User,
     line: Bytes,
@@ -65,7 +65,7 @@ fn with_menu(setup: &Setup, features: &Features, batch: Batch) -> Result<Batch, 
 }
 
 /// Makes the batch of the lines of the users who are present, in order of entry. Only those are written that are not kept.
-fn present_lines(alloc: Global, hub: &Sight<'_>) -> Result<Batch, AllocError>
+fn present_lines(alloc: Global, hub: &HubFacts<'_>) -> Result<Batch, AllocError>
     ensures { IfOk result (λ batch. batch ≡ map (line_of hub.now) hub.now.users) }
 {
     let mut batch = hub.lines.share(alloc)?;

@@ -4,7 +4,7 @@ ghost use Rattle.std.specs.Prelude.{◌≡◌, IfOk};
 ghost use Rattle.std.specs.List.{find};
 ghost use Rattle.hub_rules.specs.Grounds.{ban_ground, first_ground, is_bad, is_digest, is_empty, is_wrong_address, value_ground};
 
-use crate::given::value_in_update;
+use crate::field_values::value_in_update;
 use inf_fields::{Update, dotted_decimal, is_bad_number};
 use login_state::{CHECKED_FIELDS, Deny, NamedField, Severity};
 use operator_acts::Left;

@@ -6,7 +6,7 @@ ghost use Rattle.hub_rules.specs.Denied.{login_denied};
 ghost use Rattle.hub_rules.specs.Effects.{admits, entrant};
 ghost use Rattle.hub_rules.specs.Grounds.{entrant_grounds, identifier_grounds, is_empty, login_grounds};
 ghost use Rattle.hub_rules.specs.Identities.{cid_in, key_in, listed_user, value_or_empty};
-ghost use Rattle.hub_rules.specs.Sights.{is_account, user_after};
+ghost use Rattle.hub_rules.specs.Views.{is_account, user_after};
 ghost use Rattle.inf_fields.specs.Cleaning.{clean};
 ghost use Rattle.inf_fields.specs.Merging.{merged_with};
 ghost use Rattle.login_state.specs.NamedFields.{name_of};
@@ -15,13 +15,13 @@ ghost use Rattle.user_table.specs.Listed.{Listed};
 use crate::denial::denial;
 use crate::effect::{answer, one};
 use crate::entering;
-use crate::given::{passed_on, value_in_fields, value_in_update};
+use crate::field_values::{passed_on, value_in_fields, value_in_update};
 use crate::grounds::{
     ban_ground, first_ground, is_digest, is_empty, is_wrong_address, value_ground,
 };
-use crate::own::Own;
+use crate::hub_facts::HubFacts;
 use crate::present::{has_cid, has_key, is_account};
-use crate::sight::Sight;
+use crate::sender_facts::SenderFacts;
 use adc_base32::Sid;
 use adc_ids::Cid;
 use feature_route::FeatureSet;
@@ -39,8 +39,8 @@ use user_table::User;
 /// entry, or the client alone hears its challenge. Refused only where memory runs out.
 pub(crate) fn decide_login<'a>(
     alloc: Global,
-    hub: &Sight<'_>,
-    own: &Own<'_>,
+    hub: &HubFacts<'_>,
+    own: &SenderFacts<'_>,
     line: &Prepared,
     now: u64,
 ) -> Result<Effect<'a>, AllocError>
@@ -59,8 +59,8 @@ pub(crate) fn decide_login<'a>(
 /// ready for a hub without that account has no digest to wait for, and is refused as where memory runs out.
 fn effect_of_entrant<'a>(
     alloc: Global,
-    hub: &Sight<'_>,
-    own: &Own<'_>,
+    hub: &HubFacts<'_>,
+    own: &SenderFacts<'_>,
     line: &Prepared,
     newcomer: Entrant,
 ) -> Result<Effect<'a>, AllocError>
@@ -81,8 +81,8 @@ fn effect_of_entrant<'a>(
 /// Makes the user of a login, or tells why it is denied.
 fn user_of_login(
     alloc: Global,
-    hub: &Sight<'_>,
-    own: &Own<'_>,
+    hub: &HubFacts<'_>,
+    own: &SenderFacts<'_>,
     owner: Option<[u8; 24]>,
     inf: &Inf,
     now: u64,
@@ -100,7 +100,7 @@ fn user_of_login(
 }
 
 /// Makes the fields that are known of a user by its login.
-fn made_known(alloc: Global, own: &Own<'_>, update: &Update) -> Result<Fields, AllocError>
+fn made_known(alloc: Global, own: &SenderFacts<'_>, update: &Update) -> Result<Fields, AllocError>
     ensures { IfOk result (λ fields. fields ≡ merged_with [] (clean update.now own.now.sender.peer)) }
 {
     let mut fields = Fields::new(alloc);
@@ -114,8 +114,8 @@ fn made_known(alloc: Global, own: &Own<'_>, update: &Update) -> Result<Fields, A
 /// Gives the identifier of a client that may enter, or tells why it may not.
 fn may_enter(
     alloc: Global,
-    hub: &Sight<'_>,
-    own: &Own<'_>,
+    hub: &HubFacts<'_>,
+    own: &SenderFacts<'_>,
     owner: Option<[u8; 24]>,
     inf: &Inf,
     now: u64,
@@ -134,8 +134,8 @@ fn may_enter(
 /// Gives the identifier of a client that may enter with it, or tells why it may not.
 fn may_enter_as(
     alloc: Global,
-    hub: &Sight<'_>,
-    own: &Own<'_>,
+    hub: &HubFacts<'_>,
+    own: &SenderFacts<'_>,
     owner: Option<[u8; 24]>,
     inf: &Inf,
     cid: Cid,
@@ -178,8 +178,8 @@ fn missing_ground(update: &Update, field: NamedField) -> (bool, Deny)
 /// Makes the other grounds of a login, of a client with this identifier.
 fn entrant_grounds(
     alloc: Global,
-    hub: &Sight<'_>,
-    own: &Own<'_>,
+    hub: &HubFacts<'_>,
+    own: &SenderFacts<'_>,
     owner: Option<[u8; 24]>,
     inf: &Inf,
     cid: Cid,
@@ -207,7 +207,7 @@ fn entrant_grounds(
 }
 
 /// Tells whether the hub lets accounts alone in, and the nick of this key is none's.
-fn is_barred(hub: &Sight<'_>, key: &str) -> bool
+fn is_barred(hub: &HubFacts<'_>, key: &str) -> bool
     ensures { result ≡ (hub.now.setup.plain.registered_only && not (is_account hub.now key.now)) }
 {
     hub.setup.registered_only() && !is_account(hub, key)

@@ -5,9 +5,9 @@ ghost use Rattle.hub_rules.specs.Effects.{is_target_here, passes_on};
 
 use crate::denial::denial;
 use crate::effect::{one, publish};
-use crate::own::Own;
+use crate::hub_facts::HubFacts;
 use crate::present::has_sid;
-use crate::sight::Sight;
+use crate::sender_facts::SenderFacts;
 use adc_base32::Sid;
 use adc_line::Line;
 use feature_route::audience;
@@ -23,8 +23,8 @@ use std::alloc::{AllocError, Global};
 /// whom the message is hear the line as it came. Refused only where memory runs out.
 pub(crate) fn decide_route<'a>(
     alloc: Global,
-    hub: &Sight<'_>,
-    own: &Own<'_>,
+    hub: &HubFacts<'_>,
+    own: &SenderFacts<'_>,
     line: &'a Line,
     search: bool,
     now: u64,
@@ -43,7 +43,7 @@ pub(crate) fn decide_route<'a>(
 }
 
 /// Tells why a message to others is denied, if it is: a search too soon after the last one that went out (100).
-fn message_denied(hub: &Sight<'_>, own: &Own<'_>, search: bool, now: u64) -> Option<Deny>
+fn message_denied(hub: &HubFacts<'_>, own: &SenderFacts<'_>, search: bool, now: u64) -> Option<Deny>
     ensures { result ≡ message_denied hub.now own.now now search }
 {
     if search && !may_search(own.sender.notes.searched, now, hub.setup.search_interval()) {
@@ -55,7 +55,7 @@ fn message_denied(hub: &Sight<'_>, own: &Own<'_>, search: bool, now: u64) -> Opt
 /// Passes a line on as it came to those for whom it is.
 fn pass_on<'a>(
     alloc: Global,
-    hub: &Sight<'_>,
+    hub: &HubFacts<'_>,
     line: &'a Line,
     change: Change,
 ) -> Result<Effect<'a>, AllocError>
@@ -67,7 +67,7 @@ fn pass_on<'a>(
 }
 
 /// Answers whether the user that a line names as its target is present.
-fn is_target_here(hub: &Sight<'_>, target: Option<Sid>) -> bool
+fn is_target_here(hub: &HubFacts<'_>, target: Option<Sid>) -> bool
     ensures { result ≡ is_target_here hub.now target }
 {
     match target {

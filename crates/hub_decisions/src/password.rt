@@ -8,9 +8,9 @@ ghost use Rattle.hub_rules.specs.Grounds.{is_digest, password_grounds};
 use crate::denial::denial;
 use crate::entering;
 use crate::grounds::{ban_ground, first_ground, is_digest};
-use crate::own::Own;
+use crate::hub_facts::HubFacts;
 use crate::present::{has_cid, has_key};
-use crate::sight::Sight;
+use crate::sender_facts::SenderFacts;
 use adc_base32::decode24;
 use adc_line::Words;
 use hub_rules::Effect;
@@ -25,8 +25,8 @@ use user_table::User;
 /// enters. Told: as at an entry. Refused only where memory runs out.
 pub(crate) fn decide_password<'a>(
     alloc: Global,
-    hub: &Sight<'_>,
-    own: &Own<'_>,
+    hub: &HubFacts<'_>,
+    own: &SenderFacts<'_>,
     user: &User,
     words: Words<'_>,
     now: u64,
@@ -41,8 +41,8 @@ pub(crate) fn decide_password<'a>(
 
 /// Makes the grounds of a password: it is wrong, or something changed since the login.
 fn password_grounds(
-    hub: &Sight<'_>,
-    own: &Own<'_>,
+    hub: &HubFacts<'_>,
+    own: &SenderFacts<'_>,
     user: &User,
     digest: Option<[u8; 24]>,
     now: u64,
@@ -59,7 +59,7 @@ fn password_grounds(
 }
 
 /// Tells whether a digest is the expected one. Where none is expected, none is.
-fn is_expected(own: &Own<'_>, digest: Option<[u8; 24]>) -> bool
+fn is_expected(own: &SenderFacts<'_>, digest: Option<[u8; 24]>) -> bool
     ensures { result ≡ is_digest own.now.expected digest }
 {
     match &own.expected {

@@ -7,8 +7,8 @@ ghost use Rattle.login_state.specs.SupportAnswers.{support_after};
 
 use crate::denial::denial;
 use crate::effect::{answer, one, push};
-use crate::own::Own;
-use crate::sight::Sight;
+use crate::hub_facts::HubFacts;
+use crate::sender_facts::SenderFacts;
 use adc_line::Words;
 use hub_rules::{Effect, SenderChange};
 use hub_setup::{hub_line, identifier_line, ping_fields, support_line};
@@ -24,8 +24,8 @@ use user_table::Users;
 /// runs out.
 pub(crate) fn decide_greeting<'a>(
     alloc: Global,
-    hub: &Sight<'_>,
-    own: &Own<'_>,
+    hub: &HubFacts<'_>,
+    own: &SenderFacts<'_>,
     words: Words<'_>,
     now: u64,
 ) -> Result<Effect<'a>, AllocError>
@@ -46,7 +46,7 @@ pub(crate) fn decide_greeting<'a>(
 /// the client supports. Told: nobody. Refused only where memory runs out.
 pub(crate) fn decide_support<'a>(
     alloc: Global,
-    own: &Own<'_>,
+    own: &SenderFacts<'_>,
     words: Words<'_>,
 ) -> Result<Effect<'a>, AllocError>
     ensures { IfOk result (λ effect. effect ≡ effect_of_support own.now (words_left words.entry)) }
@@ -81,8 +81,8 @@ fn features_after(
 /// Writes what the hub supports, the client's session identifier, and the hub itself.
 fn greeting(
     alloc: Global,
-    hub: &Sight<'_>,
-    own: &Own<'_>,
+    hub: &HubFacts<'_>,
+    own: &SenderFacts<'_>,
     features: &Features,
     now: u64,
 ) -> Result<Batch, AllocError>
@@ -99,7 +99,7 @@ fn greeting(
 /// Writes what a client hears beside that asked about the hub.
 fn ping_of(
     alloc: Global,
-    hub: &Sight<'_>,
+    hub: &HubFacts<'_>,
     features: &Features,
     now: u64,
 ) -> Result<String, AllocError>

@@ -6,7 +6,7 @@ ghost use Rattle.hub_decisions.specs.Requested.{effect_of_update, inf_in};
 ghost use Rattle.hub_rules.specs.Effects.{line_unless_empty, update_effect};
 ghost use Rattle.hub_rules.specs.Grounds.{differs, is_bad_nick, touches_account, update_grounds};
 ghost use Rattle.hub_rules.specs.Identities.{value_or_empty, key_in, meaning, su_in};
-ghost use Rattle.hub_rules.specs.Sights.{Own as OwnConnection, another_has_key, user_after};
+ghost use Rattle.hub_rules.specs.Views.{SenderView as OwnConnection, another_has_key, user_after};
 ghost use Rattle.inf_fields.specs.Cleaning.{clean};
 ghost use Rattle.inf_fields.specs.Field.{value_of};
 ghost use Rattle.inf_fields.specs.FieldNames.{id_name, nick_name, support_name};
@@ -16,11 +16,11 @@ ghost use Rattle.user_table.specs.Tables.{has_sid};
 
 use crate::denial::denial;
 use crate::effect::{one, publish};
-use crate::given::{passed_on, value_in_fields, value_in_update};
+use crate::field_values::{passed_on, value_in_fields, value_in_update};
 use crate::grounds::{first_ground, is_wrong_address, value_ground};
-use crate::own::Own;
+use crate::hub_facts::HubFacts;
 use crate::present::is_account;
-use crate::sight::Sight;
+use crate::sender_facts::SenderFacts;
 use adc_base32::Sid;
 use adc_ids::{Nick, NickFault};
 use feature_route::{Audience, FeatureSet};
@@ -39,8 +39,8 @@ use user_table::{User, Users};
 /// Refused only where memory runs out.
 pub(crate) fn decide_update<'a>(
     alloc: Global,
-    hub: &Sight<'_>,
-    own: &Own<'_>,
+    hub: &HubFacts<'_>,
+    own: &SenderFacts<'_>,
     user: &User,
     line: &Prepared,
 ) -> Result<Effect<'a>, AllocError>
@@ -56,8 +56,8 @@ pub(crate) fn decide_update<'a>(
 #[tactic(auto, unfolding(hub_rules::specs::Identities::listed_user))]
 fn decide_change<'a>(
     alloc: Global,
-    hub: &Sight<'_>,
-    own: &Own<'_>,
+    hub: &HubFacts<'_>,
+    own: &SenderFacts<'_>,
     user: &User,
     inf: &Inf,
 ) -> Result<Effect<'a>, AllocError>
@@ -74,8 +74,8 @@ fn decide_change<'a>(
 /// Makes the grounds of an update, of which this is passed on.
 fn update_grounds(
     alloc: Global,
-    hub: &Sight<'_>,
-    own: &Own<'_>,
+    hub: &HubFacts<'_>,
+    own: &SenderFacts<'_>,
     user: &User,
     inf: &Inf,
     cleaned: &Update,
@@ -133,14 +133,14 @@ fn is_bad_nick(inf: &Inf) -> bool
 }
 
 /// Tells whether an update takes the nick of an account or leaves it, as nobody may.
-fn touches_account(hub: &Sight<'_>, before: &str, after: &str) -> bool
+fn touches_account(hub: &HubFacts<'_>, before: &str, after: &str) -> bool
     ensures { result ≡ touches_account hub.now before.now after.now }
 {
     after != before && (is_account(hub, before) || is_account(hub, after))
 }
 
 /// Answers whether another present user has a nick of this key.
-fn another_has_key(hub: &Sight<'_>, sid: Sid, key: &str) -> bool
+fn another_has_key(hub: &HubFacts<'_>, sid: Sid, key: &str) -> bool
     ensures { result ≡ another_has_key hub.now sid key.now }
 {
     match hub.users.by_nick(key) {
@@ -159,7 +159,7 @@ fn is_another(user: &User, sid: Sid) -> bool
 #[tactic(auto, unfolding(hub_rules::specs::Identities::listed_user))]
 fn effect_of_update<'a>(
     alloc: Global,
-    own: &Own<'_>,
+    own: &SenderFacts<'_>,
     user: &User,
     inf: &Inf,
     cleaned: Update,

@@ -1,8 +1,8 @@
 ghost use Rattle.std.specs.Prelude.{◌≡◌};
-ghost use Rattle.flushed_writes.specs.Parts.{AppendsFront};
+ghost use Rattle.counted_io.specs.Parts.{AppendsFront};
 ghost use Rattle.hub_endings.specs.Endings.{status_of, message_of};
 
-use flushed_writes::write_and_flush;
+use counted_io::write_and_flush;
 use std::alloc::{AllocError, AllocFailed};
 use std::io::Write;
 

@@ -10,27 +10,27 @@ use Rattle.hub_rules.specs.Facts.{Facts, about_after, after, without_connection,
 use Rattle.hub_rules.specs.History.{lines_owed, sid}
 use Rattle.hub_rules.specs.Legal.{Legal, MayCall, is_open, reply}
 use Rattle.hub_rules.specs.Prepared.{prepared_line}
-use Rattle.hub_rules.specs.Shares.{About}
+use Rattle.hub_rules.specs.Shares.{ConnState}
 use Rattle.hub_examples.specs.Conversations.{greeting_of, peer, plain, sup_text, zeros}
 use Rattle.hub_examples.specs.Identifiers.{FirstIsGivenAgain, all_given, come_and_go}
-use Rattle.hub_examples.specs.Talking.{joins}
-use Rattle.hub_examples.proofs.Computing.{computing}
+use Rattle.hub_examples.specs.Steps.{joins}
+use Rattle.hub_examples.proofs.Opened.{computing}
 use Rattle.hub_examples.proofs.Played.{next-at}
 
 -- so many came, and none is there
-abbrev idle_facts : ℕ → (ℕ → About) → Facts
+abbrev idle_facts : ℕ → (ℕ → ConnState) → Facts
 idle_facts n about = record { joins = n; last = n; opened = []; present = []; bans = []; topic = []; about = about }
 
 record Idle (hash : List ℕ → List ℕ) (n : ℕ) : Type 0 where
   legal : Legal plain hash (come_and_go n)
-  about : ℕ → About
+  about : ℕ → ConnState
   known : facts plain hash (come_and_go n) ≡ idle_facts n about
 
 itself : (n : ℕ) → (n == n) ≡ true
 itself n = grind arith
 
 -- the next one is there, with the next identifier
-abbrev one_of : ℕ → ℕ → (ℕ → About) → Facts
+abbrev one_of : ℕ → ℕ → (ℕ → ConnState) → Facts
 one_of n sid about = record {
   joins = suc n;
   last = sid;
@@ -44,7 +44,7 @@ one_of n sid about = record {
 one-more : (n : ℕ) → n + 1 ≡ suc n
 one-more n = omega arith
 
-one-comes : (n sid : ℕ) (about : ℕ → About) → following n 0 ≡ sid → with_connection (idle_facts n about) (suc n) peer zeros ≡ one_of n sid about
+one-comes : (n sid : ℕ) (about : ℕ → ConnState) → following n 0 ≡ sid → with_connection (idle_facts n about) (suc n) peer zeros ≡ one_of n sid about
 unfolding with_connection
 one-comes n sid about next i =
     let is : next_sid (idle_facts n about) ≡ sid = next-at (idle_facts n about) refl ∙ next in
@@ -67,17 +67,17 @@ one-joined : (hash : List ℕ → List ℕ) (n sid : ℕ) (idle_there : Idle has
 unfolding Legal facts after reply
 one-joined hash n sid idle_there few next = grind (arith, one-more, has-joins, one-comes)
 
-its-about : (n sid : ℕ) (about : ℕ → About) → (one_of n sid about).about (suc n) ≡ newcomer (suc n) sid peer zeros
+its-about : (n sid : ℕ) (about : ℕ → ConnState) → (one_of n sid about).about (suc n) ≡ newcomer (suc n) sid peer zeros
 its-about n sid about = ap (λ b. cond b (newcomer (suc n) sid peer zeros) (about (suc n))) (itself (suc n))
 
-is-there : (n sid : ℕ) (about : ℕ → About) → is_open (suc n) (one_of n sid about) ≡ true
+is-there : (n sid : ℕ) (about : ℕ → ConnState) → is_open (suc n) (one_of n sid about) ≡ true
 is-there n sid about = ap (λ b. b || false) (itself (suc n))
 
 -- it leaves
-abbrev leaves : ℕ → (ℕ → About) → Effect
+abbrev leaves : ℕ → (ℕ → ConnState) → Effect
 leaves n about = departure ((one_of n (suc n) about).about (suc n)).stage ((one_of n (suc n) about).about (suc n)).sender.sid
 
-one-goes : (n : ℕ) (about : ℕ → About) → without_connection (suc n) (happens (suc n) (leaves n about) (one_of n (suc n) about))
+one-goes : (n : ℕ) (about : ℕ → ConnState) → without_connection (suc n) (happens (suc n) (leaves n about) (one_of n (suc n) about))
     ≡ idle_facts (suc n) (about_after (suc n) (leaves n about) (one_of n (suc n) about).about)
 unfolding without_connection happens
 one-goes n about i = record {

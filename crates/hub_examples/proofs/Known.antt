@@ -6,7 +6,7 @@ use Rattle.operator_acts.specs.declared.ban.Ban.{Ban}
 use Rattle.hub_rules.specs.declared.effect.Effect.{Effect}
 use Rattle.hub_rules.specs.Facts.{Facts, bans_after, with_lines_taken, happens, with_connection, newcomer, next_sid, nobody, present_after, topic_after, with_one}
 use Rattle.hub_rules.specs.declared.sender.SeatChange.{SeatChange}
-use Rattle.hub_rules.specs.Shares.{About, affected_connection, change_at, changed_by_operator, lags_with, owed_with, owes}
+use Rattle.hub_rules.specs.Shares.{ConnState, affected_connection, change_at, changed_by_operator, lags_with, owed_with, owes}
 
 pub record Known : Type 0 where
   pub last : ℕ
@@ -15,9 +15,9 @@ pub record Known : Type 0 where
   pub bans : List (List ℕ × Ban)
   pub topic : List ℕ
   -- of each connection that joined, the last one first
-  pub abouts : List About
+  pub abouts : List ConnState
 
-abbrev pub about_in : List About → ℕ → About
+abbrev pub about_in : List ConnState → ℕ → ConnState
 about_in [] d = nobody
 about_in (a ∷ rest) d = cond (d == length rest + 1) a (about_in rest d)
 
@@ -34,11 +34,11 @@ facts_of k = record {
 
 -- ---- a change of connections, by whether each is the one that calls
 
-abbrev pub changed_at : (Bool → About → About) → ℕ → List About → List About
+abbrev pub changed_at : (Bool → ConnState → ConnState) → ℕ → List ConnState → List ConnState
 changed_at change c [] = []
 changed_at change c (a ∷ rest) = change (length rest + 1 == c) a ∷ changed_at change c rest
 
-changed-length : (change : Bool → About → About) (c : ℕ) (rest : List About) → length (changed_at change c rest) ≡ length rest
+changed-length : (change : Bool → ConnState → ConnState) (c : ℕ) (rest : List ConnState) → length (changed_at change c rest) ≡ length rest
 changed-length change c [] = refl
 changed-length change c (a ∷ rest) = ap suc (changed-length change c rest)
 
@@ -46,7 +46,7 @@ pub same-number : (c d : ℕ) → (d == c) ≡ true → d ≡ c
 same-number c d is = grind arith
 
 -- the connection that calls, where it is this one, is among those that joined
-abbrev IsAmong : ℕ → ℕ → List About → Type 0
+abbrev IsAmong : ℕ → ℕ → List ConnState → Type 0
 IsAmong c d rest = (d == c) ≡ true → (1 ≤ c) × (c ≤ length rest)
 
 nobody-calls : (c d : ℕ) (called : Bool) → (d == c) ≡ called → IsAmong c d [] → called ≡ false
@@ -55,14 +55,14 @@ nobody-calls c d called is among = grind arith
 smaller : (n c d : ℕ) → (d == n + 1) ≡ false → d ≡ c → c ≤ suc n → c ≤ n
 smaller n c d other is most = grind arith
 
-among-rest : (c d : ℕ) (a : About) (rest : List About) → IsAmong c d (a ∷ rest) → (d == length rest + 1) ≡ false → IsAmong c d rest
+among-rest : (c d : ℕ) (a : ConnState) (rest : List ConnState) → IsAmong c d (a ∷ rest) → (d == length rest + 1) ≡ false → IsAmong c d rest
 among-rest c d a rest among other is = ((among is).0, smaller (length rest) c d other (same-number c d is) (among is).1)
 
-changed-next : (change : Bool → About → About) (c d n m : ℕ) (a before now : About) → m ≡ n → ((d == n + 1) ≡ false → change (d == c) before ≡ now)
+changed-next : (change : Bool → ConnState → ConnState) (c d n m : ℕ) (a before now : ConnState) → m ≡ n → ((d == n + 1) ≡ false → change (d == c) before ≡ now)
     → change (d == c) (cond (d == n + 1) a before) ≡ cond (d == m + 1) (change (n + 1 == c) a) now
 changed-next change c d n m a before now same rest = grind (arith, nat_tests)
 
-changed-at : (change : Bool → About → About) (c : ℕ) → change false nobody ≡ nobody → (rest : List About) (d : ℕ) → IsAmong c d rest
+changed-at : (change : Bool → ConnState → ConnState) (c : ℕ) → change false nobody ≡ nobody → (rest : List ConnState) (d : ℕ) → IsAmong c d rest
     → change (d == c) (about_in rest d) ≡ about_in (changed_at change c rest) d
 changed-at change c none [] d among = ap (λ b. change b nobody) (nobody-calls c d (d == c) refl among) ∙ none
 changed-at change c none (a ∷ rest) d among =
@@ -97,7 +97,7 @@ nobody-changed None = refl
 nobody-affected : (effect : Effect) → affected_connection false effect nobody ≡ nobody
 unfolding owed_with lags_with
 nobody-affected effect =
-    ap (λ (a : About). record a { owed = owed_with nobody (owes false effect nobody); lags = lags_with nobody (owes false effect nobody) }) (nobody-changed (change_at effect.change))
+    ap (λ (a : ConnState). record a { owed = owed_with nobody (owes false effect nobody); lags = lags_with nobody (owes false effect nobody) }) (nobody-changed (change_at effect.change))
 
 pub happens-known : (c : ℕ) (effect : Effect) (k : Known) → is_known c k ≡ true → happens c effect (facts_of k) ≡ facts_of (with_effect c effect k)
 unfolding happens

@@ -7,7 +7,7 @@ use Rattle.std.proofs.lemmas.List.{drop-append-le, drop_all, length-replicate, t
 use Rattle.std.proofs.lemmas.List.Folds.{sum_by-replicate}
 use Rattle.std.proofs.lemmas.List.Sums.{sum_by-append}
 use Rattle.feature_route.specs.Audiences.{holds_words}
-use Rattle.feature_route.specs.declared.hearers.Audience.TheVariants as audiences
+use Rattle.feature_route.specs.declared.audience.Audience.TheVariants as audiences
 use Rattle.inf_fields.specs.Field.{Field, field}
 use Rattle.login_state.specs.declared.stage.Stage.TheVariants as stages
 use Rattle.outboxes.specs.Backlogs.{fits, size_of}
@@ -22,11 +22,11 @@ use Rattle.hub_rules.specs.Effects.{is_present}
 use Rattle.hub_rules.specs.Facts.{after, newcomer}
 use Rattle.hub_rules.specs.Senders.{new_sender}
 use Rattle.hub_rules.specs.Legal.{reply, take_reply}
-use Rattle.hub_rules.specs.Shares.{About, affected_connection, has_room, lags_with, owed_with, waiting}
+use Rattle.hub_rules.specs.Shares.{ConnState, affected_connection, has_room, lags_with, owed_with, waiting}
 use Rattle.hub_examples.specs.Conversations.{bobs_id, nobodys_id, one, peer, plain, zeros}
 use Rattle.hub_examples.specs.Lags.{WhoTakesNothingLags, bob_ready, chatter, ho_text, ho_told, once_more, two_told}
-use Rattle.hub_examples.specs.Talking.{says, takes}
-use Rattle.hub_examples.proofs.Computing.{computing}
+use Rattle.hub_examples.specs.Steps.{says, takes}
+use Rattle.hub_examples.proofs.Opened.{computing}
 use Rattle.hub_examples.proofs.Known.{Known, facts_of, taken-known, with_effect, with_taken}
 use Rattle.hub_examples.proofs.Played.{Comes, called, computed, goes-on}
 
@@ -47,25 +47,25 @@ heard-length sid n = omega (arith, length-replicate n ho_told)
 -- ---- there is room for the line
 
 -- a user who is present
-abbrev present_about : ℕ → List Field → List (List ℕ) → About
+abbrev present_about : ℕ → List Field → List (List ℕ) → ConnState
 present_about c fields owed =
     record (newcomer c c peer zeros) { sender = record (new_sender c peer zeros) { features = codes "TIGR" ∷ codes "BASE" ∷ [] }; stage = stages.Normal; fields = fields; owed = owed }
 
-abbrev ana_about : List (List ℕ) → About
+abbrev ana_about : List (List ℕ) → ConnState
 ana_about owed =
     present_about 1 (field (codes "ID") nobodys_id ∷ field (codes "NI") (codes "ana") ∷ field (codes "SS") (codes "10") ∷ field (codes "SF") (codes "2")
     ∷ field (codes "I4") (codes "127.0.0.1") ∷ field (codes "SU") (codes "TCP4,SEGA") ∷ []) owed
 
-abbrev bob_about : List (List ℕ) → About
+abbrev bob_about : List (List ℕ) → ConnState
 bob_about owed =
     present_about 2 (field (codes "ID") bobs_id ∷ field (codes "NI") (codes "bob") ∷ field (codes "SS") (codes "5") ∷ field (codes "SF") (codes "1")
     ∷ field (codes "SU") (codes "TCP4") ∷ []) owed
 
-abbrev ana_by : ℕ → About
+abbrev ana_by : ℕ → ConnState
 ana_by n = ana_about (heard_so_far (codes "AAAB") n)
 
 -- bob took all that it heard so many times
-abbrev bob_by : ℕ → ℕ → About
+abbrev bob_by : ℕ → ℕ → ConnState
 bob_by took n = record (bob_about (heard_so_far (codes "AAAC") n)) { taken = took + 5 }
 
 few-bytes : (n : ℕ) → n ≤ 1_018 → size_of (heard_so_far (codes "AAAB") n) + 13 ≤ 1_048_576
@@ -95,11 +95,11 @@ line-waits n =
 abbrev ho_effect : Effect
 ho_effect = record { own = []; others = ho_told ∷ []; hearers = Those audiences.All; change = Nothing }
 
-abbrev crowd : About → About → Known
+abbrev crowd : ConnState → ConnState → Known
 crowd bob ana = record { last = 2; opened = 1 ∷ 2 ∷ []; present = 1 ∷ 2 ∷ []; bans = []; topic = []; abouts = bob ∷ ana ∷ [] }
 
 -- a connection that heard the line, by whether there was room for it
-abbrev by_room : Bool → About → About
+abbrev by_room : Bool → ConnState → ConnState
 by_room room a = record a { owed = cond room (a.owed ++ ho_told ∷ []) a.owed; lags = not room || a.lags }
 
 ana-hears : (n : ℕ) → n ≤ 1_018 → affected_connection false ho_effect (ana_by n) ≡ ana_by (suc n)
@@ -113,12 +113,12 @@ bob-hears n =
     ∙ ap (λ lines. record (bob_about lines) { taken = n + 5 }) (once-longer (codes "AAAC") n)
 
 -- where it is known what the line makes of both, and that they stay
-both-hear : (bob ana bob_then ana_then : About) → affected_connection true ho_effect bob ≡ bob_then → affected_connection false ho_effect ana ≡ ana_then
+both-hear : (bob ana bob_then ana_then : ConnState) → affected_connection true ho_effect bob ≡ bob_then → affected_connection false ho_effect ana ≡ ana_then
     → is_present bob_then.stage ≡ true → is_present ana_then.stage ≡ true → with_effect 2 ho_effect (crowd bob ana) ≡ crowd bob_then ana_then
 both-hear bob ana bob_then ana_then bob_hears ana_hears bob_stays ana_stays = grind arith
 
 -- where it is known what the line makes of ana
-bob-says : (hash : List ℕ → List ℕ) (h : List Entry) (n : ℕ) (ana_then : About) → affected_connection false ho_effect (ana_by n) ≡ ana_then
+bob-says : (hash : List ℕ → List ℕ) (h : List Entry) (n : ℕ) (ana_then : ConnState) → affected_connection false ho_effect (ana_by n) ≡ ana_then
     → is_present ana_then.stage ≡ true → Comes plain hash h (crowd (bob_by n n) (ana_by n)) → Comes plain hash (says 2 ho_text 0 Kept h) (crowd (bob_by n (suc n)) ana_then)
 unfolding computing
 bob-says hash h n ana_then ana_hears ana_stays before =
@@ -166,7 +166,7 @@ no-room-for-ana n many =
     ap (λ b. b && nat_le (size_of (heard_so_far (codes "AAAB") n) + 13) 1_048_576)
     (false-le (length (heard_so_far (codes "AAAB") n) + 1) 1_024 (omega (arith, many, heard-length (codes "AAAB") n)))
 
-abbrev ana_lagging : ℕ → About
+abbrev ana_lagging : ℕ → ConnState
 ana_lagging n = record (ana_by n) { lags = true }
 
 ana-lags : (n : ℕ) → 1_019 ≤ n → affected_connection false ho_effect (ana_by n) ≡ ana_lagging n

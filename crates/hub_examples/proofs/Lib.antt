@@ -1,4 +1,4 @@
-pub mod Computing
+pub mod Opened
 pub mod Identifiers
 pub mod Known
 pub mod Lags

@@ -19,14 +19,14 @@ use Rattle.hub_rules.specs.declared.history.Entry.{Entry}
 use Rattle.hub_rules.specs.declared.history.Reply.{Reply}
 use Rattle.hub_rules.specs.declared.history.Reply.TheVariants.{Left, Said}
 use Rattle.hub_rules.specs.Accounts.{account_with}
-use Rattle.hub_rules.specs.Configured.{Account, Configured}
+use Rattle.hub_rules.specs.Configured.{ConfiguredAccount, Configured}
 use Rattle.hub_rules.specs.Effects.{departure, effect_of_reading, is_over, line_effect}
 use Rattle.hub_rules.specs.Facts.{Facts, after, facts, happens, has_joins, has_place, next_sid, own_of, sight_of, with_connection, without_connection}
 use Rattle.hub_rules.specs.Identities.{key_in, value_or_empty}
 use Rattle.hub_rules.specs.Legal.{Legal, MayCall, is_open, join_reply, reply, take_reply, verdict_of}
 use Rattle.hub_rules.specs.Prepared.{owner_digest, password_digest, password_of, prepared_line, update_of}
 use Rattle.hub_rules.specs.Quiet.{nothing}
-use Rattle.hub_rules.specs.Sights.{PreparedLine}
+use Rattle.hub_rules.specs.Views.{PreparedLine}
 use Rattle.hub_examples.proofs.Known.{Known, about_in, facts_of, happens-known, is_known, joins-known, taken-known, with_effect, with_newcomer, with_taken}
 
 -- ---- the hash
@@ -55,11 +55,11 @@ same-digest hash (one ∷ more) so bytes among = one-of hash bytes one more (byt
 abbrev owner_in : Option (List Field) → Option (List ℕ)
 owner_in said = option_and_then (λ (u : List Field). spelled_bytes 24 (value_or_empty private_id_name u)) said
 
-abbrev account_in : Configured → Option (List Field) → Option Account
+abbrev account_in : Configured → Option (List Field) → Option ConfiguredAccount
 account_in setup said = option_and_then (λ (u : List Field). account_with (key_in u) setup.accounts) said
 
-abbrev is_account_hashed : List (List ℕ) → List ℕ → Option Account → Bool
-is_account_hashed hashed challenge account = option_map_or (λ (a : Account). is_among hashed (a.password ++ challenge)) account true
+abbrev is_account_hashed : List (List ℕ) → List ℕ → Option ConfiguredAccount → Bool
+is_account_hashed hashed challenge account = option_map_or (λ (a : ConfiguredAccount). is_among hashed (a.password ++ challenge)) account true
 
 -- all that is hashed of such a line is among these
 abbrev is_hashed : Configured → List (List ℕ) → List ℕ → Option (List Field) → Bool
@@ -78,7 +78,7 @@ module _ (hash : List ℕ → List ℕ) (hashed : List (List ℕ)) (so : IsSampl
   same-owner None among = refl
   same-owner (Some bytes) among = ap Some (same-digest hash hashed so bytes among)
 
-  same-password : (challenge : List ℕ) (account : Option Account) → is_account_hashed hashed challenge account ≡ true
+  same-password : (challenge : List ℕ) (account : Option ConfiguredAccount) → is_account_hashed hashed challenge account ≡ true
       → password_of hash challenge account ≡ password_of sample challenge account
   same-password challenge None among = refl
   same-password challenge (Some account) among = ap Some (same-digest hash hashed so (account.password ++ challenge) among)

@@ -8,7 +8,7 @@ use Rattle.hub_rules.specs.Texts.{with_line_feed}
 use Rattle.hub_examples.specs.Conversations.{one, sup_text, zeros}
 use Rattle.hub_examples.specs.PasswordLogins.{secret_digest, staffed_hub}
 use Rattle.hub_examples.specs.Removals.{bob_before, bob_entered, done_told, op_before}
-use Rattle.hub_examples.specs.Talking.{joins, says}
+use Rattle.hub_examples.specs.Steps.{joins, says}
 use Rattle.hub_examples.specs.Visitors.{bob_told}
 
 -- bob, who is no operator, tries to kick the operator

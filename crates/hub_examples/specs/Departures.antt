@@ -8,7 +8,7 @@ use Rattle.hub_rules.specs.Legal.{Legal}
 use Rattle.hub_rules.specs.Texts.{with_line_feed}
 use Rattle.hub_examples.specs.Conversations.{one, plain, zeros}
 use Rattle.hub_examples.specs.Messages.{cy_entered, three_told}
-use Rattle.hub_examples.specs.Talking.{quits, says}
+use Rattle.hub_examples.specs.Steps.{quits, says}
 use Rattle.hub_examples.specs.Visitors.{two}
 
 -- of three users cy leaves; ana speaks in bob's name; and then the connection of ana leaves, too
@@ -28,8 +28,8 @@ abbrev pub ana_gone : List ℕ
 ana_gone = with_line_feed (codes "IQUI AAAB")
 
 -- those who are present hear of each who leaves, once; who speaks in another's name is told so, shut out, and not heard
-abbrev pub DeparturesAreHeard : Type 0
-DeparturesAreHeard =
+abbrev pub DeparturesArePlayed : Type 0
+DeparturesArePlayed =
     (hash : List ℕ → List ℕ) → hash zeros ≡ zeros → hash one ≡ one → hash two ≡ two
     → Legal plain hash ana_left
     × (lines_owed plain hash ana_left 1 ≡ three_told (codes "AAAB") ++ cy_gone ∷ with_line_feed (codes "ISTA 240 Wrong\\sSID") ∷ [])

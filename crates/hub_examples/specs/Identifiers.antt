@@ -8,7 +8,7 @@ use Rattle.hub_rules.specs.Configured.{Configured, plain_for}
 use Rattle.hub_rules.specs.History.{lines_owed, sid}
 use Rattle.hub_rules.specs.Legal.{Legal}
 use Rattle.hub_examples.specs.Conversations.{greeting_of, peer, plain, sup_text, zeros}
-use Rattle.hub_examples.specs.Talking.{joins, quits, says}
+use Rattle.hub_examples.specs.Steps.{joins, quits, says}
 
 -- ---- a hub for two
 

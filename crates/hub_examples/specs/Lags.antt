@@ -7,7 +7,7 @@ use Rattle.hub_rules.specs.Legal.{Legal}
 use Rattle.hub_rules.specs.Texts.{with_line_feed}
 use Rattle.hub_examples.specs.Conversations.{greeting_of, one, plain, zeros}
 use Rattle.hub_examples.specs.Messages.{bob_entered}
-use Rattle.hub_examples.specs.Talking.{says, takes}
+use Rattle.hub_examples.specs.Steps.{says, takes}
 use Rattle.hub_examples.specs.Visitors.{ana_told, bob_told}
 
 -- what was owed to the first and to the second of them until both were present: five lines

@@ -8,5 +8,5 @@ pub mod PasswordLogins
 pub mod Pings
 pub mod Removals
 pub mod Searches
-pub mod Talking
+pub mod Steps
 pub mod Visitors

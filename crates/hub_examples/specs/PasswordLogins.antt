@@ -8,7 +8,7 @@ use Rattle.hub_rules.specs.History.{lines_owed, present, stage}
 use Rattle.hub_rules.specs.Legal.{Legal}
 use Rattle.hub_rules.specs.Texts.{with_line_feed}
 use Rattle.hub_examples.specs.Conversations.{greeting_of, one, plain, sup_text, zeros}
-use Rattle.hub_examples.specs.Talking.{joins, says}
+use Rattle.hub_examples.specs.Steps.{joins, says}
 
 -- a hub with one account, an operator's, and one entry for menus
 abbrev pub staffed_hub : Configured

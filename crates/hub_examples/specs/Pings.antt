@@ -7,7 +7,7 @@ use Rattle.hub_rules.specs.Legal.{Legal}
 use Rattle.hub_rules.specs.Texts.{with_line_feed}
 use Rattle.hub_examples.specs.Conversations.{plain, zeros}
 use Rattle.hub_examples.specs.Messages.{ana_entered}
-use Rattle.hub_examples.specs.Talking.{joins, says}
+use Rattle.hub_examples.specs.Steps.{joins, says}
 
 -- ana is present, who shares 10 bytes in 2 files, and 90 seconds after the hub opened a client asks
 abbrev pub hub_asked : List Entry

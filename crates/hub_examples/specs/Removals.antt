@@ -8,7 +8,7 @@ use Rattle.hub_rules.specs.Legal.{Legal}
 use Rattle.hub_rules.specs.Texts.{with_line_feed}
 use Rattle.hub_examples.specs.Conversations.{greeting_of, one, sup_text, zeros}
 use Rattle.hub_examples.specs.PasswordLogins.{challenge_told, menu_told, op_entered, op_told, secret_digest, staffed_hub}
-use Rattle.hub_examples.specs.Talking.{joins, says, takes}
+use Rattle.hub_examples.specs.Steps.{joins, says, takes}
 use Rattle.hub_examples.specs.Visitors.{bob_text, bob_told}
 
 -- what the hub's operator was owed when it entered

@@ -7,7 +7,7 @@ use Rattle.hub_rules.specs.History.{lines_owed}
 use Rattle.hub_rules.specs.Legal.{Legal}
 use Rattle.hub_rules.specs.Texts.{with_line_feed}
 use Rattle.hub_examples.specs.Conversations.{greeting_of, plain, sup_text, zeros}
-use Rattle.hub_examples.specs.Talking.{joins, says}
+use Rattle.hub_examples.specs.Steps.{joins, says}
 use Rattle.hub_examples.specs.Visitors.{ana_text, ana_told}
 
 -- a hub where 10 seconds must be between two searches

@@ -3,7 +3,7 @@
 
 ghost use Rattle.hub_examples.specs.Commands.{CommandsAreForOperators};
 ghost use Rattle.hub_examples.specs.Conversations.{BothAreHeard, ChatIsHeard, DeniedAndOut, LoginIsHeard, ThreeAnswers};
-ghost use Rattle.hub_examples.specs.Departures.{DeparturesAreHeard};
+ghost use Rattle.hub_examples.specs.Departures.{DeparturesArePlayed};
 ghost use Rattle.hub_examples.specs.Identifiers.{FirstIsGivenAgain, NextIsGiven};
 ghost use Rattle.hub_examples.specs.Lags.{WhoTakesNothingLags};
 ghost use Rattle.hub_examples.specs.Messages.{MessagesAreForTheirTargets, NewcomersHearOfUpdates, SearchesAreByFeatures, UpdatesChangeWhoHears};
@@ -62,7 +62,7 @@ pub fn worked_messages()
     ensures searches { SearchesAreByFeatures }
     ensures updates { UpdatesChangeWhoHears }
     ensures newcomers { NewcomersHearOfUpdates }
-    ensures departures { DeparturesAreHeard }
+    ensures departures { DeparturesArePlayed }
 {}
 
 /// Says of session identifiers, from the opening of the hub on: where one leaves, the next to join has the identifier after the last one

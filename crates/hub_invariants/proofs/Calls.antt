@@ -8,8 +8,8 @@ use Rattle.hub_rules.specs.declared.history.Entry.{Entry}
 use Rattle.hub_rules.specs.Configured.{Configured}
 use Rattle.hub_rules.specs.Effects.{is_over, is_present, departure}
 use Rattle.hub_rules.specs.Facts.{Facts, facts, after, with_connection, without_connection, happens, with_lines_taken, has_place, has_joins, newcomer, next_sid, with_one, effect_of_line}
-use Rattle.hub_rules.specs.Shares.{About}
-use Rattle.hub_invariants.proofs.Becoming.{take-facts, taken_by}
+use Rattle.hub_rules.specs.Shares.{ConnState}
+use Rattle.hub_invariants.proofs.CallCases.{take-facts, taken_by}
 use Rattle.hub_invariants.proofs.Fits.{fits-departure}
 use Rattle.hub_invariants.proofs.Lines.{fits-line}
 use Rattle.hub_invariants.proofs.Members.{apart-filter, apart-push, has, has-append, has-filter}
@@ -62,7 +62,7 @@ closed-sound c f over sound = grind (arith, apart-filter, has-filter, left-open,
 
 -- ---- a take
 
-taken-few : (same : Bool) (count : ℕ) (a : About) → a.taken ≤ length a.owed → (taken_by same count a).taken ≤ length a.owed
+taken-few : (same : Bool) (count : ℕ) (a : ConnState) → a.taken ≤ length a.owed → (taken_by same count a).taken ≤ length a.owed
 taken-few same count a few = grind (arith, length-take, length-drop)
 
 taken-sound : (c count : ℕ) (f : Facts) → Sound f → Sound (record f { about = with_one c (with_lines_taken count) f.about })

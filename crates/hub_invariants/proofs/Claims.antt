@@ -13,8 +13,8 @@ use Rattle.user_table.specs.Listed.{Listed}
 use Rattle.user_table.specs.Tables.{has_cid, has_key}
 use Rattle.hub_rules.specs.Grounds.{entry_grounds, first_ground, is_digest, login_grounds, password_grounds, update_grounds}
 use Rattle.hub_rules.specs.Identities.{cid_in, value_or_empty}
-use Rattle.hub_rules.specs.Sights as sights
-use Rattle.hub_rules.specs.Sights.{Sight, another_has_key, is_here}
+use Rattle.hub_rules.specs.Views as sights
+use Rattle.hub_rules.specs.Views.{HubView, another_has_key, is_here}
 use Rattle.hub_rules.proofs.Merges.{given-after, id-clean}
 
 abbrev is_denied : Option Deny → Bool
@@ -60,11 +60,11 @@ none-of is_so [] none = tt
 none-of is_so ((true, deny) ∷ more) none = absurd (some-none none)
 none-of is_so ((false, deny) ∷ more) none = false-before (is_so deny) deny (grounds_of is_so more) (none-of is_so more none)
 
-abbrev pub Unclaimed : Sight → Listed → Type 0
+abbrev pub Unclaimed : HubView → Listed → Type 0
 Unclaimed hub user = (is_here (has_key user.key) hub ≡ false) × (is_here (has_cid user.cid) hub ≡ false)
 
 -- where a user may enter, nobody has its nick or its identifier
-pub entry-free : (hub : Sight) (now : ℕ) (user : Listed) → first_ground (entry_grounds hub now user) ≡ None → Unclaimed hub user
+pub entry-free : (hub : HubView) (now : ℕ) (user : Listed) → first_ground (entry_grounds hub now user) ≡ None → Unclaimed hub user
 unfolding entry_grounds
 entry-free hub now user none = grind arith
 
@@ -78,15 +78,15 @@ dropped (suc n) [] none = none
 dropped (suc n) ((test, deny) ∷ more) none = dropped n more (past test deny more none)
 
 -- a password that is right leaves what is asked of each entry
-pub password-entry : (hub : Sight) (own : sights.Own) (now : ℕ) (digest : Option (List ℕ)) (user : Listed) → first_ground (password_grounds hub own now digest user) ≡ None
+pub password-entry : (hub : HubView) (own : sights.SenderView) (now : ℕ) (digest : Option (List ℕ)) (user : Listed) → first_ground (password_grounds hub own now digest user) ≡ None
     → first_ground (entry_grounds hub now user) ≡ None
 password-entry hub own now digest user none = past (not (is_digest own.expected digest)) denials.Password (entry_grounds hub now user) none
 
-pub password-free : (hub : Sight) (own : sights.Own) (now : ℕ) (digest : Option (List ℕ)) (user : Listed) → first_ground (password_grounds hub own now digest user) ≡ None
+pub password-free : (hub : HubView) (own : sights.SenderView) (now : ℕ) (digest : Option (List ℕ)) (user : Listed) → first_ground (password_grounds hub own now digest user) ≡ None
     → Unclaimed hub user
 password-free hub own now digest user none = entry-free hub now user (password-entry hub own now digest user none)
 
-pub login-free : (hub : Sight) (own : sights.Own) (now : ℕ) (digest : Option (List ℕ)) (u : List Field) (user : Listed) → first_ground (login_grounds hub own now digest u user) ≡ None
+pub login-free : (hub : HubView) (own : sights.SenderView) (now : ℕ) (digest : Option (List ℕ)) (u : List Field) (user : Listed) → first_ground (login_grounds hub own now digest u user) ≡ None
     → Unclaimed hub user
 unfolding login_grounds
 login-free hub own now digest u user none =
@@ -102,7 +102,7 @@ same-value value other same is equal = grind (arith, bytes_eq-Decides)
 abbrev pub NamesOwn : List Field → List Field → Type 0
 NamesOwn fields u = unwrap_or (value_of id_name u) (value_or_empty id_name fields) ≡ value_or_empty id_name fields
 
-pub update-free : (hub : Sight) (own : sights.Own) (u : List Field) (user : Listed) → first_ground (update_grounds hub own u user) ≡ None
+pub update-free : (hub : HubView) (own : sights.SenderView) (u : List Field) (user : Listed) → first_ground (update_grounds hub own u user) ≡ None
     → (another_has_key hub own.sender.sid user.key ≡ false) × NamesOwn own.fields u
 unfolding update_grounds
 update-free hub own u user none =
@@ -111,6 +111,6 @@ update-free hub own u user none =
     (nick.0, same-value (unwrap_or (value_of id_name u) (value_or_empty id_name own.fields)) (value_or_empty id_name own.fields) _ refl id.0)
 
 -- an update that names no other identifier leaves the one that is known
-pub same-cid : (own : sights.Own) (u : List Field) (infs : List (List Field)) → own.fields ≡ merged_fields infs → NamesOwn own.fields u
+pub same-cid : (own : sights.SenderView) (u : List Field) (infs : List (List Field)) → own.fields ≡ merged_fields infs → NamesOwn own.fields u
     → cid_in (merged_with own.fields (clean u own.sender.peer)) ≡ cid_in own.fields
 same-cid own u infs known identity = grind (arith, given-after, id-clean)

@@ -15,8 +15,8 @@ use Rattle.hub_rules.specs.Effects.{is_over, is_present}
 use Rattle.hub_rules.specs.Facts.{Facts, facts, after, with_connection, without_connection, happens, with_lines_taken}
 use Rattle.hub_rules.specs.Legal.{Legal, MayCall, reply, take_reply}
 use Rattle.hub_invariants.specs.Promises.{FewAreOpen, OthersAreOut, PresentAreUsers, SidsAreGiven, SidsDiffer, TakenIsTheSum, UsersAreOpen, lines_of_take, lines_taken, taken_in}
-use Rattle.hub_rules.specs.Shares.{About, waiting}
-use Rattle.hub_invariants.proofs.Becoming.{Becomes, becomes, taken_by}
+use Rattle.hub_rules.specs.Shares.{ConnState, waiting}
+use Rattle.hub_invariants.proofs.CallCases.{Becomes, becomes, taken_by}
 use Rattle.hub_invariants.proofs.Calls.{over-unless, sound_of}
 use Rattle.hub_invariants.proofs.Members.{apart, both, has}
 use Rattle.hub_invariants.proofs.Sids.{Numbered, not-true, numbered_of}
@@ -88,7 +88,7 @@ take-of_taken : (count : ℕ) (xs : List (List ℕ)) → take (length (take coun
 take-of_taken count xs = rw length-take (take_min count xs)
 
 -- the bytes that were taken after a take: those that were taken before it, and what it gave
-pub given-bytes : (count : ℕ) (a : About) → concat (take (with_lines_taken count a).taken (with_lines_taken count a).owed) ≡ concat (take a.taken a.owed) ++ concat (take count (waiting a))
+pub given-bytes : (count : ℕ) (a : ConnState) → concat (take (with_lines_taken count a).taken (with_lines_taken count a).owed) ≡ concat (take a.taken a.owed) ++ concat (take count (waiting a))
 given-bytes count a = grind (arith, take-add, take-of_taken, concat-append)
 
 -- what a connection has taken after one call more
@@ -97,7 +97,7 @@ taken-one : (f : Facts) (c count d : ℕ) (same other : Bool) → (d == c) ≡ s
 taken-one f c count d same other is alike = grind arith
 
 module _ {setup : Configured} {hash : List ℕ → List ℕ} {f : Facts} {caller d : ℕ} where
-  taken-after : {call : Call} {a : About} → Becomes setup hash f caller d call a → (f.joins < d → (f.about d).taken ≡ 0)
+  taken-after : {call : Call} {a : ConnState} → Becomes setup hash f caller d call a → (f.joins < d → (f.about d).taken ≡ 0)
       → a.taken ≡ (f.about d).taken + lines_taken d call (reply setup hash f caller call)
   unfolding reply
   taken-after (Becomes.joins peer challenge now place is) fresh = omega (arith, fresh (omega (arith, is)))

@@ -1,4 +1,4 @@
-pub mod Becoming
+pub mod CallCases
 pub mod Calls
 pub mod Claims
 pub mod Fits
@@ -7,7 +7,7 @@ pub mod Lines
 pub mod Members
 pub mod Open
 pub mod Outcomes
-pub mod Saying
+pub mod AcceptedLines
 pub mod Sids
 pub mod Sound
 pub mod Suits

@@ -7,7 +7,7 @@ use Rattle.hub_rules.specs.declared.history.Entry.{Entry}
 use Rattle.hub_rules.specs.Configured.{Configured}
 use Rattle.hub_rules.specs.Facts.{Facts, facts, after, without_connection, happens, with_connection}
 use Rattle.hub_rules.specs.Legal.{Legal, MayCall, join_reply, reply}
-use Rattle.hub_invariants.specs.Opening.{OpenAreThoseThatStayed, has_joined, has_quit, joins_as, quits}
+use Rattle.hub_invariants.specs.OpenConnections.{OpenAreThoseThatStayed, has_joined, has_quit, joins_as, quits}
 use Rattle.hub_invariants.proofs.Calls.{sound_of}
 use Rattle.hub_invariants.proofs.Kept.{joins-grow}
 use Rattle.hub_invariants.proofs.Members.{has, has-append, has-filter}

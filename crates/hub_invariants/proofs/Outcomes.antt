@@ -47,7 +47,7 @@ use Rattle.login_state.specs.Requests.{request_at}
 use Rattle.hub_rules.specs.Requests.{refusal_of, request_of}
 use Rattle.hub_invariants.specs.Afterwards.{is_removed}
 use Rattle.hub_invariants.specs.Said.{accepted_line, kept_unless, unless_refused}
-use Rattle.hub_rules.specs.Sights.{Own, PreparedLine, Sight, is_account, user_after}
+use Rattle.hub_rules.specs.Views.{SenderView, PreparedLine, HubView, is_account, user_after}
 use Rattle.hub_rules.specs.Texts.{removal_line, topic_line}
 use Rattle.hub_invariants.proofs.Claims.{some-none}
 
@@ -77,7 +77,7 @@ request-asks stage kind command = asked-for stage (request_at stage kind command
 -- ---- the outcomes
 
 -- the request of what was said, where it was accepted
-abbrev pub request_in : Own → Option Reading → Request
+abbrev pub request_in : SenderView → Option Reading → Request
 request_in own None = requests.Nothing
 request_in own (Some reading) = request_of own.stage reading.kind reading.command
 
@@ -130,14 +130,14 @@ does users bans operator now (commands.Unban cid) = if-held users bans operator 
 does users bans operator now (commands.Topic text) = sets_topic text
 
 -- an accepted login
-pub record Logs (hub : Sight) (own : Own) (line : PreparedLine) (now : ℕ) (reading : Reading) (u : List Field) : Type 0 where
+pub record Logs (hub : HubView) (own : SenderView) (line : PreparedLine) (now : ℕ) (reading : Reading) (u : List Field) : Type 0 where
   pub at : own.stage ≡ stages.Identify
   pub asks : request_of own.stage reading.kind reading.command ≡ requests.Login
   pub words : updates.reading reading.params ≡ Ok u
   pub allowed : login_denied hub own line.owner now (Ok u) ≡ None
 
 -- by what was said, and what that asks for
-pub data Outcome (hub : Sight) (own : Own) (line : PreparedLine) (now : ℕ) : Option Reading → Request → Effect → Type 0 where
+pub data Outcome (hub : HubView) (own : SenderView) (line : PreparedLine) (now : ℕ) : Option Reading → Request → Effect → Type 0 where
   quiet : Outcome hub own line now None requests.Nothing nothing
   denies : (deny : Deny) → Outcome hub own line now None requests.Nothing (tells_sender (denial_line deny ∷ []) Nothing)
   shuts_out : (deny : Deny) → Outcome hub own line now None requests.Nothing
@@ -168,7 +168,7 @@ pub data Outcome (hub : Sight) (own : Own) (line : PreparedLine) (now : ℕ) : O
 pub later-none : (first later : Option Deny) → option_or first later ≡ None → later ≡ None
 later-none first later none = grind arith
 
-module _ (hub : Sight) (own : Own) (line : PreparedLine) (now : ℕ) where
+module _ (hub : HubView) (own : SenderView) (line : PreparedLine) (now : ℕ) where
   abbrev Has : Option Reading → Request → Effect → Type 0
   Has said request effect = Outcome hub own line now said request effect
 

@@ -10,7 +10,7 @@ use Rattle.hub_rules.specs.declared.history.Entry.{Entry}
 use Rattle.hub_rules.specs.Configured.{most_users, Configured}
 use Rattle.hub_rules.specs.Effects.{departure}
 use Rattle.hub_rules.specs.Facts.{Facts, facts, after, with_connection, without_connection, happens, with_lines_taken, has_place, has_joins, newcomer, next_sid, with_one, effect_of_line}
-use Rattle.hub_invariants.proofs.Becoming.{happens-parts, take-facts}
+use Rattle.hub_invariants.proofs.CallCases.{happens-parts, take-facts}
 use Rattle.hub_invariants.proofs.Calls.{sound_of}
 use Rattle.hub_invariants.proofs.Members.{apart, apart-push, both, has, has-append, has-filter}
 use Rattle.hub_invariants.proofs.Sound.{Sound, eqb-sym, or-false, or-true}

@@ -6,9 +6,9 @@ use Rattle.hub_rules.specs.declared.effect.Change.{Change}
 use Rattle.hub_rules.specs.declared.effect.Effect.{Effect}
 use Rattle.hub_rules.specs.Effects.{departure, is_over, is_present}
 use Rattle.hub_rules.specs.Facts.{Facts, enters, about_after, present_after, happens}
-use Rattle.hub_rules.specs.Shares.{About, has_room, owed_with}
+use Rattle.hub_rules.specs.Shares.{ConnState, has_room, owed_with}
 use Rattle.hub_invariants.specs.Afterwards.{removed_by, stage_after}
-use Rattle.hub_invariants.proofs.Becoming.{about-parts, about_parts}
+use Rattle.hub_invariants.proofs.CallCases.{about-parts, about_parts}
 use Rattle.hub_invariants.proofs.Fits.{Fits}
 use Rattle.hub_invariants.proofs.Members.{apart, apart-filter, apart-push, has, has-append, has-filter}
 
@@ -34,7 +34,7 @@ owed-more : (room : Bool) (owed share : List (List ℕ)) → length owed ≤ len
 owed-more room owed share = grind (arith, length-append)
 
 -- what a connection was owed it is owed still
-owed-before : (a : About) (share : List (List ℕ)) → length a.owed ≤ length (owed_with a share)
+owed-before : (a : ConnState) (share : List (List ℕ)) → length a.owed ≤ length (owed_with a share)
 unfolding owed_with
 owed-before a share = owed-more (has_room a share) a.owed share
 
@@ -71,7 +71,7 @@ happens-open c effect f sound suits d open_after = grind arith
 pub parts-open : (c : ℕ) (effect : Effect) (f : Facts) → Sound f → Fits (f.about c).stage effect → (d : ℕ)
     → is_over (about_parts c effect f.about d).stage ≡ false → has d f.opened ≡ true
 parts-open c effect f sound suits d open_after =
-    happens-open c effect f sound suits d (ap (λ (a : About). is_over a.stage) (about-parts c effect f.about d) ∙ open_after)
+    happens-open c effect f sound suits d (ap (λ (a : ConnState). is_over a.stage) (about-parts c effect f.about d) ∙ open_after)
 
 pub alone-at : (c : ℕ) (effect : Effect) (f : Facts) → Fits (f.about c).stage effect → (d : ℕ) → ((d == c) && enters effect.change) ≡ true
     → removed_by effect (f.about d) ≡ false

@@ -8,7 +8,7 @@ use Rattle.adc_line.specs.Lines.{Reading}
 use Rattle.feature_route.specs.Audiences.{audience, by_kind, direct_audience, echo_audience, holds, holds_words}
 use Rattle.feature_route.specs.Wants.{wants_of}
 use Rattle.feature_route.specs.Matching.{feature_set}
-use Rattle.feature_route.specs.declared.hearers.Audience.TheVariants as audiences
+use Rattle.feature_route.specs.declared.audience.Audience.TheVariants as audiences
 use Rattle.feature_route.proofs.Parts.{meets-feature_set}
 use Rattle.inf_fields.specs.Cleaning.{clean}
 use Rattle.inf_fields.specs.Field.{Field, value_of}
@@ -27,7 +27,7 @@ use Rattle.login_state.specs.declared.request.Request.{Request}
 use Rattle.hub_rules.specs.Denied.{update_denied}
 use Rattle.hub_rules.specs.Effects.{entrant, is_target_here, line_effect}
 use Rattle.hub_rules.specs.Identities.{cid_in, value_or_empty, key_in, key_of, listed_user, meaning, su_in}
-use Rattle.hub_rules.specs.Sights.{Own, PreparedLine, Sight}
+use Rattle.hub_rules.specs.Views.{SenderView, PreparedLine, HubView}
 use Rattle.hub_invariants.proofs.Claims.{same-cid, update-free}
 use Rattle.hub_rules.proofs.Merges.{given-after}
 use Rattle.hub_invariants.proofs.Outcomes.{Outcome, acts, greets, lets_in, outcome, passes, proves, revises, searches, waits}
@@ -37,7 +37,7 @@ unfolding listed_user
 listed-sid sid fields = refl
 
 -- a change that the connection which sent the line can take
-abbrev pub Suited : Own → Change → Type 0
+abbrev pub Suited : SenderView → Change → Type 0
 Suited own (Sender (senders.Greets features)) = own.stage ≡ stages.Protocol
 Suited own (Sender (senders.Waits newcomer expected)) = (own.stage ≡ stages.Identify) × (newcomer ≡ entrant (listed_user own.sender.sid newcomer.user.fields))
 Suited own (Sender senders.Enters) = own.stage ≡ stages.Verify
@@ -53,7 +53,7 @@ abbrev pub Routed : Hearers → Type 0
 Routed Others = Unit {0}
 Routed (Those to) = (sid : ℕ) (su : List ℕ) → holds_words to sid (feature_set su) ≡ holds to sid su
 
-pub record Suits (own : Own) (effect : Effect) : Type 0 where
+pub record Suits (own : SenderView) (effect : Effect) : Type 0 where
   pub change : Suited own effect.change
   pub routed : Routed effect.hearers
 
@@ -101,12 +101,12 @@ listed-same : (sid : ℕ) (before : List Field) (u : List Field) (key : Option (
 unfolding listed_user
 listed-same sid before u key cid nick = grind arith
 
-suits-revised : (hub : Sight) (own : Own) (infs : List (List Field)) (u : List Field) → own.fields ≡ merged_fields infs → update_denied hub own (Ok u) ≡ None
+suits-revised : (hub : HubView) (own : SenderView) (infs : List (List Field)) (u : List Field) → own.fields ≡ merged_fields infs → update_denied hub own (Ok u) ≡ None
     → listed_user own.sender.sid (merged_with own.fields (clean u own.sender.peer))
     ≡ updated_user (clean u own.sender.peer) (given_key (option_map (λ (word : List ℕ). chars (meaning word)) (value_of nick_name (clean u own.sender.peer)))) (listed_user own.sender.sid own.fields)
 suits-revised hub own infs u known none = grind (arith, update-free, listed-same, same-cid, given-after, key-by)
 
-module _ {hub : Sight} {own : Own} {line : PreparedLine} {now : ℕ} where
+module _ {hub : HubView} {own : SenderView} {line : PreparedLine} {now : ℕ} where
   suits-outcome : {said : Option Reading} {request : Request} {effect : Effect} → Outcome hub own line now said request effect → (infs : List (List Field)) → own.fields ≡ merged_fields infs → Suits own effect
   suits-outcome (greets reading features at is) infs known = record { change = at; routed = tt }
   suits-outcome (waits reading u logs account) infs known =
@@ -120,5 +120,5 @@ module _ {hub : Sight} {own : Own} {line : PreparedLine} {now : ℕ} where
   suits-outcome (passes reading at) infs known = record { change = tt; routed = routed-audience reading (is_target_here hub reading.target) }
   suits-outcome _ infs known = record { change = tt; routed = tt }
 
-pub suits-line : (hub : Sight) (own : Own) (line : PreparedLine) (now : ℕ) (infs : List (List Field)) → own.fields ≡ merged_fields infs → Suits own (line_effect hub own line now)
+pub suits-line : (hub : HubView) (own : SenderView) (line : PreparedLine) (now : ℕ) (infs : List (List Field)) → own.fields ≡ merged_fields infs → Suits own (line_effect hub own line now)
 suits-line hub own line now infs known = suits-outcome (outcome hub own line now) infs known

@@ -15,11 +15,11 @@ use Rattle.hub_rules.specs.Effects.{departure}
 use Rattle.hub_rules.specs.Facts.{Facts, facts, effect_of_line, with_lines_taken, newcomer, next_sid, nobody, own_of, sight_of}
 use Rattle.hub_rules.specs.Prepared.{prepared_line}
 use Rattle.hub_invariants.specs.Said.{infs}
-use Rattle.hub_rules.specs.Shares.{About, has_room_for, has_room, max_bytes, max_lines, owed_with, waiting}
+use Rattle.hub_rules.specs.Shares.{ConnState, has_room_for, has_room, max_bytes, max_lines, owed_with, waiting}
 use Rattle.hub_invariants.specs.Afterwards.{affected_parts, expected_after, fields_after}
-use Rattle.hub_invariants.proofs.Becoming.{Becomes, becomes, taken_by}
+use Rattle.hub_invariants.proofs.CallCases.{Becomes, becomes, taken_by}
 use Rattle.hub_invariants.proofs.Calls.{sound_of}
-use Rattle.hub_invariants.proofs.Saying.{told_of}
+use Rattle.hub_invariants.proofs.AcceptedLines.{told_of}
 use Rattle.hub_invariants.proofs.Sound.{Sound, stage_next}
 use Rattle.hub_invariants.proofs.Suits.{Suited, Suits, suits-line}
 
@@ -35,7 +35,7 @@ is_unasked stages.Verify = false
 is_unasked stages.Gone = false
 is_unasked stage = true
 
-pub record Tidy (a : About) : Type 0 where
+pub record Tidy (a : ConnState) : Type 0 where
   pub unnamed : is_unnamed a.stage ≡ true → a.fields ≡ []
   pub unasked : is_unasked a.stage ≡ true → a.expected ≡ []
   -- what waits is within the limits
@@ -60,28 +60,28 @@ size-append : (xs ys : List (List ℕ)) → size_of (xs ++ ys) ≡ size_of xs + 
 size-append xs ys = sum_by-append length xs ys
 
 -- what is owed waits, behind what waits already
-pub waiting-more : (a : About) (share : List (List ℕ)) → a.taken ≤ length a.owed → drop a.taken (a.owed ++ share) ≡ waiting a ++ share
+pub waiting-more : (a : ConnState) (share : List (List ℕ)) → a.taken ≤ length a.owed → drop a.taken (a.owed ++ share) ≡ waiting a ++ share
 waiting-more a share few = drop-append-le a.taken a.owed share few
 
-lines-with : (room : Bool) (a : About) (share : List (List ℕ)) → has_room a share ≡ room → a.taken ≤ length a.owed → Tidy a
+lines-with : (room : Bool) (a : ConnState) (share : List (List ℕ)) → has_room a share ≡ room → a.taken ≤ length a.owed → Tidy a
     → length (drop a.taken (cond room (a.owed ++ share) a.owed)) ≤ max_lines
 lines-with room a share is few tidy = grind (arith, waiting-more, length-append, fits-lines)
 
-bytes-with : (room : Bool) (a : About) (share : List (List ℕ)) → has_room a share ≡ room → a.taken ≤ length a.owed → Tidy a
+bytes-with : (room : Bool) (a : ConnState) (share : List (List ℕ)) → has_room a share ≡ room → a.taken ≤ length a.owed → Tidy a
     → size_of (drop a.taken (cond room (a.owed ++ share) a.owed)) ≤ max_bytes
 bytes-with room a share is few tidy = grind (arith, waiting-more, size-append, fits-bytes)
 
 -- ---- what becomes of a connection
 
-next-unnamed : (removed is_caller : Bool) (change : Change) (a : About) → (is_caller ≡ true → Suited (own_of a) change) → Tidy a
+next-unnamed : (removed is_caller : Bool) (change : Change) (a : ConnState) → (is_caller ≡ true → Suited (own_of a) change) → Tidy a
     → is_unnamed (stage_next removed is_caller change a.stage) ≡ true → cond is_caller (fields_after change a.fields) a.fields ≡ []
 next-unnamed removed is_caller change a suits tidy is = grind arith
 
-next-unasked : (removed is_caller : Bool) (change : Change) (a : About) → (is_caller ≡ true → Suited (own_of a) change) → Tidy a
+next-unasked : (removed is_caller : Bool) (change : Change) (a : ConnState) → (is_caller ≡ true → Suited (own_of a) change) → Tidy a
     → is_unasked (stage_next removed is_caller change a.stage) ≡ true → cond is_caller (expected_after change a.expected) a.expected ≡ []
 next-unasked removed is_caller change a suits tidy is = grind arith
 
-pub tidy-affected : (is_caller : Bool) (effect : Effect) (a : About) → a.taken ≤ length a.owed → (is_caller ≡ true → Suited (own_of a) effect.change) → Tidy a
+pub tidy-affected : (is_caller : Bool) (effect : Effect) (a : ConnState) → a.taken ≤ length a.owed → (is_caller ≡ true → Suited (own_of a) effect.change) → Tidy a
     → Tidy (affected_parts is_caller effect a)
 unfolding owed_with
 tidy-affected is_caller effect a few suits tidy = grind (arith, next-unnamed, next-unasked, lines-with, bytes-with)
@@ -89,13 +89,13 @@ tidy-affected is_caller effect a few suits tidy = grind (arith, next-unnamed, ne
 -- ---- every call
 
 -- what is left after a take
-pub waiting-given : (count : ℕ) (a : About) → waiting (with_lines_taken count a) ≡ drop count (waiting a)
+pub waiting-given : (count : ℕ) (a : ConnState) → waiting (with_lines_taken count a) ≡ drop count (waiting a)
 waiting-given count a =
     sym (sym (drop_min count (waiting a))
     ∙ ap (λ n. drop n (waiting a)) (sym (length-take count (waiting a)))
     ∙ drop-drop (length (take count (waiting a))) a.taken a.owed)
 
-tidy-given : (count : ℕ) (a : About) → Tidy a → Tidy (with_lines_taken count a)
+tidy-given : (count : ℕ) (a : ConnState) → Tidy a → Tidy (with_lines_taken count a)
 tidy-given count a tidy = record {
   unnamed = tidy.unnamed;
   unasked = tidy.unasked;
@@ -103,12 +103,12 @@ tidy-given count a tidy = record {
   bytes = omega (arith, ap size_of (waiting-given count a), sum_by-take-drop length (waiting a) count, tidy.bytes);
 }
 
-tidy-taken : (same : Bool) (count : ℕ) (a : About) → Tidy a → Tidy (taken_by same count a)
+tidy-taken : (same : Bool) (count : ℕ) (a : ConnState) → Tidy a → Tidy (taken_by same count a)
 tidy-taken true count a tidy = tidy-given count a tidy
 tidy-taken false count a tidy = tidy
 
 module _ {setup : Configured} {hash : List ℕ → List ℕ} {f : Facts} {caller d : ℕ} where
-  tidy-after : {call : Call} {a : About} → Becomes setup hash f caller d call a → Sound f
+  tidy-after : {call : Call} {a : ConnState} → Becomes setup hash f caller d call a → Sound f
       → ((c : ℕ) (bytes : List ℕ) (now : ℕ) → Suits (own_of (f.about c)) (effect_of_line setup hash f c bytes now)) → Tidy (f.about d) → Tidy a
   tidy-after (Becomes.joins peer challenge now place is) sound suits tidy = tidy-newcomer caller (next_sid f) peer challenge
   tidy-after (Becomes.misses peer challenge now place) sound suits tidy = tidy

@@ -13,7 +13,7 @@ use Rattle.hub_rules.specs.declared.effect.SenderChange.TheVariants as senders
 use Rattle.hub_rules.specs.declared.sender.Sender.{Sender}
 use Rattle.hub_rules.specs.Effects.{is_present}
 use Rattle.hub_rules.specs.Senders.{is_removal, notes_by}
-use Rattle.hub_rules.specs.Shares.{About, change_at, lags_with, owed_with, owes}
+use Rattle.hub_rules.specs.Shares.{ConnState, change_at, lags_with, owed_with, owes}
 
 abbrev pub features_after : Change → List (List ℕ) → List (List ℕ)
 features_after (changes.Sender (senders.Greets features)) before = features
@@ -64,7 +64,7 @@ is_gone_at (Some (sid, change)) own = is_removal change && (own == sid)
 is_gone_at None own = false
 
 -- what is noted of this connection, of which that is noted after its own line
-abbrev pub notes_at : Option (ℕ × SeatChange) → About → Notes → Notes
+abbrev pub notes_at : Option (ℕ × SeatChange) → ConnState → Notes → Notes
 notes_at (Some (sid, change)) a notes = if is_present a.stage && (a.sender.sid == sid) then notes_by change notes else notes
 notes_at None a notes = notes
 
@@ -73,11 +73,11 @@ abbrev pub is_removed : Change → ℕ → Bool
 is_removed change own = is_gone_at (change_at change) own
 
 -- whether an operator shuts this connection out
-abbrev pub removed_by : Effect → About → Bool
+abbrev pub removed_by : Effect → ConnState → Bool
 removed_by effect a = is_present a.stage && is_removed effect.change a.sender.sid
 
 -- a connection after an effect, part by part
-abbrev pub affected_parts : Bool → Effect → About → About
+abbrev pub affected_parts : Bool → Effect → ConnState → ConnState
 affected_parts is_caller effect a = record a {
   sender = record a.sender {
     features = features_after (own_change is_caller effect.change) a.sender.features;

@@ -1,6 +1,6 @@
 pub mod Afterwards
-pub mod Lagging
-pub mod Opening
+pub mod Lag
+pub mod OpenConnections
 pub mod Promises
 pub mod Said
 pub mod World

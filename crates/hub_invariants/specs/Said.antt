@@ -24,18 +24,18 @@ use Rattle.hub_rules.specs.Facts.{Facts, facts, own_of, sight_of}
 use Rattle.hub_rules.specs.History.{features, info}
 use Rattle.hub_rules.specs.Prepared.{prepared_line}
 use Rattle.hub_rules.specs.Requests.{request_of}
-use Rattle.hub_rules.specs.Sights.{Own, PreparedLine, Sight}
+use Rattle.hub_rules.specs.Views.{SenderView, PreparedLine, HubView}
 
 abbrev pub kept_unless : Option Deny → Reading → Option Reading
 kept_unless (Some deny) line = None
 kept_unless None line = Some line
 
-abbrev pub unless_refused : Sight → Own → PreparedLine → ℕ → Result Reading LineFault → Option Reading
+abbrev pub unless_refused : HubView → SenderView → PreparedLine → ℕ → Result Reading LineFault → Option Reading
 unless_refused hub own line now (Ok reading) = kept_unless (denial_of hub own line now reading) reading
 unless_refused hub own line now (Err fault) = None
 
 -- the message that was accepted, if it was: the connection is not shut out, the line is not empty, it is a message, and no rule denies it
-unfoldable pub accepted_line : Sight → Own → PreparedLine → ℕ → Option Reading
+unfoldable pub accepted_line : HubView → SenderView → PreparedLine → ℕ → Option Reading
 accepted_line hub own line now =
     if is_over own.stage then None
     else if length line.bytes == 0 then None
@@ -46,7 +46,7 @@ words_if (Ok features) words = Some words
 words_if (Err fault) words = None
 
 -- the words of a SUP
-abbrev pub sup_words : Own → Request → Reading → Option (List (List ℕ))
+abbrev pub sup_words : SenderView → Request → Reading → Option (List (List ℕ))
 sup_words own requests.Greeting line = words_if (support_after own.sender.features line.params) line.params
 sup_words own requests.Support line = words_if (support_after own.sender.features line.params) line.params
 sup_words own request line = None
@@ -56,12 +56,12 @@ cleaned_update peer (Ok u) = Some (clean u peer)
 cleaned_update peer (Err fault) = None
 
 -- what an INF says that may be passed on
-abbrev pub inf_update : Own → Request → Reading → Option (List Field)
+abbrev pub inf_update : SenderView → Request → Reading → Option (List Field)
 inf_update own requests.Login line = cleaned_update own.sender.peer (updates.reading line.params)
 inf_update own requests.Update line = cleaned_update own.sender.peer (updates.reading line.params)
 inf_update own request line = None
 
-abbrev pub read_by : {A : Type 0} → (Own → Request → Reading → Option A) → Own → Option Reading → Option A
+abbrev pub read_by : {A : Type 0} → (SenderView → Request → Reading → Option A) → SenderView → Option Reading → Option A
 read_by read own None = None
 read_by read own (Some line) = read own (request_of own.stage line.kind line.command) line
 
@@ -71,7 +71,7 @@ listed_if true None = []
 listed_if false o = []
 
 -- what a call says of connection c, as it is read
-abbrev pub said_in : {A : Type 0} → (Own → Request → Reading → Option A) → Configured → (List ℕ → List ℕ) → Facts → ℕ → Call → List A
+abbrev pub said_in : {A : Type 0} → (SenderView → Request → Reading → Option A) → Configured → (List ℕ → List ℕ) → Facts → ℕ → Call → List A
 said_in read setup hash f c (Line d bytes now) =
     listed_if (c == d) (read_by read (own_of (f.about d)) (accepted_line (sight_of setup f) (own_of (f.about d)) (prepared_line setup hash (f.about d).sender.challenge bytes) now))
 said_in read setup hash f c call = []

@@ -1,7 +1,7 @@
 -- After every history, no two users who are present have the same nick or the same client identifier.
 use Rattle.std.proofs.Common.{◌≡◌, ◌∙◌, sym, ap, ap₂, refl, ℕ, ◌≤◌, Bool, true, false, not, ◌&&◌, ◌||◌, inl, inr, eqb, List, [], ◌∷◌, map, subst, cond, arith}
-use Rattle.hub_laws.specs.Differing.{CidsDiffer, NicksDiffer}
-use Rattle.hub_laws.proofs.Clearing.{IsClear, clear-line, listed-cid, listed-key}
+use Rattle.hub_laws.specs.Uniqueness.{CidsDiffer, NicksDiffer}
+use Rattle.hub_laws.proofs.FreeNames.{IsClear, clear-line, listed-cid, listed-key}
 use Rattle.hub_laws.proofs.Distinct.{Clears, Differ, happens-differ}
 use Rattle.hub_invariants.proofs.Sids.{Numbered, numbered_of}
 use Rattle.hub_laws.proofs.Words.{Call, Change, Configured, Effect, Entry, Facts, Field, Fits, Join, Line, Listed, Quit, Sound, Stage, Take, about_parts, after, bytes_eq, bytes_eq-Decides, cid_in, parts-open}

@@ -7,7 +7,7 @@ use Rattle.operator_acts.specs.Bans.{left_of, left_of_bans}
 use Rattle.operator_acts.specs.declared.act.Act.{Act}
 use Rattle.operator_acts.proofs.Entries.{ban_on-with_ban, ban_on-without_ban, equal-bytes}
 use Rattle.hub_rules.specs.Acts.{answer_of, ban, banned_for, if_present, kick, removal}
-use Rattle.hub_laws.proofs.Words.{About, Configured, Done, Effect, Entry, Facts, IsAddressed, Kind, Listed, Own, PreparedLine, Reading, Sight, about_after, accepted_effect, about-parts}
+use Rattle.hub_laws.proofs.Words.{ConnState, Configured, Done, Effect, Entry, Facts, IsAddressed, Kind, Listed, SenderView, PreparedLine, Reading, HubView, about_after, accepted_effect, about-parts}
 use Rattle.hub_laws.proofs.Words.{act_denied, act_effect, after, ban_on, bytes_eq-Decides, cid_in, denial_of, effect_for_all, effect_of_line}
 use Rattle.hub_laws.proofs.Words.{eq-eqb, facts, false≢true, happens, has, has_key, is_command, is_full, is_operator, is_present, key_in, key_of_points, listed_user}
 use Rattle.hub_laws.proofs.Words.{most_users, or-true, own_of, prepared_line, present_are_users, request_at, request_denied, request_of, sight_of, text_in}
@@ -22,10 +22,10 @@ use Rattle.hub_laws.proofs.Words.shared
 use Rattle.hub_laws.proofs.Words.stages
 use Rattle.hub_laws.specs.Commands.{BansAreCarriedOut, Commands, IsPresentAs, KicksAreCarriedOut, TopicsAreCarriedOut, UnbansAreCarriedOut}
 use Rattle.hub_laws.proofs.Apart.{nicks_differ}
-use Rattle.hub_laws.proofs.Clearing.{listed-cid}
+use Rattle.hub_laws.proofs.FreeNames.{listed-cid}
 use Rattle.hub_laws.proofs.Messages.{some-read}
-use Rattle.hub_laws.proofs.Routing.{line-heard}
-use Rattle.hub_laws.proofs.Vouching.{prepared-bytes}
+use Rattle.hub_laws.proofs.Routes.{line-heard}
+use Rattle.hub_laws.proofs.AccountPasswords.{prepared-bytes}
 use Rattle.hub_invariants.proofs.Suits.{listed-sid}
 
 -- ---- a command that is carried out
@@ -37,7 +37,7 @@ hub-asks : (kind : Kind) (command : List ℕ) → kind ≡ kinds.Hub → command
 unfolding request_at
 hub-asks kind command is-kind is-command = ap₂ (request_at stages.Normal) is-kind is-command
 
-record IsAsked (hub : Sight) (own : Own) (now : ℕ) (line : Reading) (act : Act) : Type 0 where
+record IsAsked (hub : HubView) (own : SenderView) (now : ℕ) (line : Reading) (act : Act) : Type 0 where
   at : own.stage ≡ stages.Normal
   operator : is_operator hub own ≡ true
   from : line.from ≡ None
@@ -45,22 +45,22 @@ record IsAsked (hub : Sight) (own : Own) (now : ℕ) (line : Reading) (act : Act
   begins : is_command (text_in line.params) ≡ true
   reads : act_at (text_in line.params) ≡ Some act
 
-act-allowed : (hub : Sight) (own : Own) (now : ℕ) (line : Reading) (act : Act) (done : Done) → IsAsked hub own now line act → answer_of hub.users hub.bans own.sender.sid now act ≡ Ok done
+act-allowed : (hub : HubView) (own : SenderView) (now : ℕ) (line : Reading) (act : Act) (done : Done) → IsAsked hub own now line act → answer_of hub.users hub.bans own.sender.sid now act ≡ Ok done
     → act_denied hub own now line.params ≡ None
 unfolding act_denied
 act-allowed hub own now line act done asked answers = grind arith
 
-act-does : (hub : Sight) (own : Own) (now : ℕ) (line : Reading) (act : Act) (done : Done) → IsAsked hub own now line act → answer_of hub.users hub.bans own.sender.sid now act ≡ Ok done
+act-does : (hub : HubView) (own : SenderView) (now : ℕ) (line : Reading) (act : Act) (done : Done) → IsAsked hub own now line act → answer_of hub.users hub.bans own.sender.sid now act ≡ Ok done
     → act_effect hub own now line.params ≡ effect_for_all done
 unfolding act_effect
 act-does hub own now line act done asked answers = grind arith
 
-denied-none : (hub : Sight) (own : Own) (prepared : PreparedLine) (now : ℕ) (line : Reading) → own.stage ≡ stages.Normal → line.from ≡ None
+denied-none : (hub : HubView) (own : SenderView) (prepared : PreparedLine) (now : ℕ) (line : Reading) → own.stage ≡ stages.Normal → line.from ≡ None
     → request_at stages.Normal line.kind line.command ≡ Ok requests.Act → act_denied hub own now line.params ≡ None → denial_of hub own prepared now line ≡ None
 unfolding request_denied
 denied-none hub own prepared now line at from asks allowed = grind arith
 
-act-accepted : (hub : Sight) (own : Own) (prepared : PreparedLine) (now : ℕ) (line : Reading) → request_at stages.Normal line.kind line.command ≡ Ok requests.Act
+act-accepted : (hub : HubView) (own : SenderView) (prepared : PreparedLine) (now : ℕ) (line : Reading) → request_at stages.Normal line.kind line.command ≡ Ok requests.Act
     → accepted_effect hub own prepared now line (request_of stages.Normal line.kind line.command) ≡ act_effect hub own now line.params
 unfolding accepted_effect
 act-accepted hub own prepared now line asks = grind arith
@@ -69,10 +69,10 @@ module _ {setup : Configured} {hash : List ℕ → List ℕ} {h : List Entry} {e
   abbrev f : Facts
   f = facts setup hash h
 
-  abbrev hub : Sight
+  abbrev hub : HubView
   hub = sight_of setup f
 
-  abbrev own : Own
+  abbrev own : SenderView
   own = own_of (f.about c.operator)
 
   abbrev prepared : PreparedLine
@@ -103,13 +103,13 @@ module _ {setup : Configured} {hash : List ℕ → List ℕ} {h : List Entry} {e
 
 -- ---- whom a nick names
 
-record IsFound (about : ℕ → About) (key : List ℕ) (cs : List ℕ) : Type 0 where
+record IsFound (about : ℕ → ConnState) (key : List ℕ) (cs : List ℕ) : Type 0 where
   one : ℕ
   there : has one cs ≡ true
   found : user_by_key key (map (user_of about) cs) ≡ Some (user_of about one)
   named : has_key key (user_of about one) ≡ true
 
-found-next : (about : ℕ → About) (key : List ℕ) (x : ℕ) (cs : List ℕ) (here : Bool) → has_key key (user_of about x) ≡ here → (here ≡ false → IsFound about key cs) → IsFound about key (x ∷ cs)
+found-next : (about : ℕ → ConnState) (key : List ℕ) (x : ℕ) (cs : List ℕ) (here : Bool) → has_key key (user_of about x) ≡ here → (here ≡ false → IsFound about key cs) → IsFound about key (x ∷ cs)
 found-next about key x cs true is later =
     record { one = x; there = ap (λ b. b || has x cs) (eq-eqb x x refl); found = ap (λ b. if b then Some (user_of about x) else user_by_key key (map (user_of about) cs)) is; named = is }
 found-next about key x cs false is later =
@@ -124,7 +124,7 @@ found-next about key x cs false is later =
 not-here : (same : Bool) (rest : Bool) → (same || rest) ≡ true → same ≡ false → rest ≡ true
 not-here same rest is none = grind arith
 
-is-found : (about : ℕ → About) (key : List ℕ) (cs : List ℕ) (d : ℕ) → has d cs ≡ true → has_key key (user_of about d) ≡ true → IsFound about key cs
+is-found : (about : ℕ → ConnState) (key : List ℕ) (cs : List ℕ) (d : ℕ) → has d cs ≡ true → has_key key (user_of about d) ≡ true → IsFound about key cs
 is-found about key [] d there named = absurd (false≢true there)
 is-found about key (x ∷ cs) d there named =
     found-next about key x cs (has_key key (user_of about x)) refl
@@ -133,11 +133,11 @@ is-found about key (x ∷ cs) d there named =
     other : (x : ℕ) (same : Bool) → eqb x d ≡ same → has_key key (user_of about x) ≡ false → same ≡ false
     other x same is none = grind (arith, eqb-true)
 
-key-user : (about : ℕ → About) (key : List ℕ) (d : ℕ) → key_in (about d).fields ≡ key → has_key key (user_of about d) ≡ true
+key-user : (about : ℕ → ConnState) (key : List ℕ) (d : ℕ) → key_in (about d).fields ≡ key → has_key key (user_of about d) ≡ true
 unfolding listed_user
 key-user about key d is = (bytes_eq-Decides _ _).1 is
 
-user-key : (about : ℕ → About) (key : List ℕ) (d : ℕ) → has_key key (user_of about d) ≡ true → key_in (about d).fields ≡ key
+user-key : (about : ℕ → ConnState) (key : List ℕ) (d : ℕ) → has_key key (user_of about d) ≡ true → key_in (about d).fields ≡ key
 unfolding listed_user
 user-key about key d is = (bytes_eq-Decides _ _).0 is
 
@@ -155,7 +155,7 @@ called setup hash h d nick small named =
 
 shut-out : (c d : ℕ) (effect : Effect) (f : Facts) → (f.about d).stage ≡ stages.Normal → is_removed effect.change (f.about d).sender.sid ≡ true → (about_after c effect f.about d).stage ≡ stages.Gone
 shut-out c d effect f here removed =
-    ap (λ (a : About). a.stage) (about-parts c effect f.about d) ∙ ap₂ (λ s b. stage_next (is_present s && b) (d == c) effect.change s) here removed
+    ap (λ (a : ConnState). a.stage) (about-parts c effect f.about d) ∙ ap₂ (λ s b. stage_next (is_present s && b) (d == c) effect.change s) here removed
 
 held-now : (bans : List (List ℕ × Ban)) (cid : List ℕ) (held : Ban) → ban_on (with_ban bans cid held) cid ≡ Some held
 held-now bans cid held = ban_on-with_ban bans cid held cid ∙ ap (λ b. cond b (Some held) (ban_on bans cid)) (equal-bytes cid cid ∙ (bytes_eq-Decides cid cid).1 refl)

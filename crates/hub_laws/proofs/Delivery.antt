@@ -1,12 +1,12 @@
 -- The lines that a take gives stand behind those of the takes before it.
 use Rattle.std.proofs.Common.{◌≡◌, ◌∙◌, sym, ap, ap₂, refl, ℕ, ◌<◌, ◌≤◌, Bool, ◌==◌, List, [], ◌∷◌, ◌++◌, length, take, append-nil, arith}
-use Rattle.hub_laws.proofs.Words.{About, Becomes, Call, Configured, Effect, Facts, Legal, about_parts, becomes, concat, departure, effect_of_line, eqb-sym, eqb-true, facts, fresh-taken}
+use Rattle.hub_laws.proofs.Words.{ConnState, Becomes, Call, Configured, Effect, Facts, Legal, about_parts, becomes, concat, departure, effect_of_line, eqb-sym, eqb-true, facts, fresh-taken}
 use Rattle.hub_laws.proofs.Words.{given-bytes, reply, sound_of, take-append-le, take_reply, taken_by}
 use Rattle.hub_laws.specs.Delivery.{DeliveredAreTheFirst, bytes_of_take, bytes_taken, bytes_delivered}
-use Rattle.hub_laws.proofs.Lagging.{Unowed, about-owed, unowed_of}
+use Rattle.hub_laws.proofs.Lag.{Unowed, about-owed, unowed_of}
 
 -- the bytes of the first lines that a connection was owed, of as many as it took
-abbrev front : About → List ℕ
+abbrev front : ConnState → List ℕ
 front a = concat (take a.taken a.owed)
 
 -- ---- one call
@@ -20,7 +20,7 @@ take-front : (f : Facts) (c count d : ℕ) (same other : Bool) → (d == c) ≡ 
 take-front f c count d same other is alike = grind (arith, given-bytes, eqb-true, append-nil)
 
 module _ {setup : Configured} {hash : List ℕ → List ℕ} {f : Facts} {caller d : ℕ} where
-  front-next : {call : Call} {a : About} → Becomes setup hash f caller d call a → (f.joins < d → (f.about d).taken ≡ 0) → (f.joins < d → Unowed (f.about d))
+  front-next : {call : Call} {a : ConnState} → Becomes setup hash f caller d call a → (f.joins < d → (f.about d).taken ≡ 0) → (f.joins < d → Unowed (f.about d))
       → (f.about d).taken ≤ length (f.about d).owed → front a ≡ front (f.about d) ++ bytes_taken d call (reply setup hash f caller call)
   unfolding reply
   front-next (Becomes.joins peer challenge now place is) fresh unowed few =

@@ -1,6 +1,6 @@
 -- By which lines a user comes to be present, or comes to be waited for with a password.
 use Rattle.std.proofs.Common.{◌≡◌, ◌∙◌, sym, refl, ℕ, Bool, true, false, ◌⊎◌, inl, inr, List, [], Option, Some, None, Ok, unwrap_or, arith}
-use Rattle.hub_laws.proofs.Words.{Effect, Field, Logs, Outcome, Own, PreparedLine, Reading, Request, Sight, accepted_line, cid_in, clean, digest_given, expected_after, fields_after, greets}
+use Rattle.hub_laws.proofs.Words.{Effect, Field, Logs, Outcome, SenderView, PreparedLine, Reading, Request, HubView, accepted_line, cid_in, clean, digest_given, expected_after, fields_after, greets}
 use Rattle.hub_laws.proofs.Words.{is_account, key_in, left_of_bans, lets_in, line_effect, merged_with, outcome, password-entry, password_denied, proves, request_of, revises, shuts_out}
 use Rattle.hub_laws.proofs.Words.{stage_after, update_denied, user_after, waits}
 use Rattle.hub_laws.proofs.Words.lefts
@@ -9,14 +9,14 @@ use Rattle.hub_laws.proofs.Words.requests
 use Rattle.hub_laws.proofs.Words.stages
 use Rattle.hub_laws.proofs.Words.updates
 use Rattle.hub_laws.proofs.Checked.{KeepsNick, entry-unbanned, is_barred, login-rules, password-right, update-keeps}
-use Rattle.hub_laws.proofs.Clearing.{listed-cid, listed-key, listed-fields}
-use Rattle.hub_laws.proofs.Moving.{gone-normal, gone-verify, identify-normal, identify-verify, normal-verify, verify-normal}
+use Rattle.hub_laws.proofs.FreeNames.{listed-cid, listed-key, listed-fields}
+use Rattle.hub_laws.proofs.StageChanges.{gone-normal, gone-verify, identify-normal, identify-verify, normal-verify, verify-normal}
 
-abbrev pub fields_by : Own → Effect → List Field
+abbrev pub fields_by : SenderView → Effect → List Field
 fields_by own effect = fields_after effect.change own.fields
 
 -- a login, whose user has these fields then
-pub record LogsIn (hub : Sight) (own : Own) (now : ℕ) (said : Option Reading) (fields : List Field) : Type 0 where
+pub record LogsIn (hub : HubView) (own : SenderView) (now : ℕ) (said : Option Reading) (fields : List Field) : Type 0 where
   pub update : List Field
   pub reading : Reading
   pub is_said : said ≡ Some reading
@@ -28,7 +28,7 @@ pub record LogsIn (hub : Sight) (own : Own) (now : ℕ) (said : Option Reading) 
   pub admitted : is_barred hub (key_in fields) ≡ false
 
 -- a password that is right
-pub record GivesPassword (hub : Sight) (own : Own) (now : ℕ) (said : Option Reading) (fields : List Field) : Type 0 where
+pub record GivesPassword (hub : HubView) (own : SenderView) (now : ℕ) (said : Option Reading) (fields : List Field) : Type 0 where
   pub reading : Reading
   pub is_said : said ≡ Some reading
   pub at : own.stage ≡ stages.Verify
@@ -37,64 +37,64 @@ pub record GivesPassword (hub : Sight) (own : Own) (now : ℕ) (said : Option Re
   pub stays : fields ≡ own.fields
   pub unbanned : left_of_bans hub.bans (cid_in fields) now ≡ lefts.Free
 
-pub record WaitsStill (own : Own) (effect : Effect) : Type 0 where
+pub record WaitsStill (own : SenderView) (effect : Effect) : Type 0 where
   pub at : own.stage ≡ stages.Verify
   pub fields : fields_by own effect ≡ own.fields
   pub expected : expected_after effect.change own.expected ≡ own.expected
 
-pub record IsAsked (hub : Sight) (own : Own) (line : PreparedLine) (now : ℕ) (said : Option Reading) (effect : Effect) : Type 0 where
+pub record IsAsked (hub : HubView) (own : SenderView) (line : PreparedLine) (now : ℕ) (said : Option Reading) (effect : Effect) : Type 0 where
   pub logs : LogsIn hub own now said (fields_by own effect)
   pub account : is_account hub (key_in (fields_by own effect)) ≡ true
   pub expected : expected_after effect.change own.expected ≡ unwrap_or line.password []
 
-pub record IsHereStill (hub : Sight) (own : Own) (effect : Effect) : Type 0 where
+pub record IsHereStill (hub : HubView) (own : SenderView) (effect : Effect) : Type 0 where
   pub at : own.stage ≡ stages.Normal
   pub nick : KeepsNick hub (key_in own.fields) (key_in (fields_by own effect))
 
-pub record EntersUnasked (hub : Sight) (own : Own) (now : ℕ) (said : Option Reading) (effect : Effect) : Type 0 where
+pub record EntersUnasked (hub : HubView) (own : SenderView) (now : ℕ) (said : Option Reading) (effect : Effect) : Type 0 where
   pub logs : LogsIn hub own now said (fields_by own effect)
   pub account : is_account hub (key_in (fields_by own effect)) ≡ false
 
 -- what is so of a line that leaves its connection waiting for a password, or its user present
-pub record IsChecked (hub : Sight) (own : Own) (line : PreparedLine) (now : ℕ) (said : Option Reading) (effect : Effect) : Type 0 where
+pub record IsChecked (hub : HubView) (own : SenderView) (line : PreparedLine) (now : ℕ) (said : Option Reading) (effect : Effect) : Type 0 where
   pub waits : stage_after effect.change own.stage ≡ stages.Verify → WaitsStill own effect ⊎ IsAsked hub own line now said effect
   pub enters : stage_after effect.change own.stage ≡ stages.Normal
       → IsHereStill hub own effect ⊎ (EntersUnasked hub own now said effect ⊎ GivesPassword hub own now said (fields_by own effect))
 
 -- ---- lines that change no stage, or shut out
 
-checked-still : (hub : Sight) (own : Own) (line : PreparedLine) (now : ℕ) (said : Option Reading) (effect : Effect) → stage_after effect.change own.stage ≡ own.stage
+checked-still : (hub : HubView) (own : SenderView) (line : PreparedLine) (now : ℕ) (said : Option Reading) (effect : Effect) → stage_after effect.change own.stage ≡ own.stage
     → fields_by own effect ≡ own.fields → expected_after effect.change own.expected ≡ own.expected → IsChecked hub own line now said effect
 checked-still hub own line now said effect same_stage same_fields same_expected = grind arith
 
-checked-away : (hub : Sight) (own : Own) (line : PreparedLine) (now : ℕ) (said : Option Reading) (effect : Effect) → (stage_after effect.change own.stage ≡ stages.Verify → ⊥)
+checked-away : (hub : HubView) (own : SenderView) (line : PreparedLine) (now : ℕ) (said : Option Reading) (effect : Effect) → (stage_after effect.change own.stage ≡ stages.Verify → ⊥)
     → (stage_after effect.change own.stage ≡ stages.Normal → ⊥) → IsChecked hub own line now said effect
 checked-away hub own line now said effect not_asked not_here = record { waits = λ is. absurd (not_asked is); enters = λ is. absurd (not_here is) }
 
 -- ---- logins
 
-logs-in : (hub : Sight) (own : Own) (line : PreparedLine) (now : ℕ) (reading : Reading) (u : List Field) → Logs hub own line now reading u
+logs-in : (hub : HubView) (own : SenderView) (line : PreparedLine) (now : ℕ) (reading : Reading) (u : List Field) → Logs hub own line now reading u
     → LogsIn hub own now (Some reading) (user_after own u).fields
 logs-in hub own line now reading u logs = grind (arith, listed-fields, login-rules, listed-cid, listed-key)
 
-login-account : (hub : Sight) (own : Own) (u : List Field) (b : Bool) → is_account hub (user_after own u).key ≡ b → is_account hub (key_in (user_after own u).fields) ≡ b
+login-account : (hub : HubView) (own : SenderView) (u : List Field) (b : Bool) → is_account hub (user_after own u).key ≡ b → is_account hub (key_in (user_after own u).fields) ≡ b
 login-account hub own u b is = grind (arith, listed-fields, listed-key)
 
 -- ---- passwords
 
-gives-password : (hub : Sight) (own : Own) (now : ℕ) (reading : Reading) → own.stage ≡ stages.Verify → request_of own.stage reading.kind reading.command ≡ requests.Password
+gives-password : (hub : HubView) (own : SenderView) (now : ℕ) (reading : Reading) → own.stage ≡ stages.Verify → request_of own.stage reading.kind reading.command ≡ requests.Password
     → password_denied hub own now reading.params ≡ None → GivesPassword hub own now (Some reading) own.fields
 gives-password hub own now reading at asks none = grind (arith, password-right, listed-cid, entry-unbanned, password-entry)
 
 -- ---- updates
 
-keeps-nick : (hub : Sight) (own : Own) (u : List Field) → update_denied hub own (Ok u) ≡ None
+keeps-nick : (hub : HubView) (own : SenderView) (u : List Field) → update_denied hub own (Ok u) ≡ None
     → KeepsNick hub (key_in own.fields) (key_in (merged_with own.fields (clean u own.sender.peer)))
 keeps-nick hub own u none = grind (arith, listed-key, update-keeps)
 
 -- ---- every line
 
-module _ {hub : Sight} {own : Own} {line : PreparedLine} {now : ℕ} where
+module _ {hub : HubView} {own : SenderView} {line : PreparedLine} {now : ℕ} where
   checked : {said : Option Reading} {request : Request} {effect : Effect} → Outcome hub own line now said request effect → IsChecked hub own line now said effect
   checked (shuts_out deny) = checked-away hub own line now _ _ gone-verify gone-normal
   checked (greets reading features at applies) = checked-away hub own line now _ _ identify-verify identify-normal
@@ -116,11 +116,11 @@ module _ {hub : Sight} {own : Own} {line : PreparedLine} {now : ℕ} where
   }
   checked _ = checked-still hub own line now _ _ refl refl refl
 
-pub checked-line : (hub : Sight) (own : Own) (line : PreparedLine) (now : ℕ) → IsChecked hub own line now (accepted_line hub own line now) (line_effect hub own line now)
+pub checked-line : (hub : HubView) (own : SenderView) (line : PreparedLine) (now : ℕ) → IsChecked hub own line now (accepted_line hub own line now) (line_effect hub own line now)
 checked-line hub own line now = checked (outcome hub own line now)
 
 -- ---- the message that was accepted is the one that the bytes are
 
-pub read-accepted : (hub : Sight) (own : Own) (line : PreparedLine) (now : ℕ) (reading : Reading) → accepted_line hub own line now ≡ Some reading → lines.reading line.bytes ≡ Ok reading
+pub read-accepted : (hub : HubView) (own : SenderView) (line : PreparedLine) (now : ℕ) (reading : Reading) → accepted_line hub own line now ≡ Some reading → lines.reading line.bytes ≡ Ok reading
 unfolding accepted_line
 read-accepted hub own line now reading is = grind arith

@@ -1,11 +1,11 @@
 -- Those who are present stand in the order in which they entered.
 use Rattle.std.proofs.Common.{◌≡◌, ◌∙◌, sym, ap, ap₂, refl, subst, ℕ, ◌+◌, Bool, true, false, not, ◌&&◌, ◌||◌, ◌==◌, eqb, ◌≤◌, cond, List, [], ◌∷◌, ◌++◌, filter, append-nil, arith}
 use Rattle.std.proofs.lemmas.List.Elements.{filter-append}
-use Rattle.hub_laws.specs.Entering.{PresentInOrder, brought_in, entrants}
+use Rattle.hub_laws.specs.EntryOrder.{PresentInOrder, brought_in, entrants}
 use Rattle.hub_laws.proofs.Words.{Call, Configured, Effect, Entry, Facts, Fits, Join, Line, Quit, Sound, Stage, Take, about_after, after, departure, effect_of_line, enters, eq-eqb, facts}
 use Rattle.hub_laws.proofs.Words.{false≢true, fits-departure, fits-line, happens, happens-open, has, has-append, has_joins, has_place, is_present, newcomer, next_sid, not-over, or-true, sound_of}
 use Rattle.hub_laws.proofs.Words.{stage_after, take-facts, with_connection, without_connection}
-use Rattle.hub_laws.proofs.Turning.{is_settled, keeps-line, keeps-settled}
+use Rattle.hub_laws.proofs.StageOrder.{is_settled, keeps-line, keeps-settled}
 
 -- ---- lists
 

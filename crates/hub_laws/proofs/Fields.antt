@@ -16,14 +16,14 @@ use Rattle.inf_fields.specs.Cleaning.{dotted_decimal}
 use Rattle.inf_fields.specs.FieldNames.{client_type_name}
 use Rattle.inf_fields.specs.Updates.{before, field_in, is_named, unless_too_many, update}
 use Rattle.inf_fields.specs.declared.fault.InfFault.TheVariants.{BadName}
-use Rattle.hub_laws.proofs.Words.{About, AllByRecursion, Becomes, Call, Configured, Effect, Entry, Facts, Field, Outcome, Own, PreparedLine, Reading, Reads-of, Request, Sight, and_parts, besides}
+use Rattle.hub_laws.proofs.Words.{ConnState, AllByRecursion, Becomes, Call, Configured, Effect, Entry, Facts, Field, Outcome, SenderView, PreparedLine, Reading, Reads-of, Request, HubView, and_parts, besides}
 use Rattle.hub_laws.proofs.Words.{clean, becomes, effect_of_line, eqb-true, facts, false≢true, field, fields_after, info, is_called, is_held_back, latest}
 use Rattle.hub_laws.proofs.Words.{lets_in, list_all, merged_with, or-parts, outcome, own_of, prepared_line, revises, sight_of, user_after, value_of, waits, with_address}
 use Rattle.hub_laws.proofs.Words.lines
 use Rattle.hub_laws.proofs.Words.updates
-use Rattle.hub_laws.proofs.Clearing.{listed-fields}
-use Rattle.hub_laws.proofs.Naming.{read-update}
-use Rattle.hub_laws.proofs.Ordering.{is-accepted}
+use Rattle.hub_laws.proofs.FreeNames.{listed-fields}
+use Rattle.hub_laws.proofs.FieldNames.{read-update}
+use Rattle.hub_laws.proofs.SenderOrder.{is-accepted}
 use Rattle.hub_laws.proofs.Pieces.{IsGood, IsPlain, IsSpelt, IsTold, IsValue, blank-utf8, from-all, is_gap, letter-digit-plain, letter-plain, is_plain_byte, onto-plain, plain-small, plain-special, plain-spelt, plain-utf8, to-all}
 use Rattle.hub_laws.proofs.Public.{info_is_public}
 use Rattle.hub_laws.specs.Secrets.{IsPublic}
@@ -159,12 +159,12 @@ good-merged fields u good more =
 
 -- ---- every line, and every history
 
-good-login : (own : Own) (bytes : List ℕ) (reading : Reading) (u : List Field) → lines.reading bytes ≡ Ok reading → updates.reading reading.params ≡ Ok u → AreGood own.fields
+good-login : (own : SenderView) (bytes : List ℕ) (reading : Reading) (u : List Field) → lines.reading bytes ≡ Ok reading → updates.reading reading.params ≡ Ok u → AreGood own.fields
     → AreGood (user_after own u).fields
 good-login own bytes reading u read words good =
     subst AreGood (sym (listed-fields own.sender.sid (merged_with own.fields (clean u own.sender.peer)))) (good-merged own.fields _ good (good-clean own.sender.peer u (good-read bytes reading u read words)))
 
-module _ {hub : Sight} {own : Own} {line : PreparedLine} {now : ℕ} where
+module _ {hub : HubView} {own : SenderView} {line : PreparedLine} {now : ℕ} where
   keeps-good : {said : Option Reading} {request : Request} {effect : Effect} → Outcome hub own line now said request effect → ((reading : Reading) → said ≡ Some reading → lines.reading line.bytes ≡ Ok reading)
       → AreGood own.fields → AreGood (fields_after effect.change own.fields)
   keeps-good (waits reading u logs account) reads good = good-login own line.bytes reading u (reads reading refl) logs.words good
@@ -184,7 +184,7 @@ good-line setup hash f c bytes now good =
     (λ reading said. (is-accepted (sight_of setup f) (own_of (f.about c)) line now reading said).reads) good
 
 module _ {setup : Configured} {hash : List ℕ → List ℕ} {f : Facts} {caller d : ℕ} where
-  good-after : {call : Call} {a : About} → Becomes setup hash f caller d call a → AreGood (f.about d).fields → AreGood a.fields
+  good-after : {call : Call} {a : ConnState} → Becomes setup hash f caller d call a → AreGood (f.about d).fields → AreGood a.fields
   good-after (Becomes.joins peer challenge now place is) good = tt
   good-after (Becomes.says c bytes now) good =
       good-chosen (d == c) _ (f.about d).fields

@@ -14,15 +14,15 @@ use Rattle.adc_line.specs.Lines.{Reading}
 use Rattle.adc_line.specs.declared.header.Kind.TheVariants.{Broadcast, Info}
 use Rattle.adc_line.proofs.EscapeLemmas.{escaped-nil}
 use Rattle.inf_fields.specs.Field.{printed_fields}
-use Rattle.hub_rules.specs.Configured.{MenuEntry}
+use Rattle.hub_rules.specs.Configured.{ConfiguredEntry}
 use Rattle.hub_rules.specs.History.{about}
 use Rattle.hub_rules.specs.Shares.{has_room}
 use Rattle.hub_rules.specs.Texts.{challenge_line, client_type, menu_item, menu_line, update_line}
-use Rattle.hub_laws.proofs.Words.{About, AllByRecursion, Becomes, Call, Configured, Entry, Facts, Kind, becomes, facts, false≢true, info, lines_owed, owed_with, share, sid, sight_of, user_line, with_line_feed}
+use Rattle.hub_laws.proofs.Words.{ConnState, AllByRecursion, Becomes, Call, Configured, Entry, Facts, Kind, becomes, facts, false≢true, info, lines_owed, owed_with, share, sid, sight_of, user_line, with_line_feed}
 use Rattle.hub_laws.proofs.Words.kinds
-use Rattle.hub_laws.specs.Forms.{Form, IsLine, LinesAreMessages, LinesEndOnce, of_hub, of_info, of_nameless, of_no_challenge, of_user}
+use Rattle.hub_laws.specs.Forms.{Form, IsWholeLine, LinesAreMessages, LinesEndOnce, of_hub, of_info, of_nameless, of_no_challenge, of_user}
 use Rattle.hub_laws.specs.Messages.{goes_to_users}
-use Rattle.hub_laws.specs.Welcoming.{info_line}
+use Rattle.hub_laws.specs.Welcome.{info_line}
 use Rattle.hub_laws.specs.Registered.{account_at}
 use Rattle.hub_laws.proofs.Fields.{told_of_user}
 use Rattle.hub_laws.proofs.HubLines.{challenge-is, done-is, entry-told, hub-is, identifier-is, menu-is, quit-is, removal-is, status-is, support-is, topic-is, type-told, type-utf8}
@@ -36,7 +36,7 @@ use Rattle.hub_laws.proofs.Written.{solid-clean, some-byte, told-both, told-clea
 -- ---- both laws of one line
 
 record IsFine (setup : Configured) (challenge line : List ℕ) : Type 0 where
-  one : IsLine line
+  one : IsWholeLine line
   form : Form setup challenge line
 
 command-solid : (kind : Kind) (command : List ℕ) → IsCommand command → IsSolid (letter kind ∷ command)
@@ -56,7 +56,7 @@ module _ {setup : Configured} {challenge : List ℕ} where
       let clean : IsClean text =
       all-append _ (73 ∷ is.command) (behind is.params) (solid-clean (73 ∷ is.command) (command-solid Info is.command is.is)) (behind-clean is.params (parameters-solid is.params is.all)) in
       record {
-        one = subst IsLine (sym is.line_is) (clean-line text clean);
+        one = subst IsWholeLine (sym is.line_is) (clean-line text clean);
         form = of_hub (record {
           text = text;
           message = message;
@@ -98,22 +98,22 @@ module _ {setup : Configured} {challenge : List ℕ} where
       }
 
   -- an entry of the menu without a name
-  nameless-fine : (entry : MenuEntry) → Contains setup.menu entry → entry.name ≡ [] → IsFine setup challenge (menu_line entry)
+  nameless-fine : (entry : ConfiguredEntry) → Contains setup.menu entry → entry.name ≡ [] → IsFine setup challenge (menu_line entry)
   unfolding menu_line
   nameless-fine entry there none = record {
-    one = subst (λ (bs : List ℕ). IsLine (with_line_feed (codes "ICMD " ++ bs ++ codes " CT" ++ decimal entry.context ++ menu_item entry.text))) (sym (ap escaped_text none ∙ escaped-nil))
+    one = subst (λ (bs : List ℕ). IsWholeLine (with_line_feed (codes "ICMD " ++ bs ++ codes " CT" ++ decimal entry.context ++ menu_item entry.text))) (sym (ap escaped_text none ∙ escaped-nil))
         (clean-line (codes "ICMD  CT" ++ decimal entry.context ++ menu_item entry.text) (refl, (refl, (refl, (refl, (refl, told-clean _ (entry-told entry)))))));
     form = of_nameless entry there none refl;
   }
 
-  menu-fine : (entry : MenuEntry) → Contains setup.menu entry → (name : List ℕ) → entry.name ≡ name → IsFine setup challenge (menu_line entry)
+  menu-fine : (entry : ConfiguredEntry) → Contains setup.menu entry → (name : List ℕ) → entry.name ≡ name → IsFine setup challenge (menu_line entry)
   menu-fine entry there [] none = nameless-fine entry there none
   menu-fine entry there (b ∷ name) is = hub-fine (menu-is entry (λ none. some-byte b name (sym is ∙ none)))
 
 challenge-fine : {setup : Configured} (given challenge : List ℕ) → given ≡ challenge → IsFine setup given (challenge_line given)
 unfolding challenge_line spelling numbers_from
 challenge-fine given [] none = record {
-  one = subst (λ (bs : List ℕ). IsLine (challenge_line bs)) (sym none) (clean-line (codes "IGPA ") (refl, (refl, (refl, (refl, (refl, tt))))));
+  one = subst (λ (bs : List ℕ). IsWholeLine (challenge_line bs)) (sym none) (clean-line (codes "IGPA ") (refl, (refl, (refl, (refl, (refl, tt))))));
   form = of_no_challenge none refl;
 }
 challenge-fine given (b ∷ challenge) is = hub-fine (subst (λ (bs : List ℕ). HubLine (challenge_line bs)) (sym is) (challenge-is b challenge))
@@ -185,7 +185,7 @@ module _ {setup : Configured} {hash : List ℕ → List ℕ} {h : List Entry} {e
 
 -- ---- every history
 
-owed-all : (P : List ℕ → Type 0) (a : About) (lines : List (List ℕ)) → AllByRecursion P lines → AllByRecursion P a.owed → AllByRecursion P (owed_with a lines)
+owed-all : (P : List ℕ → Type 0) (a : ConnState) (lines : List (List ℕ)) → AllByRecursion P lines → AllByRecursion P a.owed → AllByRecursion P (owed_with a lines)
 unfolding owed_with
 owed-all P a lines more was = by-room (has_room a lines)
   where
@@ -193,11 +193,11 @@ owed-all P a lines more was = by-room (has_room a lines)
     by-room true = all-append P a.owed lines was more
     by-room false = was
 
-abbrev AreFine : Configured → About → List (List ℕ) → Type 0
+abbrev AreFine : Configured → ConnState → List (List ℕ) → Type 0
 AreFine setup a lines = AllByRecursion (IsFine setup a.sender.challenge) lines
 
 module _ {setup : Configured} {hash : List ℕ → List ℕ} {f : Facts} {caller d : ℕ} where
-  fine-after : {call : Call} {a : About} → Becomes setup hash f caller d call a → AreFine setup (f.about d) (share setup hash f d call) → AreFine setup (f.about d) (f.about d).owed → AreFine setup a a.owed
+  fine-after : {call : Call} {a : ConnState} → Becomes setup hash f caller d call a → AreFine setup (f.about d) (share setup hash f d call) → AreFine setup (f.about d) (f.about d).owed → AreFine setup a a.owed
   fine-after (Becomes.joins peer challenge now place is) more was = tt
   fine-after (Becomes.says c bytes now) more was = owed-all (IsFine setup (f.about d).sender.challenge) (f.about d) _ more was
   fine-after (Becomes.quits c) more was = owed-all (IsFine setup (f.about d).sender.challenge) (f.about d) _ more was
@@ -212,7 +212,7 @@ fine-owed setup hash (e ∷ h) c =
     (fine-owed setup hash h c)
 
 pub lines_end_once : LinesEndOnce
-lines_end_once setup hash h c = all-as (IsFine setup (about setup hash h c).sender.challenge) IsLine (lines_owed setup hash h c) (λ line is. is.one) (fine-owed setup hash h c)
+lines_end_once setup hash h c = all-as (IsFine setup (about setup hash h c).sender.challenge) IsWholeLine (lines_owed setup hash h c) (λ line is. is.one) (fine-owed setup hash h c)
 
 pub lines_are_messages : LinesAreMessages
 lines_are_messages setup hash h c =

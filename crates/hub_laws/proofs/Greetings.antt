@@ -1,12 +1,12 @@
 -- The line by which a connection comes to IDENTIFY shares out the greeting, with the topic.
 use Rattle.std.proofs.Common.{◌≡◌, ◌∙◌, sym, ap, refl, subst, ℕ, Bool, true, ◌⊎◌, inl, inr, ◌==◌, List, [], ◌∷◌, Option, arith}
 use Rattle.hub_rules.specs.Texts.{identifier_line, support_line}
-use Rattle.hub_laws.proofs.Words.{About, Becomes, Call, Configured, Effect, Facts, Line, Outcome, Own, PreparedLine, Reading, Request, Sender, Sight, becomes, departure}
+use Rattle.hub_laws.proofs.Words.{ConnState, Becomes, Call, Configured, Effect, Facts, Line, Outcome, SenderView, PreparedLine, Reading, Request, Sender, HubView, becomes, departure}
 use Rattle.hub_laws.proofs.Words.{effect_of_line, eq-eqb, eqb-true, facts, greets, hub_line, lets_in, line-outcome, owes, own_of, proves, removed_by, share, shuts_out, sight_of, stage_after, waits}
 use Rattle.hub_laws.proofs.Words.senders
 use Rattle.hub_laws.proofs.Words.stages
 use Rattle.hub_laws.specs.Greetings.{NewcomersHearTheTopic}
-use Rattle.hub_laws.proofs.Moving.{identify-normal, identify-verify, moves-to}
+use Rattle.hub_laws.proofs.StageChanges.{identify-normal, identify-verify, moves-to}
 use Rattle.hub_laws.proofs.Owed.{owed-as}
 use Rattle.hub_laws.proofs.Worlds.{topic_is_the_last}
 
@@ -19,18 +19,18 @@ protocol-identify is = cc is
 -- ---- one line
 
 -- the greeting, with this topic
-abbrev Greeting : Sight → ℕ → List ℕ → List (List ℕ)
+abbrev Greeting : HubView → ℕ → List ℕ → List (List ℕ)
 Greeting hub sid ping = support_line ∷ identifier_line sid ∷ hub_line hub.setup hub.topic ping ∷ []
 
-record Greets (hub : Sight) (own : Own) (effect : Effect) : Type 0 where
+record Greets (hub : HubView) (own : SenderView) (effect : Effect) : Type 0 where
   ping : List ℕ
   greeting : effect.own ≡ Greeting hub own.sender.sid ping
   others : effect.others ≡ []
 
-abbrev IsGreeting : Sight → Own → Effect → Type 0
+abbrev IsGreeting : HubView → SenderView → Effect → Type 0
 IsGreeting hub own effect = stage_after effect.change own.stage ≡ stages.Identify → (own.stage ≡ stages.Identify) ⊎ Greets hub own effect
 
-module _ {hub : Sight} {own : Own} {line : PreparedLine} {now : ℕ} where
+module _ {hub : HubView} {own : SenderView} {line : PreparedLine} {now : ℕ} where
   greeting : {said : Option Reading} {request : Request} {effect : Effect} → Outcome hub own line now said request effect → IsGreeting hub own effect
   greeting (shuts_out deny) is = absurd (gone-identify is)
   greeting (greets reading features at applies) is = inr (record { ping = _; greeting = refl; others = refl })
@@ -41,10 +41,10 @@ module _ {hub : Sight} {own : Own} {line : PreparedLine} {now : ℕ} where
 
 -- ---- the call
 
-greets-now : (hub : Sight) (own : Own) (effect : Effect) → (own.stage ≡ stages.Identify → ⊥) → (own.stage ≡ stages.Identify) ⊎ Greets hub own effect → Greets hub own effect
+greets-now : (hub : HubView) (own : SenderView) (effect : Effect) → (own.stage ≡ stages.Identify → ⊥) → (own.stage ≡ stages.Identify) ⊎ Greets hub own effect → Greets hub own effect
 greets-now hub own effect before made = grind arith
 
-owes-own : (same : Bool) (effect : Effect) (a : About) (own : List (List ℕ)) → same ≡ true → effect.others ≡ [] → effect.own ≡ own → owes same effect a ≡ own
+owes-own : (same : Bool) (effect : Effect) (a : ConnState) (own : List (List ℕ)) → same ≡ true → effect.others ≡ [] → effect.own ≡ own → owes same effect a ≡ own
 owes-own same effect a own is none says = grind arith
 
 abbrev Greeted : Configured → (List ℕ → List ℕ) → Facts → ℕ → Call → Type 0
@@ -58,7 +58,7 @@ line-greets setup hash f c bytes now before is =
     (greets.ping, owes-own (c == c) effect (f.about c) _ (eq-eqb c c refl) greets.others greets.greeting)
 
 module _ {setup : Configured} {hash : List ℕ → List ℕ} {f : Facts} {caller c : ℕ} where
-  greets-after : {call : Call} {a : About} → Becomes setup hash f caller c call a → ((f.about c).stage ≡ stages.Identify → ⊥) → a.stage ≡ stages.Identify
+  greets-after : {call : Call} {a : ConnState} → Becomes setup hash f caller c call a → ((f.about c).stage ≡ stages.Identify → ⊥) → a.stage ≡ stages.Identify
       → Greeted setup hash f c call
   greets-after (Becomes.joins peer challenge now place at) before is = absurd (protocol-identify is)
   greets-after (Becomes.says o bytes now) before is =

@@ -17,11 +17,11 @@ use Rattle.login_state.specs.Denials.{denial_line, denial_text}
 use Rattle.login_state.specs.NamedFields.{name_of}
 use Rattle.login_state.specs.declared.deny.Severity.TheVariants.{Fatal, Recoverable}
 use Rattle.login_state.specs.declared.named_field.NamedField.{NamedField}
-use Rattle.hub_rules.specs.Configured.{MenuEntry}
+use Rattle.hub_rules.specs.Configured.{ConfiguredEntry}
 use Rattle.hub_rules.specs.Effects.{ping_of}
 use Rattle.hub_rules.specs.Texts.{ban_field, challenge_line, client_type, done_line, hub_line, identifier_line, menu_item, menu_line, ping_fields, removal_line, support_line, text_field, topic_line}
 use Rattle.user_table.specs.declared.totals.Totals.{Totals}
-use Rattle.hub_laws.proofs.Words.{Account, AllByRecursion, Configured, Deny, Sight, quit_line, with_line_feed}
+use Rattle.hub_laws.proofs.Words.{ConfiguredAccount, AllByRecursion, Configured, Deny, HubView, quit_line, with_line_feed}
 use Rattle.hub_laws.proofs.Words.denials
 use Rattle.hub_laws.proofs.Pieces.{IsPlain, IsSpelt, blank-utf8, is_plain_byte, plain-utf8, plain-spelt}
 use Rattle.hub_laws.proofs.Secrets.{all-append}
@@ -113,7 +113,7 @@ unfolding is_escaped
 item-told None = told-last (codes "SP1") (word-parameter (codes "SP1") refl)
 item-told (Some text) = told-last (codes "TT" ++ escaped_text text) (named 84 (84 ∷ []) (escaped_text text) (refl, (refl, tt)) (text-spelt text))
 
-pub type-told : (account : Option Account) → Told (client_type account)
+pub type-told : (account : Option ConfiguredAccount) → Told (client_type account)
 unfolding is_escaped
 type-told None = none-told
 type-told (Some account) = by-right account.operator
@@ -122,7 +122,7 @@ type-told (Some account) = by-right account.operator
     by-right true = told-last (codes "CT4") (word-parameter (codes "CT4") refl)
     by-right false = told-last (codes "CT2") (word-parameter (codes "CT2") refl)
 
-pub type-utf8 : (account : Option Account) → IsUtf8 (client_type account)
+pub type-utf8 : (account : Option ConfiguredAccount) → IsUtf8 (client_type account)
 type-utf8 None = plain-utf8 [] tt
 type-utf8 (Some account) = by-right account.operator
   where
@@ -157,7 +157,7 @@ topic-is topic =
     written (codes "IINF") refl (codes " DE" ++ escaped_text topic)
     (told-last (codes "DE" ++ escaped_text topic) (named 68 (69 ∷ []) (escaped_text topic) (refl, (refl, tt)) (text-spelt topic)))
 
-pub hub-is : (setup : Configured) (hub : Sight) (now : ℕ) (features : List (List ℕ)) (topic : List ℕ) → HubLine (hub_line setup topic (ping_of hub now features))
+pub hub-is : (setup : Configured) (hub : HubView) (now : ℕ) (features : List (List ℕ)) (topic : List ℕ) → HubLine (hub_line setup topic (ping_of hub now features))
 unfolding hub_line is_escaped escape_means
 hub-is setup hub now features topic =
     written (codes "IINF CT32") refl (codes " NI" ++ escaped_text setup.name ++ codes " VEadc-hub\\s1.0" ++ text_field (codes " DE") topic ++ ping_of hub now features)
@@ -170,10 +170,10 @@ unfolding challenge_line is_escaped
 challenge-is b challenge = written (codes "IGPA") refl (32 ∷ spelling (b ∷ challenge)) (told-last (spelling (b ∷ challenge)) (spelling-parameter b challenge))
 
 -- what stands behind the name of an entry of the menu
-pub entry-told : (entry : MenuEntry) → Told (codes " CT" ++ decimal entry.context ++ menu_item entry.text)
+pub entry-told : (entry : ConfiguredEntry) → Told (codes " CT" ++ decimal entry.context ++ menu_item entry.text)
 entry-told entry = told-both _ (menu_item entry.text) (counted-told 67 84 entry.context (refl, (refl, tt))) (item-told entry.text)
 
-pub menu-is : (entry : MenuEntry) → (entry.name ≡ [] → ⊥) → HubLine (menu_line entry)
+pub menu-is : (entry : ConfiguredEntry) → (entry.name ≡ [] → ⊥) → HubLine (menu_line entry)
 unfolding menu_line is_escaped
 menu-is entry some =
     written (codes "ICMD") refl (32 ∷ escaped_text entry.name ++ codes " CT" ++ decimal entry.context ++ menu_item entry.text)

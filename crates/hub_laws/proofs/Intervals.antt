@@ -6,14 +6,14 @@ use Rattle.std.proofs.lemmas.Bool.{leb-true}
 use Rattle.search_pass.specs.Searches.{may_search}
 use Rattle.hub_rules.specs.Denied.{is_search_due}
 use Rattle.hub_rules.specs.declared.plain_options.PlainOptions.{PlainOptions}
-use Rattle.hub_laws.proofs.Words.{Call, Configured, Entry, Facts, Join, Line, Own, PreparedLine, Quit, Reading, Request, Sight, Take, accepted_line, and_parts, eqb-true, facts, later-none, own_of}
+use Rattle.hub_laws.proofs.Words.{Call, Configured, Entry, Facts, Join, Line, SenderView, PreparedLine, Quit, Reading, Request, HubView, Take, accepted_line, and_parts, eqb-true, facts, later-none, own_of}
 use Rattle.hub_laws.proofs.Words.{prepared_line, refusal_of, request_denied, request_of, sight_of}
 use Rattle.hub_laws.proofs.Words.denials
 use Rattle.hub_laws.proofs.Words.requests
 use Rattle.hub_laws.specs.Intervals.{SearchesAreApart}
 use Rattle.hub_laws.specs.Searched.{is_search, last_search, moment_if, search_in, searches}
-use Rattle.hub_laws.proofs.Ordering.{is-accepted}
-use Rattle.hub_laws.proofs.Searching.{search_is_the_last}
+use Rattle.hub_laws.proofs.SenderOrder.{is-accepted}
+use Rattle.hub_laws.proofs.Searches.{search_is_the_last}
 
 -- ---- a search that went out was not too soon
 
@@ -26,13 +26,13 @@ search-asked request is = grind arith
 not-soon : (due : Bool) → (if not due then Some denials.SearchSoon else None) ≡ None → due ≡ true
 not-soon due is = grind arith
 
-by-request : (hub : Sight) (own : Own) (line : PreparedLine) (now : ℕ) (reading : Reading) (request : Request) → request ≡ requests.Search
+by-request : (hub : HubView) (own : SenderView) (line : PreparedLine) (now : ℕ) (reading : Reading) (request : Request) → request ≡ requests.Search
     → request_denied hub own line now reading request ≡ None → is_search_due hub.setup.plain own.sender.notes.searched now ≡ true
 unfolding request_denied
 by-request hub own line now reading request is none =
     not-soon (is_search_due hub.setup.plain own.sender.notes.searched now) (sym (ap (request_denied hub own line now reading) is) ∙ none)
 
-by-said : (hub : Sight) (own : Own) (line : PreparedLine) (now : ℕ) (said : Option Reading) → accepted_line hub own line now ≡ said → searches own said ≡ true
+by-said : (hub : HubView) (own : SenderView) (line : PreparedLine) (now : ℕ) (said : Option Reading) → accepted_line hub own line now ≡ said → searches own said ≡ true
     → is_search_due hub.setup.plain own.sender.notes.searched now ≡ true
 by-said hub own line now (Some reading) is asks =
     by-request hub own line now reading _ (search-asked (request_of own.stage reading.kind reading.command) asks)

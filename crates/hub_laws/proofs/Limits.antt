@@ -10,7 +10,7 @@ use Rattle.login_state.specs.Mentions.{base, tigr}
 use Rattle.hub_rules.specs.Denied.{sup_denied}
 use Rattle.hub_rules.specs.Grounds.{is_bad_nick}
 use Rattle.hub_rules.specs.Identities.{nick_in}
-use Rattle.hub_laws.proofs.Words.{AllFalse, Configured, Deny, Effect, Entry, Facts, Field, Listed, Logs, Outcome, Own, PreparedLine, Reading, Request, Sight, Stage, clean}
+use Rattle.hub_laws.proofs.Words.{AllFalse, Configured, Deny, Effect, Entry, Facts, Field, Listed, Logs, Outcome, SenderView, PreparedLine, Reading, Request, HubView, Stage, clean}
 use Rattle.hub_laws.proofs.Words.{effect_of_line, facts, false≢true, features_after, fields_after, first_ground, given-after, greets, grounds_of, has_feature, infs, is_unnamed, later-none, learns, lets_in}
 use Rattle.hub_laws.proofs.Words.{login_grounds, meaning, merged_fields, merged_with, nick_name, none-of, outcome, own_of, prepared_line, proves, request_denied, request_in, revises, shuts_out}
 use Rattle.hub_laws.proofs.Words.{sight_of, stage_after, tidy_of, told_of, update_grounds, user_after, value_of, value_or_empty, waits}
@@ -21,10 +21,10 @@ use Rattle.hub_laws.proofs.Words.denials
 use Rattle.hub_laws.proofs.Words.stages
 use Rattle.hub_laws.proofs.Words.updates
 use Rattle.hub_laws.specs.Limits.{FewLinesWait, UsersAreWellFormed}
-use Rattle.hub_laws.proofs.Clearing.{listed-fields}
-use Rattle.hub_laws.proofs.Ordering.{is-accepted}
-use Rattle.hub_laws.proofs.Passing.{nick-clean, nick-merged}
-use Rattle.hub_laws.proofs.Staying.{always}
+use Rattle.hub_laws.proofs.FreeNames.{listed-fields}
+use Rattle.hub_laws.proofs.SenderOrder.{is-accepted}
+use Rattle.hub_laws.proofs.PassedFields.{nick-clean, nick-merged}
+use Rattle.hub_laws.proofs.Connections.{always}
 
 -- ---- how many fields
 
@@ -73,14 +73,14 @@ is_protocol deny = false
 not-false : (b : Bool) → not b ≡ false → b ≡ true
 not-false b is = grind arith
 
-login-nick : (hub : Sight) (own : Own) (now : ℕ) (digest : Option (List ℕ)) (u : List Field) (user : Listed) → first_ground (login_grounds hub own now digest u user) ≡ None
+login-nick : (hub : HubView) (own : SenderView) (now : ℕ) (digest : Option (List ℕ)) (u : List Field) (user : Listed) → first_ground (login_grounds hub own now digest u user) ≡ None
     → is_nick (chars (nick_in u)) ≡ true
 unfolding login_grounds
 login-nick hub own now digest u user none =
     let nick : AllFalse (grounds_of is_nick_bad (login_grounds hub own now digest u user)) = none-of is_nick_bad (login_grounds hub own now digest u user) none in
     not-false (is_nick (chars (nick_in u))) nick.0
 
-update-nick : (hub : Sight) (own : Own) (u : List Field) (user : Listed) → first_ground (update_grounds hub own u user) ≡ None
+update-nick : (hub : HubView) (own : SenderView) (u : List Field) (user : Listed) → first_ground (update_grounds hub own u user) ≡ None
     → (is_bad_nick (value_of nick_name u) ≡ false) × (fits own.fields (clean u own.sender.peer) ≡ true)
 unfolding update_grounds
 update-nick hub own u user none =
@@ -139,25 +139,25 @@ record IsFit (stage : Stage) (features : List (List ℕ)) (fields : List Field) 
 both-of : (features : List (List ℕ)) → sup_denied (Ok features) ≡ None → HasBoth features
 both-of features none = grind arith
 
-abbrev KeepsFit : Own → Effect → Type 0
+abbrev KeepsFit : SenderView → Effect → Type 0
 KeepsFit own effect =
     IsFit own.stage own.sender.features own.fields
     → IsFit (stage_after effect.change own.stage) (features_after effect.change own.sender.features) (fields_after effect.change own.fields)
 
-fit-login : (hub : Sight) (own : Own) (line : PreparedLine) (now : ℕ) (reading : Reading) (u : List Field) → (is_unnamed own.stage ≡ true → own.fields ≡ [])
+fit-login : (hub : HubView) (own : SenderView) (line : PreparedLine) (now : ℕ) (reading : Reading) (u : List Field) → (is_unnamed own.stage ≡ true → own.fields ≡ [])
     → Logs hub own line now reading u → IsUser (user_after own u).fields
 fit-login hub own line now reading u unnamed logs =
     subst IsUser (sym (listed-fields own.sender.sid (merged_with own.fields (clean u own.sender.peer))))
     (login-user own.fields u own.sender.peer (unnamed (ap is_unnamed logs.at)) (login-nick hub own now line.owner u (user_after own u) logs.allowed) (few-read reading.params u logs.words))
 
 -- no rule of what it asks for denies what was said
-abbrev Allowed : Sight → Own → PreparedLine → ℕ → Option Reading → Request → Type 0
+abbrev Allowed : HubView → SenderView → PreparedLine → ℕ → Option Reading → Request → Type 0
 Allowed hub own line now said request = (reading : Reading) → said ≡ Some reading → request_denied hub own line now reading request ≡ None
 
-sup-fit : (own : Own) (reading : Reading) (features : List (List ℕ)) → support_after own.sender.features reading.params ≡ Ok features → sup_denied (support_after own.sender.features reading.params) ≡ None → HasBoth features
+sup-fit : (own : SenderView) (reading : Reading) (features : List (List ℕ)) → support_after own.sender.features reading.params ≡ Ok features → sup_denied (support_after own.sender.features reading.params) ≡ None → HasBoth features
 sup-fit own reading features is none = both-of features (ap sup_denied (sym is) ∙ none)
 
-module _ {hub : Sight} {own : Own} {line : PreparedLine} {now : ℕ} where
+module _ {hub : HubView} {own : SenderView} {line : PreparedLine} {now : ℕ} where
   fit : {said : Option Reading} {request : Request} {effect : Effect} → Outcome hub own line now said request effect → Allowed hub own line now said request → (infs : List (List Field))
       → own.fields ≡ merged_fields infs → (is_unnamed own.stage ≡ true → own.fields ≡ []) → KeepsFit own effect
   unfolding request_denied
@@ -182,8 +182,8 @@ fit-line : (setup : Configured) (hash : List ℕ → List ℕ) (h : List Entry) 
     → KeepsFit (own_of ((facts setup hash h).about c)) (effect_of_line setup hash (facts setup hash h) c bytes now)
 fit-line setup hash h c bytes now =
     let f : Facts = facts setup hash h in
-    let own : Own = own_of (f.about c) in
-    let hub : Sight = sight_of setup f in
+    let own : SenderView = own_of (f.about c) in
+    let hub : HubView = sight_of setup f in
     let line : PreparedLine = prepared_line setup hash (f.about c).sender.challenge bytes in
     fit (outcome hub own line now)
     (λ reading said. subst (λ (r : Option Reading). request_denied hub own line now reading (request_in own r) ≡ None) (sym said)

@@ -4,31 +4,31 @@ use Rattle.std.proofs.Math.Bool.{and-true}
 use Rattle.std.specs.Prelude.{if◌then◌else◌}
 use Rattle.adc_base32.specs.Sids.{sid_text}
 use Rattle.hub_rules.specs.Shares.{lags_with, owed_with}
-use Rattle.hub_laws.proofs.Words.{About, AllByRecursion, Call, Configured, Effect, Entry, Facts, Field, Join, Line, Listed, Own, Quit, Sound, Stage, Take, happens-parts}
+use Rattle.hub_laws.proofs.Words.{ConnState, AllByRecursion, Call, Configured, Effect, Entry, Facts, Field, Join, Line, Listed, SenderView, Quit, Sound, Stage, Take, happens-parts}
 use Rattle.hub_laws.proofs.Words.{about_parts, after, departure, effect_of_line, enters, eq-eqb, eqb-true, facts, false≢true, fields_after, happens, has, has_feature, has_joins, has_place}
 use Rattle.hub_laws.proofs.Words.{is_present, is_removed, line_of, line_unless_empty, menu_line, most_users, newcomer, next_sid, not-over, own_of, owes, prepared_line, present_parts, quit_line}
 use Rattle.hub_laws.proofs.Words.{removed_by, share, sid, sids_are_given, sids_differ, sight_of, sound_of, stage_after, take-facts, taken_by, ucmd, user_of, with_connection, without_connection}
 use Rattle.hub_laws.proofs.Words.{absent-newcomer, fold-append, key_of_points, removal_line, user_called}
-use Rattle.hub_rules.specs.Configured.{MenuEntry}
+use Rattle.hub_rules.specs.Configured.{ConfiguredEntry}
 use Rattle.hub_rules.specs.Texts.{update_line}
 use Rattle.hub_rules.specs.declared.history.Reply.TheVariants.{Left}
 use Rattle.adc_base32.specs.Sids.{sid_count}
 use Rattle.hub_laws.specs.Lists.{updated_listing}
-use Rattle.hub_laws.proofs.Welcoming.{line_by}
+use Rattle.hub_laws.proofs.Welcome.{line_by}
 use Rattle.hub_laws.proofs.Words.stages
 use Rattle.hub_laws.specs.Lists.{AllListTheSame, Listing, heard, list_after}
 use Rattle.hub_laws.proofs.Fields.{told_of_user}
-use Rattle.hub_laws.proofs.Listing.{Differing, Named, after-more, after-none, all-kept, entries, entry_of, filter-same, has-entries, listed-last, map-append, map-same, others-heard, renewed, spelt-same, updated-entries, welcomed}
-use Rattle.hub_laws.proofs.Listing.{without-entries}
+use Rattle.hub_laws.proofs.UserLists.{Differing, Named, after-more, after-none, all-kept, entries, entry_of, filter-same, has-entries, listed-last, map-append, map-same, others-heard, renewed, spelt-same, updated-entries, welcomed}
+use Rattle.hub_laws.proofs.UserLists.{without-entries}
 use Rattle.hub_laws.proofs.Others.{AreOthers, IsEntry, IsFarewell, IsRemoval, IsRevision, IsStill, Tells, entry, is_early, leaves, line-tells, nobody, other-menu, removal_of, revision_of}
 use Rattle.hub_laws.proofs.Outsiders.{owes-absent}
 use Rattle.hub_laws.proofs.Pieces.{IsTold, quit-heard, removal-heard, update-heard, user-heard}
-use Rattle.hub_laws.proofs.Removing.{found-here}
-use Rattle.hub_laws.proofs.Playing.{grown, before-early, before-present, chosen-same, early-absent, early-open, entered-is, entered-late, falls-early, falls-present, gone-present, next-present, no-length, not-first, others-if, owes-others, owes-own, owes-to-all, owes-to-others, owes-to-sender, renewed-as, renewed-none, second-of}
+use Rattle.hub_laws.proofs.Removals.{found-here}
+use Rattle.hub_laws.proofs.ListEffects.{grown, before-early, before-present, chosen-same, early-absent, early-open, entered-is, entered-late, falls-early, falls-present, gone-present, next-present, no-length, not-first, others-if, owes-others, owes-own, owes-to-all, owes-to-others, owes-to-sender, renewed-as, renewed-none, second-of}
 
 -- ---- what a call is to do to the list of connection d, where it owes d this share
 
-record Step (about after : ℕ → About) (present present_then : List ℕ) (d : ℕ) (share : List (List ℕ)) : Type 0 where
+record Step (about after : ℕ → ConnState) (present present_then : List ℕ) (d : ℕ) (share : List (List ℕ)) : Type 0 where
   here : is_present (after d).stage ≡ true → is_present (about d).stage ≡ true → fold heard (entries about present) share ≡ entries after present_then
   enters : is_present (after d).stage ≡ true → is_present (about d).stage ≡ false → (is_early (about d).stage ≡ true) × (fold heard [] share ≡ entries after present_then)
   early : is_early (after d).stage ≡ true → (is_early (about d).stage ≡ true) × (fold heard [] share ≡ [])
@@ -76,10 +76,10 @@ module _ (setup : Configured) (hash : List ℕ → List ℕ) (h : List Entry) (s
   not-same false none = refl
 
   module _ (c : ℕ) (effect : Effect) where
-    abbrev own : Own
+    abbrev own : SenderView
     own = own_of (f.about c)
 
-    abbrev afterwards : ℕ → About
+    abbrev afterwards : ℕ → ConnState
     afterwards = about_parts c effect f.about
 
     abbrev present_then : List ℕ
@@ -254,7 +254,7 @@ module _ (setup : Configured) (hash : List ℕ → List ℕ) (h : List Entry) (s
         ∙ listed-last f.about c fields_then f.present (named c (sound.are_open c (early-open (f.about c).stage comes.early)))
         (absent-from c (early-absent (f.about c).stage comes.early))
 
-    menus : (lines : List MenuEntry) → AreOthers (map menu_line lines)
+    menus : (lines : List ConfiguredEntry) → AreOthers (map menu_line lines)
     menus [] = tt
     menus (item ∷ lines) = (other-menu item, menus lines)
 
@@ -298,17 +298,17 @@ module _ (setup : Configured) (hash : List ℕ → List ℕ) (h : List Entry) (s
 
 -- ---- what is so of each connection
 
-record Lists (about : ℕ → About) (present : List ℕ) (a : About) : Type 0 where
+record Lists (about : ℕ → ConnState) (present : List ℕ) (a : ConnState) : Type 0 where
   here : is_present a.stage ≡ true → a.lags ≡ false → list_after a.owed ≡ entries about present
   early : is_early a.stage ≡ true → a.lags ≡ false → list_after a.owed ≡ []
 
-by-presence : (about after : ℕ → About) (present then_present : List ℕ) (d : ℕ) (share : List (List ℕ)) (was : Bool) → is_present (about d).stage ≡ was → Step about after present then_present d share
+by-presence : (about after : ℕ → ConnState) (present then_present : List ℕ) (d : ℕ) (share : List (List ℕ)) (was : Bool) → is_present (about d).stage ≡ was → Step about after present then_present d share
     → Lists about present (about d) → (about d).lags ≡ false → is_present (after d).stage ≡ true → fold heard (list_after (about d).owed) share ≡ entries after then_present
 by-presence about after present then_present d share true was step lists fine there = ap (λ us. fold heard us share) (lists.here was fine) ∙ step.here there was
 by-presence about after present then_present d share false was step lists fine there =
     let enters = step.enters there was in ap (λ us. fold heard us share) (lists.early enters.0 fine) ∙ enters.1
 
-lists-next : (about after : ℕ → About) (present then_present : List ℕ) (d : ℕ) (share : List (List ℕ)) → (after d).owed ≡ owed_with (about d) share → (after d).lags ≡ lags_with (about d) share
+lists-next : (about after : ℕ → ConnState) (present then_present : List ℕ) (d : ℕ) (share : List (List ℕ)) → (after d).owed ≡ owed_with (about d) share → (after d).lags ≡ lags_with (about d) share
     → Step about after present then_present d share → Lists about present (about d) → Lists after then_present (after d)
 lists-next about after present then_present d share owed lags step lists = record {
   here = λ there fine.
@@ -321,7 +321,7 @@ lists-next about after present then_present d share owed lags step lists = recor
 }
 
 -- a call that tells nobody anything, and changes no user
-lists-still : (about after : ℕ → About) (present : List ℕ) (a : About) → ((x : ℕ) → has x present ≡ true → entry_of after x ≡ entry_of about x) → Lists about present a → Lists after present a
+lists-still : (about after : ℕ → ConnState) (present : List ℕ) (a : ConnState) → ((x : ℕ) → has x present ≡ true → entry_of after x ≡ entry_of about x) → Lists about present a → Lists after present a
 lists-still about after present a same lists = record {
   here = λ there fine. lists.here there fine ∙ sym (map-same (entry_of after) (entry_of about) present same);
   early = lists.early;
@@ -333,10 +333,10 @@ joined-entry f is-sound owner peer challenge x true same there =
     absurd (false≢true (sym (absent-newcomer f is-sound) ∙ ap (λ z. is_present (f.about z).stage) (sym (eqb-true x (f.joins + 1) same)) ∙ sym (is-sound.entered x) ∙ there))
 joined-entry f is-sound owner peer challenge x false same there = refl
 
-lists-newcomer : (about : ℕ → About) (present : List ℕ) (owner sid : ℕ) (peer challenge : List ℕ) → Lists about present (newcomer owner sid peer challenge)
+lists-newcomer : (about : ℕ → ConnState) (present : List ℕ) (owner sid : ℕ) (peer challenge : List ℕ) → Lists about present (newcomer owner sid peer challenge)
 lists-newcomer about present owner sid peer challenge = record { here = λ there fine. absurd (false≢true there); early = λ is fine. after-none }
 
-lists-joined : (f : Facts) (owner : ℕ) (peer challenge : List ℕ) (after : ℕ → About) (d : ℕ) (same : Bool) → (d == (f.joins + 1)) ≡ same
+lists-joined : (f : Facts) (owner : ℕ) (peer challenge : List ℕ) (after : ℕ → ConnState) (d : ℕ) (same : Bool) → (d == (f.joins + 1)) ≡ same
     → ((x : ℕ) → has x f.present ≡ true → entry_of after x ≡ entry_of f.about x) → Lists f.about f.present (f.about d)
     → Lists after f.present (cond same (newcomer owner (next_sid f) peer challenge) (f.about d))
 lists-joined f owner peer challenge after d true is same lists = lists-newcomer after f.present owner (next_sid f) peer challenge
@@ -350,7 +350,7 @@ lists-join f is-sound owner peer challenge true lists d =
     (λ x there. joined-entry f is-sound owner peer challenge x (x == (f.joins + 1)) refl there) (lists d)
 lists-join f is-sound owner peer challenge false lists d = lists d
 
-taken-entry : (count : ℕ) (same : Bool) (about : ℕ → About) (x : ℕ) → entry_of (λ y. taken_by same count (about y)) x ≡ entry_of about x
+taken-entry : (count : ℕ) (same : Bool) (about : ℕ → ConnState) (x : ℕ) → entry_of (λ y. taken_by same count (about y)) x ≡ entry_of about x
 taken-entry count same about x = refl
 
 -- ---- every call, and every history

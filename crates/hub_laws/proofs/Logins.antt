@@ -11,7 +11,7 @@ use Rattle.inf_fields.specs.FieldNames.{id_name, private_id_name}
 use Rattle.operator_acts.specs.declared.left.Left.{Left}
 use Rattle.hub_rules.specs.Identities.{nick_in}
 use Rattle.hub_rules.proofs.Merges.{id-clean}
-use Rattle.hub_laws.proofs.Words.{About, AllFalse, Configured, Deny, Effect, Entry, Facts, Field, IsAddressed, Kind, Line, Listed, Own, PreparedLine, Reading, Request, Sight, Stage}
+use Rattle.hub_laws.proofs.Words.{ConnState, AllFalse, Configured, Deny, Effect, Entry, Facts, Field, IsAddressed, Kind, Line, Listed, SenderView, PreparedLine, Reading, Request, HubView, Stage}
 use Rattle.hub_laws.proofs.Words.{about_after, accepted_effect, admits, after, bytes_eq, bytes_eq-Decides, cid_in, clean, denial_of, digest_given, effect_of_line}
 use Rattle.hub_laws.proofs.Words.{ban_ground, entry_grounds, eq-eqb, facts, first_ground, given-after, happens, has, has_cid, has_key, is_account, is_broadcast, is_digest, is_empty}
 use Rattle.hub_laws.proofs.Words.{is_here, is_present, is_unnamed, key_in, left_of_bans, line_effect, list_any, listed_user, login_denied, login_grounds, meaning, merged_fields, merged_with}
@@ -25,11 +25,11 @@ use Rattle.hub_laws.proofs.Words.lines
 use Rattle.hub_laws.proofs.Words.requests
 use Rattle.hub_laws.proofs.Words.stages
 use Rattle.hub_laws.specs.Logins.{IsFree, LoginsAreAccepted, LogsIn, PasswordsAreAccepted}
-use Rattle.hub_laws.proofs.Clearing.{listed-cid, listed-key}
+use Rattle.hub_laws.proofs.FreeNames.{listed-cid, listed-key}
 use Rattle.hub_laws.proofs.Messages.{some-read}
 use Rattle.hub_laws.proofs.Owners.{owner-login, prepared-owner}
-use Rattle.hub_laws.proofs.Passing.{key-merged}
-use Rattle.hub_laws.proofs.Vouching.{prepared-bytes, vouched_of}
+use Rattle.hub_laws.proofs.PassedFields.{key-merged}
+use Rattle.hub_laws.proofs.AccountPasswords.{prepared-bytes, vouched_of}
 
 -- ---- grounds of which none holds
 
@@ -44,7 +44,7 @@ free-left : (l : Left) → l ≡ lefts.Free → (ban_ground l).0 ≡ false
 free-left l is = ap (λ (k : Left). (ban_ground k).0) is
 
 -- nobody is so
-none-here : (about : ℕ → About) (test : Listed → Bool) (cs : List ℕ) → ((d : ℕ) → has d cs ≡ true → test (user_of about d) ≡ false) → list_any test (map (user_of about) cs) ≡ false
+none-here : (about : ℕ → ConnState) (test : Listed → Bool) (cs : List ℕ) → ((d : ℕ) → has d cs ≡ true → test (user_of about d) ≡ false) → list_any test (map (user_of about) cs) ≡ false
 none-here about test [] none = refl
 none-here about test (x ∷ cs) none =
     ap₂ ◌||◌ (none x (ap (λ b. b || has x cs) (eq-eqb x x refl))) (none-here about test cs (λ d there. none d (ap (λ b. eqb x d || b) there ∙ or-true (eqb x d))))
@@ -52,11 +52,11 @@ none-here about test (x ∷ cs) none =
 differs : (other word : List ℕ) (b : Bool) → bytes_eq other word ≡ b → (other ≡ word → ⊥) → b ≡ false
 differs other word b is apart = grind (arith, bytes_eq-Decides)
 
-key-apart : (about : ℕ → About) (key : List ℕ) (d : ℕ) → (key_in (about d).fields ≡ key → ⊥) → has_key key (user_of about d) ≡ false
+key-apart : (about : ℕ → ConnState) (key : List ℕ) (d : ℕ) → (key_in (about d).fields ≡ key → ⊥) → has_key key (user_of about d) ≡ false
 unfolding listed_user
 key-apart about key d apart = differs _ _ _ refl apart
 
-cid-apart : (about : ℕ → About) (cid : List ℕ) (d : ℕ) → (cid_in (about d).fields ≡ cid → ⊥) → has_cid cid (user_of about d) ≡ false
+cid-apart : (about : ℕ → ConnState) (cid : List ℕ) (d : ℕ) → (cid_in (about d).fields ≡ cid → ⊥) → has_cid cid (user_of about d) ≡ false
 unfolding listed_user
 cid-apart about cid d apart = differs _ _ _ refl apart
 
@@ -113,11 +113,11 @@ is-inf kind command is-kind is-command = ap₂ (λ k (w : List ℕ). is_broadcas
 own-named : (sid : ℕ) (from : Option ℕ) → from ≡ Some sid → names_another sid from ≡ false
 own-named sid from is = ap (names_another sid) is ∙ ap not (eq-eqb sid sid refl)
 
-denied-none : (hub : Sight) (own : Own) (prepared : PreparedLine) (now : ℕ) (line : Reading) (stage : Stage) (request : Request) → own.stage ≡ stage → names_another own.sender.sid line.from ≡ false
+denied-none : (hub : HubView) (own : SenderView) (prepared : PreparedLine) (now : ℕ) (line : Reading) (stage : Stage) (request : Request) → own.stage ≡ stage → names_another own.sender.sid line.from ≡ false
     → request_at stage line.kind line.command ≡ Ok request → request_denied hub own prepared now line request ≡ None → denial_of hub own prepared now line ≡ None
 denied-none hub own prepared now line stage request at from asks none = grind arith
 
-heard : (hub : Sight) (own : Own) (prepared : PreparedLine) (now : ℕ) (line : Reading) (stage : Stage) (request : Request) → own.stage ≡ stage → is_over stage ≡ false
+heard : (hub : HubView) (own : SenderView) (prepared : PreparedLine) (now : ℕ) (line : Reading) (stage : Stage) (request : Request) → own.stage ≡ stage → is_over stage ≡ false
     → (length prepared.bytes == 0) ≡ false → lines.reading prepared.bytes ≡ Ok line → request_at stage line.kind line.command ≡ Ok request
     → denial_of hub own prepared now line ≡ None → line_effect hub own prepared now ≡ accepted_effect hub own prepared now line request
 unfolding line_effect
@@ -129,10 +129,10 @@ module _ {setup : Configured} {hash : List ℕ → List ℕ} {h : List Entry} {e
   abbrev f : Facts
   f = facts setup hash h
 
-  abbrev hub : Sight
+  abbrev hub : HubView
   hub = sight_of setup f
 
-  abbrev own : Own
+  abbrev own : SenderView
   own = own_of (f.about c)
 
   abbrev prepared : PreparedLine
@@ -212,8 +212,8 @@ pub passwords_are_accepted : PasswordsAreAccepted
 unfolding request_denied accepted_effect entry_grounds
 passwords_are_accepted setup hash h e c account gives =
     let f : Facts = facts setup hash h in
-    let hub : Sight = sight_of setup f in
-    let own : Own = own_of (f.about c) in
+    let hub : HubView = sight_of setup f in
+    let own : SenderView = own_of (f.about c) in
     let prepared : PreparedLine = prepared_line setup hash (f.about c).sender.challenge gives.bytes in
     let user : Listed = listed_user own.sender.sid own.fields in
     let same = prepared-bytes setup hash (f.about c).sender.challenge gives.bytes in

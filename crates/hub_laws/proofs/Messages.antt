@@ -9,7 +9,7 @@ use Rattle.adc_line.specs.Words.{blank}
 use Rattle.login_state.specs.Requests.{is_of_the_hub, is_to_the_hub, to_users}
 use Rattle.hub_invariants.specs.Said.{kept_unless}
 use Rattle.hub_rules.specs.Denied.{is_search_due, message_denied}
-use Rattle.hub_laws.proofs.Words.{Configured, Entry, Facts, Kind, Own, PreparedLine, Reading, Request, Sight, accepted_line, bytes_eq, denial_of, eq-eqb, facts, false≢true, names_another, or-parts, own_of}
+use Rattle.hub_laws.proofs.Words.{Configured, Entry, Facts, Kind, SenderView, PreparedLine, Reading, Request, HubView, accepted_line, bytes_eq, denial_of, eq-eqb, facts, false≢true, names_another, or-parts, own_of}
 use Rattle.hub_laws.proofs.Words.{prepared_line, request_at, request_denied, sight_of}
 use Rattle.hub_laws.proofs.Words.denials
 use Rattle.hub_laws.proofs.Words.kinds
@@ -18,8 +18,8 @@ use Rattle.hub_laws.proofs.Words.requests
 use Rattle.hub_laws.proofs.Words.stages
 use Rattle.hub_laws.specs.Intervals.{SearchesAreAccepted}
 use Rattle.hub_laws.specs.Messages.{IsToUsers, MessagesAreAccepted, goes_to_users, is_hub_command, is_search_command}
-use Rattle.hub_laws.proofs.Searching.{search_is_the_last}
-use Rattle.hub_laws.proofs.Vouching.{prepared-bytes}
+use Rattle.hub_laws.proofs.Searches.{search_is_the_last}
+use Rattle.hub_laws.proofs.AccountPasswords.{prepared-bytes}
 
 -- ---- what such a message asks for
 
@@ -66,17 +66,17 @@ asks-users kinds.Udp command search users other is = absurd (false≢true users)
 own-named : (sid : ℕ) → names_another sid (Some sid) ≡ false
 own-named sid = ap not (eq-eqb sid sid refl)
 
-by-request : (hub : Sight) (own : Own) (line : PreparedLine) (now : ℕ) (reading : Reading) (search : Bool) → request_denied hub own line now reading (search_or_message search) ≡ message_denied hub own now search
+by-request : (hub : HubView) (own : SenderView) (line : PreparedLine) (now : ℕ) (reading : Reading) (search : Bool) → request_denied hub own line now reading (search_or_message search) ≡ message_denied hub own now search
 unfolding request_denied
 by-request hub own line now reading true = refl
 by-request hub own line now reading false = refl
 
-denial-is : (hub : Sight) (own : Own) (line : PreparedLine) (now : ℕ) (reading : Reading) (search : Bool) → own.stage ≡ stages.Normal → reading.from ≡ Some own.sender.sid
+denial-is : (hub : HubView) (own : SenderView) (line : PreparedLine) (now : ℕ) (reading : Reading) (search : Bool) → own.stage ≡ stages.Normal → reading.from ≡ Some own.sender.sid
     → request_at stages.Normal reading.kind reading.command ≡ Ok (search_or_message search)
     → denial_of hub own line now reading ≡ message_denied hub own now search
 denial-is hub own line now reading search at from asks = grind (arith, own-named, by-request)
 
-accepted-if : (hub : Sight) (own : Own) (line : PreparedLine) (now : ℕ) (reading : Reading) → own.stage ≡ stages.Normal → (length line.bytes == 0) ≡ false
+accepted-if : (hub : HubView) (own : SenderView) (line : PreparedLine) (now : ℕ) (reading : Reading) → own.stage ≡ stages.Normal → (length line.bytes == 0) ≡ false
     → lines.reading line.bytes ≡ Ok reading → accepted_line hub own line now ≡ kept_unless (denial_of hub own line now reading) reading
 unfolding accepted_line
 accepted-if hub own line now reading at some reads = grind arith
@@ -92,7 +92,7 @@ some-joined a word (w ∷ ws) = more-than-none a _
 pub some-read : (bytes : List ℕ) (line : Reading) → Reads bytes line → (length bytes == 0) ≡ false
 some-read bytes line reads = ap (λ (bs : List ℕ). length bs == 0) reads.spelt ∙ some-joined (letter line.kind) line.command (reads.addresses ++ line.params)
 
-kept-search : (hub : Sight) (own : Own) (now : ℕ) (line : Reading) (due : Bool) → is_search_due hub.setup.plain own.sender.notes.searched now ≡ due
+kept-search : (hub : HubView) (own : SenderView) (now : ℕ) (line : Reading) (due : Bool) → is_search_due hub.setup.plain own.sender.notes.searched now ≡ due
     → kept_unless (message_denied hub own now true) line ≡ (if due then Some line else None)
 kept-search hub own now line due is = grind arith
 
@@ -100,10 +100,10 @@ module _ (setup : Configured) (hash : List ℕ → List ℕ) (h : List Entry) (c
   abbrev f : Facts
   f = facts setup hash h
 
-  abbrev hub : Sight
+  abbrev hub : HubView
   hub = sight_of setup f
 
-  abbrev own : Own
+  abbrev own : SenderView
   own = own_of (f.about c)
 
   abbrev prepared : PreparedLine

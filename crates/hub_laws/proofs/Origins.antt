@@ -3,7 +3,7 @@ use Rattle.std.proofs.Common.{◌∙◌, sym, ap, refl, subst, ℕ, Bool, true, 
 use Rattle.hub_rules.specs.Texts.{challenge_line, done_line, hub_line, identifier_line, menu_line, removal_line, support_line, topic_line}
 use Rattle.hub_laws.proofs.Words.{AllByRecursion, Configured, Entry, all_fit, facts, share}
 use Rattle.hub_laws.specs.Origins.{LinesHaveOrigins, Origin, of_entrant, of_message, of_the_hub, of_update, of_user}
-use Rattle.hub_laws.proofs.Ordering.{added-is}
+use Rattle.hub_laws.proofs.SenderOrder.{added-is}
 use Rattle.hub_laws.proofs.Others.{status}
 use Rattle.hub_laws.proofs.Secrets.{all-as}
 use Rattle.hub_laws.proofs.Sources.{Source, from_challenge, from_done, from_entrant, from_hub, from_identifier, from_menu, from_message, from_quit, from_removal, from_status, from_support, from_topic, from_update, from_user, share-has}

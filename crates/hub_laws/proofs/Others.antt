@@ -6,9 +6,9 @@ use Rattle.adc_line.specs.Grammar.{IsCommand, Reads}
 use Rattle.adc_line.specs.Header.{letter}
 use Rattle.adc_line.specs.Words.{blank}
 use Rattle.login_state.specs.Denials.{denial_line, denial_text}
-use Rattle.hub_rules.specs.Configured.{Configured, MenuEntry}
+use Rattle.hub_rules.specs.Configured.{Configured, ConfiguredEntry}
 use Rattle.hub_rules.specs.Texts.{challenge_line, done_line, hub_line, identifier_line, menu_line, support_line, topic_line}
-use Rattle.hub_laws.proofs.Words.{Act, AllByRecursion, Deny, Does, Effect, Field, Hub, HubChange, Kind, Listed, Others, Outcome, Own, PreparedLine, Reading, Reads-of, Request, Sender, Sight, Stage, Those}
+use Rattle.hub_laws.proofs.Words.{Act, AllByRecursion, Deny, Does, Effect, Field, Hub, HubChange, Kind, Listed, Others, Outcome, SenderView, PreparedLine, Reading, Reads-of, Request, Sender, HubView, Stage, Those}
 use Rattle.hub_laws.proofs.Words.{Done, effect_for_all, eq-eqb, user_called, acts, bans_user, bytes_eq, bytes_eq-Decides, chats, clean, denies, enters, false≢true, farewell, fields_after, greets, has_feature, ignores, is_present, is_removed, kicks}
 use Rattle.hub_laws.proofs.Words.{learns, lets_in, line_effect, line_of, line_unless_empty, listed_user, merged_with, outcome, passes, proves, quiet, removal_line, request_at, request_in, request_of, revises, searches, sets_topic, shuts_out}
 use Rattle.hub_laws.proofs.Words.{silent, silent-keeps, stage_after, ucmd, waits, with_line_feed}
@@ -22,8 +22,8 @@ use Rattle.hub_laws.proofs.Words.shared
 use Rattle.hub_laws.proofs.Words.stages
 use Rattle.hub_laws.proofs.Fields.{told-clean}
 use Rattle.hub_laws.proofs.Pieces.{IsOther, IsSolid, IsTold, is_gap, letter-digit-solid, letter-solid}
-use Rattle.hub_laws.proofs.Ordering.{is-accepted}
-use Rattle.hub_laws.proofs.Welcoming.{line_by}
+use Rattle.hub_laws.proofs.SenderOrder.{is-accepted}
+use Rattle.hub_laws.proofs.Welcome.{line_by}
 
 abbrev pub AreOthers : List (List ℕ) → Type 0
 AreOthers lines = AllByRecursion IsOther lines
@@ -67,7 +67,7 @@ other-challenge : (challenge : List ℕ) → IsOther (challenge_line challenge)
 unfolding challenge_line
 other-challenge challenge = starting 73 71 80 65 _ _ refl (refl, (refl, (refl, (refl, tt)))) refl refl
 
-pub other-menu : (entry : MenuEntry) → IsOther (menu_line entry)
+pub other-menu : (entry : ConfiguredEntry) → IsOther (menu_line entry)
 unfolding menu_line
 other-menu entry = starting 73 67 77 68 _ _ refl (refl, (refl, (refl, (refl, tt)))) refl refl
 
@@ -169,7 +169,7 @@ is_early stages.Verify = true
 is_early stage = false
 
 -- it tells of nobody, and changes no user who is present
-pub record IsStill (own : Own) (effect : Effect) : Type 0 where
+pub record IsStill (own : SenderView) (effect : Effect) : Type 0 where
   pub own_lines : AreOthers effect.own
   pub others : AreOthers effect.others
   pub presence : is_present (stage_after effect.change own.stage) ≡ is_present own.stage
@@ -179,13 +179,13 @@ pub record IsStill (own : Own) (effect : Effect) : Type 0 where
   pub enters : enters effect.change ≡ false
 
 -- its sender is shut out
-pub record IsFarewell (own : Own) (effect : Effect) : Type 0 where
+pub record IsFarewell (own : SenderView) (effect : Effect) : Type 0 where
   pub others : effect.others ≡ farewell own.stage own.sender.sid
   pub hearers : effect.hearers ≡ Others
   pub change : effect.change ≡ Sender senders.Falls
 
 -- its sender enters
-pub record IsEntry (hub : Sight) (own : Own) (effect : Effect) : Type 0 where
+pub record IsEntry (hub : HubView) (own : SenderView) (effect : Effect) : Type 0 where
   pub others : effect.others ≡ line_by hub own (fields_after effect.change own.fields) ∷ []
   pub hearers : effect.hearers ≡ Others
   pub welcomes : effect.own ≡ map (line_of hub) hub.users ++ line_by hub own (fields_after effect.change own.fields) ∷ cond (has_feature ucmd own.sender.features) (map menu_line hub.setup.menu) []
@@ -195,7 +195,7 @@ pub record IsEntry (hub : Sight) (own : Own) (effect : Effect) : Type 0 where
   pub enters : enters effect.change ≡ true
 
 -- it changes the fields of its sender
-pub record IsRevision (own : Own) (effect : Effect) (u : List Field) : Type 0 where
+pub record IsRevision (own : SenderView) (effect : Effect) (u : List Field) : Type 0 where
   pub others : effect.others ≡ line_unless_empty own.sender.sid u
   pub hearers : effect.hearers ≡ Those audiences.All
   pub own_lines : effect.own ≡ []
@@ -219,14 +219,14 @@ pub record IsRemoval (effect : Effect) (target : ℕ) : Type 0 where
   pub removes : (sid : ℕ) → is_removed effect.change sid ≡ (sid == target)
   pub enters : enters effect.change ≡ false
 
-pub data Tells (hub : Sight) (own : Own) (effect : Effect) : Type 0 where
+pub data Tells (hub : HubView) (own : SenderView) (effect : Effect) : Type 0 where
   nobody : IsStill own effect → Tells hub own effect
   leaves : IsFarewell own effect → Tells hub own effect
   entry : IsEntry hub own effect → Tells hub own effect
   revision_of : (u : List Field) → IsRevision own effect u → Tells hub own effect
   removal_of : (user : Listed) (nick : List ℕ) → user_called hub.users nick ≡ Some user → IsRemoval effect user.sid → Tells hub own effect
 
-still-as : (own : Own) (effect : Effect) → AreOthers effect.own → AreOthers effect.others → stage_after effect.change own.stage ≡ own.stage
+still-as : (own : SenderView) (effect : Effect) → AreOthers effect.own → AreOthers effect.others → stage_after effect.change own.stage ≡ own.stage
     → fields_after effect.change own.fields ≡ own.fields → ((sid : ℕ) → is_removed effect.change sid ≡ false) → enters effect.change ≡ false → IsStill own effect
 still-as own effect own-lines others same fields removes none = record {
   own_lines = own-lines;
@@ -238,7 +238,7 @@ still-as own effect own-lines others same fields removes none = record {
   enters = none;
 }
 
-entry-of : (hub : Sight) (own : Own) (effect : Effect) → effect.others ≡ line_by hub own (fields_after effect.change own.fields) ∷ [] → effect.hearers ≡ Others
+entry-of : (hub : HubView) (own : SenderView) (effect : Effect) → effect.others ≡ line_by hub own (fields_after effect.change own.fields) ∷ [] → effect.hearers ≡ Others
     → effect.own ≡ map (line_of hub) hub.users ++ line_by hub own (fields_after effect.change own.fields) ∷ cond (has_feature ucmd own.sender.features) (map menu_line hub.setup.menu) []
     → stage_after effect.change own.stage ≡ stages.Normal → is_early own.stage ≡ true → ((sid : ℕ) → is_removed effect.change sid ≡ false) → enters effect.change ≡ true → Tells hub own effect
 entry-of hub own effect others hearers welcomes here early removes brings =
@@ -259,7 +259,7 @@ removal-as effect act target operator seconds reason is removes others hearers o
   enters = ap enters is;
 }
 
-does-tell : {act : Act} (hub : Sight) (own : Own) (done : Done) → Does hub.users hub.bans own.sender.sid act done.others done.change → Tells hub own (effect_for_all done)
+does-tell : {act : Act} (hub : HubView) (own : SenderView) (done : Done) → Does hub.users hub.bans own.sender.sid act done.others done.change → Tells hub own (effect_for_all done)
 does-tell hub own done (kicks nick reason target called) =
     removal_of target nick called (removal-as (effect_for_all done) (shared.At target.sid seats.Gone) target.sid own.sender.sid None reason refl (λ sid. refl) refl refl (other-done, tt))
 does-tell hub own done (bans_user nick reason target banned called same room) =
@@ -269,7 +269,7 @@ does-tell hub own done (bans_user nick reason target banned called same room) =
 does-tell hub own done (silent change is) = nobody (still-as own (effect_for_all done) (other-done, tt) tt refl refl (λ sid. silent-keeps change sid is) refl)
 does-tell hub own done (sets_topic text) = nobody (still-as own (effect_for_all done) (other-done, tt) (other-topic text, tt) refl refl (λ sid. refl) refl)
 
-module _ {hub : Sight} {own : Own} {line : PreparedLine} {now : ℕ} where
+module _ {hub : HubView} {own : SenderView} {line : PreparedLine} {now : ℕ} where
   tells : {said : Option Reading} {request : Request} {effect : Effect} → Outcome hub own line now said request effect
       → ((reading : Reading) → said ≡ Some reading → (lines.reading line.bytes ≡ Ok reading) × (request_of own.stage reading.kind reading.command ≡ request)) → Tells hub own effect
   unfolding listed_user
@@ -326,7 +326,7 @@ module _ {hub : Sight} {own : Own} {line : PreparedLine} {now : ℕ} where
       ) refl refl (λ sid. refl) refl)
   tells (ignores reading) reads = nobody (still-as own _ tt tt refl refl (λ sid. refl) refl)
 
-pub line-tells : (hub : Sight) (own : Own) (line : PreparedLine) (now : ℕ) → Tells hub own (line_effect hub own line now)
+pub line-tells : (hub : HubView) (own : SenderView) (line : PreparedLine) (now : ℕ) → Tells hub own (line_effect hub own line now)
 line-tells hub own line now =
     tells (outcome hub own line now) (λ reading said.
     ((is-accepted hub own line now reading said).reads, sym (ap (request_in own) said)))

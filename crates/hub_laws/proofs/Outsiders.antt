@@ -1,15 +1,15 @@
 -- A call of another shares out nothing to a connection whose user is not present.
 use Rattle.std.proofs.Common.{◌≡◌, ◌∙◌, sym, ap₂, refl, ℕ, Bool, false, ◌&&◌, ◌==◌, List, [], ◌++◌, cond, arith}
-use Rattle.hub_laws.proofs.Words.{About, Call, Configured, Effect, Facts, Join, Line, Quit, Stage, Take, departure, effect_of_line, eqb-sym, facts, hears_those, is_present, owes, share}
+use Rattle.hub_laws.proofs.Words.{ConnState, Call, Configured, Effect, Facts, Join, Line, Quit, Stage, Take, departure, effect_of_line, eqb-sym, facts, hears_those, is_present, owes, share}
 use Rattle.hub_laws.proofs.Words.stages
-use Rattle.hub_laws.specs.Ordering.{is_of}
+use Rattle.hub_laws.specs.SenderOrder.{is_of}
 use Rattle.hub_laws.specs.Outsiders.{OutsidersHearNothing}
 use Rattle.hub_laws.proofs.Owed.{owed-nothing}
 
 pub absent-stage : (stage : Stage) → (stage ≡ stages.Normal → ⊥) → is_present stage ≡ false
 absent-stage stage absent = grind arith
 
-pub owes-absent : (same : Bool) (effect : Effect) (a : About) → same ≡ false → is_present a.stage ≡ false → owes same effect a ≡ []
+pub owes-absent : (same : Bool) (effect : Effect) (a : ConnState) → same ≡ false → is_present a.stage ≡ false → owes same effect a ≡ []
 owes-absent same effect a other absent =
     ap₂ (λ p b. cond (p && hears_those same effect.hearers a) effect.others [] ++ cond b effect.own []) absent other
 

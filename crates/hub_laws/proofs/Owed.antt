@@ -2,8 +2,8 @@
 use Rattle.std.proofs.Common.{◌≡◌, ◌∙◌, sym, ap, refl, subst, ℕ, Bool, true, false, not, List, [], ◌∷◌, ◌++◌, append-nil, cond, arith}
 use Rattle.hub_laws.proofs.Words.{Configured, Entry, all_fit, facts, lags, lines_owed, share}
 use Rattle.hub_laws.specs.Owed.{IsOwed}
-use Rattle.hub_laws.proofs.Lagging.{lag_is_the_first}
-use Rattle.hub_laws.proofs.Ordering.{added-is, not-false, owed_grows}
+use Rattle.hub_laws.proofs.Lag.{lag_is_the_first}
+use Rattle.hub_laws.proofs.SenderOrder.{added-is, not-false, owed_grows}
 
 not-true : (b : Bool) → not b ≡ true → b ≡ false
 not-true b is = grind arith

@@ -3,8 +3,8 @@ use Rattle.std.proofs.Common.{◌≡◌, ◌∙◌, sym, ap, refl, subst, ℕ, B
 use Rattle.adc_base32.specs.Spelled.{spelled_bytes}
 use Rattle.inf_fields.specs.FieldNames.{private_id_name}
 use Rattle.hub_rules.specs.Prepared.{owner_digest}
-use Rattle.hub_laws.proofs.Words.{About, AllFalse, Becomes, Call, Change, Configured, Deny, Effect, Entry, Facts, Field, Kind, Line, Listed, Logs, Outcome, Own, PreparedLine, Reading, Request}
-use Rattle.hub_laws.proofs.Words.{Sender, Sight, Stage, accepted_line, and_parts, becomes, bytes_eq, bytes_eq-Decides, cid_in, clean, codes, departure, effect_of_line, eqb-true, facts, false≢true}
+use Rattle.hub_laws.proofs.Words.{ConnState, AllFalse, Becomes, Call, Change, Configured, Deny, Effect, Entry, Facts, Field, Kind, Line, Listed, Logs, Outcome, SenderView, PreparedLine, Reading, Request}
+use Rattle.hub_laws.proofs.Words.{Sender, HubView, Stage, accepted_line, and_parts, becomes, bytes_eq, bytes_eq-Decides, cid_in, clean, codes, departure, effect_of_line, eqb-true, facts, false≢true}
 use Rattle.hub_laws.proofs.Words.{fields_after, first_ground, greets, grounds_of, infs, is_broadcast, is_digest, lets_in, login_grounds, merged_fields, merged_with, none-of}
 use Rattle.hub_laws.proofs.Words.{option_map, outcome, own_of, prepared_line, proves, removed_by, request_of, revises, same-cid, shuts_out, sight_of, stage_after, stage_next, told_of, update-free}
 use Rattle.hub_laws.proofs.Words.{update_of, user_after, value_or_empty, waits}
@@ -16,9 +16,9 @@ use Rattle.hub_laws.proofs.Words.senders
 use Rattle.hub_laws.proofs.Words.stages
 use Rattle.hub_laws.proofs.Words.updates
 use Rattle.hub_laws.specs.Owners.{CidsAreShown, HasShown}
-use Rattle.hub_laws.proofs.Clearing.{listed-cid, listed-fields}
+use Rattle.hub_laws.proofs.FreeNames.{listed-cid, listed-fields}
 use Rattle.hub_laws.proofs.Entrances.{read-accepted}
-use Rattle.hub_laws.proofs.Vouching.{is-inf, prepared-bytes}
+use Rattle.hub_laws.proofs.AccountPasswords.{is-inf, prepared-bytes}
 
 -- its login was accepted
 abbrev is_known : Stage → Bool
@@ -33,7 +33,7 @@ is_pid denials.BadPid = true
 is_pid deny = false
 
 -- a login whose digest is the CID of its user
-record Shows (own : Own) (line : PreparedLine) (said : Option Reading) (fields : List Field) : Type 0 where
+record Shows (own : SenderView) (line : PreparedLine) (said : Option Reading) (fields : List Field) : Type 0 where
   update : List Field
   reading : Reading
   is_said : said ≡ Some reading
@@ -42,25 +42,25 @@ record Shows (own : Own) (line : PreparedLine) (said : Option Reading) (fields :
   words : updates.reading reading.params ≡ Ok update
   digest : line.owner ≡ Some (cid_in fields)
 
-record Keeps (own : Own) (fields : List Field) : Type 0 where
+record Keeps (own : SenderView) (fields : List Field) : Type 0 where
   known : is_known own.stage ≡ true
   same : cid_in fields ≡ cid_in own.fields
 
-abbrev IsShowing : Own → PreparedLine → Option Reading → Effect → Type 0
+abbrev IsShowing : SenderView → PreparedLine → Option Reading → Effect → Type 0
 IsShowing own line said effect =
     is_known (stage_after effect.change own.stage) ≡ true → Keeps own (fields_after effect.change own.fields) ⊎ Shows own line said (fields_after effect.change own.fields)
 
 right-pid : (cid : List ℕ) (digest : Option (List ℕ)) → not (is_digest cid digest) ≡ false → digest ≡ Some cid
 right-pid cid digest is = grind (arith, bytes_eq-Decides)
 
-login-pid : (hub : Sight) (own : Own) (now : ℕ) (digest : Option (List ℕ)) (u : List Field) (user : Listed) → first_ground (login_grounds hub own now digest u user) ≡ None
+login-pid : (hub : HubView) (own : SenderView) (now : ℕ) (digest : Option (List ℕ)) (u : List Field) (user : Listed) → first_ground (login_grounds hub own now digest u user) ≡ None
     → digest ≡ Some user.cid
 unfolding login_grounds
 login-pid hub own now digest u user none =
     let pid : AllFalse (grounds_of is_pid (login_grounds hub own now digest u user)) = none-of is_pid (login_grounds hub own now digest u user) none in
     right-pid user.cid digest pid.0
 
-shows-login : (hub : Sight) (own : Own) (line : PreparedLine) (now : ℕ) (reading : Reading) (u : List Field) → Logs hub own line now reading u
+shows-login : (hub : HubView) (own : SenderView) (line : PreparedLine) (now : ℕ) (reading : Reading) (u : List Field) → Logs hub own line now reading u
     → Shows own line (Some reading) (user_after own u).fields
 shows-login hub own line now reading u logs = record {
   update = u;
@@ -79,7 +79,7 @@ no-gone is = false≢true is
 no-identify : is_known stages.Identify ≡ true → ⊥
 no-identify is = false≢true is
 
-module _ {hub : Sight} {own : Own} {line : PreparedLine} {now : ℕ} where
+module _ {hub : HubView} {own : SenderView} {line : PreparedLine} {now : ℕ} where
   showing : {said : Option Reading} {request : Request} {effect : Effect} → Outcome hub own line now said request effect → (updates : List (List Field)) → own.fields ≡ merged_fields updates
       → IsShowing own line said effect
   showing (shuts_out deny) infs known is = absurd (no-gone is)
@@ -114,7 +114,7 @@ pid-of hash (Some pid) cid is = record { pid = pid; spells = refl; hashes = cc i
 pid-of hash None cid is = let no : ⊥ = cc is in absurd no
 
 module _ (setup : Configured) (hash : List ℕ → List ℕ) (h : List Entry) (e : Entry) (c : ℕ) where
-  abbrev own : Own
+  abbrev own : SenderView
   own = own_of ((facts setup hash h).about c)
 
   has-shown : (bytes : List ℕ) (now : ℕ) (fields : List Field) → e.call ≡ Line c bytes now
@@ -174,7 +174,7 @@ shown-still setup hash h e c cid has = record {
   hashes = has.hashes;
 }
 
-abbrev ShownBy : Configured → (List ℕ → List ℕ) → List Entry → ℕ → About → Type 0
+abbrev ShownBy : Configured → (List ℕ → List ℕ) → List Entry → ℕ → ConnState → Type 0
 ShownBy setup hash h c a = is_known a.stage ≡ true → HasShown setup hash h c (cid_in a.fields)
 
 module _ (setup : Configured) (hash : List ℕ → List ℕ) (h : List Entry) (e : Entry) where
@@ -195,14 +195,14 @@ module _ (setup : Configured) (hash : List ℕ → List ℕ) (h : List Entry) (e
           subst (HasShown setup hash (e ∷ h) c) (sym keeps.same) (shown-still setup hash h e c _ (shown keeps.known))
       by-either c bytes now call shown (inr shows) = has-shown setup hash h e c bytes now _ call shows
 
-  shown-next : (d : ℕ) (removed same : Bool) (change : Change) (a : About) → ShownBy setup hash h d a
+  shown-next : (d : ℕ) (removed same : Bool) (change : Change) (a : ConnState) → ShownBy setup hash h d a
       → (same ≡ true → is_known (stage_after change a.stage) ≡ true → HasShown setup hash (e ∷ h) d (cid_in (fields_after change a.fields)))
       → is_known (stage_next removed same change a.stage) ≡ true → HasShown setup hash (e ∷ h) d (cid_in (cond same (fields_after change a.fields) a.fields))
   shown-next d true same change a shown mine is = absurd (no-gone is)
   shown-next d false true change a shown mine is = mine refl is
   shown-next d false false change a shown mine is = shown-still setup hash h e d _ (shown is)
 
-  shown-after : (d : ℕ) {call : Call} {a : About} → Becomes setup hash (facts setup hash h) e.caller d call a → e.call ≡ call → ShownBy setup hash h d ((facts setup hash h).about d)
+  shown-after : (d : ℕ) {call : Call} {a : ConnState} → Becomes setup hash (facts setup hash h) e.caller d call a → e.call ≡ call → ShownBy setup hash h d ((facts setup hash h).about d)
       → ShownBy setup hash (e ∷ h) d a
   shown-after d (Becomes.joins peer challenge now place at) call shown is = absurd (false≢true is)
   shown-after d (Becomes.says c bytes now) call shown is =

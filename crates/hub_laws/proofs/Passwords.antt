@@ -1,15 +1,15 @@
 -- Two hubs that differ in passwords alone come to the same, whatever is called, but for the digests that they wait for.
 use Rattle.std.proofs.Common.{◌≡◌, ◌∙◌, sym, ap, ap₂, refl, subst, ℕ, Bool, true, not, ◌&&◌, ◌==◌, ◌⊎◌, inl, inr, List, [], ◌∷◌, map, filter, cond, arith}
-use Rattle.hub_laws.proofs.Words.{About, Account, Ban, Call, Change, Configured, Effect, Entry, Facts, Hearers, Line, Listed, Own, Sight, affected_parts, after, bans_after, departure, happens_parts, happens-parts}
+use Rattle.hub_laws.proofs.Words.{ConnState, ConfiguredAccount, Ban, Call, Change, Configured, Effect, Entry, Facts, Hearers, Line, Listed, SenderView, HubView, affected_parts, after, bans_after, departure, happens_parts, happens-parts}
 use Rattle.hub_laws.proofs.Words.{effect_of_line, facts, happens, has_joins, has_place, lags_with, line_effect, listed_user, next_sid, owed_with, own_of, prepared_line, present_parts, sight_of}
 use Rattle.hub_laws.proofs.Words.{topic_after, user_of, with_connection, with_lines_taken, without_connection}
 use Rattle.hub_laws.proofs.Words.lines
 use Rattle.hub_laws.proofs.Words.stages
 use Rattle.hub_laws.specs.Passwords.{AreLikeCalls, AreLikeHistories, PasswordsAreNotTold, is_password, is_right, without_passwords}
-use Rattle.hub_laws.proofs.Veiling.{AreAlike, other_hub, other_own, passwords-alike, same-line-alike, veiled_effect, veiled_change}
+use Rattle.hub_laws.proofs.SecretsKept.{AreAlike, other_hub, other_own, passwords-alike, same-line-alike, veiled_effect, veiled_change}
 
 -- what is known of a connection, but for the digest that is waited for
-abbrev without_digest : About → About
+abbrev without_digest : ConnState → ConnState
 without_digest a = record a { expected = [] }
 
 record AreSame (f g : Facts) : Type 0 where
@@ -18,15 +18,15 @@ record AreSame (f g : Facts) : Type 0 where
 
 -- ---- what a decision looks at
 
-own-same : (a b : About) → without_digest a ≡ without_digest b → own_of b ≡ other_own (own_of a) b.expected
-own-same a b same = ap (λ (x : About). own_of (record x { expected = b.expected })) (sym same)
+own-same : (a b : ConnState) → without_digest a ≡ without_digest b → own_of b ≡ other_own (own_of a) b.expected
+own-same a b same = ap (λ (x : ConnState). own_of (record x { expected = b.expected })) (sym same)
 
-users-same : (about others : ℕ → About) (cs : List ℕ) → ((d : ℕ) → without_digest (about d) ≡ without_digest (others d)) → map (user_of others) cs ≡ map (user_of about) cs
+users-same : (about others : ℕ → ConnState) (cs : List ℕ) → ((d : ℕ) → without_digest (about d) ≡ without_digest (others d)) → map (user_of others) cs ≡ map (user_of about) cs
 users-same about others [] same = refl
 users-same about others (c ∷ cs) same =
-    ap₂ (λ (user : Listed) users. user ∷ users) (ap (λ (a : About). listed_user a.sender.sid a.fields) (sym (same c))) (users-same about others cs same)
+    ap₂ (λ (user : Listed) users. user ∷ users) (ap (λ (a : ConnState). listed_user a.sender.sid a.fields) (sym (same c))) (users-same about others cs same)
 
-abbrev with_accounts : Configured → List Account → Configured
+abbrev with_accounts : Configured → List ConfiguredAccount → Configured
 with_accounts setup accounts = record setup { accounts = accounts }
 
 closed-same : (c : ℕ) (f g : Facts) → AreSame f g → AreSame (without_connection c f) (without_connection c g)
@@ -46,23 +46,23 @@ LikeCalls f g (Line c bytes now) (Line d others later) =
     × ((f.about c).stage ≡ stages.Verify → is_right (f.about c).expected (lines.reading bytes) ≡ is_right (g.about c).expected (lines.reading others))
 LikeCalls f g call another = call ≡ another
 
-module _ (setup : Configured) (accounts : List Account) (hash : List ℕ → List ℕ) (f g : Facts) (alike : AreAlike setup.accounts accounts) (same : AreSame f g) where
+module _ (setup : Configured) (accounts : List ConfiguredAccount) (hash : List ℕ → List ℕ) (f g : Facts) (alike : AreAlike setup.accounts accounts) (same : AreSame f g) where
   sight-same : sight_of (with_accounts setup accounts) g ≡ other_hub (sight_of setup f) accounts
   sight-same = grind (arith, users-same)
 
   -- ---- what an effect makes of a connection
 
-  by-hearers : (is_caller : Bool) (own others : List (List ℕ)) (hearers : Hearers) (change : Change) (a : About)
+  by-hearers : (is_caller : Bool) (own others : List (List ℕ)) (hearers : Hearers) (change : Change) (a : ConnState)
       → without_digest (affected_parts is_caller (record { own = own; others = others; hearers = hearers; change = change }) a)
       ≡ without_digest (affected_parts is_caller (record { own = own; others = others; hearers = hearers; change = veiled_change change }) (without_digest a))
   unfolding owed_with lags_with
   by-hearers is_caller own others hearers change a = grind arith
 
-  affected-veiled : (is_caller : Bool) (effect : Effect) (a : About)
+  affected-veiled : (is_caller : Bool) (effect : Effect) (a : ConnState)
       → without_digest (affected_parts is_caller effect a) ≡ without_digest (affected_parts is_caller (veiled_effect effect) (without_digest a))
   affected-veiled is_caller effect a = by-hearers is_caller effect.own effect.others effect.hearers effect.change a
 
-  affected-same : (is_caller : Bool) (effect another : Effect) (a b : About) → veiled_effect effect ≡ veiled_effect another → without_digest a ≡ without_digest b
+  affected-same : (is_caller : Bool) (effect another : Effect) (a b : ConnState) → veiled_effect effect ≡ veiled_effect another → without_digest a ≡ without_digest b
       → without_digest (affected_parts is_caller effect a) ≡ without_digest (affected_parts is_caller another b)
   affected-same is_caller effect another a b alike same = grind (arith, affected-veiled)
 
@@ -83,7 +83,7 @@ module _ (setup : Configured) (accounts : List Account) (hash : List ℕ → Lis
   filter-same p q [] same = refl
   filter-same p q (x ∷ xs) same = ap₂ (λ b ys. cond b (x ∷ ys) (filter p xs)) (same x) (filter-same p q xs same) ∙ ap (λ ys. cond (q x) (x ∷ filter q xs) ys) (filter-same p q xs same)
 
-  present-same : (c : ℕ) (effect another : Effect) (about others : ℕ → About) (present : List ℕ) → veiled_effect effect ≡ veiled_effect another
+  present-same : (c : ℕ) (effect another : Effect) (about others : ℕ → ConnState) (present : List ℕ) → veiled_effect effect ≡ veiled_effect another
       → ((d : ℕ) → without_digest (about d) ≡ without_digest (others d)) → present_parts c another others present ≡ present_parts c effect about present
   present-same c effect another about others present alike same = grind arith
 
@@ -97,7 +97,7 @@ module _ (setup : Configured) (accounts : List Account) (hash : List ℕ → Lis
 
   -- ---- the same line, or two passwords
 
-  decided-same : (hub : Sight) (own : Own) (expected challenge bytes others : List ℕ) (now : ℕ) → AreAlike hub.setup.accounts accounts → AreAlikeLines bytes others
+  decided-same : (hub : HubView) (own : SenderView) (expected challenge bytes others : List ℕ) (now : ℕ) → AreAlike hub.setup.accounts accounts → AreAlikeLines bytes others
       → (own.stage ≡ stages.Verify → is_right own.expected (lines.reading bytes) ≡ is_right expected (lines.reading others))
       → veiled_effect (line_effect hub own (prepared_line setup hash challenge bytes) now)
       ≡ veiled_effect (line_effect (other_hub hub accounts) (other_own own expected) (prepared_line (with_accounts setup accounts) hash challenge others) now)
@@ -115,10 +115,10 @@ module _ (setup : Configured) (accounts : List Account) (hash : List ℕ → Lis
       → veiled_effect (effect_of_line setup hash f c bytes now) ≡ veiled_effect (effect_of_line (with_accounts setup accounts) hash g c others now)
   effect-same c bytes others now like right =
       decided-same (sight_of setup f) (own_of (f.about c)) (g.about c).expected (f.about c).sender.challenge bytes others now alike like right
-      ∙ ap (λ (a : About).
+      ∙ ap (λ (a : ConnState).
       veiled_effect (line_effect (other_hub (sight_of setup f) accounts) (other_own (own_of (f.about c)) (g.about c).expected)
       (prepared_line (with_accounts setup accounts) hash a.sender.challenge others) now)) (same.about c)
-      ∙ ap₂ (λ (hub : Sight) (own : Own). veiled_effect (line_effect hub own (prepared_line (with_accounts setup accounts) hash (g.about c).sender.challenge others) now))
+      ∙ ap₂ (λ (hub : HubView) (own : SenderView). veiled_effect (line_effect hub own (prepared_line (with_accounts setup accounts) hash (g.about c).sender.challenge others) now))
       (sym (sight-same)) (sym (own-same (f.about c) (g.about c) (same.about c)))
 
   -- ---- every call
@@ -126,7 +126,7 @@ module _ (setup : Configured) (accounts : List Account) (hash : List ℕ → Lis
   next-same : next_sid g ≡ next_sid f
   next-same = grind arith
 
-  newcomer-same : (is_new : Bool) (a b new : About) → without_digest a ≡ without_digest b → without_digest (cond is_new new a) ≡ without_digest (cond is_new new b)
+  newcomer-same : (is_new : Bool) (a b new : ConnState) → without_digest a ≡ without_digest b → without_digest (cond is_new new a) ≡ without_digest (cond is_new new b)
   newcomer-same is_new a b new same = grind arith
 
   joined-same : (owner : ℕ) (peer challenge : List ℕ) → AreSame (with_connection f owner peer challenge) (with_connection g owner peer challenge)
@@ -164,7 +164,7 @@ like-calls : (setup other : Configured) (hash : List ℕ → List ℕ) (h g : Li
     → LikeCalls (facts setup hash h) (facts other hash g) call another
 like-calls setup other hash h g call another like = grind arith
 
-same-of : (setup : Configured) (accounts : List Account) (hash : List ℕ → List ℕ) (h g : List Entry) → AreAlike setup.accounts accounts
+same-of : (setup : Configured) (accounts : List ConfiguredAccount) (hash : List ℕ → List ℕ) (h g : List Entry) → AreAlike setup.accounts accounts
     → AreLikeHistories setup (with_accounts setup accounts) hash h g → AreSame (facts setup hash h) (facts (with_accounts setup accounts) hash g)
 unfolding facts AreLikeHistories
 same-of setup accounts hash [] [] alike like = record { rest = refl; about = λ d. refl }

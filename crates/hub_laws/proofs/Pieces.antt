@@ -20,7 +20,7 @@ use Rattle.inf_fields.specs.Field.{printed_fields}
 use Rattle.inf_fields.specs.FieldNames.{client_type_name}
 use Rattle.inf_fields.specs.Updates.{field_in, is_named}
 use Rattle.hub_rules.specs.Texts.{ban_field, removal_line, text_field, update_line}
-use Rattle.hub_laws.proofs.Words.{Account, AllByRecursion, Field, bytes_eq, bytes_eq-Decides, client_type, field, is_called, quit_line, user_line}
+use Rattle.hub_laws.proofs.Words.{ConfiguredAccount, AllByRecursion, Field, bytes_eq, bytes_eq-Decides, client_type, field, is_called, quit_line, user_line}
 use Rattle.hub_laws.specs.Lists.{Listing, fields_told, heard, heard_words, pieces, with_user, without_user}
 
 -- what stands between words
@@ -195,12 +195,12 @@ unfolding is_named
 type-of true = record { gap = 32; rest = _; is = refl; text_is = refl; none = refl }
 type-of false = record { gap = 32; rest = _; is = refl; text_is = refl; none = refl }
 
-type-told : (account : Option Account) → TypeTold (client_type account)
+type-told : (account : Option ConfiguredAccount) → TypeTold (client_type account)
 unfolding is_named
 type-told (Some account) = type-of account.operator
 type-told None = record { gap = 10; rest = []; is = refl; text_is = refl; none = refl }
 
-pub user-heard : (sid : ℕ) (fields : List Field) (account : Option Account) (users : List Listing) → AllByRecursion IsTold fields
+pub user-heard : (sid : ℕ) (fields : List Field) (account : Option ConfiguredAccount) (users : List Listing) → AllByRecursion IsTold fields
     → heard users (user_line sid fields account) ≡ with_user (sid_text sid) fields users
 unfolding user_line
 user-heard sid fields account users told =

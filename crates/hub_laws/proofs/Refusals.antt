@@ -4,7 +4,7 @@ use Rattle.std.specs.Prelude.{◌||◌}
 use Rattle.adc_line.specs.declared.fault.LineFault.{LineFault}
 use Rattle.login_state.specs.Denials.{denial_line, is_fatal}
 use Rattle.hub_invariants.specs.Said.{kept_unless, unless_refused}
-use Rattle.hub_laws.proofs.Words.{About, Configured, Deny, Effect, Entry, Facts, Line, Nothing, Others, Own, PreparedLine, Reading, Sender, Sight, Stage, about_parts, accepted_line, after, happens_parts, happens-parts}
+use Rattle.hub_laws.proofs.Words.{ConnState, Configured, Deny, Effect, Entry, Facts, Line, Nothing, Others, SenderView, PreparedLine, Reading, Sender, HubView, Stage, about_parts, accepted_line, after, happens_parts, happens-parts}
 use Rattle.hub_laws.proofs.Words.{affected_parts, bans_after, denial, denial_of, effect_of_line, effect_of_reading, enters, eq-eqb, facts, happens, has, if◌then◌else◌, is_over, is_present}
 use Rattle.hub_laws.proofs.Words.{left_of_bans, line_effect, nothing, or-true, owed_with, lags_with, owes, own_of, prepared_line, present_parts, quit_line, share, sight_of, sound_of, Sound, topic_after, unless_denied}
 use Rattle.hub_laws.proofs.Words.denials
@@ -13,25 +13,25 @@ use Rattle.hub_laws.proofs.Words.senders
 use Rattle.hub_laws.proofs.Words.stages
 use Rattle.hub_laws.specs.Refusals.{IsSame, IsToldAlone, RefusalsAreToldAlone}
 use Rattle.hub_laws.proofs.Owed.{owed-as}
-use Rattle.hub_laws.proofs.Vouching.{prepared-bytes}
+use Rattle.hub_laws.proofs.AccountPasswords.{prepared-bytes}
 
 -- ---- the effect of a line that is refused
 
 -- it is a denial of this
-record IsDenial (own : Own) (effect : Effect) : Type 0 where
+record IsDenial (own : SenderView) (effect : Effect) : Type 0 where
   deny : Deny
   is : effect ≡ denial own deny
 
-by-refusal : (own : Own) (reading : Reading) (refusal : Option Deny) (effect : Effect) → kept_unless refusal reading ≡ None → IsDenial own (unless_denied own refusal effect)
+by-refusal : (own : SenderView) (reading : Reading) (refusal : Option Deny) (effect : Effect) → kept_unless refusal reading ≡ None → IsDenial own (unless_denied own refusal effect)
 by-refusal own reading (Some deny) effect none = record { deny = deny; is = refl }
 by-refusal own reading None effect none = let no : ⊥ = cc none in absurd no
 
-by-reading : (hub : Sight) (own : Own) (line : PreparedLine) (now : ℕ) (r : Result Reading LineFault) → unless_refused hub own line now r ≡ None
+by-reading : (hub : HubView) (own : SenderView) (line : PreparedLine) (now : ℕ) (r : Result Reading LineFault) → unless_refused hub own line now r ≡ None
     → IsDenial own (effect_of_reading hub own line now r)
 by-reading hub own line now (Ok reading) none = by-refusal own reading (denial_of hub own line now reading) _ none
 by-reading hub own line now (Err fault) none = record { deny = denials.Protocol; is = refl }
 
-denied-line : (hub : Sight) (own : Own) (line : PreparedLine) (now : ℕ) → is_over own.stage ≡ false → (length line.bytes == 0) ≡ false → accepted_line hub own line now ≡ None
+denied-line : (hub : HubView) (own : SenderView) (line : PreparedLine) (now : ℕ) → is_over own.stage ≡ false → (length line.bytes == 0) ≡ false → accepted_line hub own line now ≡ None
     → IsDenial own (line_effect hub own line now)
 unfolding line_effect accepted_line
 denied-line hub own line now still some none =
@@ -44,23 +44,23 @@ denied-line hub own line now still some none =
     }
 
 -- what a denial says, by whether it is fatal
-record Says (own : Own) (deny : Deny) (effect : Effect) : Type 0 where
+record Says (own : SenderView) (deny : Deny) (effect : Effect) : Type 0 where
   sender : effect.own ≡ denial_line deny ∷ []
   others : effect.others ≡ cond (is_fatal deny && is_present own.stage) (quit_line own.sender.sid ∷ []) []
   hearers : effect.hearers ≡ Others
   falls : is_fatal deny ≡ true → effect.change ≡ Sender senders.Falls
   keeps : is_fatal deny ≡ false → effect.change ≡ Nothing
 
-by-fatal : (own : Own) (deny : Deny) (fatal : Bool) → is_fatal deny ≡ fatal → Says own deny (denial own deny)
+by-fatal : (own : SenderView) (deny : Deny) (fatal : Bool) → is_fatal deny ≡ fatal → Says own deny (denial own deny)
 unfolding denial
 by-fatal own deny fatal is = grind arith
 
 -- ---- the call
 
-owes-sender : (same : Bool) (effect : Effect) (a : About) → same ≡ true → effect.hearers ≡ Others → owes same effect a ≡ effect.own
+owes-sender : (same : Bool) (effect : Effect) (a : ConnState) → same ≡ true → effect.hearers ≡ Others → owes same effect a ≡ effect.own
 owes-sender same effect a is hearers = grind arith
 
-owes-other : (same : Bool) (effect : Effect) (a : About) (fatal here : Bool) (line : List ℕ) → same ≡ false → effect.hearers ≡ Others
+owes-other : (same : Bool) (effect : Effect) (a : ConnState) (fatal here : Bool) (line : List ℕ) → same ≡ false → effect.hearers ≡ Others
     → effect.others ≡ cond (fatal && here) (line ∷ []) [] → owes same effect a ≡ cond (fatal && here && is_present a.stage) (line ∷ []) []
 owes-other same effect a fatal here line is hearers others = grind arith
 
@@ -71,7 +71,7 @@ falls-gone : (c : ℕ) (effect : Effect) (f : Facts) → effect.change ≡ Sende
 falls-gone c effect f falls = grind arith
 
 -- a connection of an effect that changes nothing
-still : (same : Bool) (effect : Effect) (a : About) → effect.change ≡ Nothing
+still : (same : Bool) (effect : Effect) (a : ConnState) → effect.change ≡ Nothing
     → affected_parts same effect a ≡ record a { owed = owed_with a (owes same effect a); lags = lags_with a (owes same effect a) }
 still same effect a none = grind arith
 
@@ -85,7 +85,7 @@ still-present : (c : ℕ) (effect : Effect) (f : Facts) → Sound f → effect.c
 still-present c effect f sound none =
     ap₂ (λ xs b. xs ++ cond b (c ∷ []) [])
     (all-kept (λ d. is_present (about_parts c effect f.about d).stage) f.present
-    (λ d there. ap (λ (a : About). is_present a.stage) (still (d == c) effect (f.about d) none) ∙ sym (sound.entered d) ∙ there)) (ap enters none)
+    (λ d there. ap (λ (a : ConnState). is_present a.stage) (still (d == c) effect (f.about d) none) ∙ sym (sound.entered d) ∙ there)) (ap enters none)
     ∙ append-nil f.present
 
 -- ---- every history
@@ -115,7 +115,7 @@ module _ (setup : Configured) (hash : List ℕ → List ℕ) (h : List Entry) (e
     users = ap (λ (g : Facts). g.present) (step call) ∙ still-present c effect f (sound_of setup hash h) none;
     topic = ap (λ (g : Facts). g.topic) (step call) ∙ ap (λ change. topic_after change f.topic) none;
     bans = λ cid moment. ap (λ (g : Facts). left_of_bans g.bans cid moment) (step call) ∙ ap (λ change. left_of_bans (bans_after change f.bans) cid moment) none;
-    connections = λ d. subst (λ (a : About). a ≡ record (f.about d) { owed = a.owed; lags = a.lags })
+    connections = λ d. subst (λ (a : ConnState). a ≡ record (f.about d) { owed = a.owed; lags = a.lags })
         (sym (ap (λ (g : Facts). g.about d) (step call) ∙ still (d == c) effect (f.about d) none)) refl;
   }
 

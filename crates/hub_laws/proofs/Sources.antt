@@ -9,11 +9,11 @@ use Rattle.adc_base32.proofs.Turns.{next_free-range}
 use Rattle.adc_line.specs.Grammar.{Reads}
 use Rattle.login_state.specs.Denials.{denial_line}
 use Rattle.login_state.specs.Requests.{to_users}
-use Rattle.hub_rules.specs.Configured.{MenuEntry}
+use Rattle.hub_rules.specs.Configured.{ConfiguredEntry}
 use Rattle.hub_rules.specs.Effects.{ping_of}
 use Rattle.hub_rules.specs.History.{about}
 use Rattle.hub_rules.specs.Texts.{challenge_line, done_line, hub_line, identifier_line, menu_line, removal_line, support_line, topic_line, update_line}
-use Rattle.hub_laws.proofs.Words.{Act, About, AllByRecursion, Becomes, Call, Configured, Deny, Does, Done, Effect, Entry, Facts, Field, Join, Kind, Line, Listed, Outcome, Own, PreparedLine, Quit, Reading, Reads-of, Request, Stage, Take}
+use Rattle.hub_laws.proofs.Words.{Act, ConnState, AllByRecursion, Becomes, Call, Configured, Deny, Does, Done, Effect, Entry, Facts, Field, Join, Kind, Line, Listed, Outcome, SenderView, PreparedLine, Quit, Reading, Reads-of, Request, Stage, Take}
 use Rattle.hub_laws.proofs.Words.{accepted_line, acts, bans_user, becomes, bytes_eq, chats, clean, denies, departure, effect_for_all, effect_of_line, eqb-true, facts, false≢true, greets}
 use Rattle.hub_laws.proofs.Words.{has, ignores, is-normal, is_present, key_of_points, kicks, learns, lets_in, outcome, owes, own_of, passes, prepared_line, present_are_users, proves, quiet, quit_line}
 use Rattle.hub_laws.proofs.Words.{request_at, request_in, request_of, revises, searches, sets_topic, share, shuts_out, sid, sight_of, stage, silent, stage_after, user_called, waits, with_line_feed}
@@ -23,19 +23,19 @@ use Rattle.hub_laws.proofs.Words.requests
 use Rattle.hub_laws.proofs.Words.stages
 use Rattle.hub_laws.specs.Messages.{goes_to_users, is_hub_command}
 use Rattle.hub_laws.specs.Refusals.{accepted}
-use Rattle.hub_laws.specs.Welcoming.{info_line}
+use Rattle.hub_laws.specs.Welcome.{info_line}
 use Rattle.hub_laws.proofs.Fields.{told-clean}
-use Rattle.hub_laws.proofs.Listing.{head-has, tail-has}
+use Rattle.hub_laws.proofs.UserLists.{head-has, tail-has}
 use Rattle.hub_laws.proofs.Logins.{line-stage, own-stage}
 use Rattle.hub_laws.proofs.Outsiders.{owes-absent}
-use Rattle.hub_laws.proofs.Ordering.{from-own, is-accepted}
+use Rattle.hub_laws.proofs.SenderOrder.{from-own, is-accepted}
 use Rattle.hub_laws.proofs.Others.{is_for_users}
 use Rattle.hub_laws.proofs.Pieces.{IsTold, from-all}
-use Rattle.hub_laws.proofs.Removing.{found-here}
+use Rattle.hub_laws.proofs.Removals.{found-here}
 use Rattle.hub_laws.proofs.Secrets.{all-append, all-as}
 use Rattle.hub_laws.proofs.Statuses.{IsStatus, refusals-told}
-use Rattle.hub_laws.proofs.Vouching.{prepared-bytes}
-use Rattle.hub_laws.proofs.Welcoming.{entrants_are_welcomed, entries_are_heard}
+use Rattle.hub_laws.proofs.AccountPasswords.{prepared-bytes}
+use Rattle.hub_laws.proofs.Welcome.{entrants_are_welcomed, entries_are_heard}
 
 -- ---- which messages go to users
 
@@ -105,7 +105,7 @@ pub data Source (setup : Configured) (hash : List ℕ → List ℕ) (h : List En
   from_hub : (now : ℕ) (features : List (List ℕ)) (topic : List ℕ) → Source setup hash h e d (hub_line setup topic (ping_of (sight_of setup (facts setup hash h)) now features))
   from_topic : (topic : List ℕ) → Source setup hash h e d (topic_line topic)
   from_challenge : Source setup hash h e d (challenge_line (about setup hash h d).sender.challenge)
-  from_menu : (item : MenuEntry) → Contains setup.menu item → Source setup hash h e d (menu_line item)
+  from_menu : (item : ConfiguredEntry) → Contains setup.menu item → Source setup hash h e d (menu_line item)
   from_done : Source setup hash h e d done_line
   from_removal : (target operator : ℕ) (seconds : Option ℕ) (reason : List ℕ) → target < sid_count → operator < sid_count
       → Source setup hash h e d (removal_line target operator seconds reason)
@@ -120,7 +120,7 @@ pub data Source (setup : Configured) (hash : List ℕ → List ℕ) (h : List En
 
 -- ---- session identifiers are below their count
 
-small-after : {setup : Configured} {hash : List ℕ → List ℕ} {f : Facts} {caller d : ℕ} {call : Call} {a : About} → Becomes setup hash f caller d call a → (f.about d).sender.sid < sid_count
+small-after : {setup : Configured} {hash : List ℕ → List ℕ} {f : Facts} {caller d : ℕ} {call : Call} {a : ConnState} → Becomes setup hash f caller d call a → (f.about d).sender.sid < sid_count
     → a.sender.sid < sid_count
 small-after {f = f} (Becomes.joins peer challenge now place is) small = (next_free-range f.last (map (λ c. (f.about c).sender.sid) f.opened)).1
 small-after _ small = small
@@ -147,7 +147,7 @@ module _ (setup : Configured) (hash : List ℕ → List ℕ) (h : List Entry) (e
   if-has true ls all = all refl
   if-has false ls all = tt
 
-  menus : (items : List MenuEntry) → AllByRecursion (Contains setup.menu) items → Has (map menu_line items)
+  menus : (items : List ConfiguredEntry) → AllByRecursion (Contains setup.menu) items → Has (map menu_line items)
   menus [] all = tt
   menus (item ∷ items) all = (from_menu item all.0, menus items all.1)
 
@@ -173,7 +173,7 @@ module _ (setup : Configured) (hash : List ℕ → List ℕ) (h : List Entry) (e
       subst (λ n. n < sid_count) found.2 (small-sid setup hash h found.0)
 
   module _ (c : ℕ) (bytes : List ℕ) (now : ℕ) (call : e.call ≡ Line c bytes now) where
-    abbrev own : Own
+    abbrev own : SenderView
     own = own_of (f.about c)
 
     abbrev line : PreparedLine

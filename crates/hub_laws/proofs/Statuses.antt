@@ -15,7 +15,7 @@ use Rattle.operator_acts.specs.declared.left.Left.{Left}
 use Rattle.hub_rules.specs.Denied.{message_denied, sup_denied}
 use Rattle.hub_rules.specs.Grounds.{sup_grounds}
 use Rattle.hub_invariants.specs.Said.{kept_unless, unless_refused}
-use Rattle.hub_laws.proofs.Words.{AllByRecursion, Deny, Effect, Kind, LineFault, Own, PreparedLine, Reading, Reads-of, Request, Sight, Stage, accepted_line, act_denied, answer_to, denial, denial_of, effect_of_reading, farewell, left_of_bans, ban_ground}
+use Rattle.hub_laws.proofs.Words.{AllByRecursion, Deny, Effect, Kind, LineFault, SenderView, PreparedLine, Reading, Reads-of, Request, HubView, Stage, accepted_line, act_denied, answer_to, denial, denial_of, effect_of_reading, farewell, left_of_bans, ban_ground}
 use Rattle.hub_laws.proofs.Words.{digest_given, entry_grounds, first_ground, is_over, line_effect, listed_user, login_denied, login_grounds, option_or, password_grounds, refusal_of, request_at, request_denied}
 use Rattle.hub_laws.proofs.Words.{Nothing, Sender, names_another, nothing, tells_others, tells_sender, unless_denied, update_denied, update_grounds, user_after}
 use Rattle.hub_laws.proofs.Pieces.{is_plain_byte, letter-digit-plain, letter-plain}
@@ -63,28 +63,28 @@ said-sup (Err fault) = refl
 ban-said : (l : Left) → (is_said (ban_ground l).1 && true) ≡ true
 ban-said l = grind arith
 
-said-login : (hub : Sight) (own : Own) (digest : Option (List ℕ)) (now : ℕ) (r : Result (List Field) InfFault) → are_said (login_denied hub own digest now r) ≡ true
+said-login : (hub : HubView) (own : SenderView) (digest : Option (List ℕ)) (now : ℕ) (r : Result (List Field) InfFault) → are_said (login_denied hub own digest now r) ≡ true
 unfolding login_grounds
 said-login hub own digest now (Ok u) =
     said-first (login_grounds hub own now digest u (user_after own u)) (ban-said (left_of_bans hub.bans (user_after own u).cid now))
 said-login hub own digest now (Err fault) = refl
 
-said-update : (hub : Sight) (own : Own) (r : Result (List Field) InfFault) → are_said (update_denied hub own r) ≡ true
+said-update : (hub : HubView) (own : SenderView) (r : Result (List Field) InfFault) → are_said (update_denied hub own r) ≡ true
 unfolding update_grounds is_plain
 said-update hub own (Ok u) = said-first (update_grounds hub own u (user_after own u)) refl
 said-update hub own (Err fault) = refl
 
-said-answer : (hub : Sight) (own : Own) (now : ℕ) (act : Option Act) → are_said (result_err (answer_to hub own now act)) ≡ true
+said-answer : (hub : HubView) (own : SenderView) (now : ℕ) (act : Option Act) → are_said (result_err (answer_to hub own now act)) ≡ true
 said-answer hub own now act = grind arith
 
-said-act : (hub : Sight) (own : Own) (now : ℕ) (params : List (List ℕ)) → are_said (act_denied hub own now params) ≡ true
+said-act : (hub : HubView) (own : SenderView) (now : ℕ) (params : List (List ℕ)) → are_said (act_denied hub own now params) ≡ true
 unfolding act_denied is_plain
 said-act hub own now params = grind (arith, said-answer)
 
-said-message : (hub : Sight) (own : Own) (now : ℕ) (search : Bool) → are_said (message_denied hub own now search) ≡ true
+said-message : (hub : HubView) (own : SenderView) (now : ℕ) (search : Bool) → are_said (message_denied hub own now search) ≡ true
 said-message hub own now search = grind arith
 
-said-request : (hub : Sight) (own : Own) (line : PreparedLine) (now : ℕ) (reading : Reading) (request : Request) → are_said (request_denied hub own line now reading request) ≡ true
+said-request : (hub : HubView) (own : SenderView) (line : PreparedLine) (now : ℕ) (reading : Reading) (request : Request) → are_said (request_denied hub own line now reading request) ≡ true
 unfolding request_denied entry_grounds
 said-request hub own line now reading requests.Greeting = said-sup (support_after own.sender.features reading.params)
 said-request hub own line now reading requests.Login = said-login hub own line.owner now (updates.reading reading.params)
@@ -151,7 +151,7 @@ said-either : (first later : Option Deny) → are_said first ≡ true → are_sa
 said-either (Some deny) later is more = is
 said-either None later is more = more
 
-said-denial : (hub : Sight) (own : Own) (line : PreparedLine) (now : ℕ) (reading : Reading) → IsCommand reading.command → are_said (denial_of hub own line now reading) ≡ true
+said-denial : (hub : HubView) (own : SenderView) (line : PreparedLine) (now : ℕ) (reading : Reading) → IsCommand reading.command → are_said (denial_of hub own line now reading) ≡ true
 said-denial hub own line now reading is = said-either _ _ (said-refusal own.stage own.sender.sid reading is) (said-request hub own line now reading _)
 
 -- ---- what the sender of a line that is not accepted is told
@@ -163,7 +163,7 @@ IsStatus line = (deny : Deny) × (is_said deny ≡ true) × (line ≡ denial_lin
 abbrev AreStatuses : Effect → Type 0
 AreStatuses effect = AllByRecursion IsStatus effect.own
 
-denial-told : (own : Own) (deny : Deny) → is_said deny ≡ true → AreStatuses (denial own deny)
+denial-told : (own : SenderView) (deny : Deny) → is_said deny ≡ true → AreStatuses (denial own deny)
 unfolding denial
 denial-told own deny said = by-weight (is_fatal deny)
   where
@@ -171,11 +171,11 @@ denial-told own deny said = by-weight (is_fatal deny)
     by-weight true = ((deny, said, refl), tt)
     by-weight false = ((deny, said, refl), tt)
 
-refused : (own : Own) (reading : Reading) (refusal : Option Deny) (effect : Effect) → are_said refusal ≡ true → kept_unless refusal reading ≡ None → AreStatuses (unless_denied own refusal effect)
+refused : (own : SenderView) (reading : Reading) (refusal : Option Deny) (effect : Effect) → are_said refusal ≡ true → kept_unless refusal reading ≡ None → AreStatuses (unless_denied own refusal effect)
 refused own reading (Some deny) effect said none = denial-told own deny said
 refused own reading None effect said none = let nothing : ⊥ = cc in absurd nothing
 
-reading-told : (hub : Sight) (own : Own) (line : PreparedLine) (now : ℕ) (r : Result Reading LineFault) → lines.reading line.bytes ≡ r → unless_refused hub own line now r ≡ None
+reading-told : (hub : HubView) (own : SenderView) (line : PreparedLine) (now : ℕ) (r : Result Reading LineFault) → lines.reading line.bytes ≡ r → unless_refused hub own line now r ≡ None
     → AreStatuses (effect_of_reading hub own line now r)
 reading-told hub own line now (Ok reading) is none =
     refused own reading (denial_of hub own line now reading) _ (said-denial hub own line now reading (Reads-of line.bytes reading is).command) none
@@ -185,7 +185,7 @@ unless-told : (b : Bool) (said : Option Reading) (effect : Effect) → (said ≡
 unless-told true said effect each none = tt
 unless-told false said effect each none = each none
 
-pub refusals-told : (hub : Sight) (own : Own) (line : PreparedLine) (now : ℕ) → accepted_line hub own line now ≡ None → AreStatuses (line_effect hub own line now)
+pub refusals-told : (hub : HubView) (own : SenderView) (line : PreparedLine) (now : ℕ) → accepted_line hub own line now ≡ None → AreStatuses (line_effect hub own line now)
 unfolding line_effect accepted_line
 refusals-told hub own line now none =
     unless-told (is_over own.stage) _ _ (unless-told (length line.bytes == 0) _ _ (reading-told hub own line now (lines.reading line.bytes) refl)) none

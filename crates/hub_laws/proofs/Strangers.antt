@@ -1,13 +1,13 @@
 -- Others hear nothing of a line by which a user who is not present does not enter.
 use Rattle.std.proofs.Common.{◌≡◌, ◌∙◌, sym, ap, refl, ℕ, Bool, false, ◌==◌, List, [], ◌∷◌, Option, cond, arith}
-use Rattle.hub_laws.proofs.Words.{About, Configured, Effect, Facts, Line, Outcome, Own, PreparedLine, Reading, Request, Sight, acts, after, effect_of_line, facts, false≢true, happens, is_present}
+use Rattle.hub_laws.proofs.Words.{ConnState, Configured, Effect, Facts, Line, Outcome, SenderView, PreparedLine, Reading, Request, HubView, acts, after, effect_of_line, facts, false≢true, happens, is_present}
 use Rattle.hub_laws.proofs.Words.{lets_in, line-outcome, owes, passes, proves, quit_line, revises, searches, share, shuts_out, stage_after}
-use Rattle.hub_laws.specs.Routing.{StrangersAreNotHeard}
+use Rattle.hub_laws.specs.Routes.{StrangersAreNotHeard}
 
-abbrev IsUnheard : Own → Effect → Type 0
+abbrev IsUnheard : SenderView → Effect → Type 0
 IsUnheard own effect = is_present own.stage ≡ false → is_present (stage_after effect.change own.stage) ≡ false → effect.others ≡ []
 
-module _ {hub : Sight} {own : Own} {line : PreparedLine} {now : ℕ} where
+module _ {hub : HubView} {own : SenderView} {line : PreparedLine} {now : ℕ} where
   unheard : {said : Option Reading} {request : Request} {effect : Effect} → Outcome hub own line now said request effect → IsUnheard own effect
   unheard (shuts_out deny) away still = ap (λ b. cond b (quit_line own.sender.sid ∷ []) []) away
   unheard (lets_in reading u logs account) away still = absurd (false≢true (sym still))
@@ -20,7 +20,7 @@ module _ {hub : Sight} {own : Own} {line : PreparedLine} {now : ℕ} where
 
 -- ---- the call
 
-owes-others : (is_caller : Bool) (effect : Effect) (a : About) → is_caller ≡ false → effect.others ≡ [] → owes is_caller effect a ≡ []
+owes-others : (is_caller : Bool) (effect : Effect) (a : ConnState) → is_caller ≡ false → effect.others ≡ [] → owes is_caller effect a ≡ []
 owes-others is_caller effect a other none = grind arith
 
 stage-own : (c : ℕ) (effect : Effect) (f : Facts) → is_present (f.about c).stage ≡ false → is_present ((happens c effect f).about c).stage ≡ false

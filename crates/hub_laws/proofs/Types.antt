@@ -6,7 +6,7 @@ use Rattle.adc_base32.specs.Sids.{sid_text}
 use Rattle.inf_fields.specs.Field.{printed_fields}
 use Rattle.inf_fields.specs.FieldNames.{client_type_name}
 use Rattle.hub_rules.specs.Accounts.{operates}
-use Rattle.hub_laws.proofs.Words.{Account, AllByRecursion, Field, bytes_eq, bytes_eq-Decides, client_type, false≢true, user_line}
+use Rattle.hub_laws.proofs.Words.{ConfiguredAccount, AllByRecursion, Field, bytes_eq, bytes_eq-Decides, client_type, false≢true, user_line}
 use Rattle.hub_laws.specs.Lists.{pieces}
 use Rattle.hub_laws.specs.Types.{OperatorsHaveAccounts}
 use Rattle.hub_laws.proofs.Fields.{told_of_user}
@@ -59,11 +59,11 @@ behind-of : (operator : Bool) → Behind (if operator then codes " CT4" else cod
 behind-of true = record { gap = 32; rest = _; is = refl; text_is = refl; shows = refl }
 behind-of false = record { gap = 32; rest = _; is = refl; text_is = refl; shows = refl }
 
-behind : (account : Option Account) → Behind (client_type account) (operates account)
+behind : (account : Option ConfiguredAccount) → Behind (client_type account) (operates account)
 behind (Some account) = behind-of account.operator
 behind None = record { gap = 10; rest = []; is = refl; text_is = refl; shows = refl }
 
-shown : (sid : ℕ) (fields : List Field) (account : Option Account) → AllByRecursion IsTold fields → has_type (pieces (user_line sid fields account)) ≡ operates account
+shown : (sid : ℕ) (fields : List Field) (account : Option ConfiguredAccount) → AllByRecursion IsTold fields → has_type (pieces (user_line sid fields account)) ≡ operates account
 unfolding user_line
 shown sid fields account told =
     let type = behind account in

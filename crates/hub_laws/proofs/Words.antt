@@ -6,7 +6,7 @@ pub use Rattle.adc_line.specs.declared.fault.LineFault.{LineFault}
 pub use Rattle.adc_line.specs.declared.header.Kind.{Kind}
 pub use Rattle.feature_route.specs.Audiences.{by_kind, holds}
 unfoldable pub use Rattle.feature_route.specs.Audiences.{audience, holds_words}
-pub use Rattle.hub_invariants.proofs.Becoming.{Becomes, about-parts, about_parts, becomes, happens-parts, happens_parts, present_parts, take-facts, taken_by}
+pub use Rattle.hub_invariants.proofs.CallCases.{Becomes, about-parts, about_parts, becomes, happens-parts, happens_parts, present_parts, take-facts, taken_by}
 pub use Rattle.hub_invariants.proofs.Calls.{absent-newcomer, present-over, sound_of}
 pub use Rattle.hub_invariants.proofs.Claims.{AllFalse, Unclaimed, dropped, grounds_of, login-free, none-of, password-entry, password-free, same-cid, update-free}
 pub use Rattle.hub_invariants.proofs.Fits.{Fits, fits-departure}
@@ -16,7 +16,7 @@ pub use Rattle.hub_invariants.proofs.Lines.{fits-line}
 pub use Rattle.hub_invariants.proofs.Members.{and-false, has, has-append, has-filter, or-parts}
 pub use Rattle.hub_invariants.proofs.Outcomes.{Asked, Does, Logs, Outcome, acts, bans_user, by-request, chats, denies, greets, ignores, kicks, later-none, learns, lets_in, line-outcome, outcome, passes}
 pub use Rattle.hub_invariants.proofs.Outcomes.{proves, quiet, request-asks, request_in, revises, is_silent, searches, sets_topic, shuts_out, silent, silent-keeps, waits}
-pub use Rattle.hub_invariants.proofs.Saying.{features_are_last_added, info_is_merged, over-beyond, said-read, said_by, same-chosen, told_of, unheard}
+pub use Rattle.hub_invariants.proofs.AcceptedLines.{features_are_last_added, info_is_merged, over-beyond, said-read, said_by, same-chosen, told_of, unheard}
 pub use Rattle.hub_invariants.proofs.Sound.{Sound, eqb-sym, happens-open, parts-open, happens-sound, not-over, or-true}
 pub use Rattle.hub_invariants.proofs.Sound.{stage_next}
 pub use Rattle.hub_invariants.proofs.Suits.{listed-sid}
@@ -27,7 +27,7 @@ pub use Rattle.hub_rules.specs.Accounts.{operates}
 unfoldable pub use Rattle.hub_rules.specs.Accounts.{account_with}
 pub use Rattle.hub_rules.specs.Acts.{Done, answer_to, effect_by, effect_for_all, is_command, is_operator, text_in, user_called}
 unfoldable pub use Rattle.hub_rules.specs.Acts.{act_denied, act_effect}
-pub use Rattle.hub_rules.specs.Configured.{Account, Configured, most_users}
+pub use Rattle.hub_rules.specs.Configured.{ConfiguredAccount, Configured, most_users}
 pub use Rattle.hub_rules.specs.Denied.{denial_of, digest_given, login_denied, password_denied, update_denied}
 unfoldable pub use Rattle.hub_rules.specs.Denied.{request_denied}
 pub use Rattle.hub_rules.specs.Effects.{admits, departure, effect_of_reading, entrant, farewell, is_over, is_present, is_target_here, line_of, line_unless_empty, logs_in}
@@ -41,8 +41,8 @@ unfoldable pub use Rattle.hub_rules.specs.Grounds.{entry_grounds, login_grounds,
 pub use Rattle.hub_rules.specs.History.{info, lags, lines_owed, sid, stage}
 pub use Rattle.hub_rules.specs.Identities.{cid_in, key_in, key_of, key_of_points, meaning, su_in, value_or_empty}
 unfoldable pub use Rattle.hub_rules.specs.Identities.{listed_user}
-pub use Rattle.hub_invariants.specs.Lagging.{LagIsTheFirst, OwedAreShares, share}
-unfoldable pub use Rattle.hub_invariants.specs.Lagging.{all_fit, shares_that_fit}
+pub use Rattle.hub_invariants.specs.Lag.{LagIsTheFirst, OwedAreShares, share}
+unfoldable pub use Rattle.hub_invariants.specs.Lag.{all_fit, shares_that_fit}
 pub use Rattle.hub_rules.specs.Legal.{join_reply, take_reply}
 unfoldable pub use Rattle.hub_rules.specs.Legal.{Legal, reply}
 pub use Rattle.hub_rules.specs.Prepared.{is_broadcast, password_digest, password_of, update_of}
@@ -51,13 +51,13 @@ pub use Rattle.hub_rules.specs.Quiet.{nothing}
 pub use Rattle.hub_rules.specs.Requests.{names_another, refusal_of, request_of}
 pub use Rattle.hub_invariants.specs.Said.{cleaned_update, inf_update, infs, listed_if, read_by}
 unfoldable pub use Rattle.hub_invariants.specs.Said.{accepted_line}
-pub use Rattle.hub_rules.specs.Shares.{About, affected_connection, has_room_for, hears_those, owes}
+pub use Rattle.hub_rules.specs.Shares.{ConnState, affected_connection, has_room_for, hears_those, owes}
 pub use Rattle.hub_invariants.specs.Afterwards.{affected_parts, expected_after, fields_after, is_removed}
 pub use Rattle.hub_invariants.specs.Afterwards.{features_after, notes_at, own_change, searched_after}
 pub use Rattle.hub_rules.specs.Shares.{waiting}
 pub use Rattle.hub_invariants.specs.Afterwards.{removed_by, stage_after}
 unfoldable pub use Rattle.hub_rules.specs.Shares.{lags_with, owed_with}
-pub use Rattle.hub_rules.specs.Sights.{Own, PreparedLine, Sight, account_of, another_has_key, is_account, is_here, user_after}
+pub use Rattle.hub_rules.specs.Views.{SenderView, PreparedLine, HubView, account_of, another_has_key, is_account, is_here, user_after}
 pub use Rattle.hub_rules.specs.Texts.{challenge_line, client_type, done_line, menu_line, removal_line, with_line_feed}
 unfoldable pub use Rattle.hub_rules.specs.Texts.{hub_line, user_line}
 pub use Rattle.hub_invariants.specs.World.{BanIsTheLastAct, TopicIsTheLast, ban_act_of, change_of, first_or, topic_act_of}
@@ -102,7 +102,7 @@ pub use Rattle.user_table.specs.Listed.{Listed}
 pub use Rattle.user_table.specs.Tables.{amount, changed_key, has_cid, has_key, has_sid, user_by_key, with_update}
 pub use Rattle.adc_line.specs.Lines as lines
 pub use Rattle.adc_line.specs.declared.header.Kind.TheVariants as kinds
-pub use Rattle.feature_route.specs.declared.hearers.Audience.TheVariants as audiences
+pub use Rattle.feature_route.specs.declared.audience.Audience.TheVariants as audiences
 pub use Rattle.hub_rules.specs.declared.effect.HubChange.TheVariants as shared
 pub use Rattle.hub_rules.specs.declared.sender.SeatChange.TheVariants as seats
 pub use Rattle.hub_rules.specs.declared.effect.SenderChange.TheVariants as senders

@@ -21,7 +21,7 @@ use Rattle.adc_line.proofs.GrammarLemmas.{both, escaped_is_spelt, parameter_test
 use Rattle.inf_fields.specs.Cleaning.{dotted_decimal}
 use Rattle.inf_fields.specs.Field.{printed_fields}
 use Rattle.hub_laws.proofs.Words.{AllByRecursion, Field, eqb-true, false≢true, with_line_feed}
-use Rattle.hub_laws.specs.Forms.{IsLine}
+use Rattle.hub_laws.specs.Forms.{IsWholeLine}
 use Rattle.hub_laws.proofs.Fields.{address-plain}
 use Rattle.hub_laws.proofs.Pieces.{IsGood, IsPlain, IsSolid, IsSpelt, IsTold, blank-utf8, from-all, is_gap, is_plain_byte, letter-digit-plain, letter-plain, onto-plain, plain-before, plain-spelt, plain-utf8, to-all, word_of}
 use Rattle.hub_laws.proofs.Secrets.{all-append}
@@ -204,5 +204,5 @@ parameters-solid (word ∷ params) all = (from-all (λ b. is_gap b ≡ false) wo
 pub told-clean : (text : List ℕ) → Told text → IsClean text
 told-clean text is = subst IsClean is.is (behind-clean is.params (parameters-solid is.params is.all))
 
-pub clean-line : (text : List ℕ) → IsClean text → IsLine (with_line_feed text)
+pub clean-line : (text : List ℕ) → IsClean text → IsWholeLine (with_line_feed text)
 clean-line text clean = record { text = text; ends = refl; once = to-all (λ b. is_lf b ≡ false) text clean }

@@ -9,7 +9,7 @@ use Rattle.adc_line.specs.Lines.{Reading}
 use Rattle.adc_line.specs.Words.{blank}
 use Rattle.adc_line.specs.declared.header.Kind.TheVariants.{Broadcast, Info}
 use Rattle.hub_rules.specs.declared.history.Entry.{Entry}
-use Rattle.hub_rules.specs.Configured.{Configured, MenuEntry}
+use Rattle.hub_rules.specs.Configured.{Configured, ConfiguredEntry}
 use Rattle.hub_rules.specs.History.{about, lines_owed}
 use Rattle.hub_rules.specs.Texts.{challenge_line, menu_line, with_line_feed}
 use Rattle.hub_laws.specs.Messages.{goes_to_users, is_hub_command}
@@ -17,14 +17,14 @@ use Rattle.hub_laws.specs.Messages.{goes_to_users, is_hub_command}
 -- ---- line feeds
 
 -- a text without line feeds, and one line feed behind it
-pub record IsLine (line : List ℕ) : Type 0 where
+pub record IsWholeLine (line : List ℕ) : Type 0 where
   pub text : List ℕ
   pub ends : line ≡ with_line_feed text
   pub once : HasNoLf text
 
 -- each line that a connection was owed is such a line
 abbrev pub LinesEndOnce : Type 0
-LinesEndOnce = (setup : Configured) (hash : List ℕ → List ℕ) (h : List Entry) (c : ℕ) → AllByRecursion IsLine (lines_owed setup hash h c)
+LinesEndOnce = (setup : Configured) (hash : List ℕ → List ℕ) (h : List Entry) (c : ℕ) → AllByRecursion IsWholeLine (lines_owed setup hash h c)
 
 -- ---- the grammar
 
@@ -71,7 +71,7 @@ pub data Form (setup : Configured) (challenge line : List ℕ) : Type 0 where
   of_hub : IsOfHub line → Form setup challenge line
   of_info : IsInfo line → Form setup challenge line
   -- an entry of the menu whose name is empty
-  of_nameless : (entry : MenuEntry) → Contains setup.menu entry → entry.name ≡ [] → line ≡ menu_line entry → Form setup challenge line
+  of_nameless : (entry : ConfiguredEntry) → Contains setup.menu entry → entry.name ≡ [] → line ≡ menu_line entry → Form setup challenge line
   -- the challenge of a connection that joined with an empty one
   of_no_challenge : challenge ≡ [] → line ≡ challenge_line challenge → Form setup challenge line
 

@@ -14,7 +14,7 @@ use Rattle.operator_acts.specs.declared.left.Left.TheVariants.{Free}
 use Rattle.hub_rules.specs.declared.history.Call.TheVariants.{Line}
 use Rattle.hub_rules.specs.declared.history.Entry.{Entry}
 use Rattle.hub_rules.specs.Accounts.{account_with}
-use Rattle.hub_rules.specs.Configured.{Account, Configured}
+use Rattle.hub_rules.specs.Configured.{ConfiguredAccount, Configured}
 use Rattle.hub_rules.specs.Denied.{digest_given}
 use Rattle.login_state.specs.NamedFields.{checked_fields}
 use Rattle.hub_rules.specs.Grounds.{is_bad, is_wrong_address}
@@ -59,7 +59,7 @@ LoginsAreAccepted =
     → stage setup hash (e ∷ h) c ≡ (if is_some (account_with (key_in fields) setup.accounts) then Verify else Normal)
 
 -- the entry e is the password (an HPAS) of the account for which the hub waits, hashed with the challenge of the join, and it may still enter
-pub record GivesPassword (setup : Configured) (hash : List ℕ → List ℕ) (h : List Entry) (e : Entry) (c : ℕ) (account : Account) : Type 0 where
+pub record GivesPassword (setup : Configured) (hash : List ℕ → List ℕ) (h : List Entry) (e : Entry) (c : ℕ) (account : ConfiguredAccount) : Type 0 where
   pub bytes : List ℕ
   pub now : ℕ
   pub call : e.call ≡ Line c bytes now
@@ -76,5 +76,5 @@ pub record GivesPassword (setup : Configured) (hash : List ℕ → List ℕ) (h 
 -- it enters
 abbrev pub PasswordsAreAccepted : Type 0
 PasswordsAreAccepted =
-    (setup : Configured) (hash : List ℕ → List ℕ) (h : List Entry) (e : Entry) (c : ℕ) (account : Account) → GivesPassword setup hash h e c account
+    (setup : Configured) (hash : List ℕ → List ℕ) (h : List Entry) (e : Entry) (c : ℕ) (account : ConfiguredAccount) → GivesPassword setup hash h e c account
     → stage setup hash (e ∷ h) c ≡ Normal

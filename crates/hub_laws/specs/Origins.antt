@@ -12,9 +12,9 @@ use Rattle.hub_rules.specs.Configured.{Configured}
 use Rattle.hub_rules.specs.History.{sid, stage}
 use Rattle.hub_rules.specs.Texts.{update_line}
 use Rattle.hub_laws.specs.Messages.{goes_to_users, is_hub_command}
-use Rattle.hub_laws.specs.Ordering.{lines_added}
+use Rattle.hub_laws.specs.SenderOrder.{lines_added}
 use Rattle.hub_laws.specs.Refusals.{accepted}
-use Rattle.hub_laws.specs.Welcoming.{info_line}
+use Rattle.hub_laws.specs.Welcome.{info_line}
 
 -- where a line comes from that the entry e adds
 pub data Origin (setup : Configured) (hash : List ℕ → List ℕ) (h : List Entry) (e : Entry) (line : List ℕ) : Type 0 where

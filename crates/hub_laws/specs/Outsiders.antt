@@ -4,7 +4,7 @@ use Rattle.login_state.specs.declared.stage.Stage.TheVariants.{Normal}
 use Rattle.hub_rules.specs.declared.history.Entry.{Entry}
 use Rattle.hub_rules.specs.Configured.{Configured}
 use Rattle.hub_rules.specs.History.{lines_owed, stage}
-use Rattle.hub_laws.specs.Ordering.{is_of}
+use Rattle.hub_laws.specs.SenderOrder.{is_of}
 
 -- an entry that is neither a line nor the quit of this connection adds nothing to what it is owed
 abbrev pub OutsidersHearNothing : Type 0

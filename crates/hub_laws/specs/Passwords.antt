@@ -10,17 +10,17 @@ use Rattle.login_state.specs.declared.stage.Stage.TheVariants.{Verify}
 use Rattle.hub_rules.specs.declared.history.Call.{Call}
 use Rattle.hub_rules.specs.declared.history.Call.TheVariants.{Line}
 use Rattle.hub_rules.specs.declared.history.Entry.{Entry}
-use Rattle.hub_rules.specs.Configured.{Account, Configured}
+use Rattle.hub_rules.specs.Configured.{ConfiguredAccount, Configured}
 use Rattle.hub_rules.specs.Denied.{digest_given}
 use Rattle.hub_rules.specs.Facts.{facts}
 use Rattle.hub_rules.specs.Grounds.{is_digest}
 use Rattle.hub_rules.specs.History.{about, lines_owed, stage}
-use Rattle.hub_invariants.specs.Lagging.{share}
+use Rattle.hub_invariants.specs.Lag.{share}
 use Rattle.hub_rules.specs.Texts.{challenge_line}
 
 -- ---- two hubs that differ in passwords alone
 
-abbrev pub without_password : Account → Account
+abbrev pub without_password : ConfiguredAccount → ConfiguredAccount
 without_password account = record account { password = [] }
 
 abbrev pub without_passwords : Configured → Configured

@@ -7,13 +7,13 @@ use Rattle.login_state.specs.declared.stage.Stage.TheVariants.{Normal, Verify}
 use Rattle.hub_rules.specs.declared.history.Call.TheVariants.{Line}
 use Rattle.hub_rules.specs.declared.history.Entry.{Entry}
 use Rattle.hub_rules.specs.Accounts.{account_with}
-use Rattle.hub_rules.specs.Configured.{Account, Configured}
+use Rattle.hub_rules.specs.Configured.{ConfiguredAccount, Configured}
 use Rattle.hub_rules.specs.Denied.{digest_given}
 use Rattle.hub_rules.specs.History.{about, info, stage}
 use Rattle.hub_rules.specs.Identities.{key_in}
 
 -- the account whose nick the user of a connection has: nicks are compared by their normal forms C
-abbrev pub account_at : Configured → (List ℕ → List ℕ) → List Entry → ℕ → Option Account
+abbrev pub account_at : Configured → (List ℕ → List ℕ) → List Entry → ℕ → Option ConfiguredAccount
 account_at setup hash h c = account_with (key_in (info setup hash h c)) setup.accounts
 
 -- in this history the connection sent a password (an HPAS) while the hub waited for one, and its first parameter spells this digest
@@ -35,7 +35,7 @@ pub record HasGiven (setup : Configured) (hash : List ℕ → List ℕ) (h : Lis
 -- whoever is present under the nick of an account gave the digest of its password and of the challenge with which the connection joined
 abbrev pub NicksAreProved : Type 0
 NicksAreProved =
-    (setup : Configured) (hash : List ℕ → List ℕ) (h : List Entry) (c : ℕ) (account : Account) → stage setup hash h c ≡ Normal → account_at setup hash h c ≡ Some account
+    (setup : Configured) (hash : List ℕ → List ℕ) (h : List Entry) (c : ℕ) (account : ConfiguredAccount) → stage setup hash h c ≡ Normal → account_at setup hash h c ≡ Some account
     → HasGiven setup hash h c (hash (account.password ++ (about setup hash h c).sender.challenge))
 
 -- where only registered users may enter, whoever is present has the nick of an account

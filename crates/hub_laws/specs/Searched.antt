@@ -16,14 +16,14 @@ use Rattle.hub_rules.specs.History.{about, info, present, totals}
 use Rattle.hub_rules.specs.Prepared.{prepared_line}
 use Rattle.hub_rules.specs.Requests.{request_of}
 use Rattle.hub_invariants.specs.Said.{accepted_line}
-use Rattle.hub_rules.specs.Sights.{Own}
+use Rattle.hub_rules.specs.Views.{SenderView}
 
 abbrev pub is_search : Request → Bool
 is_search requests.Search = true
 is_search request = false
 
 -- an accepted message that is a search
-abbrev pub searches : Own → Option Reading → Bool
+abbrev pub searches : SenderView → Option Reading → Bool
 searches own None = false
 searches own (Some line) = is_search (request_of own.stage line.kind line.command)
 

@@ -12,7 +12,7 @@ use Rattle.hub_rules.specs.Configured.{Configured}
 use Rattle.hub_rules.specs.Effects.{is_present, line_unless_empty}
 use Rattle.hub_rules.specs.Facts.{facts}
 use Rattle.hub_rules.specs.History.{about, info, sid, stage}
-use Rattle.hub_invariants.specs.Lagging.{share}
+use Rattle.hub_invariants.specs.Lag.{share}
 use Rattle.hub_invariants.specs.Said.{inf_update, said_in}
 
 -- a field that others may know of a user whose client is at this address: it is none of PD, CT, I6 and U6, and an I4 is the address

@@ -7,7 +7,7 @@ use Rattle.hub_rules.specs.Accounts.{operates}
 use Rattle.hub_rules.specs.Configured.{Configured}
 use Rattle.hub_laws.specs.Lists.{pieces}
 use Rattle.hub_laws.specs.Registered.{account_at}
-use Rattle.hub_laws.specs.Welcoming.{info_line}
+use Rattle.hub_laws.specs.Welcome.{info_line}
 
 -- the line that says who the user of a connection is has the word CT4 only where the account of its nick is an operator's
 abbrev pub OperatorsHaveAccounts : Type 0

@@ -1,29 +1,29 @@
 //! The laws that every history keeps, in the words of the protocol. Each law is proved of the rules themselves.
 
 ghost use Rattle.hub_invariants.specs.Promises.{FewAreOpen, OthersAreOut, PresentAreUsers, SidsAreGiven, SidsDiffer, TakenIsTheSum, UsersAreOpen};
-ghost use Rattle.hub_laws.specs.Differing.{CidsDiffer, NicksDiffer};
-ghost use Rattle.hub_laws.specs.Entering.{PresentInOrder};
-ghost use Rattle.hub_invariants.specs.Lagging.{LagIsTheFirst, OwedAreShares};
-ghost use Rattle.hub_invariants.specs.Opening.{OpenAreThoseThatStayed};
-ghost use Rattle.hub_laws.specs.Stepping.{StageIsLastMade};
+ghost use Rattle.hub_laws.specs.Uniqueness.{CidsDiffer, NicksDiffer};
+ghost use Rattle.hub_laws.specs.EntryOrder.{PresentInOrder};
+ghost use Rattle.hub_invariants.specs.Lag.{LagIsTheFirst, OwedAreShares};
+ghost use Rattle.hub_invariants.specs.OpenConnections.{OpenAreThoseThatStayed};
+ghost use Rattle.hub_laws.specs.StageSteps.{StageIsLastMade};
 ghost use Rattle.hub_invariants.specs.Said.{FeaturesAreLastAdded, InfoIsMerged};
 ghost use Rattle.hub_laws.specs.Searched.{SearchIsTheLast, TotalsAreSums};
 ghost use Rattle.hub_invariants.specs.World.{BanIsTheLastAct, TopicIsTheLast};
 ghost use Rattle.hub_laws.specs.Delivery.{DeliveredAreTheFirst};
-ghost use Rattle.hub_laws.specs.Departing.{DeparturesAreHeard};
-ghost use Rattle.hub_laws.specs.Holding.{BansAreApart, BansAreFew};
-ghost use Rattle.hub_laws.specs.Joining.{JoinsAreCounted, JoinsStay};
-ghost use Rattle.hub_laws.specs.Leaving.{KicksShutOut, OutIsForGood, WhoIsOutHearsNothing};
-ghost use Rattle.hub_laws.specs.Operating.{NobodyBannedEnters, OnlyOperatorsBan, OnlyOperatorsSetTopics, OnlyOperatorsShutOut};
-ghost use Rattle.hub_laws.specs.Ordering.{CallsKeepTheirOrder, MessagesKeepTheirOrder, OwedGrows, SendersAreNamed};
+ghost use Rattle.hub_laws.specs.Departures.{DeparturesAreHeard};
+ghost use Rattle.hub_laws.specs.BanLimits.{BansAreApart, BansAreFew};
+ghost use Rattle.hub_laws.specs.Joins.{JoinsAreCounted, JoinsStay};
+ghost use Rattle.hub_laws.specs.ShutOut.{KicksShutOut, OutIsForGood, WhoIsOutHearsNothing};
+ghost use Rattle.hub_laws.specs.Operators.{NobodyBannedEnters, OnlyOperatorsBan, OnlyOperatorsSetTopics, OnlyOperatorsShutOut};
+ghost use Rattle.hub_laws.specs.SenderOrder.{CallsKeepTheirOrder, MessagesKeepTheirOrder, OwedGrows, SendersAreNamed};
 ghost use Rattle.hub_laws.specs.Passwords.{ChallengesAreTold, PasswordsAreNotTold};
 ghost use Rattle.hub_laws.specs.Registered.{NicksAreProved, OnlyAccountsEnter};
-ghost use Rattle.hub_laws.specs.Removing.{NamesakesComeLater, OnlyUsersAreRemoved, RemovalsAreHeard, RemovalsComeFirst};
-ghost use Rattle.hub_laws.specs.Routing.{EmptyLinesOweNothing, JoinsAndTakesOweNothing, MessagesAreRouted, QuietQuits, StrangersAreNotHeard, WhoIsOutIsNotHeard};
+ghost use Rattle.hub_laws.specs.Removals.{NamesakesComeLater, OnlyUsersAreRemoved, RemovalsAreHeard, RemovalsComeFirst};
+ghost use Rattle.hub_laws.specs.Routes.{EmptyLinesOweNothing, JoinsAndTakesOweNothing, MessagesAreRouted, QuietQuits, StrangersAreNotHeard, WhoIsOutIsNotHeard};
 ghost use Rattle.hub_laws.specs.Secrets.{InfoIsPublic, UpdatesAreHeard, UpdatesArePassed};
-ghost use Rattle.hub_laws.specs.Taking.{DecidedIsTaken};
-ghost use Rattle.hub_laws.specs.Telling.{ActsAreHeard};
-ghost use Rattle.hub_laws.specs.Welcoming.{EntrantsAreWelcomed, EntriesAreHeard};
+ghost use Rattle.hub_laws.specs.CarriedOut.{DecidedIsTaken};
+ghost use Rattle.hub_laws.specs.OperatorActs.{ActsAreHeard};
+ghost use Rattle.hub_laws.specs.Welcome.{EntrantsAreWelcomed, EntriesAreHeard};
 
 /// Says who is present: exactly those whose connections are at the stage NORMAL, all of them open; who never joined, or
 /// quit, is shut out (ADC 1.0, "States"). They stand in the order of the entries by which they entered. In a legal history

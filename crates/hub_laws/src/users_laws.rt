@@ -1,9 +1,9 @@
 //! The laws that users of a hub ask for first. Each is proved of the rules themselves.
 
 ghost use Rattle.hub_laws.specs.Greetings.{NewcomersHearTheTopic};
-ghost use Rattle.hub_laws.specs.Hearing.{AllHearInOneOrder, AllHearTheSame};
+ghost use Rattle.hub_laws.specs.CommonOrder.{AllHearInOneOrder, AllHearTheSame};
 ghost use Rattle.hub_invariants.specs.Promises.{FewAreOpen};
-ghost use Rattle.hub_laws.specs.Holding.{BansAreFew};
+ghost use Rattle.hub_laws.specs.BanLimits.{BansAreFew};
 ghost use Rattle.hub_laws.specs.Forms.{LinesAreMessages, LinesEndOnce};
 ghost use Rattle.hub_laws.specs.Limits.{FewLinesWait, UsersAreWellFormed};
 ghost use Rattle.hub_laws.specs.Types.{OperatorsHaveAccounts};

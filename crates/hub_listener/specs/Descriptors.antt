@@ -2,7 +2,7 @@
 use Rattle.std.specs.Prelude.{ℕ, ◌<◌, ◌+◌, ◌++◌, List, codes, Option, IsSomeAnd}
 use Rattle.std.specs.Fmt.{decimal}
 use Rattle.hub_warnings.specs.Texts.{moment_text}
-use Rattle.hub_listener.specs.declared.opening.FewDescriptors.{FewDescriptors}
+use Rattle.hub_listener.specs.declared.start_lines.FewDescriptors.{FewDescriptors}
 
 -- a server for so many users needs more than the system allows
 abbrev pub AreFew : ℕ → Option ℕ → Type 0

@@ -1,5 +1,5 @@
-pub mod Arriving
+pub mod Arrivals
 pub mod Descriptors
 pub mod Peers
-pub mod Resting
+pub mod Rest
 pub mod Rests

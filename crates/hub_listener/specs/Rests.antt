@@ -10,7 +10,7 @@ use Rattle.server_tasks.specs.declared.accept_error.AcceptError.{AcceptError}
 use Rattle.server_tasks.specs.declared.accept_error.AcceptError.TheVariants as faults
 use Rattle.tokio.specs.Timers.{sleep_deadline}
 use Rattle.hub_listener.specs.declared.listener.Listener.{Listener}
-use Rattle.hub_listener.specs.Resting.{is_on}
+use Rattle.hub_listener.specs.Rest.{is_on}
 use Rattle.hub_listener.specs.declared.rest.Rest.TheVariants.{Never}
 
 -- the end of a rest that begins at this reading of a clock: 100 ms later, and none if there is no such time or no reading
@@ -20,8 +20,8 @@ EndOfRest (Some now) None = FitsClock (instant_nanos now + 100_000_000) → ⊥
 EndOfRest (Some now) (Some until) = instant_nanos until ≡ instant_nanos now + 100_000_000
 
 -- the fault that this error is
-abbrev pub IsFault : Error → AcceptError → Type 0
-IsFault error fault =
+abbrev pub IsAcceptFault : Error → AcceptError → Type 0
+IsAcceptFault error fault =
     (error_kind error ≡ OutOfMemory → fault ≡ faults.Memory) × (error_kind error ≢ OutOfMemory → fault ≡ error_by (raw_os_error error))
 
 module _ {R L I : Type 0} where

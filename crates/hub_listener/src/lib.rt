@@ -5,16 +5,16 @@ mod bind;
 mod listener;
 mod listens;
 mod moments;
-mod opening;
 mod options;
 mod rest;
 mod socket;
+mod start_lines;
 mod ticks;
 
 pub use bind::listen;
 pub use listener::Listener;
 pub use listens::{Arrived, Listens};
 pub use moments::{CallMoment, Moments, moment};
-pub use opening::{FewDescriptors, say_start, warn_of_descriptors};
 pub use socket::Socket;
+pub use start_lines::{FewDescriptors, say_start, warn_of_descriptors};
 pub use ticks::Ticks;

@@ -1,11 +1,11 @@
 ghost use Rattle.std.specs.Prelude.{◌≡◌, true, false, IfErr, IfOk, IsOk, OnOk, OnErr};
 ghost use Rattle.futures.specs.Task.{IsArmed, Keeps};
 ghost use Rattle.futures.specs.Poll.{IfReady, OnPending};
-ghost use Rattle.hub_listener.specs.Arriving.{OnNobody};
-ghost use Rattle.hub_listener.specs.Rests.{EndOfRest, HasBegun, IsFault, rests, socket_of, Rests, GoesOn};
+ghost use Rattle.hub_listener.specs.Arrivals.{OnNobody};
+ghost use Rattle.hub_listener.specs.Rests.{EndOfRest, HasBegun, IsAcceptFault, rests, socket_of, Rests, GoesOn};
 
 use crate::listens::{Arrived, Listens};
-use crate::rest::{Look, Rest};
+use crate::rest::{Rest, RoomLook};
 use crate::ticks::Ticks;
 use futures::task::{Context, Poll};
 use hub_warnings::{Cause, WallClock, Warnings};
@@ -73,7 +73,7 @@ impl<'a, R: Wait + WallClock + Ticks, L: Log, I> Listener<'a, R, L, I> {
 
     /// Ends a rest once a socket was closed or its time has passed. Fails with the look that found no room, if the rest goes on; the
     /// task is woken at its end.
-    fn end_rest(&mut self, cx: &mut Context<'_>) -> Result<(), Look>
+    fn end_rest(&mut self, cx: &mut Context<'_>) -> Result<(), RoomLook>
         ensures awake { rests self.old ≡ false → IsOk result }
         ensures over { OnOk result (rests self.new ≡ false) }
         ensures not_over { OnErr result (rests self.new ≡ true) }
@@ -87,7 +87,7 @@ impl<'a, R: Wait + WallClock + Ticks, L: Log, I> Listener<'a, R, L, I> {
             return Ok(());
         }
         let (word, has_room) = self.wakers.wait_for_room(cx);
-        let look = Look { word, has_room };
+        let look = RoomLook { word, has_room };
         if !has_room && self.timer.poll_elapsed(cx).is_pending() {
             return Err(look);
         }
@@ -112,7 +112,7 @@ impl<'a, R: Wait + WallClock + Ticks, L: Log, I> Listener<'a, R, L, I> {
 
     /// Answers whether the socket may be asked again after this error.
     fn goes_on(&mut self, error: &io::Error) -> bool
-        ensures does { (fault : _) × IsFault error.now fault × GoesOn R.ticks self.old fault result self.new }
+        ensures does { (fault : _) × IsAcceptFault error.now fault × GoesOn R.ticks self.old fault result self.new }
         ensures begun { HasBegun self.old → HasBegun self.new }
         ensures socket { socket_of self.new ≡ socket_of self.old }
     {

@@ -15,7 +15,7 @@ pub trait Listens: Drop {
     ghost use Rattle.std.specs.Prelude.{IfOk};
     ghost use Rattle.futures.specs.Task.{IsArmed, Keeps};
     ghost use Rattle.futures.specs.Poll.{IfReady, OnPending};
-    ghost use Rattle.hub_listener.specs.Arriving.{OnNobody};
+    ghost use Rattle.hub_listener.specs.Arrivals.{OnNobody};
     ghost use Rattle.hub_listener.specs.declared.listens.Arrived.{Arrived};
 
     /// The sockets of those who connect.

@@ -42,16 +42,16 @@ pub trait Moments {
     ghost use Rattle.std.specs.Prelude.{ℕ};
 
     /// The moments that it may tell.
-    ghost tells: { Self → ℕ → Type 0 };
+    ghost may_read: { Self → ℕ → Type 0 };
 
     /// Tells the moment of a call that follows.
     fn moment_of_call(&self) -> CallMoment
-        ensures told { tells self.now result };
+        ensures told { may_read self.now result };
 }
 
 impl<R: WallClock> Moments for R {
     // The whole seconds of a reading.
-    ghost tells = { ReadsSeconds R.reads };
+    ghost may_read = { ReadsSeconds R.reads };
 
     fn moment_of_call(&self) -> CallMoment {
         CallMoment::read(self)

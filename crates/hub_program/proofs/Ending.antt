@@ -1,8 +1,8 @@
 -- The end of a server that was asked for.
 use Rattle.std.proofs.Common.{◌≡◌, ℕ, List, Option, Result, Ok, Err, IfOk, IfErr, MatchResult, inl, inr, subst, sym}
-use Rattle.flushed_writes.specs.Parts.{AppendsFront}
+use Rattle.counted_io.specs.Parts.{AppendsFront}
 use Rattle.hub_program.specs.Starting.{EndsServer}
-use Rattle.hub_server.specs.Reporting.{EndsServing}
+use Rattle.hub_server.specs.ServerEnd.{EndsServing}
 use Rattle.hub_startup.specs.Endings.{KeepsFromStarting, status_by, message_by}
 use Rattle.hub_startup.specs.declared.fault.StartFault.{StartFault}
 

@@ -5,8 +5,8 @@ use Rattle.session_hash.specs.Tiger.{tiger}
 use Rattle.hub_settings.specs.Settings.{ServerSettings}
 use Rattle.hub_settings.specs.declared.hash_name.HashName.{HashName}
 use Rattle.hub_settings.specs.declared.hash_name.HashName.TheVariants as names
-use Rattle.flushed_writes.specs.Parts.{AppendsFront}
-use Rattle.hub_server.specs.Reporting.{EndsServing}
+use Rattle.counted_io.specs.Parts.{AppendsFront}
+use Rattle.hub_server.specs.ServerEnd.{EndsServing}
 use Rattle.hub_startup.specs.Endings.{KeepsFromStarting, status_by, message_by}
 use Rattle.hub_startup.specs.Files.{AreTables, HasAt, IsSeed, StartsAt}
 use Rattle.hub_startup.specs.declared.fault.StartFault.{StartFault}

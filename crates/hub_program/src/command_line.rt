@@ -1,11 +1,11 @@
 ghost use Rattle.std.specs.Prelude.{◌≡◌, ℕ, map};
 ghost use Rattle.std.specs.String.{string_bytes};
 ghost use Rattle.hub_program.specs.Starting.{EndsServer};
-ghost use Rattle.hub_server.specs.Reporting.{Reports};
-ghost use Rattle.hub_startup.specs.Endings.{AsksToServe, EndsOver, Tells};
+ghost use Rattle.hub_server.specs.ServerEnd.{Reports};
+ghost use Rattle.hub_startup.specs.Endings.{AsksToServe, EndsOver, TellsEnding};
 
 use crate::start::serve_file;
-use flushed_writes::{CountedRead, CountedWrite};
+use counted_io::{CountedRead, CountedWrite};
 use hub_startup::{Opens, serve_stdin_if_asked, settings_path};
 use std::alloc::AllocGlobal;
 use std::env::Env;
@@ -39,7 +39,7 @@ where
     O: CountedWrite,
     E: Write + Send,
     ensures ends { EndsOver result (map string_bytes words.now) I.remaining I.failures input.old input.new O.contents O.failures output.old output.new }
-    ensures tells { (AsksToServe (map string_bytes words.now) → ⊥) → Tells result (E.contents errors.old) (E.contents errors.new) }
+    ensures tells { (AsksToServe (map string_bytes words.now) → ⊥) → TellsEnding result (E.contents errors.old) (E.contents errors.new) }
     ensures status { AsksToServe (map string_bytes words.now) → EndsServer E.contents errors.new result }
     ensures served { AsksToServe (map string_bytes words.now) → result ≡ 0 → (joins : ℕ) × Reports O.contents output.new joins }
 {

@@ -5,4 +5,4 @@ mod command_line;
 mod start;
 
 pub use command_line::program;
-pub use flushed_writes::{CountedRead, CountedWrite, Counting};
+pub use counted_io::{CountedRead, CountedWrite, Counting};

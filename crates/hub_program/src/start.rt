@@ -1,9 +1,9 @@
 ghost use Rattle.std.specs.Prelude.{◌≡◌, ℕ, IfOk, IfErr, MatchResult};
 ghost use Rattle.std.specs.Arc.{arc_value};
-ghost use Rattle.flushed_writes.specs.Parts.{AppendsFront};
+ghost use Rattle.counted_io.specs.Parts.{AppendsFront};
 ghost use Rattle.hub_startup.specs.Endings.{status_by, message_by, KeepsFromStarting};
 ghost use Rattle.hub_program.specs.Starting.{AreAt, EndsServer, IsHash, IsSeedAt};
-ghost use Rattle.hub_server.specs.Reporting.{EndsServing, Reports};
+ghost use Rattle.hub_server.specs.ServerEnd.{EndsServing, Reports};
 
 use hub_server::{serve_for_journal, serve_on};
 use hub_settings::{HashName, Settings};

@@ -2,7 +2,7 @@
 use Rattle.std.specs.Prelude.{ℕ, ◌==◌, not, Bool, false, List, [], ◌∷◌, codes, Option, Some, None, Result, Ok, Err, is_some, if◌then◌else◌}
 use Rattle.std.specs.Result.{result_err}
 use Rattle.std.specs.Option.{option_map_or}
-use Rattle.feature_route.specs.declared.hearers.Audience.TheVariants as audiences
+use Rattle.feature_route.specs.declared.audience.Audience.TheVariants as audiences
 use Rattle.login_state.specs.declared.deny.Deny.{Deny}
 use Rattle.login_state.specs.declared.deny.Deny.TheVariants as denials
 use Rattle.operator_acts.specs.Acts.{act_at}
@@ -22,7 +22,7 @@ use Rattle.hub_rules.specs.declared.sender.SeatChange.TheVariants as seats
 use Rattle.hub_rules.specs.Accounts.{operates}
 use Rattle.hub_rules.specs.Identities.{meaning, key_in, key_of_points}
 use Rattle.hub_rules.specs.Quiet.{nothing}
-use Rattle.hub_rules.specs.Sights.{Sight, Own, account_of}
+use Rattle.hub_rules.specs.Views.{HubView, SenderView, account_of}
 use Rattle.hub_rules.specs.Texts.{done_line, removal_line, topic_line}
 
 -- what the first parameter means
@@ -35,7 +35,7 @@ abbrev pub is_command : List ℕ → Bool
 is_command [] = false
 is_command (b ∷ more) = b == 33
 
-abbrev pub is_operator : Sight → Own → Bool
+abbrev pub is_operator : HubView → SenderView → Bool
 is_operator hub own = operates (account_of hub (key_in own.fields))
 
 -- ---- each command, by the users who are present, the bans that are held, its operator and the moment
@@ -77,7 +77,7 @@ answer_of users bans operator now (acts.Topic text) = Ok (record { others = topi
 -- ---- all of them
 
 -- what a command leads to that was read, if it is one, or why it is denied
-abbrev pub answer_to : Sight → Own → ℕ → Option Act → Result Done Deny
+abbrev pub answer_to : HubView → SenderView → ℕ → Option Act → Result Done Deny
 answer_to hub own now None = Err denials.BadCommand
 answer_to hub own now (Some act) = answer_of hub.users hub.bans own.sender.sid now act
 
@@ -90,13 +90,13 @@ effect_by (Ok done) = effect_for_all done
 effect_by (Err deny) = nothing
 
 -- only an operator's text is looked into
-unfoldable pub act_denied : Sight → Own → ℕ → List (List ℕ) → Option Deny
+unfoldable pub act_denied : HubView → SenderView → ℕ → List (List ℕ) → Option Deny
 act_denied hub own now params =
     if not (is_command (text_in params)) then None
     else if not (is_operator hub own) then Some (denials.Access (codes "HMSG"))
     else result_err (answer_to hub own now (act_at (text_in params)))
 
 -- what an accepted message to the hub leads to
-unfoldable pub act_effect : Sight → Own → ℕ → List (List ℕ) → Effect
+unfoldable pub act_effect : HubView → SenderView → ℕ → List (List ℕ) → Effect
 act_effect hub own now params =
     if not (is_command (text_in params)) then nothing else effect_by (answer_to hub own now (act_at (text_in params)))

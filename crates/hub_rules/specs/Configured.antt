@@ -7,14 +7,14 @@ abbrev pub most_users : ℕ
 most_users = 900
 
 -- a registered user
-pub record Account : Type 0 where
+pub record ConfiguredAccount : Type 0 where
   -- the nick in Unicode's normal form C, by which nicks are compared
   pub key : List ℕ
   pub password : List ℕ
   pub operator : Bool
 
 -- an entry for the clients' menus (ADC-EXT, "UCMD")
-pub record MenuEntry : Type 0 where
+pub record ConfiguredEntry : Type 0 where
   pub name : List ℕ
   pub context : ℕ
   -- what the client sends; a line between entries has none
@@ -23,8 +23,8 @@ pub record MenuEntry : Type 0 where
 pub record Configured : Type 0 where
   pub name : List ℕ
   pub topic : List ℕ
-  pub accounts : List Account
-  pub menu : List MenuEntry
+  pub accounts : List ConfiguredAccount
+  pub menu : List ConfiguredEntry
   -- what is neither a text nor a list
   pub plain : PlainOptions
 

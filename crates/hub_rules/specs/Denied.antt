@@ -17,7 +17,7 @@ use Rattle.hub_rules.specs.declared.plain_options.PlainOptions.{PlainOptions}
 use Rattle.hub_rules.specs.Acts.{act_denied}
 use Rattle.hub_rules.specs.Grounds.{first_ground, sup_grounds, login_grounds, password_grounds, update_grounds}
 use Rattle.hub_rules.specs.Requests.{request_of, refusal_of}
-use Rattle.hub_rules.specs.Sights.{Sight, Own, PreparedLine, user_after}
+use Rattle.hub_rules.specs.Views.{HubView, SenderView, PreparedLine, user_after}
 use Rattle.hub_rules.specs.Identities.{listed_user}
 
 -- of a SUP: its words, how many features are left, which
@@ -26,7 +26,7 @@ sup_denied (Ok features) = first_ground (sup_grounds features)
 sup_denied (Err fault) = Some denials.Protocol
 
 -- of a login: its words, what they say
-abbrev pub login_denied : Sight → Own → Option (List ℕ) → ℕ → Result (List Field) InfFault → Option Deny
+abbrev pub login_denied : HubView → SenderView → Option (List ℕ) → ℕ → Result (List Field) InfFault → Option Deny
 login_denied hub own digest now (Ok u) = first_ground (login_grounds hub own now digest u (user_after own u))
 login_denied hub own digest now (Err fault) = Some denials.Protocol
 
@@ -36,11 +36,11 @@ digest_given [] = None
 digest_given (word ∷ more) = spelled_bytes 24 word
 
 -- of a password: the digest, and then what may have changed since the login
-abbrev pub password_denied : Sight → Own → ℕ → List (List ℕ) → Option Deny
+abbrev pub password_denied : HubView → SenderView → ℕ → List (List ℕ) → Option Deny
 password_denied hub own now params = first_ground (password_grounds hub own now (digest_given params) (listed_user own.sender.sid own.fields))
 
 -- of an update: its words, what they say
-abbrev pub update_denied : Sight → Own → Result (List Field) InfFault → Option Deny
+abbrev pub update_denied : HubView → SenderView → Result (List Field) InfFault → Option Deny
 update_denied hub own (Ok u) = first_ground (update_grounds hub own u (user_after own u))
 update_denied hub own (Err fault) = Some denials.Protocol
 
@@ -49,11 +49,11 @@ abbrev pub is_search_due : PlainOptions → Option ℕ → ℕ → Bool
 is_search_due plain last now = may_search last now plain.search_interval
 
 -- of a message to users: where it is a search, when it comes
-abbrev pub message_denied : Sight → Own → ℕ → Bool → Option Deny
+abbrev pub message_denied : HubView → SenderView → ℕ → Bool → Option Deny
 message_denied hub own now search = if search && not (is_search_due hub.setup.plain own.sender.notes.searched now) then Some denials.SearchSoon else None
 
 -- the rules of what the line asks for
-unfoldable pub request_denied : Sight → Own → PreparedLine → ℕ → Reading → Request → Option Deny
+unfoldable pub request_denied : HubView → SenderView → PreparedLine → ℕ → Reading → Request → Option Deny
 request_denied hub own prepared now line requests.Greeting = sup_denied (support_after own.sender.features line.params)
 request_denied hub own prepared now line requests.Login = login_denied hub own prepared.owner now (updates.reading line.params)
 request_denied hub own prepared now line requests.Password = password_denied hub own now line.params
@@ -65,6 +65,6 @@ request_denied hub own prepared now line requests.Message = message_denied hub o
 request_denied hub own prepared now line requests.Nothing = None
 
 -- why a line is denied, if it is
-abbrev pub denial_of : Sight → Own → PreparedLine → ℕ → Reading → Option Deny
+abbrev pub denial_of : HubView → SenderView → PreparedLine → ℕ → Reading → Option Deny
 denial_of hub own prepared now line =
     option_or (refusal_of own.stage own.sender.sid line) (request_denied hub own prepared now line (request_of own.stage line.kind line.command))

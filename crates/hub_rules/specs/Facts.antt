@@ -18,8 +18,8 @@ use Rattle.hub_rules.specs.Effects.{line_effect, departure, is_present}
 use Rattle.hub_rules.specs.Identities.{listed_user}
 use Rattle.hub_rules.specs.Prepared.{prepared_line}
 use Rattle.hub_rules.specs.Senders.{new_sender}
-use Rattle.hub_rules.specs.Shares.{About, affected_connection, changed_by_sender, waiting}
-use Rattle.hub_rules.specs.Sights.{Sight, Own}
+use Rattle.hub_rules.specs.Shares.{ConnState, affected_connection, changed_by_sender, waiting}
+use Rattle.hub_rules.specs.Views.{HubView, SenderView}
 
 -- what belongs to the hub
 pub record Facts : Type 0 where
@@ -33,10 +33,10 @@ pub record Facts : Type 0 where
   pub present : List ℕ
   pub bans : List (List ℕ × Ban)
   pub topic : List ℕ
-  pub about : ℕ → About
+  pub about : ℕ → ConnState
 
 -- a connection that never joined
-abbrev pub nobody : About
+abbrev pub nobody : ConnState
 nobody = record { owner = 0; sender = new_sender 0 [] []; stage = stages.Gone; fields = []; expected = []; owed = []; taken = 0; lags = false }
 
 -- before the first call
@@ -44,18 +44,18 @@ abbrev pub start : Configured → Facts
 start setup = record { joins = 0; last = 0; opened = []; present = []; bans = []; topic = setup.topic; about = λ c. nobody }
 
 -- a connection that has just joined
-abbrev pub newcomer : ℕ → ℕ → List ℕ → List ℕ → About
+abbrev pub newcomer : ℕ → ℕ → List ℕ → List ℕ → ConnState
 newcomer owner sid peer challenge = record nobody { owner = owner; sender = new_sender sid peer challenge; stage = stages.Protocol }
 
 -- ---- what a decision looks at
 
-abbrev pub user_of : (ℕ → About) → ℕ → Listed
+abbrev pub user_of : (ℕ → ConnState) → ℕ → Listed
 user_of about c = listed_user (about c).sender.sid (about c).fields
 
-abbrev pub sight_of : Configured → Facts → Sight
+abbrev pub sight_of : Configured → Facts → HubView
 sight_of setup f = record { setup = setup; users = map (user_of f.about) f.present; bans = f.bans; topic = f.topic }
 
-abbrev pub own_of : About → Own
+abbrev pub own_of : ConnState → SenderView
 own_of a = record { sender = a.sender; stage = a.stage; fields = a.fields; expected = a.expected }
 
 -- what a line of connection c leads to
@@ -69,11 +69,11 @@ abbrev pub enters : Change → Bool
 enters change = is_present (changed_by_sender true change nobody).stage
 
 -- the connections after an effect of connection c
-abbrev pub about_after : ℕ → Effect → (ℕ → About) → ℕ → About
+abbrev pub about_after : ℕ → Effect → (ℕ → ConnState) → ℕ → ConnState
 about_after c effect about d = affected_connection (d == c) effect (about d)
 
 -- those whose users are still present, and the one that enters
-abbrev pub present_after : ℕ → Effect → (ℕ → About) → List ℕ → List ℕ
+abbrev pub present_after : ℕ → Effect → (ℕ → ConnState) → List ℕ → List ℕ
 present_after c effect about present =
     filter (λ d. is_present (about_after c effect about d).stage) present ++ (if enters effect.change then c ∷ [] else [])
 
@@ -112,7 +112,7 @@ abbrev pub next_sid : Facts → ℕ
 next_sid f = next_free f.last (map (λ c. (f.about c).sender.sid) f.opened)
 
 -- one connection changes, and no other
-abbrev pub with_one : ℕ → (About → About) → (ℕ → About) → ℕ → About
+abbrev pub with_one : ℕ → (ConnState → ConnState) → (ℕ → ConnState) → ℕ → ConnState
 with_one c change about d = if d == c then change (about d) else about d
 
 unfoldable pub with_connection : Facts → ℕ → List ℕ → List ℕ → Facts
@@ -128,7 +128,7 @@ unfoldable pub without_connection : ℕ → Facts → Facts
 without_connection c f = record f { opened = filter (λ d. not (d == c)) f.opened }
 
 -- so many lines are taken
-abbrev pub with_lines_taken : ℕ → About → About
+abbrev pub with_lines_taken : ℕ → ConnState → ConnState
 with_lines_taken count a = record a { taken = a.taken + length (take count (waiting a)) }
 
 -- the hub after one call more

@@ -25,7 +25,7 @@ use Rattle.operator_acts.specs.declared.left.Left.TheVariants as lefts
 use Rattle.user_table.specs.Listed.{Listed}
 use Rattle.user_table.specs.Tables.{has_key, has_cid}
 use Rattle.hub_rules.specs.Identities.{value_or_empty, meaning, nick_in, key_in}
-use Rattle.hub_rules.specs.Sights.{Sight, Own, is_account, is_here, another_has_key}
+use Rattle.hub_rules.specs.Views.{HubView, SenderView, is_account, is_here, another_has_key}
 
 -- the first that holds decides
 abbrev pub first_ground : List (Bool × Deny) → Option Deny
@@ -73,7 +73,7 @@ ban_ground lefts.Ever = (true, denials.BannedEver)
 ban_ground (lefts.For seconds) = (true, denials.BannedFor seconds)
 
 -- of a user who is to enter: what may have changed since its login, once its password is right
-unfoldable pub entry_grounds : Sight → ℕ → Listed → List (Bool × Deny)
+unfoldable pub entry_grounds : HubView → ℕ → Listed → List (Bool × Deny)
 entry_grounds hub now user =
     ban_ground (left_of_bans hub.bans user.cid now)
     ∷ (is_here (has_key user.key) hub, denials.NickTaken Fatal)
@@ -84,7 +84,7 @@ abbrev pub is_digest : List ℕ → Option (List ℕ) → Bool
 is_digest expected digest = option_map_or (λ (d : List ℕ). bytes_eq d expected) digest false
 
 -- of a password: the digest that it gives
-abbrev pub password_grounds : Sight → Own → ℕ → Option (List ℕ) → Listed → List (Bool × Deny)
+abbrev pub password_grounds : HubView → SenderView → ℕ → Option (List ℕ) → Listed → List (Bool × Deny)
 password_grounds hub own now digest user = (not (is_digest own.expected digest), denials.Password) ∷ entry_grounds hub now user
 
 -- of a login: what is missing, and an identifier that is none
@@ -97,7 +97,7 @@ identifier_grounds u =
     ∷ []
 
 -- of a login with an identifier: the digest of the private one, what the words say, the user that they make
-abbrev pub entrant_grounds : Sight → Own → ℕ → Option (List ℕ) → List Field → Listed → List (Bool × Deny)
+abbrev pub entrant_grounds : HubView → SenderView → ℕ → Option (List ℕ) → List Field → Listed → List (Bool × Deny)
 entrant_grounds hub own now digest u user =
     (not (is_some digest), denials.BadField Fatal fields.PrivateId)
     ∷ value_ground Fatal u
@@ -110,17 +110,17 @@ entrant_grounds hub own now digest u user =
     ∷ (is_here (has_cid user.cid) hub, denials.CidTaken)
     ∷ []
 
-unfoldable pub login_grounds : Sight → Own → ℕ → Option (List ℕ) → List Field → Listed → List (Bool × Deny)
+unfoldable pub login_grounds : HubView → SenderView → ℕ → Option (List ℕ) → List Field → Listed → List (Bool × Deny)
 login_grounds hub own now digest u user = identifier_grounds u ++ entrant_grounds hub own now digest u user
 
 -- ---- updates
 
 -- nobody takes the nick of an account, or leaves it
-abbrev pub touches_account : Sight → List ℕ → List ℕ → Bool
+abbrev pub touches_account : HubView → List ℕ → List ℕ → Bool
 touches_account hub before afterwards = differs afterwards before && (is_account hub before || is_account hub afterwards)
 
 -- of an update by a user who is present: what the words say, and the user that they make
-unfoldable pub update_grounds : Sight → Own → List Field → Listed → List (Bool × Deny)
+unfoldable pub update_grounds : HubView → SenderView → List Field → Listed → List (Bool × Deny)
 update_grounds hub own u user =
     (differs (unwrap_or (value_of id_name u) (value_or_empty id_name own.fields)) (value_or_empty id_name own.fields), denials.BadField Recoverable fields.Id)
     ∷ value_ground Recoverable u

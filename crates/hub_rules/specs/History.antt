@@ -9,9 +9,9 @@ use Rattle.user_table.specs.Tables.{totals_of}
 use Rattle.hub_rules.specs.declared.history.Entry.{Entry}
 use Rattle.hub_rules.specs.Configured.{Configured}
 use Rattle.hub_rules.specs.Facts.{facts, user_of}
-use Rattle.hub_rules.specs.Shares.{About, waiting}
+use Rattle.hub_rules.specs.Shares.{ConnState, waiting}
 
-abbrev pub about : Configured → (List ℕ → List ℕ) → List Entry → ℕ → About
+abbrev pub about : Configured → (List ℕ → List ℕ) → List Entry → ℕ → ConnState
 about setup hash h c = (facts setup hash h).about c
 
 -- how far a connection has come

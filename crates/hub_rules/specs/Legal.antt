@@ -12,7 +12,7 @@ use Rattle.hub_rules.specs.declared.history.Verdict.TheVariants.{Kept, Ended}
 use Rattle.hub_rules.specs.Configured.{Configured}
 use Rattle.hub_rules.specs.Effects.{is_over}
 use Rattle.hub_rules.specs.Facts.{Facts, facts, after, has_place, has_joins}
-use Rattle.hub_rules.specs.Shares.{About, waiting}
+use Rattle.hub_rules.specs.Shares.{ConnState, waiting}
 
 abbrev pub join_reply : Bool → Bool → ℕ → Reply
 join_reply place counted joins = if place then (if counted then Joined (joins + 1) else JoinsSpent) else Full
@@ -22,10 +22,10 @@ abbrev pub verdict_of : Stage → Verdict
 verdict_of stage = if is_over stage then Ended else Kept
 
 -- nothing is left after the take, and nothing more will come
-abbrev pub has_ended : ℕ → About → Bool
+abbrev pub has_ended : ℕ → ConnState → Bool
 has_ended count a = nat_le (length (waiting a)) count && (is_over a.stage || a.lags)
 
-abbrev pub take_reply : ℕ → About → Reply
+abbrev pub take_reply : ℕ → ConnState → Reply
 take_reply count a = Took (concat (take count (waiting a))) (length (take count (waiting a))) (has_ended count a)
 
 -- what a call is answered

@@ -2,7 +2,7 @@ pub mod Configured
 pub mod Accounts
 pub mod Identities
 pub mod Texts
-pub mod Sights
+pub mod Views
 pub mod Prepared
 pub mod Quiet
 pub mod Acts

@@ -12,9 +12,9 @@ use Rattle.inf_fields.specs.Field.{Field}
 use Rattle.inf_fields.specs.FieldNames.{private_id_name}
 use Rattle.inf_fields.specs.Updates as updates
 use Rattle.hub_rules.specs.Accounts.{account_with}
-use Rattle.hub_rules.specs.Configured.{Account, Configured}
+use Rattle.hub_rules.specs.Configured.{ConfiguredAccount, Configured}
 use Rattle.hub_rules.specs.Identities.{value_or_empty, key_in}
-use Rattle.hub_rules.specs.Sights.{PreparedLine}
+use Rattle.hub_rules.specs.Views.{PreparedLine}
 
 abbrev pub is_broadcast : Kind → Bool
 is_broadcast kinds.Broadcast = true
@@ -30,8 +30,8 @@ update_of (Ok line) =
 abbrev pub owner_digest : (List ℕ → List ℕ) → Option (List Field) → Option (List ℕ)
 owner_digest hash said = option_map hash (option_and_then (λ (u : List Field). spelled_bytes 24 (value_or_empty private_id_name u)) said)
 
-abbrev pub password_of : (List ℕ → List ℕ) → List ℕ → Option Account → Option (List ℕ)
-password_of hash challenge account = option_map (λ (a : Account). hash (a.password ++ challenge)) account
+abbrev pub password_of : (List ℕ → List ℕ) → List ℕ → Option ConfiguredAccount → Option (List ℕ)
+password_of hash challenge account = option_map (λ (a : ConfiguredAccount). hash (a.password ++ challenge)) account
 
 -- the digest of the password and the challenge, where the nick is an account's
 abbrev pub password_digest : Configured → (List ℕ → List ℕ) → List ℕ → Option (List Field) → Option (List ℕ)

@@ -22,7 +22,7 @@ use Rattle.hub_rules.specs.Identities.{su_in}
 use Rattle.hub_rules.specs.Senders.{is_removal, notes_by}
 
 -- what belongs to one connection
-pub record About : Type 0 where
+pub record ConnState : Type 0 where
   -- the caller that joined it
   pub owner : ℕ
   pub sender : Sender
@@ -49,36 +49,36 @@ abbrev pub max_bytes : ℕ
 max_bytes = 1_048_576
 
 -- the lines that wait
-abbrev pub waiting : About → List (List ℕ)
+abbrev pub waiting : ConnState → List (List ℕ)
 waiting a = drop a.taken a.owed
 
 -- with these lines waiting, there is room for those
 abbrev pub has_room_for : List (List ℕ) → List (List ℕ) → Bool
 has_room_for waiting share = nat_le (length waiting + length share) max_lines && nat_le (size_of waiting + size_of share) max_bytes
 
-abbrev pub has_room : About → List (List ℕ) → Bool
+abbrev pub has_room : ConnState → List (List ℕ) → Bool
 has_room a share = not a.lags && has_room_for (waiting a) share
 
 -- A share is added whole or not at all. The first that does not fit makes the connection lag, and then nothing is added any more.
-unfoldable pub owed_with : About → List (List ℕ) → List (List ℕ)
+unfoldable pub owed_with : ConnState → List (List ℕ) → List (List ℕ)
 owed_with a share = if has_room a share then a.owed ++ share else a.owed
 
-unfoldable pub lags_with : About → List (List ℕ) → Bool
+unfoldable pub lags_with : ConnState → List (List ℕ) → Bool
 lags_with a share = not (has_room a share) || a.lags
 
-abbrev pub hears_those : Bool → Hearers → About → Bool
+abbrev pub hears_those : Bool → Hearers → ConnState → Bool
 hears_those is_caller Others a = not is_caller
 hears_those is_caller (Those audience) a = holds audience a.sender.sid (su_in a.fields)
 
 -- what an effect owes a connection: what users hear, where its own is present and one of those for whom it is said, and then what the sender of the line
 -- alone hears
-abbrev pub owes : Bool → Effect → About → List (List ℕ)
+abbrev pub owes : Bool → Effect → ConnState → List (List ℕ)
 owes is_caller effect a = (if is_present a.stage && hears_those is_caller effect.hearers a then effect.others else []) ++ (if is_caller then effect.own else [])
 
 -- ---- what becomes of a connection
 
 -- what its own line changes
-abbrev pub changed : SenderChange → About → About
+abbrev pub changed : SenderChange → ConnState → ConnState
 changed (senders.Greets features) a = record a { sender = record a.sender { features = features }; stage = stages.Identify }
 changed (senders.Learns features) a = record a { sender = record a.sender { features = features } }
 changed (senders.Waits entrant expected) a = record a { stage = stages.Verify; fields = entrant.user.fields; expected = expected }
@@ -88,7 +88,7 @@ changed (senders.Updates revision) a = record a { fields = merged_with a.fields 
 changed (senders.Searches now) a = record a { sender = record a.sender { notes = record a.sender.notes { searched = Some now } } }
 changed senders.Falls a = record a { stage = stages.Gone }
 
-abbrev pub changed_by_sender : Bool → Change → About → About
+abbrev pub changed_by_sender : Bool → Change → ConnState → ConnState
 changed_by_sender true (changes.Sender change) a = changed change a
 changed_by_sender is_sender change a = a
 
@@ -99,15 +99,15 @@ change_at (changes.Hub (shared.Ban banned)) = Some (banned.sid, seats.Gone)
 change_at change = None
 
 -- what an operator's change makes of it
-abbrev pub operated : SeatChange → About → About
+abbrev pub operated : SeatChange → ConnState → ConnState
 operated change a = record a { sender = record a.sender { notes = notes_by change a.sender.notes }; stage = if is_removal change then stages.Gone else a.stage }
 
-abbrev pub changed_by_operator : Option (ℕ × SeatChange) → About → About
+abbrev pub changed_by_operator : Option (ℕ × SeatChange) → ConnState → ConnState
 changed_by_operator (Some (sid, change)) a = if is_present a.stage && (a.sender.sid == sid) then operated change a else a
 changed_by_operator None a = a
 
 -- A connection after an effect: it changes where it sent the line, or is the one that an operator changes; and it is owed its share.
-abbrev pub affected_connection : Bool → Effect → About → About
+abbrev pub affected_connection : Bool → Effect → ConnState → ConnState
 affected_connection is_sender effect a = record (changed_by_operator (change_at effect.change) (changed_by_sender is_sender effect.change a)) {
   owed = owed_with a (owes is_sender effect a);
   lags = lags_with a (owes is_sender effect a);

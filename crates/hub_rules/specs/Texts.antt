@@ -7,7 +7,7 @@ use Rattle.adc_base32.specs.Spelled.{spelling}
 use Rattle.adc_line.specs.Escapes.{escaped_text}
 use Rattle.inf_fields.specs.Field.{Field, printed_fields}
 use Rattle.user_table.specs.declared.totals.Totals.{Totals}
-use Rattle.hub_rules.specs.Configured.{Account, Configured, MenuEntry}
+use Rattle.hub_rules.specs.Configured.{ConfiguredAccount, Configured, ConfiguredEntry}
 
 -- a message is its text and a line feed
 abbrev pub with_line_feed : List ℕ → List ℕ
@@ -44,11 +44,11 @@ unfoldable pub challenge_line : List ℕ → List ℕ
 challenge_line challenge = with_line_feed (codes "IGPA " ++ spelling challenge)
 
 -- what the hub says of a client: 4 is an operator, 2 a registered user
-abbrev pub client_type : Option Account → List ℕ
-client_type account = option_map_or (λ (a : Account). if a.operator then codes " CT4" else codes " CT2") account []
+abbrev pub client_type : Option ConfiguredAccount → List ℕ
+client_type account = option_map_or (λ (a : ConfiguredAccount). if a.operator then codes " CT4" else codes " CT2") account []
 
 -- a user, with what the hub says of it
-unfoldable pub user_line : ℕ → List Field → Option Account → List ℕ
+unfoldable pub user_line : ℕ → List Field → Option ConfiguredAccount → List ℕ
 user_line sid fields account = with_line_feed (codes "BINF " ++ sid_text sid ++ printed_fields fields ++ client_type account)
 
 -- what changes of a user
@@ -59,7 +59,7 @@ abbrev pub menu_item : Option (List ℕ) → List ℕ
 menu_item text = option_map_or (λ (t : List ℕ). codes " TT" ++ escaped_text t) text (codes " SP1")
 
 -- an entry for the client's menus
-unfoldable pub menu_line : MenuEntry → List ℕ
+unfoldable pub menu_line : ConfiguredEntry → List ℕ
 menu_line entry = with_line_feed (codes "ICMD " ++ escaped_text entry.name ++ codes " CT" ++ decimal entry.context ++ menu_item entry.text)
 
 -- how long a user is shut out: for good, for so many seconds, or only for now

@@ -1,7 +1,7 @@
-mod Serving
-mod Visiting
-mod Closing
-mod Refusing
-mod Stopping
-mod Owing
-pub mod Reporting
+mod PassSessions
+mod VisitCalls
+mod Close
+mod Refusals
+mod Stop
+mod Owed
+pub mod ServerEnd

@@ -10,9 +10,9 @@ use Rattle.hub_rules.specs.declared.history.Reply.TheVariants.{Said, Took}
 -- that line, at a moment that the clock told; a take is a take of as many lines, and gives the bytes that the hub answered; where a call is
 -- refused, the hub has answered none.
 abbrev pub AreAnswered : (ℕ → Type 0) → ℕ → ℕ → List PortCall → List Entry → Type 0
-AreAnswered tells caller connection [] entries = entries ≡ []
-AreAnswered tells caller connection (handed line verdict ∷ calls) entries =
-    (now : ℕ) × (later : List Entry) × ∥ tells now ∥₁ × (entries ≡ entry caller (Line connection line now) (Said verdict) ∷ later) × AreAnswered tells caller connection calls later
-AreAnswered tells caller connection (took count bytes taken ∷ calls) entries =
-    (later : List Entry) × (entries ≡ entry caller (Take connection count) (Took bytes taken.lines taken.ended) ∷ later) × AreAnswered tells caller connection calls later
-AreAnswered tells caller connection (refused ∷ calls) entries = AreAnswered tells caller connection calls entries
+AreAnswered may_read caller connection [] entries = entries ≡ []
+AreAnswered may_read caller connection (handed line verdict ∷ calls) entries =
+    (now : ℕ) × (later : List Entry) × ∥ may_read now ∥₁ × (entries ≡ entry caller (Line connection line now) (Said verdict) ∷ later) × AreAnswered may_read caller connection calls later
+AreAnswered may_read caller connection (took count bytes taken ∷ calls) entries =
+    (later : List Entry) × (entries ≡ entry caller (Take connection count) (Took bytes taken.lines taken.ended) ∷ later) × AreAnswered may_read caller connection calls later
+AreAnswered may_read caller connection (refused ∷ calls) entries = AreAnswered may_read caller connection calls entries

@@ -17,9 +17,9 @@ module _ {H : Type 0} (setup : Configured) (hash : List ℕ → List ℕ) where
   -- answer. A take is one take of the hub of as many lines, and gives exactly the bytes that the hub answered. Where a call is refused, the hub
   -- has answered no call.
   abbrev pub Calls : (ℕ → Type 0) → PassState H → PortCall → PassState H → Type 0
-  Calls tells a (handed line verdict) b = IsSamePass a b × ((now : ℕ) × ∥ tells now ∥₁ × Made setup hash a.caller (Line a.connection line now) (Said verdict) b.caller)
-  Calls tells a (took count bytes taken) b = IsSamePass a b × Made setup hash a.caller (Take a.connection count) (Took bytes taken.lines taken.ended) b.caller
-  Calls tells a refused b = IsSamePass a b × ((b.caller ≡ a.caller) ⊎ Saw setup hash a.caller b.caller)
+  Calls may_read a (handed line verdict) b = IsSamePass a b × ((now : ℕ) × ∥ may_read now ∥₁ × Made setup hash a.caller (Line a.connection line now) (Said verdict) b.caller)
+  Calls may_read a (took count bytes taken) b = IsSamePass a b × Made setup hash a.caller (Take a.connection count) (Took bytes taken.lines taken.ended) b.caller
+  Calls may_read a refused b = IsSamePass a b × ((b.caller ≡ a.caller) ⊎ Saw setup hash a.caller b.caller)
 
   -- to leave is to quit the hub
   abbrev pub Leaves : PassState H → VisitorState H → Type 0

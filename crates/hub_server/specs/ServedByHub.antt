@@ -18,15 +18,15 @@ abbrev pub quit_of : {H : Type 0} → PassState H → Entry
 quit_of pass = entry pass.caller.number (Quit pass.connection) Left
 
 -- the hub: its setup, and what its hash means; what a stream tells of its calls, and the moments that a clock tells
-module _ {H S : Type 0} (setup : Configured) (hash : List ℕ → List ℕ) (told : S → StreamCall → S → Type 0) (tells : ℕ → Type 0) where
+module _ {H S : Type 0} (setup : Configured) (hash : List ℕ → List ℕ) (reports : S → StreamCall → S → Type 0) (may_read : ℕ → Type 0) where
   -- what it comes to that this stream was served for this pass: the end, the stream and the visitor
   pub record ServedByHub (stream : S) (pass : PassState H) (end : End) (stream' : S) (visitor : VisitorState H) : Type 0 where
     -- a session served the stream until this end
     pub events : List Event
-    pub conversed : Conversed told stream end stream' events
+    pub conversed : Conversed reports stream end stream' events
     -- its calls of the port are these calls of the hub, oldest first
     pub calls : List Entry
-    pub answered : AreAnswered tells pass.caller.number pass.connection (port_calls events) calls
+    pub answered : AreAnswered may_read pass.caller.number pass.connection (port_calls events) calls
     pub home : visitor.home ≡ pass.home
     pub number : visitor.caller.number ≡ pass.caller.number
     -- the caller has made these calls and then the quit, after those that it had made

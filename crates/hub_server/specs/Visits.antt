@@ -15,9 +15,9 @@ use Rattle.hub_shared.specs.Callers.{PassState, VisitorState}
 -- a visit of the hub from an address, with a challenge and at a moment
 pub data Visit : Type 0 where
   -- the join was refused with this reply
-  turned_away : List ℕ → List ℕ → ℕ → Reply → Visit
+  join_refused : List ℕ → List ℕ → ℕ → Reply → Visit
   -- joined as this connection, which nobody could serve
-  let_go : List ℕ → List ℕ → ℕ → ℕ → Visit
+  joined_only : List ℕ → List ℕ → ℕ → ℕ → Visit
   -- joined as this connection, which a session served until this end: what it did, and its calls of the hub, oldest first
   served : List ℕ → List ℕ → ℕ → ℕ → End → List Event → List Entry → Visit
 
@@ -28,29 +28,29 @@ calls_within caller peer challenge now connection between =
 
 -- the calls of a visit
 abbrev pub calls_of : ℕ → Visit → List Entry
-calls_of caller (turned_away peer challenge now reply) = entry caller (Join peer challenge now) reply ∷ []
-calls_of caller (let_go peer challenge now connection) = calls_within caller peer challenge now connection []
+calls_of caller (join_refused peer challenge now reply) = entry caller (Join peer challenge now) reply ∷ []
+calls_of caller (joined_only peer challenge now connection) = calls_within caller peer challenge now connection []
 calls_of caller (served peer challenge now connection end events calls) = calls_within caller peer challenge now connection (reverse calls)
 
 -- by such a reply a join is refused
-abbrev pub IsRefusal : Reply → Type 0
-IsRefusal Full = ⊤
-IsRefusal JoinsSpent = ⊤
-IsRefusal reply = ⊥
+abbrev pub RefusesJoin : Reply → Type 0
+RefusesJoin Full = ⊤
+RefusesJoin JoinsSpent = ⊤
+RefusesJoin reply = ⊥
 
 -- what a stream tells of its calls, the moments that a clock tells, and who came: an address, a challenge and a stream as it began
-module _ {S : Type 0} (told : S → StreamCall → S → Type 0) (tells : ℕ → Type 0) (arrives : List ℕ → List ℕ → S → Type 0) where
+module _ {S : Type 0} (reports : S → StreamCall → S → Type 0) (may_read : ℕ → Type 0) (arrives : List ℕ → List ℕ → S → Type 0) where
   -- somebody came from this address, was dealt this challenge, and joined at a moment that the clock told
   abbrev pub HasArrived : List ℕ → List ℕ → ℕ → S → Type 0
-  HasArrived peer challenge now stream = ∥ tells now ∥₁ × ∥ arrives peer challenge stream ∥₁
+  HasArrived peer challenge now stream = ∥ may_read now ∥₁ × ∥ arrives peer challenge stream ∥₁
 
   -- A visit is one of somebody who came, and ends with a refusal or with a quit. Where a session served the connection, it served that stream,
   -- and its calls of the port are the visit's calls of the hub.
   abbrev pub IsVisit : ℕ → Visit → Type 0
-  IsVisit caller (turned_away peer challenge now reply) = IsRefusal reply × ((stream : S) × HasArrived peer challenge now stream)
-  IsVisit caller (let_go peer challenge now connection) = (stream : S) × HasArrived peer challenge now stream
+  IsVisit caller (join_refused peer challenge now reply) = RefusesJoin reply × ((stream : S) × HasArrived peer challenge now stream)
+  IsVisit caller (joined_only peer challenge now connection) = (stream : S) × HasArrived peer challenge now stream
   IsVisit caller (served peer challenge now connection end events calls) =
-      (stream stream' : S) × HasArrived peer challenge now stream × Conversed told stream end stream' events × AreAnswered tells caller connection (port_calls events) calls
+      (stream stream' : S) × HasArrived peer challenge now stream × Conversed reports stream end stream' events × AreAnswered may_read caller connection (port_calls events) calls
 
   -- these calls of a caller are visits, one after another
   pub record AreVisits (caller : ℕ) (mine : List Entry) : Type 0 where

@@ -1,7 +1,7 @@
 ghost use Rattle.std.specs.Prelude.{◌≡◌, Some};
 ghost use Rattle.hub_listener.specs.Peers.{octets_of};
-ghost use Rattle.hub_server.specs.Naming.{home_in};
-ghost use Rattle.hub_server.specs.Owing.{IsServed, OwesServiceOf};
+ghost use Rattle.hub_server.specs.NamedHub.{home_in};
+ghost use Rattle.hub_server.specs.Owed.{IsServed, OwesServiceOf};
 ghost use Rattle.hub_server.specs.Visits.{HasEntered};
 
 use crate::cut_off::CutOff;
@@ -18,7 +18,7 @@ use std::snapshot::Snapshot;
 
 /// A connection that was accepted, and has joined the named hub, for a visitor whose calls before are visits. It cannot be
 /// dropped: its ticket has to be used.
-pub(crate) struct Accepted<
+pub(crate) struct AcceptedConnection<
     B: OfHub<H, S>,
     S: Stream,
     T: Ticket<S, H, C>,
@@ -36,12 +36,12 @@ pub(crate) struct Accepted<
     pub(crate) ghost from: { T.peer ticket ≡ octets_of peer },
     pub(crate) ghost here: { home_in B.hub ≡ Some pass.home },
     pub(crate) ghost challenged: { pass.challenge ≡ challenge },
-    pub(crate) ghost entered: { HasEntered ⟦<S as Stream>⟧.told B.tells B.arrives socket pass },
-    pub(crate) ghost owes: { OwesServiceOf B.hub H.digest_of ⟦<S as Stream>⟧.told B.tells socket pass
-        (λ end later. IsServed H.digest_of C.tells ⟦<S as Stream>⟧.told (T.terms ticket) (T.number ticket) (T.peer ticket) (T.began ticket) end later) },
+    pub(crate) ghost entered: { HasEntered ⟦<S as Stream>⟧.reports B.may_read B.arrives socket pass },
+    pub(crate) ghost owes: { OwesServiceOf B.hub H.digest_of ⟦<S as Stream>⟧.reports B.may_read socket pass
+        (λ end later. IsServed H.digest_of C.may_read ⟦<S as Stream>⟧.reports (T.terms ticket) (T.number ticket) (T.peer ticket) (T.began ticket) end later) },
 }
 
-impl<B: OfHub<H, S>, S: Stream, T: Ticket<S, H, C>, H: SessionHash, C: Moments> Accepted<
+impl<B: OfHub<H, S>, S: Stream, T: Ticket<S, H, C>, H: SessionHash, C: Moments> AcceptedConnection<
     B,
     S,
     T,
@@ -50,7 +50,7 @@ impl<B: OfHub<H, S>, S: Stream, T: Ticket<S, H, C>, H: SessionHash, C: Moments> 
 > {
     /// Ends it, where no task took it, as this word says.
     pub(crate) fn cut_off(self, why: CutOff) {
-        let Accepted {
+        let AcceptedConnection {
             ticket,
             socket,
             pass,

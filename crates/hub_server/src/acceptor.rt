@@ -1,14 +1,14 @@
 ghost use Rattle.std.specs.Prelude.{◌≡◌, Some, IfOk, Err};
 ghost use Rattle.server_tasks.specs.declared.places.PlacesDeed.TheVariants.{Put};
 ghost use Rattle.hub_listener.specs.Peers.{octets_of};
-ghost use Rattle.hub_server.specs.Naming.{home_in};
-ghost use Rattle.hub_server.specs.Owing.{challenge_of};
+ghost use Rattle.hub_server.specs.NamedHub.{home_in};
+ghost use Rattle.hub_server.specs.Owed.{challenge_of};
 ghost use Rattle.hub_server.specs.Peers.{HasComeFrom};
-ghost use Rattle.hub_server.specs.Turning.{WasRefused};
+ghost use Rattle.hub_server.specs.JoinRefusals.{WasRefused};
 ghost use Rattle.hub_server.specs.declared.no_place.NoPlace.TheVariants.{HubFull};
 ghost use Rattle.hub_server.specs.Visits.{HasEntered};
 
-use crate::accepted::Accepted;
+use crate::accepted::AcceptedConnection;
 use crate::cut_off::CutOff;
 use crate::free_slot::{FreeSlot, OfHub};
 use crate::newcomer::Newcomer;
@@ -87,7 +87,7 @@ impl<
         ensures here { IfOk result (λ r. home_in B.hub ≡ Some r.0.home) }
         ensures challenged { IfOk result (λ r. r.0.challenge ≡ challenge) }
         ensures came { IfOk result (λ r. HasComeFrom r.0 (octets_of address) challenge) }
-        ensures entered { IfOk result (λ r. HasEntered ⟦<S as Stream>⟧.told B.tells B.arrives socket.now r.0) }
+        ensures entered { IfOk result (λ r. HasEntered ⟦<S as Stream>⟧.reports B.may_read B.arrives socket.now r.0) }
         ensures turned_away { (free : _) → result ≡ Err (HubFull free) → WasRefused (octets_of address) challenge free.visitor }
     {
         // It only says which stream the connection has.
@@ -128,14 +128,14 @@ impl<
     }
 
     /// Leaves the connection for the task of its slot, and gives the word of it. It is cut off where that cannot be.
-    fn hand_over(&self, accepted: Accepted<B, S, T, H, C>) -> PlacesWord
+    fn hand_over(&self, accepted: AcceptedConnection<B, S, T, H, C>) -> PlacesWord
         ensures { result ≡ Put accepted.slot }
     {
         let server = self.server;
         let place = accepted.slot.number();
         let (word, before) = server.shared.handoff.put(server.rt, place, accepted);
         if let Some(accepted) = before {
-            let Accepted {
+            let AcceptedConnection {
                 ticket,
                 socket,
                 pass,
@@ -175,11 +175,11 @@ impl<
                 let why = Refusal::HubFull(Snapshot::of(&free.visitor));
                 server.free(free);
                 let told = say_full(&mut socket);
-                server.let_out(ticket.refused(socket, why, told));
+                server.linger(ticket.refused(socket, why, told));
             }
             NoPlace::NoSlot(no_slot) => {
                 let told = say_full(&mut socket);
-                server.let_out(ticket.refused(socket, Refusal::NoSlot(no_slot), told));
+                server.linger(ticket.refused(socket, Refusal::NoSlot(no_slot), told));
             }
         }
         server.shared.wakers.make_room();
@@ -221,7 +221,7 @@ impl<
                     socket,
                     address,
                 } = arrived;
-                let accepted = Accepted {
+                let accepted = AcceptedConnection {
                     ticket,
                     socket,
                     pass,

@@ -1,6 +1,6 @@
 ghost use Rattle.std.specs.Prelude.{◌≡◌, ◌+◌, Some, IfSome, length};
 ghost use Rattle.server_tasks.specs.declared.places.PlacesDeed.TheVariants.{Emptied};
-ghost use Rattle.hub_server.specs.Naming.{home_in};
+ghost use Rattle.hub_server.specs.NamedHub.{home_in};
 ghost use Rattle.hub_server.specs.Visits.{HasVisited};
 
 use crate::free_slot::{FreeSlot, OfHub};
@@ -26,7 +26,7 @@ impl<B: OfHub<H, S>, S: Stream, H> AllFree<B, S, H> {
     /// Ends one, and gives its visitor, or nothing where none is left.
     pub(crate) fn next(&mut self) -> Option<Visitor<H>>
         ensures here { IfSome result (λ visitor. home_in B.hub ≡ Some visitor.home) }
-        ensures visits { IfSome result (λ visitor. HasVisited ⟦<S as Stream>⟧.told B.tells B.arrives visitor) }
+        ensures visits { IfSome result (λ visitor. HasVisited ⟦<S as Stream>⟧.reports B.may_read B.arrives visitor) }
         ensures fewer { IfSome result (λ _. length self.new.free.items + 1 ≡ length self.old.free.items) }
     {
         match self.free.pop() {

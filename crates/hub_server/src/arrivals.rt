@@ -1,4 +1,4 @@
-ghost use Rattle.hub_server.specs.Naming.{hub_in};
+ghost use Rattle.hub_server.specs.NamedHub.{hub_in};
 ghost use Rattle.std.specs.Prelude.{◌≡◌, ℕ, List};
 ghost use Rattle.rand_chacha.specs.ChaCha.{of_seed};
 ghost use Rattle.hub_challenges.specs.Dealing.{after_dealt};

@@ -1,10 +1,10 @@
 ghost use Rattle.std.specs.Prelude.{◌≡◌, true, false, None, IfOk, IfErr, OnErr, IsSomeAnd};
-ghost use Rattle.server_tasks.specs.declared.slots.Deed.TheVariants.{Cleared, Named};
+ghost use Rattle.server_tasks.specs.declared.slots.SlotEvent.TheVariants.{Cleared, Named};
 ghost use Rattle.hub_core.specs.declared.share.Touched.TheVariants.{One};
 ghost use Rattle.hub_rules.specs.Prepared.{prepared_line};
 ghost use Rattle.hub_server.specs.PortCalls.{Leaves};
 ghost use Rattle.hub_server.specs.ServedByHub.{ServesByHub};
-ghost use Rattle.hub_server.specs.Waking.{AreWokenOrOwed, HasRung};
+ghost use Rattle.hub_server.specs.Wakes.{AreWokenOrOwed, HasRung};
 ghost use Rattle.hub_shared.specs.Calls.{SaysLine, Saw};
 
 use crate::free_slot::OfHub;
@@ -178,7 +178,7 @@ impl<
 }
 
 /// What the hub said of a line, whom that concerned, and in which second it was.
-struct Said {
+struct SaidLine {
     verdict: Verdict,
     concerned: Concerned,
     second: u64,
@@ -192,7 +192,7 @@ fn say<H: SessionHash, R: Wait>(
     pass: &mut Pass<H>,
     line: &Prepared,
     moment: CallMoment,
-) -> Result<Said, LineRefused>
+) -> Result<SaidLine, LineRefused>
     requires here { pass.old.home ≡ hub.now.home }
     requires prepared { line.now ≡ prepared_line hub.now.setup (H.digest_of hub.now.hash) pass.old.challenge line.now.bytes }
     ensures same { pass.new ≡ record pass.old { caller = pass.new.caller; touched = pass.new.touched } }
@@ -202,7 +202,7 @@ fn say<H: SessionHash, R: Wait>(
 {
     let second = moment.into_seconds();
     let verdict = hub.line(rt, alloc, pass, line, second)?;
-    Ok(Said {
+    Ok(SaidLine {
         verdict,
         concerned: Concerned::new(pass.touched()),
         second,
@@ -234,11 +234,11 @@ impl<
 > Port for Connection<'_, B, S, T, H, R, C> {
     ghost use Rattle.std.specs.Prelude.{◌≡◌};
     ghost use Rattle.hub_server.specs.PortCalls.{Calls, Leaves};
-    ghost use Rattle.hub_server.specs.Waking.{Wakes, AreWoken, OwesOn};
+    ghost use Rattle.hub_server.specs.Wakes.{Wakes, AreWoken, OwesOn};
 
     type Left = LeftSlot<H>;
 
-    ghost step = { λ a call b. (b.server ≡ a.server) × Calls a.server.now.hub.now.setup (H.digest_of a.server.now.hub.now.hash) B.tells a.pass call b.pass
+    ghost step = { λ a call b. (b.server ≡ a.server) × Calls a.server.now.hub.now.setup (H.digest_of a.server.now.hub.now.hash) B.may_read a.pass call b.pass
         × (b.slot ≡ a.slot) × Wakes call b.pass.touched a.slot a.owes b.owes b.woken b.rung };
 
     ghost leaves = { λ a left. Leaves a.server.now.hub.now.setup (H.digest_of a.server.now.hub.now.hash) a.pass left.visitor
@@ -252,7 +252,7 @@ impl<
         }
         let server = self.server;
         let prepared = prepare_line(alloc, server.setup, server.hash, self.challenge, line)?;
-        let Said {
+        let SaidLine {
             verdict,
             concerned,
             second,
@@ -283,7 +283,7 @@ impl<
             bytes: out.len().saturating_sub(before) as u64,
         };
         let wakers = &server.shared.wakers;
-        wakers.count_taken(self.slot, said, amount, has_more);
+        wakers.note_taken(self.slot, said, amount, has_more);
         Ok(taken)
     }
 
@@ -348,7 +348,7 @@ pub fn serve_connection<
 ) -> Result<HubSession<'a, B, S, T, H, R, C>, (S, LeftSlot<H>, NoMemory)>
     requires here { pass.home ≡ server.now.hub.now.home }
     requires challenged { pass.challenge ≡ challenge }
-    ensures serves { IfOk result (λ session. ServesByHub server.now.hub.now.setup (H.digest_of server.now.hub.now.hash) ⟦<S as Stream>⟧.told B.tells stream pass
+    ensures serves { IfOk result (λ session. ServesByHub server.now.hub.now.setup (H.digest_of server.now.hub.now.hash) ⟦<S as Stream>⟧.reports B.may_read stream pass
         (⟦<Session<S, Connection<'a, B, S, T, H, R, C>, SlotBell<'a>> as Future>⟧.gives session) (λ left. left.visitor)) }
     ensures stream { IfErr result (λ back. back.0 ≡ stream) }
     ensures left { IfErr result (λ back. Leaves server.now.hub.now.setup (H.digest_of server.now.hub.now.hash) pass back.1.visitor) }

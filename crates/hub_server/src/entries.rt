@@ -2,7 +2,7 @@ ghost use Rattle.std.specs.Prelude.{◌≡◌, ℕ, IfOk, IfErr, OnOk};
 ghost use Rattle.std.specs.Arc.{arc_value};
 ghost use Rattle.std.specs.Io.KnownBytes.{Appends, Keeps};
 ghost use Rattle.hub_endings.specs.declared.ending.Ending.TheVariants.{Served};
-ghost use Rattle.hub_server.specs.Reporting.{EndsServing, HasServed, IsServerEnding, IsServerFault, report_line};
+ghost use Rattle.hub_server.specs.ServerEnd.{EndsServing, HasServed, IsServerEnding, IsServerFault, report_line};
 
 use crate::lifetime::serve_hub;
 use crate::port::{BindPort, HubPort};
@@ -13,7 +13,7 @@ use hub_endings::Ending;
 use hub_listener::{Moments, Socket, moment};
 use hub_settings::Settings;
 use hub_shared::Report;
-use hub_warnings::{End, Journal, Moment, Warnings};
+use hub_warnings::{EndLine, Journal, Moment, Warnings};
 use log::{Level, Log, Logged, info};
 use session_hash::SessionHash;
 use std::alloc::AllocGlobal;
@@ -53,9 +53,9 @@ where
     ensures status { EndsServing E.contents errors.new result }
     ensures served { result ≡ 0 → (joins : ℕ) × HasServed
         ⟦<TcpTicket<H, R> as Ticket<TcpStream, H, R>>⟧.terms ⟦<TcpTicket<H, R> as Ticket<TcpStream, H, R>>⟧.number
-        ⟦<TcpTicket<H, R> as Ticket<TcpStream, H, R>>⟧.peer ⟦<TcpTicket<H, R> as Ticket<TcpStream, H, R>>⟧.began ⟦<TcpStream as Stream>⟧.told
+        ⟦<TcpTicket<H, R> as Ticket<TcpStream, H, R>>⟧.peer ⟦<TcpTicket<H, R> as Ticket<TcpStream, H, R>>⟧.began ⟦<TcpStream as Stream>⟧.reports
         ⟦<TcpPort<H, R> as HubPort<TcpStream, TcpTicket<H, R>, H, R>>⟧.terms
-        ⟦<TcpPort<H, R> as HubPort<TcpStream, TcpTicket<H, R>, H, R>>⟧.accepted ⟦<R as Moments>⟧.tells W.contents settings.now.hub
+        ⟦<TcpPort<H, R> as HubPort<TcpStream, TcpTicket<H, R>, H, R>>⟧.accepted ⟦<R as Moments>⟧.may_read W.contents settings.now.hub
         H.digest_of (arc_value hash) rt.now seed settings.now.stop_after output.new joins }
 {
     let address = settings.listen();
@@ -83,7 +83,7 @@ where
     W: Write,
     E: Write + Send,
     ensures status { EndsServing E.contents errors.new result }
-    ensures served { result ≡ 0 → (joins : ℕ) × HasServed T.terms T.number T.peer T.began ⟦<S as Stream>⟧.told I.terms I.accepted ⟦<R as Moments>⟧.tells
+    ensures served { result ≡ 0 → (joins : ℕ) × HasServed T.terms T.number T.peer T.began ⟦<S as Stream>⟧.reports I.terms I.accepted ⟦<R as Moments>⟧.may_read
         W.contents settings.now.hub H.digest_of (arc_value hash) rt.now seed settings.now.stop_after output.new joins }
 {
     run_to_status::<S, T, I, H, R, W, E>(rt, settings, hash, seed, address, None, output, errors)
@@ -109,9 +109,9 @@ where
     ensures status { EndsServing E.contents errors.new result }
     ensures served { result ≡ 0 → (joins : ℕ) × HasServed
         ⟦<TcpTicket<H, R> as Ticket<TcpStream, H, R>>⟧.terms ⟦<TcpTicket<H, R> as Ticket<TcpStream, H, R>>⟧.number
-        ⟦<TcpTicket<H, R> as Ticket<TcpStream, H, R>>⟧.peer ⟦<TcpTicket<H, R> as Ticket<TcpStream, H, R>>⟧.began ⟦<TcpStream as Stream>⟧.told
+        ⟦<TcpTicket<H, R> as Ticket<TcpStream, H, R>>⟧.peer ⟦<TcpTicket<H, R> as Ticket<TcpStream, H, R>>⟧.began ⟦<TcpStream as Stream>⟧.reports
         ⟦<TcpPort<H, R> as HubPort<TcpStream, TcpTicket<H, R>, H, R>>⟧.terms
-        ⟦<TcpPort<H, R> as HubPort<TcpStream, TcpTicket<H, R>, H, R>>⟧.accepted ⟦<R as Moments>⟧.tells W.contents settings.now.hub
+        ⟦<TcpPort<H, R> as HubPort<TcpStream, TcpTicket<H, R>, H, R>>⟧.accepted ⟦<R as Moments>⟧.may_read W.contents settings.now.hub
         H.digest_of (arc_value hash) rt.now seed settings.now.stop_after output.new joins }
 {
     let address = settings.listen();
@@ -141,7 +141,7 @@ where
     W: Write,
     E: Write + Send,
     ensures status { EndsServing E.contents errors.new result }
-    ensures served { result ≡ 0 → (joins : ℕ) × HasServed T.terms T.number T.peer T.began ⟦<S as Stream>⟧.told I.terms I.accepted ⟦<R as Moments>⟧.tells
+    ensures served { result ≡ 0 → (joins : ℕ) × HasServed T.terms T.number T.peer T.began ⟦<S as Stream>⟧.reports I.terms I.accepted ⟦<R as Moments>⟧.may_read
         W.contents settings.now.hub H.digest_of (arc_value hash) rt.now seed settings.now.stop_after output.new joins }
 {
     let log = Logged::new(
@@ -182,7 +182,7 @@ where
     W: Write,
     L: Log + Sync + Drop,
     ensures ending { IsServerEnding result }
-    ensures served { result ≡ Served → (joins : ℕ) × HasServed T.terms T.number T.peer T.began ⟦<S as Stream>⟧.told I.terms I.accepted ⟦<R as Moments>⟧.tells
+    ensures served { result ≡ Served → (joins : ℕ) × HasServed T.terms T.number T.peer T.began ⟦<S as Stream>⟧.reports I.terms I.accepted ⟦<R as Moments>⟧.may_read
         W.contents settings.now.hub H.digest_of hash.now rt.now seed settings.now.stop_after output.new joins }
 {
     let warnings = Warnings::new(log);
@@ -212,7 +212,7 @@ fn say_end<R: Clock, L: Log>(rt: &R, log: &L, served: &Result<u64, Ending>) {
         Ok(joins) => (Ending::Served, Some(*joins)),
         Err(ending) => (*ending, None),
     };
-    let end = End {
+    let end = EndLine {
         moment: Moment::from_seconds(moment(rt)),
         why: reason_of(ending),
         joins,
@@ -250,7 +250,7 @@ where
     R: Wait + Threads + Clock + Net + RandomSource + AllocGlobal + Sync,
     W: Write,
     L: Log + Sync,
-    ensures served { IfOk result (λ joins. HasServed T.terms T.number T.peer T.began ⟦<S as Stream>⟧.told I.terms I.accepted ⟦<R as Moments>⟧.tells
+    ensures served { IfOk result (λ joins. HasServed T.terms T.number T.peer T.began ⟦<S as Stream>⟧.reports I.terms I.accepted ⟦<R as Moments>⟧.may_read
         W.contents settings.now.hub H.digest_of hash.now rt.now seed settings.now.stop_after output.new joins) }
     ensures ending { IfErr result IsServerFault }
 {

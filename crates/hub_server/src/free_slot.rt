@@ -1,5 +1,5 @@
 ghost use Rattle.std.specs.Prelude.{◌≡◌, Some};
-ghost use Rattle.hub_server.specs.Naming.{home_in};
+ghost use Rattle.hub_server.specs.NamedHub.{home_in};
 ghost use Rattle.hub_server.specs.Visits.{HasVisited};
 
 use crate::slot::Slot;
@@ -19,7 +19,7 @@ pub trait OfHub<H, S> {
     ghost hub: { Option (HubState H) };
 
     /// The moments of its calls.
-    ghost tells: { ℕ → Type 0 };
+    ghost may_read: { ℕ → Type 0 };
 
     /// Who comes: the address, the challenge, and the stream as it began.
     ghost arrives: { List ℕ → List ℕ → S → Type 0 };
@@ -33,7 +33,7 @@ impl<H, S> OfHub<H, S> for Brand {
 
     ghost hub = { None };
 
-    ghost tells = { λ _. ⊤ };
+    ghost may_read = { λ _. ⊤ };
 
     ghost arrives = { λ _ _ _. ⊤ };
 
@@ -47,14 +47,14 @@ pub struct FreeSlot<B: OfHub<H, S>, S: Stream, H> {
     pub(crate) slot: Slot,
     pub(crate) of: PhantomData<(B, S)>,
     pub(crate) ghost here: { home_in B.hub ≡ Some visitor.home },
-    pub(crate) ghost visits: { HasVisited ⟦<S as Stream>⟧.told B.tells B.arrives visitor },
+    pub(crate) ghost visits: { HasVisited ⟦<S as Stream>⟧.reports B.may_read B.arrives visitor },
 }
 
 impl<B: OfHub<H, S>, S: AsyncRead + AsyncWrite, H> FreeSlot<B, S, H> {
     /// Gives this slot to a visitor of the named hub whose calls are visits.
     pub fn new(visitor: Visitor<H>, slot: Slot) -> FreeSlot<B, S, H>
         requires here { home_in B.hub ≡ Some visitor.home }
-        requires visits { HasVisited ⟦<S as Stream>⟧.told B.tells B.arrives visitor }
+        requires visits { HasVisited ⟦<S as Stream>⟧.reports B.may_read B.arrives visitor }
         ensures { result.visitor ≡ visitor }
     {
         FreeSlot {

@@ -40,7 +40,7 @@ pub use lifetime::serve_hub;
 pub use no_memory::NoMemory;
 pub use port::{BindPort, HubPort};
 pub use refusal::Refusal;
-pub use served::Served;
+pub use served::ServedVisits;
 pub use server::{NoSlot, Server};
 pub use slot::Slot;
 pub use slot_bell::SlotBell;

@@ -1,18 +1,18 @@
 ghost use Rattle.std.specs.Prelude.{◌≡◌, ◌≤◌, [], Some, ℕ, List, IfOk, IfErr, OnOk};
 ghost use Rattle.std.specs.List.{All};
 ghost use Rattle.one_history.specs.States.{Home};
-ghost use Rattle.hub_shared.specs.declared.about.About.{About};
-ghost use Rattle.hub_server.specs.Naming.{home_in, hub_in};
-ghost use Rattle.hub_server.specs.Reporting.{IsServerFault};
+ghost use Rattle.hub_shared.specs.declared.hub_key.HubKey.{HubKey};
+ghost use Rattle.hub_server.specs.NamedHub.{home_in, hub_in};
+ghost use Rattle.hub_server.specs.ServerEnd.{IsServerFault};
 ghost use Rattle.hub_server.specs.ServedAll.{Arrives, ServedAll};
-ghost use Rattle.hub_server.specs.Stopping.{AreTerms, HasStopped};
+ghost use Rattle.hub_server.specs.Stop.{AreTerms, HasStopped};
 ghost use Rattle.hub_server.specs.Visits.{HasVisited};
 
 use crate::all_free::AllFree;
 use crate::free_slot::{OfHub, Stop};
 use crate::listening::run_on_threads;
 use crate::port::BindPort;
-use crate::served::Served;
+use crate::served::ServedVisits;
 use crate::server::Server;
 use crate::terms::Terms;
 use crate::ticket::Ticket;
@@ -52,7 +52,7 @@ pub fn serve_hub<S, T, I, H, R, C, W, L>(
     settings_file: Option<&str>,
     output: &mut W,
     warnings: &Warnings<L>,
-) -> Result<Served<H, C>, Ending>
+) -> Result<ServedVisits<H, C>, Ending>
 where
     S: Socket + Send,
     T: Ticket<S, H, C> + Send,
@@ -62,7 +62,7 @@ where
     C: Moments + Sync,
     W: Write,
     L: Log + Sync,
-    ensures all { IfOk result (λ it. ServedAll T.terms T.number T.peer T.began ⟦<S as Stream>⟧.told (C.tells clock.now)
+    ensures all { IfOk result (λ it. ServedAll T.terms T.number T.peer T.began ⟦<S as Stream>⟧.reports (C.may_read clock.now)
         settings.now.hub (H.digest_of hash.now) it.terms it.visitors.value.items it.report.joins) }
     ensures terms { IfOk result (λ it. (it.terms.setup.value ≡ settings.now.hub) × (it.terms.hash.value ≡ hash.now)
         × (it.terms.clock.value ≡ clock.now) × (it.terms.seed.value ≡ seed)) }
@@ -138,8 +138,8 @@ where
     W: Write,
     L: Log + Sync,
     requires here { B.hub ≡ Some hub.now }
-    requires timed { (moment : ℕ) → C.tells plan.now.clock.now moment → ∥ B.tells moment ∥₁ }
-    requires timely { (moment : ℕ) → B.tells moment → ∥ C.tells plan.now.clock.now moment ∥₁ }
+    requires timed { (moment : ℕ) → C.may_read plan.now.clock.now moment → ∥ B.may_read moment ∥₁ }
+    requires timely { (moment : ℕ) → B.may_read moment → ∥ C.may_read plan.now.clock.now moment ∥₁ }
     requires terms { AreTerms hub.now plan.now.clock.now seed terms.now }
     requires arrives { (peer challenge : List ℕ) (stream : S)
         → Arrives T.terms T.number T.peer T.began terms.now peer challenge stream → ∥ B.arrives peer challenge stream ∥₁ }
@@ -149,7 +149,7 @@ where
     requires hashed { hub.now.hash ≡ plan.now.hash.now }
     ensures host { OnOk result (host.new.home ≡ hub.now.home) }
     ensures visitors { IfOk result (λ visitors. All (λ v. v.home ≡ hub.now.home) visitors.items) }
-    ensures visits { IfOk result (λ visitors. All (λ v. HasVisited ⟦<S as Stream>⟧.told B.tells B.arrives v) visitors.items) }
+    ensures visits { IfOk result (λ visitors. All (λ v. HasVisited ⟦<S as Stream>⟧.reports B.may_read B.arrives v) visitors.items) }
     ensures stopped { OnOk result ∥ B.stops ∥₁ }
     ensures ending { IfErr result IsServerFault }
 {
@@ -193,8 +193,8 @@ where
     W: Write,
     L: Log + Sync,
     requires here { B.hub ≡ Some hub.now }
-    requires timed { (moment : ℕ) → C.tells plan.now.clock.now moment → ∥ B.tells moment ∥₁ }
-    requires timely { (moment : ℕ) → B.tells moment → ∥ C.tells plan.now.clock.now moment ∥₁ }
+    requires timed { (moment : ℕ) → C.may_read plan.now.clock.now moment → ∥ B.may_read moment ∥₁ }
+    requires timely { (moment : ℕ) → B.may_read moment → ∥ C.may_read plan.now.clock.now moment ∥₁ }
     requires terms { AreTerms hub.now plan.now.clock.now seed terms.now }
     requires arrives { (peer challenge : List ℕ) (stream : S)
         → Arrives T.terms T.number T.peer T.began terms.now peer challenge stream → ∥ B.arrives peer challenge stream ∥₁ }
@@ -227,8 +227,8 @@ fn leave<B: OfHub<H, S>, S: AsyncRead + AsyncWrite, H>(
     visitors: Vec<Visitor<H>>,
 ) -> Vec<Visitor<H>>
     requires none { visitors.items ≡ [] }
-    ensures here { (home : Home (About H)) → home_in B.hub ≡ Some home → All (λ v. v.home ≡ home) result.items }
-    ensures visits { All (λ v. HasVisited ⟦<S as Stream>⟧.told B.tells B.arrives v) result.items }
+    ensures here { (home : Home (HubKey H)) → home_in B.hub ≡ Some home → All (λ v. v.home ≡ home) result.items }
+    ensures visits { All (λ v. HasVisited ⟦<S as Stream>⟧.reports B.may_read B.arrives v) result.items }
 {
     let (mut free, mut visitors) = (free, visitors);
     while let Some(visitor) = free.next() {
@@ -244,15 +244,15 @@ fn close<S: AsyncRead + AsyncWrite, T: Ticket<S, H, C>, H: SessionHash, R, C: Mo
     host: Host<H>,
     visitors: Vec<Visitor<H>>,
     terms: Terms<H, C>,
-) -> Result<Served<H, C>, Ending>
+) -> Result<ServedVisits<H, C>, Ending>
     requires set { hub.setup ≡ plan.now.settings.now.hub }
     requires hashed { hub.hash ≡ plan.now.hash.now }
     requires terms { (hub_in terms) ≡ hub }
     requires here { host.home ≡ hub.home }
     requires visitors { All (λ v. v.home ≡ hub.home) visitors.items }
-    requires visits { All (λ v. HasVisited ⟦<S as Stream>⟧.told (C.tells plan.now.clock.now)
+    requires visits { All (λ v. HasVisited ⟦<S as Stream>⟧.reports (C.may_read plan.now.clock.now)
         (Arrives T.terms T.number T.peer T.began terms) v) visitors.items }
-    ensures all { IfOk result (λ it. ServedAll T.terms T.number T.peer T.began ⟦<S as Stream>⟧.told (C.tells plan.now.clock.now)
+    ensures all { IfOk result (λ it. ServedAll T.terms T.number T.peer T.began ⟦<S as Stream>⟧.reports (C.may_read plan.now.clock.now)
         plan.now.settings.now.hub (H.digest_of plan.now.hash.now) it.terms it.visitors.value.items it.report.joins) }
     ensures terms { IfOk result (λ it. it.terms ≡ terms) }
     ensures nobody { IfOk result (λ it. it.report.present ≡ 0) }
@@ -264,7 +264,7 @@ fn close<S: AsyncRead + AsyncWrite, T: Ticket<S, H, C>, H: SessionHash, R, C: Mo
     let Ok(report) = hub.close(host, visitors) else {
         return Err(Ending::Memory);
     };
-    Ok(Served {
+    Ok(ServedVisits {
         report,
         terms,
         visitors: back,

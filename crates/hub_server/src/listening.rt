@@ -1,10 +1,10 @@
 ghost use Rattle.std.specs.Prelude.{◌≡◌, ◌≢◌, ℕ, List, Some, None, Err, IfOk, IfErr, OnOk};
 ghost use Rattle.std.specs.IoError.{error_kind};
 ghost use Rattle.server_tasks.specs.declared.state.Told.TheVariants.{Asked};
-ghost use Rattle.server_tasks.specs.declared.state.Fault.{Fault};
-ghost use Rattle.hub_server.specs.Reporting.{IsServerFault, ending_by};
+ghost use Rattle.server_tasks.specs.declared.state.ServerFault.{ServerFault};
+ghost use Rattle.hub_server.specs.ServerEnd.{IsServerFault, ending_by};
 ghost use Rattle.hub_server.specs.ServedAll.{Arrives};
-ghost use Rattle.hub_server.specs.Stopping.{AreTerms, HasStopped, stop_of};
+ghost use Rattle.hub_server.specs.Stop.{AreTerms, HasStopped, stop_of};
 
 use crate::acceptor::Acceptor;
 use crate::arrivals::Arrivals;
@@ -24,7 +24,7 @@ use hub_settings::Settings;
 use hub_warnings::Warnings;
 use hub_workers::Workers;
 use log::Log;
-use server_tasks::{Fault, Startup, Ticker, Word};
+use server_tasks::{ServerFault, Startup, Ticker, Word};
 use session_hash::SessionHash;
 use std::alloc::AllocGlobal;
 use std::io::{self, ErrorKind, Write};
@@ -274,16 +274,16 @@ fn stop_after(settings: &Settings) -> Option<u64>
 }
 
 /// Says how the server ends where no more connections came because of this.
-fn ending_by(fault: Option<Fault>) -> Result<(), Ending>
-    ensures by { (met : Fault) → fault ≡ Some met → result ≡ Err (ending_by met) }
+fn ending_by(fault: Option<ServerFault>) -> Result<(), Ending>
+    ensures by { (met : ServerFault) → fault ≡ Some met → result ≡ Err (ending_by met) }
     ensures none { OnOk result (fault ≡ None) }
     ensures ending { IfErr result IsServerFault }
 {
     match fault {
         None => Ok(()),
-        Some(Fault::Accepting) => Err(Ending::Address),
-        Some(Fault::Output) => Err(Ending::Transfer),
-        Some(Fault::Start) => Err(Ending::Memory),
+        Some(ServerFault::Accepting) => Err(Ending::Address),
+        Some(ServerFault::Output) => Err(Ending::Transfer),
+        Some(ServerFault::Start) => Err(Ending::Memory),
     }
 }
 

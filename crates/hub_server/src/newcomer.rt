@@ -1,6 +1,6 @@
 ghost use Rattle.std.specs.Prelude.{◌≡◌, Some};
 ghost use Rattle.hub_listener.specs.Peers.{octets_of};
-ghost use Rattle.hub_server.specs.Owing.{IsServed, OwesService, challenge_of};
+ghost use Rattle.hub_server.specs.Owed.{IsServed, OwesService, challenge_of};
 
 use crate::free_slot::OfHub;
 use crate::ticket::Ticket;
@@ -25,6 +25,6 @@ pub(crate) struct Newcomer<
     pub(crate) ghost peer: { T.peer arrived.ticket ≡ octets_of arrived.address },
     pub(crate) ghost challenged: { challenge ≡ challenge_of (T.terms arrived.ticket).seed.value (T.number arrived.ticket) },
     pub(crate) ghost arrives: { ∥ B.arrives (T.peer arrived.ticket) challenge arrived.socket ∥₁ },
-    pub(crate) ghost owes: { OwesService B.hub H.digest_of ⟦<S as Stream>⟧.told B.tells (T.peer arrived.ticket) challenge arrived.socket
-        (λ end later. IsServed H.digest_of C.tells ⟦<S as Stream>⟧.told (T.terms arrived.ticket) (T.number arrived.ticket) (T.peer arrived.ticket) (T.began arrived.ticket) end later) },
+    pub(crate) ghost owes: { OwesService B.hub H.digest_of ⟦<S as Stream>⟧.reports B.may_read (T.peer arrived.ticket) challenge arrived.socket
+        (λ end later. IsServed H.digest_of C.may_read ⟦<S as Stream>⟧.reports (T.terms arrived.ticket) (T.number arrived.ticket) (T.peer arrived.ticket) (T.began arrived.ticket) end later) },
 }

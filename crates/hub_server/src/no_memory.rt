@@ -43,7 +43,7 @@ pub(crate) fn session<S: AsyncRead + AsyncWrite, P: Port, B: Bell>(
     port: P,
     bell: B,
 ) -> Result<Session<S, P, B>, (NoMemory, S, P, B)>
-    ensures serves { IfOk result (λ session. Serves ⟦<S as Stream>⟧.told P.step P.leaves stream port (⟦<Session<S, P, B> as Future>⟧.gives session)) }
+    ensures serves { IfOk result (λ session. Serves ⟦<S as Stream>⟧.reports P.step P.leaves stream port (⟦<Session<S, P, B> as Future>⟧.gives session)) }
     ensures back { IfErr result (λ back. (back.1 ≡ stream) × (back.2 ≡ port) × (back.3 ≡ bell)) }
 {
     match Session::new(alloc, stream, port, bell) {

@@ -14,7 +14,7 @@ pub trait HubPort<S: Stream, T: Ticket<S, H, C>, H: SessionHash, C: Moments>: Li
     Ticket = T,
 > {
     ghost use Rattle.std.specs.Prelude.{◌≡◌, ◌+◌, ℕ};
-    ghost use Rattle.hub_server.specs.Arriving.{HasCome};
+    ghost use Rattle.hub_server.specs.Arrivals.{HasCome};
     ghost use Rattle.hub_server.specs.declared.terms.Terms.{Terms};
 
     /// What is promised to those who come.

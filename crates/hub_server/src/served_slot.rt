@@ -3,12 +3,12 @@ ghost use Rattle.std.specs.Option.{ForSome};
 ghost use Rattle.futures.specs.Poll.{OnPending, IfReady};
 ghost use Rattle.futures.specs.Task.{IsArmed, Keeps};
 ghost use Rattle.hub_listener.specs.Peers.{octets_of};
-ghost use Rattle.hub_server.specs.Ending.{EndsVisit};
-ghost use Rattle.hub_server.specs.Owing.{IsServed};
+ghost use Rattle.hub_server.specs.SessionEnds.{EndsVisit};
+ghost use Rattle.hub_server.specs.Owed.{IsServed};
 ghost use Rattle.hub_server.specs.PortCalls.{Calls, Leaves};
 ghost use Rattle.hub_server.specs.Visits.{HasVisited};
 ghost use Rattle.hub_server.specs.declared.left_slot.LeftSlot.{LeftSlot};
-ghost use Rattle.hub_server.specs.Waking.{AreWoken, OwesOn, Wakes};
+ghost use Rattle.hub_server.specs.Wakes.{AreWoken, OwesOn, Wakes};
 
 use crate::connection::HubSession;
 use crate::cut_off::CutOff;
@@ -47,7 +47,13 @@ impl Unfinished {
 }
 
 /// A connection whose session is over: how it ended, its ticket, its address and its socket, and the slot that is free again.
-pub(crate) struct Over<B: OfHub<H, S>, S: Stream, T: Ticket<S, H, C>, H: SessionHash, C: Moments> {
+pub(crate) struct EndedSession<
+    B: OfHub<H, S>,
+    S: Stream,
+    T: Ticket<S, H, C>,
+    H: SessionHash,
+    C: Moments,
+> {
     pub(crate) end: End,
     pub(crate) ticket: T,
     pub(crate) peer: SocketAddrV4,
@@ -55,7 +61,7 @@ pub(crate) struct Over<B: OfHub<H, S>, S: Stream, T: Ticket<S, H, C>, H: Session
     pub(crate) free: FreeSlot<B, S, H>,
     pub(crate) of: PhantomData<Snapshot<C>>,
     pub(crate) ghost from: { T.peer ticket ≡ octets_of peer },
-    pub(crate) ghost owed: { ∥ IsServed H.digest_of C.tells ⟦<S as Stream>⟧.told (T.terms ticket) (T.number ticket) (T.peer ticket) (T.began ticket) end socket ∥₁ },
+    pub(crate) ghost owed: { ∥ IsServed H.digest_of C.may_read ⟦<S as Stream>⟧.reports (T.terms ticket) (T.number ticket) (T.peer ticket) (T.began ticket) end socket ∥₁ },
 }
 
 /// The session of a slot, while it serves a connection of the named hub, and that connection. Whatever the session ends
@@ -74,13 +80,13 @@ pub(crate) struct ServedSlot<
     guest: Option<Guest<T>>,
     ghost has_guest: { ForSome session (λ _. is_some guest ≡ true) },
     ghost from: { ForSome guest (λ held. T.peer held.ticket ≡ octets_of held.peer) },
-    ghost ends: { ForSome session (λ running. ForSome guest (λ held. EndsVisit running ⟦<S as Stream>⟧.told
-        (λ a call b. (b.server ≡ a.server) × Calls a.server.now.hub.now.setup (H.digest_of a.server.now.hub.now.hash) B.tells a.pass call b.pass
+    ghost ends: { ForSome session (λ running. ForSome guest (λ held. EndsVisit running ⟦<S as Stream>⟧.reports
+        (λ a call b. (b.server ≡ a.server) × Calls a.server.now.hub.now.setup (H.digest_of a.server.now.hub.now.hash) B.may_read a.pass call b.pass
         × (b.slot ≡ a.slot) × Wakes call b.pass.touched a.slot a.owes b.owes b.woken b.rung)
         (λ a left. Leaves a.server.now.hub.now.setup (H.digest_of a.server.now.hub.now.hash) a.pass left.visitor
         × (left.slot ≡ a.slot) × AreWoken left.visitor.touched a.slot 10 a.second left.woken × OwesOn a.owes false a.slot left.rung)
-        (λ (left : LeftSlot H). left.visitor) B.hub (HasVisited ⟦<S as Stream>⟧.told B.tells B.arrives)
-        (λ end later. IsServed H.digest_of C.tells ⟦<S as Stream>⟧.told (T.terms held.ticket) (T.number held.ticket) (T.peer held.ticket) (T.began held.ticket) end later))) },
+        (λ (left : LeftSlot H). left.visitor) B.hub (HasVisited ⟦<S as Stream>⟧.reports B.may_read B.arrives)
+        (λ end later. IsServed H.digest_of C.may_read ⟦<S as Stream>⟧.reports (T.terms held.ticket) (T.number held.ticket) (T.peer held.ticket) (T.began held.ticket) end later))) },
 }
 
 impl<
@@ -126,20 +132,23 @@ impl<
     /// Serves this connection by this session.
     pub(crate) fn begin(&mut self, session: HubSession<'a, B, S, T, H, R, C>, guest: Guest<T>)
         requires from { T.peer guest.ticket ≡ octets_of guest.peer }
-        requires ends { EndsVisit session ⟦<S as Stream>⟧.told
-            (λ a call b. (b.server ≡ a.server) × Calls a.server.now.hub.now.setup (H.digest_of a.server.now.hub.now.hash) B.tells a.pass call b.pass
+        requires ends { EndsVisit session ⟦<S as Stream>⟧.reports
+            (λ a call b. (b.server ≡ a.server) × Calls a.server.now.hub.now.setup (H.digest_of a.server.now.hub.now.hash) B.may_read a.pass call b.pass
             × (b.slot ≡ a.slot) × Wakes call b.pass.touched a.slot a.owes b.owes b.woken b.rung)
             (λ a left. Leaves a.server.now.hub.now.setup (H.digest_of a.server.now.hub.now.hash) a.pass left.visitor
             × (left.slot ≡ a.slot) × AreWoken left.visitor.touched a.slot 10 a.second left.woken × OwesOn a.owes false a.slot left.rung)
-            (λ (left : LeftSlot H). left.visitor) B.hub (HasVisited ⟦<S as Stream>⟧.told B.tells B.arrives)
-            (λ end later. IsServed H.digest_of C.tells ⟦<S as Stream>⟧.told (T.terms guest.ticket) (T.number guest.ticket) (T.peer guest.ticket) (T.began guest.ticket) end later) }
+            (λ (left : LeftSlot H). left.visitor) B.hub (HasVisited ⟦<S as Stream>⟧.reports B.may_read B.arrives)
+            (λ end later. IsServed H.digest_of C.may_read ⟦<S as Stream>⟧.reports (T.terms guest.ticket) (T.number guest.ticket) (T.peer guest.ticket) (T.began guest.ticket) end later) }
     {
         self.session = Some(session);
         cut_off_any::<S, T, H, C>(self.guest.replace(guest));
     }
 
     /// Works as the session does. At its end it gives what is over; at once nothing where there is no session.
-    pub(crate) fn poll_over(&mut self, cx: &mut Context<'_>) -> Poll<Option<Over<B, S, T, H, C>>>
+    pub(crate) fn poll_over(
+        &mut self,
+        cx: &mut Context<'_>,
+    ) -> Poll<Option<EndedSession<B, S, T, H, C>>>
         ensures registered { OnPending result (IsArmed cx.new) }
         ensures kept { Keeps cx.old cx.new }
     {
@@ -162,7 +171,7 @@ impl<
                 } = left;
                 drop(woken);
                 drop(rung);
-                Poll::Ready(Some(Over {
+                Poll::Ready(Some(EndedSession {
                     end,
                     ticket,
                     peer,

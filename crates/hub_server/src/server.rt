@@ -1,7 +1,7 @@
 ghost use Rattle.std.specs.Prelude.{◌≡◌, ◌≤◌, [], Some, ℕ, IfOk, IfErr};
-ghost use Rattle.hub_server.specs.Reporting.{IsServerFault};
+ghost use Rattle.hub_server.specs.ServerEnd.{IsServerFault};
 
-use crate::accepted::Accepted;
+use crate::accepted::AcceptedConnection;
 use crate::all_free::AllFree;
 use crate::cut_off::CutOff;
 use crate::free_slot::{FreeSlot, OfHub, Stop};
@@ -12,7 +12,7 @@ use hub_core::Setup;
 use hub_endings::Ending;
 use hub_listener::{CallMoment, Moments};
 use hub_shared::{Host, Hub};
-use server_tasks::{Fault, LeavingSocket, Shared};
+use server_tasks::{LeavingSocket, ServerFault, Shared};
 use session_hash::SessionHash;
 use std::alloc::{AllocError, Global};
 use std::sync::{Mutex, Wait};
@@ -35,7 +35,7 @@ pub struct Server<
     pub(crate) hub: &'a Hub<H>,
     pub(crate) hash: &'a H,
     pub(crate) setup: &'a Setup,
-    pub(crate) shared: Shared<Accepted<B, S, T, H, C>, S>,
+    pub(crate) shared: Shared<AcceptedConnection<B, S, T, H, C>, S>,
     // Those without a connection. There is room for all, so that coming back takes no memory.
     free: Mutex<Vec<FreeSlot<B, S, H>>>,
     // The word that as many connections came as were to be accepted, once that is so.
@@ -43,8 +43,8 @@ pub struct Server<
     pub(crate) ghost set: { hub.now.setup ≡ setup.now },
     pub(crate) ghost hashed: { hub.now.hash ≡ hash.now },
     pub(crate) ghost here: { B.hub ≡ Some hub.now },
-    pub(crate) ghost timed: { (moment : ℕ) → C.tells clock.now moment → ∥ B.tells moment ∥₁ },
-    pub(crate) ghost timely: { (moment : ℕ) → B.tells moment → ∥ C.tells clock.now moment ∥₁ },
+    pub(crate) ghost timed: { (moment : ℕ) → C.may_read clock.now moment → ∥ B.may_read moment ∥₁ },
+    pub(crate) ghost timely: { (moment : ℕ) → B.may_read moment → ∥ C.may_read clock.now moment ∥₁ },
 }
 
 impl<
@@ -69,8 +69,8 @@ impl<
         requires set { hub.now.setup ≡ setup.now }
         requires hashed { hub.now.hash ≡ hash.now }
         requires here { B.hub ≡ Some hub.now }
-        requires timed { (moment : ℕ) → C.tells clock.now moment → ∥ B.tells moment ∥₁ }
-        requires timely { (moment : ℕ) → B.tells moment → ∥ C.tells clock.now moment ∥₁ }
+        requires timed { (moment : ℕ) → C.may_read clock.now moment → ∥ B.may_read moment ∥₁ }
+        requires timely { (moment : ℕ) → B.may_read moment → ∥ C.may_read clock.now moment ∥₁ }
         ensures hub { IfOk result (λ server. server.hub ≡ hub.entry) }
         ensures clock { IfOk result (λ server. server.clock ≡ clock.entry) }
     {
@@ -107,7 +107,7 @@ impl<
 
     /// Tells the moment of a call of the hub that follows.
     pub(crate) fn moment_of_call(&self) -> CallMoment
-        ensures told { ∥ B.tells result ∥₁ }
+        ensures told { ∥ B.may_read result ∥₁ }
     {
         self.clock.moment_of_call()
     }
@@ -131,7 +131,7 @@ impl<
                 },
             ) => {
                 drop(visitor);
-                slot.give_up(self.shared.close(self.rt, Some(Fault::Start)));
+                slot.give_up(self.shared.close(self.rt, Some(ServerFault::Start)));
             }
         }
     }
@@ -145,20 +145,20 @@ impl<
     }
 
     /// Lets a socket go by and by whose last bytes are to reach its client.
-    pub(crate) fn let_out(&self, socket: Option<LeavingSocket<S>>)
+    pub(crate) fn linger(&self, socket: Option<LeavingSocket<S>>)
     where
         R: Clock,
     {
         match socket {
             Some(socket) => {
-                let _ = self.shared.lingering.let_out(self.rt, socket);
+                let _ = self.shared.lingering.linger(self.rt, socket);
             }
             None => {}
         }
     }
 
     /// Closes the server, because of this fault. All tasks end once their sessions have.
-    pub(crate) fn close(&self, fault: Fault) {
+    pub(crate) fn close(&self, fault: ServerFault) {
         let _ = self.shared.close(self.rt, Some(fault));
     }
 

@@ -33,7 +33,7 @@ impl<'a> SlotBell<'a> {
 
 impl Bell for SlotBell<'_> {
     ghost use Rattle.std.specs.Prelude.{◌≡◌};
-    ghost use Rattle.hub_server.specs.Waking.{HearsBy};
+    ghost use Rattle.hub_server.specs.Wakes.{HearsBy};
 
     // It is always that of the same slot, and has asked about that slot.
     ghost hears = { λ a call b. (b.slot ≡ a.slot) × HearsBy call b.slot b.looked b.permission };

@@ -2,12 +2,12 @@ ghost use Rattle.std.specs.Prelude.{◌≡◌, IsSomeAnd};
 ghost use Rattle.futures.specs.Task.{IsArmed, Keeps};
 ghost use Rattle.futures.specs.Poll.{IfReady, OnPending};
 ghost use Rattle.server_tasks.specs.declared.places.PlacesDeed.TheVariants.{Asked, TaskEnded};
-ghost use Rattle.adc_sessions.specs.Accepting.{incoming_of, left_of};
+ghost use Rattle.adc_sessions.specs.AcceptEnds.{incoming_of, left_of};
 ghost use Rattle.hub_listener.specs.Rests.{socket_of};
-ghost use Rattle.hub_server.specs.Ending.{IsWarnedOf, cause_by};
-ghost use Rattle.hub_server.specs.Stopping.{StopsWhen};
+ghost use Rattle.hub_server.specs.SessionEnds.{IsWarnedOf, cause_by};
+ghost use Rattle.hub_server.specs.Stop.{StopsWhen};
 
-use crate::accepted::Accepted;
+use crate::accepted::AcceptedConnection;
 use crate::acceptor::Acceptor;
 use crate::arrivals::Arrivals;
 use crate::connection::serve_connection;
@@ -15,7 +15,7 @@ use crate::free_slot::{FreeSlot, OfHub, Stop};
 use crate::guest::Guest;
 use crate::left_slot::LeftSlot;
 use crate::port::HubPort;
-use crate::served_slot::{Over, ServedSlot};
+use crate::served_slot::{EndedSession, ServedSlot};
 use crate::server::Server;
 use crate::ticket::Ticket;
 use adc_sessions::{Accept, AcceptEnd, End, Stream};
@@ -24,7 +24,7 @@ use futures::task::{Context, Poll};
 use hub_listener::{Moments, Socket};
 use hub_warnings::{Cause, Said, Warning, Warnings};
 use log::Log;
-use server_tasks::{Fault, OneEnded, PlacesWord, Ticker};
+use server_tasks::{OneEnded, PlacesWord, ServerFault, Ticker};
 use session_hash::SessionHash;
 use std::alloc::AllocGlobal;
 use std::net::SocketAddrV4;
@@ -51,7 +51,7 @@ pub(crate) enum Task<
     I: HubPort<S, T, H, C>,
 > {
     /// Keeps time.
-    Ticking(Ticker<'a, Accepted<B, S, T, H, C>, S, R>),
+    Ticking(Ticker<'a, AcceptedConnection<B, S, T, H, C>, S, R>),
     /// Serves the connections of one slot.
     Serving(SlotTask<'a, B, S, T, H, R, C, L>),
     /// Accepts connections.
@@ -170,7 +170,7 @@ impl<
                 Poll::Ready(())
             }
             Poll::Ready(AcceptEnd::AcceptFailed) => {
-                self.server.close(Fault::Accepting);
+                self.server.close(ServerFault::Accepting);
                 Poll::Ready(())
             }
         }
@@ -289,11 +289,11 @@ impl<
     }
 
     /// Serves this connection. It is lost where memory is refused.
-    fn begin(&mut self, accepted: Accepted<B, S, T, H, C>)
+    fn begin(&mut self, accepted: AcceptedConnection<B, S, T, H, C>)
         ensures asked { self.new.asked ≡ self.old.asked }
     {
         let server = self.server;
-        let Accepted {
+        let AcceptedConnection {
             ticket,
             socket,
             pass,
@@ -314,10 +314,10 @@ impl<
     }
 
     /// Gives the slot back, and ends the connection. Returns what was warned of it.
-    fn end(&self, over: Over<B, S, T, H, C>) -> Option<Said<Warning>>
+    fn end(&self, over: EndedSession<B, S, T, H, C>) -> Option<Said<Warning>>
         ensures { IsWarnedOf over.end over.peer result }
     {
-        let Over {
+        let EndedSession {
             end,
             ticket,
             peer,
@@ -326,7 +326,7 @@ impl<
             of: _,
         } = over;
         self.server.free(free);
-        self.server.let_out(ticket.served(socket, end));
+        self.server.linger(ticket.served(socket, end));
         self.note_end(end, peer)
     }
 

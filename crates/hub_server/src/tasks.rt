@@ -1,6 +1,6 @@
 ghost use Rattle.std.specs.Prelude.{◌≡◌, ◌+◌, ◌≤◌, None, IfSome};
 
-use crate::accepted::Accepted;
+use crate::accepted::AcceptedConnection;
 use crate::free_slot::OfHub;
 use crate::port::HubPort;
 use crate::server::Server;
@@ -32,12 +32,12 @@ pub(crate) struct Tasks<
     I: HubPort<S, T, H, C>,
     W,
 > {
-    ticker: Option<Ticker<'a, Accepted<B, S, T, H, C>, S, R>>,
+    ticker: Option<Ticker<'a, AcceptedConnection<B, S, T, H, C>, S, R>>,
     // The slot of the next task, and how many slots there are.
     next: usize,
     count: usize,
     accept: Option<AcceptTask<'a, B, S, T, H, R, C, L, I>>,
-    startup: Startup<'a, Accepted<B, S, T, H, C>, S, R, W>,
+    startup: Startup<'a, AcceptedConnection<B, S, T, H, C>, S, R, W>,
     server: &'a Server<'a, B, S, T, H, R, C>,
     warnings: &'a Warnings<L>,
 }
@@ -84,10 +84,10 @@ impl<
 > Tasks<'a, B, S, T, H, R, C, L, I, W> {
     /// Makes the tasks for so many slots.
     pub(crate) fn new(
-        ticker: Ticker<'a, Accepted<B, S, T, H, C>, S, R>,
+        ticker: Ticker<'a, AcceptedConnection<B, S, T, H, C>, S, R>,
         count: usize,
         accept: AcceptTask<'a, B, S, T, H, R, C, L, I>,
-        startup: Startup<'a, Accepted<B, S, T, H, C>, S, R, W>,
+        startup: Startup<'a, AcceptedConnection<B, S, T, H, C>, S, R, W>,
         server: &'a Server<'a, B, S, T, H, R, C>,
         warnings: &'a Warnings<L>,
     ) -> Tasks<'a, B, S, T, H, R, C, L, I, W> {

@@ -77,7 +77,7 @@ impl<H: SessionHash, C: Moments> BindPort<TcpStream, TcpTicket<H, C>, H, C> for 
 impl<H: SessionHash, C: Moments> Listens for TcpPort<H, C> {
     ghost use Rattle.std.specs.Prelude.{◌≡◌, ◌+◌};
     ghost use Rattle.std.proofs.Common.{◌∙◌, ap, refl};
-    ghost use Rattle.hub_server.specs.Arriving.{HasCome};
+    ghost use Rattle.hub_server.specs.Arrivals.{HasCome};
 
     type Socket = TcpStream;
 
@@ -160,8 +160,8 @@ impl<H: SessionHash, C> TcpTicket<H, C> {
 impl<H: SessionHash, C: Moments> Ticket<TcpStream, H, C> for TcpTicket<H, C> {
     ghost use Rattle.std.specs.Prelude.{IsSome};
     ghost use Rattle.hub_listener.specs.Peers.{octets_of};
-    ghost use Rattle.hub_server.specs.Owing.{WritesFull, challenge_of};
-    ghost use Rattle.hub_server.specs.Turning.{IsRefusal};
+    ghost use Rattle.hub_server.specs.Owed.{WritesFull, challenge_of};
+    ghost use Rattle.hub_server.specs.JoinRefusals.{IsRefusal};
 
     ghost terms = { λ ticket. ticket.terms.value.value };
 

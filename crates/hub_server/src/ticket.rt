@@ -13,9 +13,9 @@ use session_hash::SessionHash;
 pub trait Ticket<S: Stream, H: SessionHash, C: Moments> {
     ghost use Rattle.std.specs.Prelude.{◌≡◌, IsSome, is_some, ℕ, List};
     ghost use Rattle.hub_server.specs.declared.terms.Terms.{Terms};
-    ghost use Rattle.hub_server.specs.Ending.{lingers_at};
-    ghost use Rattle.hub_server.specs.Owing.{IsServed, WritesFull, challenge_of};
-    ghost use Rattle.hub_server.specs.Turning.{IsRefusal};
+    ghost use Rattle.hub_server.specs.SessionEnds.{lingers_at};
+    ghost use Rattle.hub_server.specs.Owed.{IsServed, WritesFull, challenge_of};
+    ghost use Rattle.hub_server.specs.JoinRefusals.{IsRefusal};
 
     /// What the server promised when it began to listen.
     ghost terms: { Self → Terms H C };
@@ -31,7 +31,7 @@ pub trait Ticket<S: Stream, H: SessionHash, C: Moments> {
 
     /// Ends a connection that was served until this end. Returns the socket if its last bytes are to reach the client.
     fn served(self, socket: S, end: End) -> Option<LeavingSocket<S>>
-        requires served { ∥ IsServed H.digest_of C.tells ⟦<S as Stream>⟧.told (terms self) (number self) (peer self) (began self) end socket ∥₁ }
+        requires served { ∥ IsServed H.digest_of C.may_read ⟦<S as Stream>⟧.reports (terms self) (number self) (peer self) (began self) end socket ∥₁ }
         ensures lingers { is_some result ≡ lingers_at end };
 
     /// Ends a connection that the server refused. Returns the socket if what it was told is to reach the client.

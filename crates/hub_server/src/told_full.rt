@@ -1,4 +1,4 @@
-ghost use Rattle.hub_server.specs.Owing.{IsToldFull, WritesFull};
+ghost use Rattle.hub_server.specs.Owed.{IsToldFull, WritesFull};
 
 use hub_listener::Socket;
 

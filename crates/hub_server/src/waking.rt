@@ -1,6 +1,6 @@
 ghost use Rattle.std.specs.Prelude.{◌≡◌};
 ghost use Rattle.hub_core.specs.declared.share.Touched.TheVariants.{Everybody};
-ghost use Rattle.hub_server.specs.Waking.{AreWoken};
+ghost use Rattle.hub_server.specs.Wakes.{AreWoken};
 
 use futures::spin::GaveUp;
 use hub_core::Touched;

@@ -3,7 +3,7 @@ use Rattle.std.specs.Prelude.{ℕ, Bool, true, false, List, [], ◌∷◌, codes
 use Rattle.std.specs.Option.{option_and_then, option_map}
 use Rattle.std.specs.Result.{result_ok}
 use Rattle.toml.specs.Data.{Data, Items, Members, as_array, as_integer, as_str, as_table, get_member, item, no_items}
-use Rattle.hub_rules.specs.Configured.{Account, MenuEntry}
+use Rattle.hub_rules.specs.Configured.{ConfiguredAccount, ConfiguredEntry}
 use Rattle.hub_setup.specs.Settings.{AccountText, accounts_of, menu_of}
 use Rattle.hub_settings.specs.Unknown.{first_unknown}
 use Rattle.hub_settings.specs.Values.{truth_of, within}
@@ -39,7 +39,7 @@ written_accounts None = Some []
 written_accounts (Some value) = option_and_then all_accounts (as_array value)
 
 -- the registered users that a list of accounts describes, where it is one and they are fit for a hub
-abbrev pub accounts_at : Option Data → Option (List Account)
+abbrev pub accounts_at : Option Data → Option (List ConfiguredAccount)
 accounts_at value = option_and_then (λ written. result_ok (accounts_of written)) (written_accounts value)
 
 abbrev pub command_keys : List (List ℕ)
@@ -58,23 +58,23 @@ item_in ms = option_and_then (λ separator. content_from separator (get_member (
 abbrev pub context_from : Option Data → Option ℕ
 context_from value = option_and_then (within 1 15) (option_and_then as_integer value)
 
-abbrev pub command_from : Option (List ℕ) → Option ℕ → Option (Option (List ℕ)) → Option MenuEntry
+abbrev pub command_from : Option (List ℕ) → Option ℕ → Option (Option (List ℕ)) → Option ConfiguredEntry
 command_from (Some name) (Some context) (Some text) = Some (record { name = name; context = context; text = text })
 command_from name context text = None
 
-abbrev pub command_in : Members → Option MenuEntry
+abbrev pub command_in : Members → Option ConfiguredEntry
 command_in ms =
     if is_some (first_unknown command_keys ms) then None
     else command_from (text_at (codes "name") ms) (context_from (get_member (codes "context") ms)) (item_in ms)
 
-abbrev pub all_commands : Items → Option (List MenuEntry)
+abbrev pub all_commands : Items → Option (List ConfiguredEntry)
 all_commands no_items = Some []
 all_commands (item value rest) = cons_if (option_and_then command_in (as_table value)) (all_commands rest)
 
-abbrev pub written_commands : Option Data → Option (List MenuEntry)
+abbrev pub written_commands : Option Data → Option (List ConfiguredEntry)
 written_commands None = Some []
 written_commands (Some value) = option_and_then all_commands (as_array value)
 
 -- the menu that a list of commands describes, where it is one and they are fit for a hub
-abbrev pub menu_at : Option Data → Option (List MenuEntry)
+abbrev pub menu_at : Option Data → Option (List ConfiguredEntry)
 menu_at value = option_and_then (λ written. result_ok (menu_of written)) (written_commands value)

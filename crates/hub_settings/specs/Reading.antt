@@ -5,15 +5,15 @@ use Rattle.toml.specs.Data.{Members}
 use Rattle.toml.specs.Parse.{parse_document}
 use Rattle.hub_settings.specs.declared.fault.SettingsFault.{SettingsFault}
 use Rattle.hub_settings.specs.declared.fault.SettingsFault.TheVariants.{Memory, Text, Key}
-use Rattle.hub_settings.specs.Settings.{Listens, ServerSettings, settings}
+use Rattle.hub_settings.specs.Settings.{ListensAt, ServerSettings, settings}
 
 -- the text is a TOML document whose table comes to this, a hub's settings or the key that is at fault
 abbrev pub ComesTo : List ℕ → ℕ → Result ServerSettings (List ℕ) → Type 0
 ComesTo text opening wanted =
-    (ms : Members) × (listen : Option SocketAddrV4) × (parse_document text ≡ Some ms) × Listens ms listen × (settings opening listen ms ≡ wanted)
+    (ms : Members) × (listen : Option SocketAddrV4) × (parse_document text ≡ Some ms) × ListensAt ms listen × (settings opening listen ms ≡ wanted)
 
-abbrev pub IsRead : List ℕ → ℕ → Result ServerSettings SettingsFault → Type 0
-IsRead text opening (Ok settings) = ComesTo text opening (Ok settings)
-IsRead text opening (Err Memory) = Unit {0}
-IsRead text opening (Err Text) = parse_document text ≡ None
-IsRead text opening (Err (Key key)) = ComesTo text opening (Err key)
+abbrev pub ReadsSettings : List ℕ → ℕ → Result ServerSettings SettingsFault → Type 0
+ReadsSettings text opening (Ok settings) = ComesTo text opening (Ok settings)
+ReadsSettings text opening (Err Memory) = Unit {0}
+ReadsSettings text opening (Err Text) = parse_document text ≡ None
+ReadsSettings text opening (Err (Key key)) = ComesTo text opening (Err key)

@@ -12,7 +12,7 @@ use Rattle.hub_setup.specs.Settings.{hub_with}
 use Rattle.hub_settings.specs.declared.hash_name.HashName.{HashName}
 use Rattle.hub_settings.specs.declared.plain_keys.PlainKeys.{PlainKeys}
 use Rattle.hub_settings.specs.Unknown.{first_unknown}
-use Rattle.hub_settings.specs.Kinds.{Key, Kind, key, kind_among, names, SomeText, Text, Address, Hash, Truth, Number, Accounts, Commands}
+use Rattle.hub_settings.specs.Kinds.{Key, SettingKind, key, kind_among, names, SomeText, Text, Address, Hash, Truth, Number, Accounts, Commands}
 use Rattle.hub_settings.specs.Lists.{accounts_at, menu_at}
 use Rattle.hub_settings.specs.Values.{address_for, hash_for, number_for, some_text_for, text_for, truth_for}
 
@@ -34,11 +34,11 @@ keys =
     ∷ key (codes "command") Commands
     ∷ []
 
-unfoldable pub kind_of : List ℕ → Option Kind
+unfoldable pub kind_of : List ℕ → Option SettingKind
 kind_of name = kind_among keys name
 
 -- what stands at this key, read by its kind, or the key is at fault
-abbrev pub read : {X : Type 0} → (Option Kind → Option Data → Option X) → List ℕ → Members → Result X (List ℕ)
+abbrev pub read : {X : Type 0} → (Option SettingKind → Option Data → Option X) → List ℕ → Members → Result X (List ℕ)
 read value_of name ms = ok_or (value_of (kind_of name) (get_member name ms)) name
 
 -- the hub, and what a server needs beside it
@@ -62,8 +62,8 @@ IsSpelled None address = address ≡ None
 IsSpelled (Some text) (Some address) = IsSocketV4Text text address
 IsSpelled (Some text) None = (address : SocketAddrV4) → IsSocketV4Text text address → ⊥
 
-abbrev pub Listens : Members → Option SocketAddrV4 → Type 0
-Listens ms address = IsSpelled (address_for (kind_of (codes "listen")) (get_member (codes "listen") ms)) address
+abbrev pub ListensAt : Members → Option SocketAddrV4 → Type 0
+ListensAt ms address = IsSpelled (address_for (kind_of (codes "listen")) (get_member (codes "listen") ms)) address
 
 -- the keys of the options that are neither texts nor lists, of a hub that opens at this moment
 unfoldable pub plain_options : ℕ → Members → Result PlainOptions (List ℕ)
@@ -110,7 +110,7 @@ settings_of keys = record {
 abbrev pub known_keys : List (List ℕ)
 known_keys = names keys
 
-abbrev pub with_lists : ServerSettings → List hub.Account → List hub.MenuEntry → ServerSettings
+abbrev pub with_lists : ServerSettings → List hub.ConfiguredAccount → List hub.ConfiguredEntry → ServerSettings
 with_lists plain accounts menu = record plain { hub = record plain.hub { accounts = accounts; menu = menu } }
 
 abbrev pub known_only : Option (List ℕ) → ServerSettings → Result ServerSettings (List ℕ)

@@ -51,20 +51,20 @@ pub enum SettingsFault {
 
 /// The cause for which a table was refused.
 #[derive(Clone, Copy)]
-pub(crate) enum Refusal<'a> {
+pub(crate) enum SettingRefusal<'a> {
     /// Memory ran out.
     Memory,
     /// The value at this key, or the key itself.
     Key(&'a str),
 }
 
-impl From<AllocError> for Refusal<'_> {
+impl From<AllocError> for SettingRefusal<'_> {
     ghost use Rattle.std.specs.Prelude.{◌≡◌};
-    ghost use Rattle.hub_settings.specs.declared.fault.Refusal.TheVariants.{Memory};
+    ghost use Rattle.hub_settings.specs.declared.fault.SettingRefusal.TheVariants.{Memory};
 
     ghost from_gives = { λ _ refusal. refusal ≡ Memory };
 
     fn from(_: AllocError) -> Self {
-        Refusal::Memory
+        SettingRefusal::Memory
     }
 }

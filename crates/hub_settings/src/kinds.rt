@@ -1,6 +1,6 @@
 /// What may stand at a key of a settings file, and what is read where the key is missing.
 #[derive(Clone, Copy, Debug)]
-pub enum Kind {
+pub enum SettingKind {
     /// A text that is not empty; by default this one.
     SomeText(&'static str),
     /// A text; by default this one.

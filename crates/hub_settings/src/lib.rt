@@ -16,6 +16,6 @@ mod values;
 pub use fault::{KeyName, SettingsFault};
 pub use hash_name::HashName;
 pub use keys::{KEYS, kind_of};
-pub use kinds::Kind;
+pub use kinds::SettingKind;
 pub use reading::read_settings;
 pub use settings::Settings;

@@ -1,12 +1,12 @@
 ghost use Rattle.std.specs.Prelude.{◌≡◌};
 ghost use Rattle.toml.specs.View.{table_view};
 ghost use Rattle.hub_settings.specs.Answers.{ReadsUnlessMemory};
-ghost use Rattle.hub_settings.specs.Reading.{IsRead};
-ghost use Rattle.hub_settings.specs.Settings.{Listens, settings};
+ghost use Rattle.hub_settings.specs.Reading.{ReadsSettings};
+ghost use Rattle.hub_settings.specs.Settings.{ListensAt, settings};
 
 use crate::account_list::accounts;
 use crate::command_list::menu;
-use crate::fault::{KeyName, Refusal, SettingsFault};
+use crate::fault::{KeyName, SettingRefusal, SettingsFault};
 use crate::keys::{plain_keys, unknown_key};
 use crate::settings::Settings;
 use crate::values::address_text;
@@ -23,7 +23,7 @@ use toml::Table;
 /// Refused: `Text` where it is no TOML; `Key` with the first key whose value is of another kind or out of range. Where
 /// there is none such, it is `Key` with the least key by bytes that is none of these; then `Memory`.
 pub fn read_settings(alloc: Global, text: &str, opening: u64) -> Result<Settings, SettingsFault>
-    ensures { IsRead text.now opening result }
+    ensures { ReadsSettings text.now opening result }
 {
     let table = match toml::table_from_str(alloc, text) {
         Ok(table) => table,
@@ -37,8 +37,8 @@ pub fn read_settings(alloc: Global, text: &str, opening: u64) -> Result<Settings
     let listen = listen_at(&table);
     match read_table(alloc, &table, listen, opening) {
         Ok(settings) => Ok(settings),
-        Err(Refusal::Memory) => Err(SettingsFault::Memory),
-        Err(Refusal::Key(key)) => match String::from_str(alloc, key) {
+        Err(SettingRefusal::Memory) => Err(SettingsFault::Memory),
+        Err(SettingRefusal::Key(key)) => match String::from_str(alloc, key) {
             Ok(name) => Err(SettingsFault::Key(KeyName::new(name))),
             Err(_) => Err(SettingsFault::Memory),
         },
@@ -52,21 +52,21 @@ fn read_table<'a>(
     table: &'a Table,
     listen: Option<SocketAddrV4>,
     opening: u64,
-) -> Result<Settings, Refusal<'a>>
+) -> Result<Settings, SettingRefusal<'a>>
     ensures { ReadsUnlessMemory result (settings opening listen (table_view table.entry.now)) }
 {
     let keys = match plain_keys(table, listen, opening) {
         Ok(keys) => keys,
-        Err(key) => return Err(Refusal::Key(key)),
+        Err(key) => return Err(SettingRefusal::Key(key)),
     };
     let Some(accounts) = accounts(alloc, table)? else {
-        return Err(Refusal::Key("account"));
+        return Err(SettingRefusal::Key("account"));
     };
     let Some(menu) = menu(alloc, table)? else {
-        return Err(Refusal::Key("command"));
+        return Err(SettingRefusal::Key("command"));
     };
     if let Some(key) = unknown_key(table) {
-        return Err(Refusal::Key(key));
+        return Err(SettingRefusal::Key(key));
     }
     let setup = Setup::with_lists(alloc, &keys.options, accounts, menu)?;
     Ok(Settings::new(alloc, setup, &keys)?)
@@ -74,7 +74,7 @@ fn read_table<'a>(
 
 /// Reads the address and port to listen at.
 fn listen_at(table: &Table) -> Option<SocketAddrV4>
-    ensures { Listens (table_view table.now) result }
+    ensures { ListensAt (table_view table.now) result }
 {
     let text = address_text(table, "listen")?;
     match SocketAddrV4::parse_ascii(text.as_bytes()) {

@@ -3,14 +3,14 @@ ghost use Rattle.std.specs.Option.{option_and_then, option_map};
 ghost use Rattle.toml.specs.Data.{get_member};
 ghost use Rattle.toml.specs.View.{table_view, view};
 ghost use Rattle.hub_settings.specs.Lists.{text_at};
-ghost use Rattle.hub_settings.specs.Answers.{Reads};
+ghost use Rattle.hub_settings.specs.Answers.{ReadsText};
 ghost use Rattle.hub_settings.specs.Kinds.{HasFitDefault, IsWithin};
 ghost use Rattle.hub_settings.specs.Settings.{kind_of, read};
 ghost use Rattle.hub_settings.specs.Values.{address_for, hash_called, hash_for, not_empty, number_for, number_or, some_text_for, text_for, text_or, truth_for, truth_of, within};
 
 use crate::hash_name::HashName;
 use crate::keys::kind_of;
-use crate::kinds::Kind;
+use crate::kinds::SettingKind;
 use toml::{Table, Value};
 
 /// Gives the value at a key.
@@ -57,10 +57,10 @@ pub(crate) fn truth_of(table: &Table, key: &str) -> Option<bool>
 /// Refused with the key where what stands there is no such text.
 pub(crate) fn some_text<'a>(table: &'a Table, key: &'static str) -> Result<&'a str, &'static str>
     ensures some { IfOk result (λ s. 1 ≤ length s.now) }
-    ensures exact { Reads (λ s. s.now) result (read some_text_for key.entry.now (table_view table.entry.now)) }
+    ensures exact { ReadsText (λ s. s.now) result (read some_text_for key.entry.now (table_view table.entry.now)) }
 {
     match kind_of(key) {
-        Some(Kind::SomeText(default)) => not_empty(text_or(table, key, default)).ok_or(key),
+        Some(SettingKind::SomeText(default)) => not_empty(text_or(table, key, default)).ok_or(key),
         _ => Err(key),
     }
 }
@@ -79,10 +79,10 @@ fn not_empty(text: Option<&str>) -> Option<&str>
 ///
 /// Refused with the key where what stands there is no text.
 pub(crate) fn text<'a>(table: &'a Table, key: &'static str) -> Result<&'a str, &'static str>
-    ensures { Reads (λ s. s.now) result (read text_for key.entry.now (table_view table.entry.now)) }
+    ensures { ReadsText (λ s. s.now) result (read text_for key.entry.now (table_view table.entry.now)) }
 {
     match kind_of(key) {
-        Some(Kind::Text(default)) => text_or(table, key, default).ok_or(key),
+        Some(SettingKind::Text(default)) => text_or(table, key, default).ok_or(key),
         _ => Err(key),
     }
 }
@@ -92,7 +92,7 @@ pub(crate) fn address_text<'a>(table: &'a Table, key: &'static str) -> Option<&'
     ensures { option_map (λ s. s.now) result ≡ address_for (kind_of key.entry.now) (get_member key.entry.now (table_view table.entry.now)) }
 {
     match kind_of(key) {
-        Some(Kind::Address(default)) => text_or(table, key, default),
+        Some(SettingKind::Address(default)) => text_or(table, key, default),
         _ => None,
     }
 }
@@ -101,10 +101,10 @@ pub(crate) fn address_text<'a>(table: &'a Table, key: &'static str) -> Option<&'
 ///
 /// Refused with the key where what stands there names none.
 pub(crate) fn hash(table: &Table, key: &'static str) -> Result<HashName, &'static str>
-    ensures { Reads (λ hash. hash) result (read hash_for key.entry.now (table_view table.now)) }
+    ensures { ReadsText (λ hash. hash) result (read hash_for key.entry.now (table_view table.now)) }
 {
     match kind_of(key) {
-        Some(Kind::Hash(default)) => hash_or(table, key, default).ok_or(key),
+        Some(SettingKind::Hash(default)) => hash_or(table, key, default).ok_or(key),
         _ => Err(key),
     }
 }
@@ -129,10 +129,10 @@ fn hash_called(name: &str) -> Option<HashName>
 ///
 /// Refused with the key where what stands there is neither true nor false.
 pub(crate) fn truth(table: &Table, key: &'static str) -> Result<bool, &'static str>
-    ensures { Reads (λ b. b) result (read truth_for key.entry.now (table_view table.now)) }
+    ensures { ReadsText (λ b. b) result (read truth_for key.entry.now (table_view table.now)) }
 {
     match kind_of(key) {
-        Some(Kind::Truth) => truth_of(table, key).ok_or(key),
+        Some(SettingKind::Truth) => truth_of(table, key).ok_or(key),
         _ => Err(key),
     }
 }
@@ -143,10 +143,10 @@ pub(crate) fn truth(table: &Table, key: &'static str) -> Result<bool, &'static s
 pub(crate) fn number(table: &Table, key: &'static str) -> Result<u32, &'static str>
     requires { HasFitDefault (kind_of key.now) }
     ensures within { IfOk result (λ n. IsWithin (kind_of key.entry.now) n) }
-    ensures exact { Reads (λ n. n) result (read number_for key.entry.now (table_view table.now)) }
+    ensures exact { ReadsText (λ n. n) result (read number_for key.entry.now (table_view table.now)) }
 {
     match kind_of(key) {
-        Some(Kind::Number(low, high, default)) => {
+        Some(SettingKind::Number(low, high, default)) => {
             number_or(table, key, low, high, default).ok_or(key)
         }
         _ => Err(key),

@@ -8,7 +8,7 @@ use Rattle.adc_line.specs.Lines.{reading}
 use Rattle.inf_fields.specs.FieldNames.{id_name}
 use Rattle.hub_rules.specs.Identities.{key_in, nick_in, value_or_empty}
 use Rattle.hub_rules.specs.Prepared.{update_of}
-use Rattle.hub_rules.specs.Sights.{PreparedLine}
+use Rattle.hub_rules.specs.Views.{PreparedLine}
 use Rattle.hub_setup.specs.declared.preparation.Content.{Content}
 use Rattle.hub_setup.specs.declared.preparation.Content.TheVariants.{Message, Other}
 use Rattle.hub_setup.specs.declared.inf.Inf.TheInside as inf

@@ -38,7 +38,7 @@ abbrev pub is_account : AccountText → Bool
 is_account account = is_nick (chars account.nick) && not (length account.password == 0)
 
 -- the registered user
-abbrev pub account_of : AccountText → hub.Account
+abbrev pub account_of : AccountText → hub.ConfiguredAccount
 account_of account = record { key = key_of account.nick; password = account.password; operator = account.operator }
 
 -- no two of the keys are the same
@@ -46,17 +46,17 @@ unfoldable pub are_distinct : List (List ℕ) → Bool
 are_distinct [] = true
 are_distinct (key ∷ keys) = not (list_any (bytes_eq key) keys) && are_distinct keys
 
-abbrev pub have_distinct_keys : List hub.Account → Bool
-have_distinct_keys accounts = are_distinct (map (λ (account : hub.Account). account.key) accounts)
+abbrev pub have_distinct_keys : List hub.ConfiguredAccount → Bool
+have_distinct_keys accounts = are_distinct (map (λ (account : hub.ConfiguredAccount). account.key) accounts)
 
-abbrev pub registered_user : AccountText → Result hub.Account ListRefused
+abbrev pub registered_user : AccountText → Result hub.ConfiguredAccount ListRefused
 registered_user account = if is_account account then Ok (account_of account) else Err lists.Entry
 
-abbrev pub registered_users : List AccountText → Result (List hub.Account) ListRefused
+abbrev pub registered_users : List AccountText → Result (List hub.ConfiguredAccount) ListRefused
 registered_users accounts = if list_all is_account accounts then Ok (map account_of accounts) else Err lists.Entry
 
 -- all of them, where they are not too many, each is an account and their keys differ
-unfoldable pub accounts_of : List AccountText → Result (List hub.Account) ListRefused
+unfoldable pub accounts_of : List AccountText → Result (List hub.ConfiguredAccount) ListRefused
 accounts_of accounts =
     if nat_lt most_accounts (length accounts) then Err lists.Limit
     else if not (list_all is_account accounts && have_distinct_keys (map account_of accounts)) then Err lists.Entry
@@ -67,15 +67,15 @@ abbrev pub text_of : MenuItem → Option (List ℕ)
 text_of (Text text) = Some text.now
 text_of Separator = None
 
-abbrev pub entry_of : MenuEntry → hub.MenuEntry
+abbrev pub entry_of : MenuEntry → hub.ConfiguredEntry
 entry_of entry = record { name = entry.name.now; context = entry.context; text = text_of entry.item }
 
 -- a name that is not empty, shown in at least one of the four places
-abbrev pub is_command : hub.MenuEntry → Bool
+abbrev pub is_command : hub.ConfiguredEntry → Bool
 is_command entry = not (length entry.name == 0) && not (entry.context == 0) && not (nat_lt 15 entry.context)
 
 -- all of them, where they are not too many and each is a command
-unfoldable pub menu_of : List hub.MenuEntry → Result (List hub.MenuEntry) ListRefused
+unfoldable pub menu_of : List hub.ConfiguredEntry → Result (List hub.ConfiguredEntry) ListRefused
 menu_of entries =
     if nat_lt most_commands (length entries) then Err lists.Limit
     else if not (list_all is_command entries) then Err lists.Entry
@@ -88,11 +88,11 @@ is_past_limit o =
     || nat_lt most_users o.plain.max_users
 
 -- the hub of this name and topic, these registered users, this menu and these plain options
-abbrev pub hub_of : List ℕ → List ℕ → List hub.Account → List hub.MenuEntry → PlainOptions → Configured
+abbrev pub hub_of : List ℕ → List ℕ → List hub.ConfiguredAccount → List hub.ConfiguredEntry → PlainOptions → Configured
 hub_of name topic accounts menu plain = record { name = name; topic = topic; accounts = accounts; menu = menu; plain = plain }
 
 -- the hub of these options with these registered users and this menu
-abbrev pub hub_with : Options → List hub.Account → List hub.MenuEntry → Configured
+abbrev pub hub_with : Options → List hub.ConfiguredAccount → List hub.ConfiguredEntry → Configured
 hub_with o accounts menu = hub_of o.name.now o.topic.now accounts menu o.plain
 
 -- what follows from a list, or its refusal: this one where an entry is at fault
@@ -112,11 +112,11 @@ configured_hub o =
     Ok (hub_with o accounts menu)))
 
 -- `view` of a list is what is wanted, or the fault is the one that is wanted; want of memory says nothing
-abbrev pub Gives : {X Y : Type 0} → (X → Y) → Result X ListRefused → Result Y ListRefused → Type 0
-Gives view (Ok x) wanted = wanted ≡ Ok (view x)
-Gives view (Err lists.Memory) wanted = Unit {0}
-Gives view (Err lists.Limit) wanted = wanted ≡ Err lists.Limit
-Gives view (Err lists.Entry) wanted = wanted ≡ Err lists.Entry
+abbrev pub GivesList : {X Y : Type 0} → (X → Y) → Result X ListRefused → Result Y ListRefused → Type 0
+GivesList view (Ok x) wanted = wanted ≡ Ok (view x)
+GivesList view (Err lists.Memory) wanted = Unit {0}
+GivesList view (Err lists.Limit) wanted = wanted ≡ Err lists.Limit
+GivesList view (Err lists.Entry) wanted = wanted ≡ Err lists.Entry
 
 -- within the limits and with a name, which takes no memory to see
 abbrev pub IsNamedWithinLimits : Options → Type 0

@@ -3,7 +3,7 @@ ghost use Rattle.std.specs.List.{list_any};
 ghost use Rattle.std.specs.Option.{option_copied};
 ghost use Rattle.std.specs.Str.{bytes_eq};
 ghost use Rattle.hub_rules.specs.Accounts.{account_with};
-ghost use Rattle.hub_setup.specs.Settings.{Gives, account_text, accounts_of, are_distinct, most_accounts, registered_user, registered_users};
+ghost use Rattle.hub_setup.specs.Settings.{GivesList, account_text, accounts_of, are_distinct, most_accounts, registered_user, registered_users};
 
 use crate::options::{Account, MOST_ACCOUNTS};
 use crate::refused::ListRefused;
@@ -20,9 +20,9 @@ pub struct Registered {
 }
 
 impl Model for Registered {
-    ghost use Rattle.hub_rules.specs.Configured.{Account};
+    ghost use Rattle.hub_rules.specs.Configured.{ConfiguredAccount};
 
-    ghost Value = { Account };
+    ghost Value = { ConfiguredAccount };
 
     ghost use Rattle.std.specs.String.{string_bytes};
 
@@ -60,9 +60,9 @@ pub struct Accounts {
 
 impl Model for Accounts {
     ghost use Rattle.std.specs.Prelude.{List};
-    ghost use Rattle.hub_rules.specs.Configured.{Account};
+    ghost use Rattle.hub_rules.specs.Configured.{ConfiguredAccount};
 
-    ghost Value = { List Account };
+    ghost Value = { List ConfiguredAccount };
 
     ghost view = { λ a. a.users.items };
 }
@@ -75,7 +75,7 @@ impl Accounts {
     /// before it was seen that an entry is at fault.
     #[tactic(auto, unfolding(crate::specs::Settings::accounts_of))]
     pub fn new(alloc: Global, accounts: &[Account<'_>]) -> Result<Accounts, ListRefused>
-        ensures exact { Gives (λ users. users) result (accounts_of (map account_text accounts.now)) }
+        ensures exact { GivesList (λ users. users) result (accounts_of (map account_text accounts.now)) }
         ensures memory { IfErr result (λ fault. fault ≡ ListRefused.Memory → length accounts.now ≤ most_accounts) }
     {
         if accounts.len() > MOST_ACCOUNTS {
@@ -97,7 +97,7 @@ impl Accounts {
 }
 
 fn registered_users(alloc: Global, accounts: &[Account<'_>]) -> Result<Vec<Registered>, ListRefused>
-    ensures { Gives (λ users. users.items) result (registered_users (map account_text accounts.now)) }
+    ensures { GivesList (λ users. users.items) result (registered_users (map account_text accounts.now)) }
 {
     let mut users = Vec::with_capacity(alloc, accounts.len())?;
     for account in accounts {
@@ -109,7 +109,7 @@ fn registered_users(alloc: Global, accounts: &[Account<'_>]) -> Result<Vec<Regis
 }
 
 fn registered_user(alloc: Global, account: &Account<'_>) -> Result<Registered, ListRefused>
-    ensures { Gives (λ user. user) result (registered_user (account_text account.now)) }
+    ensures { GivesList (λ user. user) result (registered_user (account_text account.now)) }
 {
     if account.password.is_empty() {
         return Err(ListRefused::Entry);

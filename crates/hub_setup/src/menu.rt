@@ -3,7 +3,7 @@ ghost use Rattle.std.specs.List.{list_all};
 ghost use Rattle.std.specs.Option.{option_map};
 ghost use Rattle.std.specs.String.{string_bytes};
 ghost use Rattle.hub_rules.specs.Texts.{menu_item, menu_line};
-ghost use Rattle.hub_setup.specs.Settings.{Gives, entry_of, is_command, menu_of, text_of};
+ghost use Rattle.hub_setup.specs.Settings.{GivesList, entry_of, is_command, menu_of, text_of};
 
 use crate::options::{MOST_COMMANDS, MenuEntry, MenuItem};
 use crate::refused::ListRefused;
@@ -24,15 +24,15 @@ pub struct MenuLine {
 }
 
 impl Model for MenuLine {
-    ghost use Rattle.hub_rules.specs.Configured.{MenuEntry};
+    ghost use Rattle.hub_rules.specs.Configured.{ConfiguredEntry};
 
-    ghost Value = { MenuEntry };
+    ghost Value = { ConfiguredEntry };
 
-    ghost use Rattle.hub_setup.specs.MenuLines.{entry_said, IsTold};
+    ghost use Rattle.hub_setup.specs.MenuLines.{entry_said, TellsOfEntry};
 
     ghost view = { entry_said };
 
-    ghost invariant = { IsTold };
+    ghost invariant = { TellsOfEntry };
 }
 
 impl MenuLine {
@@ -64,9 +64,9 @@ pub struct Menu {
 
 impl Model for Menu {
     ghost use Rattle.std.specs.Prelude.{List};
-    ghost use Rattle.hub_rules.specs.Configured.{MenuEntry};
+    ghost use Rattle.hub_rules.specs.Configured.{ConfiguredEntry};
 
-    ghost Value = { List MenuEntry };
+    ghost Value = { List ConfiguredEntry };
 
     ghost view = { λ m. m.lines.items };
 }
@@ -78,7 +78,7 @@ impl Menu {
     /// 1 to 15 (ADC-EXT, "UCMD"). `Memory` where memory runs out for a menu without a fault.
     #[tactic(auto, unfolding(crate::specs::Settings::menu_of))]
     pub fn new(alloc: Global, entries: &[MenuEntry<'_>]) -> Result<Menu, ListRefused>
-        ensures exact { Gives (λ menu. menu) result (menu_of (map entry_of entries.now)) }
+        ensures exact { GivesList (λ menu. menu) result (menu_of (map entry_of entries.now)) }
         ensures memory { IfErr result (λ fault. fault ≡ ListRefused.Memory → IsOk (menu_of (map entry_of entries.now))) }
     {
         if entries.len() > MOST_COMMANDS {

@@ -57,7 +57,7 @@ pub enum Says<'a> {
 }
 
 impl Model for Prepared {
-    ghost use Rattle.hub_rules.specs.Sights.{PreparedLine};
+    ghost use Rattle.hub_rules.specs.Views.{PreparedLine};
 
     ghost Value = { PreparedLine };
 

@@ -7,14 +7,14 @@ use Rattle.hub_rules.specs.declared.history.Entry.{Entry}
 use Rattle.hub_rules.specs.Configured.{Configured}
 use Rattle.hub_rules.specs.Facts.{Facts, facts}
 use Rattle.hub_rules.specs.Legal.{IsOpenFor, Legal, MayCall}
-use Rattle.hub_invariants.specs.Opening.{has_joined, has_quit, joins_as, quits}
+use Rattle.hub_invariants.specs.OpenConnections.{has_joined, has_quit, joins_as, quits}
 use Rattle.hub_invariants.proofs.Kept.{joins-grow}
 use Rattle.hub_invariants.proofs.Members.{both, or-parts}
 use Rattle.hub_invariants.proofs.Open.{open_are_those_that_stayed}
 use Rattle.hub_invariants.proofs.Sids.{not-true}
 use Rattle.hub_invariants.proofs.Sound.{or-true}
 use Rattle.hub_shared.specs.Connections.{challenge_in, challenge_of, entries_of, has_stayed}
-use Rattle.hub_shared.proofs.Keeping.{IsNew, Same, after-same, is-new}
+use Rattle.hub_shared.proofs.KeptJoins.{IsNew, Same, after-same, is-new}
 
 -- ---- entries of one caller
 

@@ -1,5 +1,5 @@
-pub mod Keeping
+pub mod KeptJoins
 pub mod Known
 pub mod Turns
-pub mod Joining
-pub mod Closing
+pub mod Joins
+pub mod Close

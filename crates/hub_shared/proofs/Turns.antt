@@ -9,8 +9,8 @@ use Rattle.hub_core.specs.CoreState.{CoreState}
 use Rattle.hub_core.specs.Moves.{LineMoves, Moves, StandsAt, entry}
 use Rattle.hub_core.specs.Promises.{TakeMoves}
 use Rattle.hub_core.specs.State.{IsSeated, Stands, has_seat}
-use Rattle.hub_core.specs.Touching.{LineTouches, NamesConcerned, Touches}
-use Rattle.hub_core.proofs.Seating.{seated-open}
+use Rattle.hub_core.specs.Touched.{LineTouches, NamesConcerned, Touches}
+use Rattle.hub_core.proofs.OpenSeats.{seated-open}
 use Rattle.hub_rules.specs.declared.history.Call.{Call}
 use Rattle.hub_rules.specs.declared.history.Call.TheVariants.{Line, Take}
 use Rattle.hub_rules.specs.declared.history.Entry.{Entry}
@@ -21,8 +21,8 @@ use Rattle.hub_rules.specs.Configured.{Configured}
 use Rattle.hub_rules.specs.Facts.{facts}
 use Rattle.hub_rules.specs.Legal.{IsOpenFor, MayCall}
 use Rattle.hub_rules.specs.Prepared.{prepared_line}
-use Rattle.hub_rules.specs.Sights.{PreparedLine}
-use Rattle.hub_shared.specs.declared.about.About.{About}
+use Rattle.hub_rules.specs.Views.{PreparedLine}
+use Rattle.hub_shared.specs.declared.hub_key.HubKey.{HubKey}
 use Rattle.hub_shared.specs.Callers.{HubState, PassState, hub_of, pass_of}
 use Rattle.hub_shared.specs.Calls.{behind}
 use Rattle.hub_shared.specs.Connections.{challenge_in, entries_of, has_stayed}
@@ -75,38 +75,38 @@ take-stands setup hash h mine core new p c count taken before after was is is_be
 
 module _ {H : Type 0} where
   -- the seat that took the hub
-  pub record Takes (old taken : SeatState Entry (About H)) : Type 0 where
+  pub record Takes (old taken : SeatState Entry (HubKey H)) : Type 0 where
     pub seat : taken ≡ record old { seen = taken.seen; holds = true }
     pub begins : Begins taken.seen old.seen
     pub own : entries_of taken.number taken.seen ≡ old.mine
 
   -- the seat that gave it back with an entry
-  pub record Gives (e : Entry) (taken new : SeatState Entry (About H)) : Type 0 where
+  pub record Gives (e : Entry) (taken new : SeatState Entry (HubKey H)) : Type 0 where
     pub seat : new ≡ record taken { seen = e ∷ taken.seen; mine = e ∷ taken.mine; holds = false }
     pub own : entries_of new.number new.seen ≡ new.mine
 
-  pub takes : (old taken : SeatState Entry (About H)) → taken ≡ record old { seen = taken.seen; holds = true } → Begins taken.seen old.seen → entries_of old.number taken.seen ≡ old.mine
+  pub takes : (old taken : SeatState Entry (HubKey H)) → taken ≡ record old { seen = taken.seen; holds = true } → Begins taken.seen old.seen → entries_of old.number taken.seen ≡ old.mine
       → Takes old taken
   takes old taken seat begins own =
-      record { seat = seat; begins = begins; own = ap (λ p. entries_of p taken.seen) (ap (λ (s : SeatState Entry (About H)). s.number) seat) ∙ own }
+      record { seat = seat; begins = begins; own = ap (λ p. entries_of p taken.seen) (ap (λ (s : SeatState Entry (HubKey H)). s.number) seat) ∙ own }
 
-  taken-mine : (old taken : SeatState Entry (About H)) → Takes old taken → taken.mine ≡ old.mine
-  taken-mine old taken t = ap (λ (s : SeatState Entry (About H)). s.mine) t.seat
+  taken-mine : (old taken : SeatState Entry (HubKey H)) → Takes old taken → taken.mine ≡ old.mine
+  taken-mine old taken t = ap (λ (s : SeatState Entry (HubKey H)). s.mine) t.seat
 
-  pub given-mine : (e : Entry) (old taken new : SeatState Entry (About H)) → Takes old taken → Gives e taken new → new.mine ≡ e ∷ old.mine
-  given-mine e old taken new t g = ap (λ (s : SeatState Entry (About H)). s.mine) g.seat ∙ ap (λ (es : List Entry). e ∷ es) (taken-mine old taken t)
+  pub given-mine : (e : Entry) (old taken new : SeatState Entry (HubKey H)) → Takes old taken → Gives e taken new → new.mine ≡ e ∷ old.mine
+  given-mine e old taken new t g = ap (λ (s : SeatState Entry (HubKey H)). s.mine) g.seat ∙ ap (λ (es : List Entry). e ∷ es) (taken-mine old taken t)
 
   -- whom the entry concerned is named to whoever gave the hub back with it
-  pub given-names : (digest_of : H → List ℕ → List ℕ) (lock : LockState (About H)) (hub : HubState H) (e : Entry) (taken new : SeatState Entry (About H)) (told touched : Touched)
+  pub given-names : (digest_of : H → List ℕ → List ℕ) (lock : LockState (HubKey H)) (hub : HubState H) (e : Entry) (taken new : SeatState Entry (HubKey H)) (told touched : Touched)
       → hub_of lock ≡ hub → new ≡ record taken { seen = e ∷ taken.seen; mine = e ∷ taken.mine; holds = false } → told ≡ touched
       → NamesConcerned touched lock.about.setup.value (digest_of lock.about.hash.value) (e ∷ taken.seen) → NamesConcerned told hub.setup (digest_of hub.hash) new.seen
   given-names digest_of lock hub e taken new told touched is_hub is_new is_told named =
       subst (λ (h : HubState H). NamesConcerned told h.setup (digest_of h.hash) new.seen) is_hub
-      (subst (λ (s : SeatState Entry (About H)). NamesConcerned told lock.about.setup.value (digest_of lock.about.hash.value) s.seen) (sym is_new)
+      (subst (λ (s : SeatState Entry (HubKey H)). NamesConcerned told lock.about.setup.value (digest_of lock.about.hash.value) s.seen) (sym is_new)
       (subst (λ t. NamesConcerned t lock.about.setup.value (digest_of lock.about.hash.value) (e ∷ taken.seen)) (sym is_told) named))
 
   -- a line that was made ready as the call asks
-  pub ready : (digest_of : H → List ℕ → List ℕ) (lock : LockState (About H)) (hub : HubState H) (seat : SeatState Entry (About H)) (c : ℕ) (touched : Touched) (pass : PassState H)
+  pub ready : (digest_of : H → List ℕ → List ℕ) (lock : LockState (HubKey H)) (hub : HubState H) (seat : SeatState Entry (HubKey H)) (c : ℕ) (touched : Touched) (pass : PassState H)
       → hub_of lock ≡ hub → pass_of seat c touched ≡ pass → (line : PreparedLine) → line ≡ prepared_line hub.setup (digest_of hub.hash) pass.challenge line.bytes
       → line ≡ prepared_line lock.about.setup.value (digest_of lock.about.hash.value) (challenge_in c seat.mine) line.bytes
   ready digest_of lock hub seat c touched pass is_hub is_pass line is =

@@ -4,7 +4,7 @@ use Rattle.one_history.specs.Histories.{entries}
 use Rattle.hub_rules.specs.declared.history.Call.{Call}
 use Rattle.hub_rules.specs.declared.history.Call.TheVariants.{Join}
 use Rattle.hub_rules.specs.declared.history.Entry.{Entry}
-use Rattle.hub_invariants.specs.Opening.{has_joined, has_quit, joins_as}
+use Rattle.hub_invariants.specs.OpenConnections.{has_joined, has_quit, joins_as}
 
 -- the entries of a history that one caller made
 abbrev pub entries_of : ℕ → List Entry → List Entry

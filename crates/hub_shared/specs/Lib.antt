@@ -1,4 +1,4 @@
 pub mod Connections
 pub mod Callers
 pub mod Calls
-pub mod Closing
+pub mod Close

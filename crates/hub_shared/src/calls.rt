@@ -5,17 +5,17 @@ ghost use Rattle.hub_rules.specs.History.{view};
 ghost use Rattle.hub_rules.specs.Prepared.{prepared_line};
 ghost use Rattle.hub_shared.specs.Calls.{SaysLine, Saw, TakesLines, behind};
 ghost use Rattle.hub_core.specs.Moves.{StandsAt};
-ghost use Rattle.hub_core.specs.Touching.{NamesConcerned};
+ghost use Rattle.hub_core.specs.Touched.{NamesConcerned};
 ghost use Rattle.hub_rules.specs.Legal.{Legal};
 ghost use Rattle.hub_shared.specs.Connections.{entries_of};
 ghost use Rattle.one_history.specs.States.{IsHolderAt};
 ghost use Rattle.hub_shared.specs.Callers.{pass_of, IsPass};
 
-use crate::about::{HubLock, HubSeat};
 use crate::hub::Hub;
+use crate::hub_key::{HubLock, HubSeat};
 use hub_core::{Conn, Core, LineRefused, Look, Prepared, TakeRefused, Taken, Touched, Verdict};
 use hub_rules::Entry;
-use one_history::Told;
+use one_history::MadeEntry;
 use session_hash::SessionHash;
 use std::alloc::Global;
 use std::marker::{Brand, Model, PhantomData};
@@ -95,7 +95,7 @@ impl<H: SessionHash> Hub<H> {
         ensures touched { OnOk result (NamesConcerned pass.new.touched self.now.setup (H.digest_of self.now.hash) pass.new.caller.seen) }
         ensures nobody { OnErr result (pass.new.touched ≡ Nobody) }
     {
-        let mut core = self.lock.take(rt, &mut pass.seat);
+        let mut core = self.lock.acquire(rt, &mut pass.seat);
         match core.line(alloc, pass.connection, line, now) {
             Ok(verdict) => {
                 pass.touched = core.touched();
@@ -105,7 +105,7 @@ impl<H: SessionHash> Hub<H> {
             }
             Err(refused) => {
                 pass.touched = Touched::Nobody;
-                self.lock.put_back(&mut pass.seat, core);
+                self.lock.release(&mut pass.seat, core);
                 Err(refused)
             }
         }
@@ -133,7 +133,7 @@ impl<H: SessionHash> Hub<H> {
         ensures nobody { pass.new.touched ≡ Nobody }
     {
         let before = Snapshot::of(&*out);
-        let mut core = self.lock.take(rt, &mut pass.seat);
+        let mut core = self.lock.acquire(rt, &mut pass.seat);
         match core.take(pass.connection, count, out) {
             Ok(taken) => {
                 pass.touched = Touched::Nobody;
@@ -143,7 +143,7 @@ impl<H: SessionHash> Hub<H> {
             }
             Err(refused) => {
                 pass.touched = Touched::Nobody;
-                self.lock.put_back(&mut pass.seat, core);
+                self.lock.release(&mut pass.seat, core);
                 Err(refused)
             }
         }
@@ -157,10 +157,10 @@ impl<H: SessionHash> Hub<H> {
         ensures look { seen_of result ≡ view self.now.setup (H.digest_of self.now.hash) pass.new.caller.seen pass.new.connection }
         ensures nobody { pass.new.touched ≡ Nobody }
     {
-        let core = self.lock.take(rt, &mut pass.seat);
+        let core = self.lock.acquire(rt, &mut pass.seat);
         let look = core.look(pass.connection);
         pass.touched = Touched::Nobody;
-        self.lock.put_back(&mut pass.seat, core);
+        self.lock.release(&mut pass.seat, core);
         look
     }
 }
@@ -184,7 +184,7 @@ struct Entered<B> {
     named: PhantomData<B>,
 }
 
-impl<B: Names> Told<Entry> for Entered<B> {
+impl<B: Names> MadeEntry<Entry> for Entered<B> {
     ghost entry = { B.entry };
 }
 
@@ -205,5 +205,5 @@ pub(crate) fn enter<B: Names, H: SessionHash, N>(
     ensures own { entries_of seat.new.number seat.new.seen ≡ seat.new.mine }
 {
     let _ = note;
-    lock.give::<Entered<B>>(seat, core);
+    lock.release_with::<Entered<B>>(seat, core);
 }

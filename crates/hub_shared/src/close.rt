@@ -2,11 +2,11 @@ ghost use Rattle.std.specs.Prelude.{◌≡◌, ◌+◌, ◌^◌, ◌<◌, ◌↔
 ghost use Rattle.std.specs.List.{All};
 ghost use Rattle.one_history.specs.States.{callers_of, home_of};
 ghost use Rattle.hub_shared.specs.Callers.{seat_of};
-ghost use Rattle.hub_shared.specs.Closing.{HasQuit, Settled};
+ghost use Rattle.hub_shared.specs.Close.{HasQuit, Settled};
 
-use crate::about::{HostSeat, HubLock};
 use crate::host::Host;
 use crate::hub::Hub;
+use crate::hub_key::{HostSeat, HubLock};
 use crate::visitor::Visitor;
 use session_hash::SessionHash;
 

@@ -2,8 +2,8 @@ ghost use Rattle.std.specs.Prelude.{◌≡◌, ◌+◌, ◌<◌};
 ghost use Rattle.hub_core.specs.declared.share.Touched.TheVariants.{Nobody};
 ghost use Rattle.hub_shared.specs.Callers.{new_caller, host_of, IsAlone};
 
-use crate::about::HostSeat;
 use crate::hub::Hub;
+use crate::hub_key::HostSeat;
 use crate::visitor::Visitor;
 use hub_core::Touched;
 use session_hash::SessionHash;

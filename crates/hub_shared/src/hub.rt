@@ -1,7 +1,7 @@
 ghost use Rattle.std.specs.Prelude.{◌≡◌};
 ghost use Rattle.hub_shared.specs.Callers.{hub_of};
 
-use crate::about::HubLock;
+use crate::hub_key::HubLock;
 use hub_core::Core;
 use session_hash::SessionHash;
 use std::marker::Model;

@@ -2,7 +2,7 @@ ghost use Rattle.std.specs.Prelude.{◌≡◌, IfOk, IfErr};
 ghost use Rattle.hub_rules.specs.declared.history.Call.TheVariants.{Join, Quit};
 ghost use Rattle.hub_rules.specs.declared.history.Reply.TheVariants.{Joined, Left};
 ghost use Rattle.hub_core.specs.declared.share.Touched.TheVariants.{Nobody};
-ghost use Rattle.hub_core.specs.Touching.{NamesConcerned};
+ghost use Rattle.hub_core.specs.Touched.{NamesConcerned};
 ghost use Rattle.hub_shared.specs.Calls.{Made, Refused};
 
 use crate::calls::{Pass, enter};
@@ -36,12 +36,12 @@ impl<H: SessionHash> Hub<H> {
         ensures refused { IfErr result (λ r. Refused self.now.setup (H.digest_of self.now.hash) visitor.caller (Join peer challenge now) r.0 r.1.caller) }
     {
         let mut seat = visitor.into_idle();
-        let mut core = self.lock.take(rt, &mut seat);
+        let mut core = self.lock.acquire(rt, &mut seat);
         let answer = core.join(alloc, peer, challenge, now);
         // A join concerns nobody.
         let touched = Touched::Nobody;
         if let Err(JoinRefused::Memory) = answer {
-            self.lock.put_back(&mut seat, core);
+            self.lock.release(&mut seat, core);
             return Err((JoinRefused::Memory, Visitor { seat, touched }));
         }
         let note = (peer, challenge, now, answer);
@@ -66,7 +66,7 @@ impl<H: SessionHash> Hub<H> {
         ensures touched { NamesConcerned result.touched self.now.setup (H.digest_of self.now.hash) result.caller.seen }
     {
         let (mut seat, connection) = pass.into_parts();
-        let mut core = self.lock.take(rt, &mut seat);
+        let mut core = self.lock.acquire(rt, &mut seat);
         core.quit(connection);
         let touched = core.touched();
         enter::<Brand, H, _>(&self.lock, &mut seat, core, &connection);

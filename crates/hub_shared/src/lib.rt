@@ -1,11 +1,11 @@
 //! The hub that threads share: all calls on it stand in one legal history.
 #![tactic(auto)]
 
-mod about;
 mod calls;
 mod close;
 mod host;
 mod hub;
+mod hub_key;
 mod joins;
 mod meet;
 mod open;

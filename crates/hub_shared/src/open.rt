@@ -1,9 +1,9 @@
 ghost use Rattle.std.specs.Prelude.{◌≡◌, IfOk};
 ghost use Rattle.std.specs.Arc.{arc_value};
 
-use crate::about::About;
 use crate::host::Host;
 use crate::hub::Hub;
+use crate::hub_key::HubKey;
 use hub_core::{Core, OpenRefused, Setup};
 use one_history::Lock;
 use session_hash::SessionHash;
@@ -25,7 +25,7 @@ impl<H: SessionHash> Hub<H> {
         ensures hash { IfOk result (λ r. r.0.hash ≡ hash.now) }
         ensures host { IfOk result (λ r. r.1 ≡ record { home = r.0.home; admitted = 0 }) }
     {
-        let about = About {
+        let about = HubKey {
             setup: Snapshot::of(&setup),
             hash: Snapshot::of(hash),
         };

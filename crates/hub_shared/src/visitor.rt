@@ -1,7 +1,7 @@
 ghost use Rattle.std.specs.Prelude.{◌≡◌};
 ghost use Rattle.hub_shared.specs.Callers.{visitor_of, IsVisitor};
 
-use crate::about::{About, HubSeat};
+use crate::hub_key::{HubKey, HubSeat};
 use hub_core::{Core, Touched};
 use hub_rules::Entry;
 use one_history::{Seat, Seated};
@@ -42,12 +42,12 @@ impl<H> Visitor<H> {
     }
 }
 
-impl<H> Seated<Core, Entry, About<H>> for Visitor<H> {
+impl<H> Seated<Core, Entry, HubKey<H>> for Visitor<H> {
     ghost use Rattle.hub_shared.specs.Callers.{seat_of};
 
     ghost seat = { seat_of };
 
-    fn into_seat(self) -> Seat<Core, Entry, About<H>> {
+    fn into_seat(self) -> Seat<Core, Entry, HubKey<H>> {
         let Visitor { seat, touched: _ } = self;
         seat
     }

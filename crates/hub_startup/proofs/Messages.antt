@@ -4,7 +4,7 @@ use Rattle.std.specs.Prelude.{Option, Result, Ok, Err, OnOk, OnErr}
 use Rattle.std.specs.Io.KnownBytes.{Appends}
 use Rattle.std.proofs.KnownBytes.{Appends-trans}
 use Rattle.std.proofs.lemmas.List.{append-nil}
-use Rattle.flushed_writes.specs.Parts.{AppendsFront}
+use Rattle.counted_io.specs.Parts.{AppendsFront}
 
 -- the front of a part is one of what begins with it
 pub front-before : (a b : Option (List ℕ)) (part rest : List ℕ) → AppendsFront a b part → AppendsFront a b (part ++ rest)

@@ -1,7 +1,7 @@
 -- The tasks that the program is asked for, and its endings.
 use Rattle.std.specs.Prelude.{◌≡◌, ℕ, List, [], ◌∷◌, ◌++◌, codes, Option}
 use Rattle.std.specs.Io.KnownBytes.{Keeps}
-use Rattle.flushed_writes.specs.declared.failures.Failures.{Failures}
+use Rattle.counted_io.specs.declared.failures.Failures.{Failures}
 use Rattle.hub_rules.specs.Configured.{Configured}
 use Rattle.hub_rules.specs.Configured.{plain_hub}
 use Rattle.session_hash.specs.First24.{first_24}
@@ -10,8 +10,8 @@ use Rattle.hub_endings.specs.declared.ending.Ending.{Ending}
 use Rattle.hub_endings.specs.declared.ending.Ending.TheVariants as endings
 use Rattle.hub_stdio.specs.declared.fault.RunFault.{RunFault}
 use Rattle.hub_stdio.specs.declared.fault.RunFault.TheVariants as faults
-use Rattle.hub_stdio.specs.Faults.{StopsBy, NothingFailed, Told, told}
-use Rattle.flushed_writes.specs.Parts.{AppendsFront}
+use Rattle.hub_stdio.specs.Faults.{StopsBy, NothingFailed, FailedCalls, told}
+use Rattle.counted_io.specs.Parts.{AppendsFront}
 use Rattle.hub_stdio.specs.Runs.{IsServed}
 use Rattle.hub_startup.specs.declared.fault.StartFault.{StartFault}
 use Rattle.hub_startup.specs.declared.fault.StartFault.TheVariants as starts
@@ -40,7 +40,7 @@ abbrev pub stdin_setup : Configured
 stdin_setup = plain_hub (codes "Hub")
 
 -- what an ending says of the input and the output
-abbrev pub EndsBy : Ending → List (List ℕ) → Told → Told → Type 0
+abbrev pub EndsBy : Ending → List (List ℕ) → FailedCalls → FailedCalls → Type 0
 EndsBy endings.Served words before after =
     AsksForStdin words × IsServed stdin_setup first_24 before.unread after.unread before.held after.held × NothingFailed before after
 EndsBy endings.Usage words before after =
@@ -68,7 +68,7 @@ message_by (starts.Key key) = key_message key
 message_by (starts.Ended ending) = message_of ending
 
 -- the status is that of an ending that the words, the input and the output bear out
-abbrev pub Ends : ℕ → List (List ℕ) → Told → Told → Type 0
+abbrev pub Ends : ℕ → List (List ℕ) → FailedCalls → FailedCalls → Type 0
 Ends status words before after = (ending : Ending) × (status ≡ status_of ending) × EndsBy ending words before after
 
 -- the same, unless a server is asked for, by what input and output tell of themselves
@@ -79,8 +79,8 @@ EndsOver status words remains reads before after holds writes old new =
     → Ends status words (told (remains before) (holds old) (reads before) (writes old)) (told (remains after) (holds new) (reads after) (writes new))
 
 -- the message of that ending was written, or its front
-abbrev pub Tells : ℕ → Option (List ℕ) → Option (List ℕ) → Type 0
-Tells status before now = (ending : Ending) × (status ≡ status_of ending) × AppendsFront before now (message_of ending)
+abbrev pub TellsEnding : ℕ → Option (List ℕ) → Option (List ℕ) → Type 0
+TellsEnding status before now = (ending : Ending) × (status ≡ status_of ending) × AppendsFront before now (message_of ending)
 
 -- a fault of the settings, of the tables, or want of memory
 abbrev pub KeepsFromStarting : StartFault → Type 0

@@ -3,7 +3,7 @@ use Rattle.std.specs.Prelude.{◌≡◌, ◌≤◌, ◌⊎◌, ⊤, ℕ, List, l
 use Rattle.std.specs.Str.{IsUtf8}
 use Rattle.session_hash.specs.Tables.{words_from}
 use Rattle.hub_settings.specs.Settings.{ServerSettings}
-use Rattle.hub_settings.specs.Reading.{IsRead}
+use Rattle.hub_settings.specs.Reading.{ReadsSettings}
 use Rattle.hub_settings.specs.declared.fault.SettingsFault.TheVariants.{Text, Key}
 use Rattle.hub_endings.specs.declared.ending.Ending.{Ending}
 use Rattle.hub_endings.specs.declared.ending.Ending.TheVariants as endings
@@ -31,20 +31,20 @@ AreTables None tables = ⊤
 AreTables (Some bytes) tables = (length bytes ≡ 8_192) × (tables ≡ words_from 1024 bytes)
 
 -- all the bytes that are left
-abbrev pub AreAll : Option (List ℕ) → List ℕ → Type 0
-AreAll None bytes = ⊤
-AreAll (Some left) bytes = bytes ≡ left
+abbrev pub AreAllBytes : Option (List ℕ) → List ℕ → Type 0
+AreAllBytes None bytes = ⊤
+AreAllBytes (Some left) bytes = bytes ≡ left
 
 -- the first so many of the bytes that are left, or all where there are fewer
-abbrev pub AreFirst : ℕ → Option (List ℕ) → List ℕ → Type 0
-AreFirst most None bytes = ⊤
-AreFirst most (Some left) bytes = bytes ≡ take most left
+abbrev pub AreFirstBytes : ℕ → Option (List ℕ) → List ℕ → Type 0
+AreFirstBytes most None bytes = ⊤
+AreFirstBytes most (Some left) bytes = bytes ≡ take most left
 
 -- what these bytes are as the settings of a hub that opens at this moment
 abbrev pub IsStartOf : List ℕ → ℕ → Result ServerSettings StartFault → Type 0
-IsStartOf bytes opening (Ok settings) = IsUtf8 bytes × IsRead bytes opening (Ok settings)
-IsStartOf bytes opening (Err (starts.Settings word)) = (word.now ≡ codes "text") × (IsUtf8 bytes → IsRead bytes opening (Err Text))
-IsStartOf bytes opening (Err (starts.Key key)) = IsUtf8 bytes × IsRead bytes opening (Err (Key key))
+IsStartOf bytes opening (Ok settings) = IsUtf8 bytes × ReadsSettings bytes opening (Ok settings)
+IsStartOf bytes opening (Err (starts.Settings word)) = (word.now ≡ codes "text") × (IsUtf8 bytes → ReadsSettings bytes opening (Err Text))
+IsStartOf bytes opening (Err (starts.Key key)) = IsUtf8 bytes × ReadsSettings bytes opening (Err (Key key))
 IsStartOf bytes opening (Err (starts.Ended ending)) = ending ≡ endings.Memory
 
 -- it could not be read
@@ -54,7 +54,7 @@ IsUnread (Err fault) = IsFileFault (codes "file") fault
 
 -- the same of a reader that has these bytes left, unless it could not be read
 abbrev pub StartsBy : Option (List ℕ) → ℕ → Result ServerSettings StartFault → Type 0
-StartsBy left opening result = IsUnread result ⊎ ((bytes : List ℕ) × AreAll left bytes × IsStartOf bytes opening result)
+StartsBy left opening result = IsUnread result ⊎ ((bytes : List ℕ) × AreAllBytes left bytes × IsStartOf bytes opening result)
 
 -- a file that is opened at this path, and that this holds of the bytes that it has left
 abbrev pub HasAt : {R F : Type 0} → (R → List ℕ → F → Type 0) → (F → Option (List ℕ)) → R → List ℕ → (Option (List ℕ) → Type 0) → Type 0

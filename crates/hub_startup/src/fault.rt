@@ -1,10 +1,10 @@
 ghost use Rattle.std.specs.Prelude.{◌≡◌, ◌≢◌};
 ghost use Rattle.std.specs.IoError.{error_kind};
-ghost use Rattle.flushed_writes.specs.Parts.{AppendsFront};
+ghost use Rattle.counted_io.specs.Parts.{AppendsFront};
 ghost use Rattle.hub_startup.specs.Endings.{status_by, message_by, key_message};
 ghost use Rattle.hub_startup.specs.Files.{IsFileFault, IsTablesFault};
 
-use flushed_writes::write_and_flush;
+use counted_io::write_and_flush;
 use hub_endings::Ending;
 use hub_settings::KeyName;
 use std::alloc::{AllocError, AllocFailed};

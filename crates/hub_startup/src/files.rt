@@ -15,7 +15,7 @@ pub fn settings_in<R: Moments + AllocGlobal + Opens>(
     rt: &R,
     path: &str,
 ) -> Result<Settings, StartFault>
-    ensures { (opening : ℕ) × R.tells rt.now opening × StartsAt R.opens R.Opened.remaining rt.now path.now opening result }
+    ensures { (opening : ℕ) × R.may_read rt.now opening × StartsAt R.opens R.Opened.remaining rt.now path.now opening result }
 {
     let opening = rt.moment_of_call().into_seconds();
     match rt.open_at(path) {

@@ -6,7 +6,7 @@ ghost use Rattle.hub_stdio.specs.Faults.{told};
 ghost use Rattle.hub_startup.specs.Endings.{AsksForStdin, stdin_setup, ending_of, EndsBy};
 
 use crate::command_line::asks_for_stdin;
-use flushed_writes::{CountedRead, CountedWrite};
+use counted_io::{CountedRead, CountedWrite};
 use hub_core::{Options, Setup, SetupRefused};
 use hub_endings::Ending;
 use hub_stdio::{RunFault, run_one};

@@ -2,7 +2,7 @@
 ghost use Rattle.std.specs.Prelude.{◌≡◌, ◌≢◌, length, IfOk, IfErr, IsErrOf, OnOk};
 ghost use Rattle.std.specs.Io.KnownBytes.{Consumes};
 ghost use Rattle.session_hash.specs.Tables.{words_from};
-ghost use Rattle.hub_startup.specs.Files.{IsSeed, AreAll, AreFirst, AreTables, IsTablesFault, IsStartOf, StartsBy};
+ghost use Rattle.hub_startup.specs.Files.{IsSeed, AreAllBytes, AreFirstBytes, AreTables, IsTablesFault, IsStartOf, StartsBy};
 
 use crate::fault::StartFault;
 use hub_endings::Ending;
@@ -31,7 +31,7 @@ pub(crate) fn settings_from<F: Read + Drop>(
 
 /// Reads all that is left.
 fn all_of<F: Read + Drop>(alloc: Global, reader: F) -> io::Result<Vec<u8>>
-    ensures { IfOk result (λ bytes. AreAll (F.remaining reader) bytes.items) }
+    ensures { IfOk result (λ bytes. AreAllBytes (F.remaining reader) bytes.items) }
 {
     let mut reader = reader;
     let mut bytes = Vec::new(alloc);
@@ -66,7 +66,7 @@ pub(crate) fn seed_from<F: Read>(reader: &mut F) -> io::Result<[u8; 32]>
 
 /// Reads the first bytes that are left, so many at most.
 fn first_of<F: Read + Drop>(alloc: Global, reader: F, most: u64) -> io::Result<Vec<u8>>
-    ensures { IfOk result (λ bytes. AreFirst most (F.remaining reader) bytes.items) }
+    ensures { IfOk result (λ bytes. AreFirstBytes most (F.remaining reader) bytes.items) }
 {
     let mut reader = reader.take(most);
     let mut bytes = Vec::new(alloc);

@@ -2,9 +2,9 @@
 use Rattle.std.proofs.Common.{◌≡◌, ◌∙◌, sym, subst}
 use Rattle.std.specs.Prelude.{Result, Ok, Err}
 use Rattle.std.specs.Result.{IsErrAnd}
-use Rattle.flushed_writes.specs.Calls.{NoneFailed}
-use Rattle.flushed_writes.specs.declared.failures.Failures.{Failures}
-use Rattle.flushed_writes.proofs.Failing.{last-after}
+use Rattle.counted_io.specs.Calls.{NoneFailed}
+use Rattle.counted_io.specs.declared.failures.Failures.{Failures}
+use Rattle.counted_io.proofs.Failing.{last-after}
 use Rattle.hub_stdio.specs.declared.fault.RunFault.{RunFault}
 use Rattle.hub_stdio.specs.declared.fault.RunFault.TheVariants as faults
 use Rattle.hub_stdio.specs.Serving.{WritesStop, WritesEnd}

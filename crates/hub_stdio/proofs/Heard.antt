@@ -10,19 +10,19 @@ use Rattle.std.proofs.lemmas.List.Elements.{All-nil, All-append}
 use Rattle.adc_line.specs.Frames.{is_lf}
 use Rattle.adc_line.specs.Stream.{lines, joined_lines, IsLine}
 use Rattle.adc_line.proofs.FrameLemmas.{lines-more}
-use Rattle.flushed_writes.specs.Calls.{NoneFailed}
-use Rattle.flushed_writes.specs.declared.failures.Failures.{Failures}
+use Rattle.counted_io.specs.Calls.{NoneFailed}
+use Rattle.counted_io.specs.declared.failures.Failures.{Failures}
 use Rattle.hub_core.specs.CoreState.{CoreState}
 use Rattle.hub_rules.specs.declared.history.Entry.{Entry}
 use Rattle.hub_rules.specs.Configured.{Configured}
 use Rattle.hub_rules.specs.Facts.{facts}
 use Rattle.hub_rules.specs.Legal.{Legal}
-use Rattle.hub_rules.specs.Shares.{About}
+use Rattle.hub_rules.specs.Shares.{ConnState}
 use Rattle.hub_stdio.specs.declared.fault.RunFault.{RunFault}
 use Rattle.hub_stdio.specs.declared.fault.RunFault.TheVariants as faults
 use Rattle.hub_stdio.specs.Faults.{StopsBy, most_reads, told}
-use Rattle.hub_stdio.specs.Runs.{first, join, says, owed_in, IsCaughtUp, IsOwn, IsOver, IsAnswered, IsAnsweredInPart, IsServed}
-use Rattle.hub_stdio.specs.Serving.{about_first, IsUnderWay, IsReady, IsCutInto, Starts, BreaksOff, HandlesAll, StopsHearing, WritesStop}
+use Rattle.hub_stdio.specs.Runs.{first, join, says, owed_in, IsAllWritten, IsOwn, IsOver, IsOwedWritten, IsAnsweredInPart, IsServed}
+use Rattle.hub_stdio.specs.Serving.{about_first, IsUnderWay, IsIdle, IsCutInto, Starts, BreaksOff, HandlesAll, StopsHearing, WritesStop}
 use Rattle.hub_stdio.proofs.Hearing.{lines_of_cut}
 
 -- so many reads at most gave what was read; its lines were handled, and all that the connection is owed was written
@@ -32,7 +32,7 @@ pub record IsHeard (setup : Configured) (hash : List ℕ → List ℕ) (unread l
   pub history : List Entry
   pub consumed : Consumes unread left read
   pub way : IsUnderWay setup hash (record { held = held; sent = sent; history = history }) core holds
-  pub ready : IsCaughtUp setup hash history
+  pub ready : IsAllWritten setup hash history
   pub cut : IsCutInto read sent rest
   pub none : lines rest ≡ []
   pub often : turns ≤ length read
@@ -58,11 +58,11 @@ pub nothing_short : IsLine []
 nothing_short = (All-nil (λ (b : ℕ). is_lf b ≡ false), zero-le)
 
 -- what waited and was taken is all that was owed
-caught_up : (a : About) → a.taken ≡ length a.owed → concat (take a.taken a.owed) ≡ concat a.owed
+caught_up : (a : ConnState) → a.taken ≡ length a.owed → concat (take a.taken a.owed) ≡ concat a.owed
 caught_up a e = ap concat (take_all a.taken a.owed (omega arith))
 
 module _ (setup : Configured) (hash : List ℕ → List ℕ) (unread left held holds : Option (List ℕ)) (core : CoreState) (rest : List ℕ) (turns : ℕ) (heard : IsHeard setup hash unread left held holds core rest turns) where
-  pub heard_ready : IsReady setup hash core holds
+  pub heard_ready : IsIdle setup hash core holds
   heard_ready = (record { held = held; sent = heard.sent; history = heard.history }, heard.way, heard.ready)
 
   -- the lines that were sent are those of what was read
@@ -75,7 +75,7 @@ module _ (setup : Configured) (hash : List ℕ → List ℕ) (unread left held h
 
   -- a read that gave nothing, or failed
   module _ (now : Option (List ℕ)) (consumed : Consumes unread now heard.read) where
-    pub heard_answered : IsAnswered setup hash unread now held holds heard.read heard.history
+    pub heard_answered : IsOwedWritten setup hash unread now held holds heard.read heard.history
     heard_answered = record {
       consumed = consumed;
       history = record { legal = heard.way.alone.stands.legal; own = heard.way.alone.own };
@@ -91,10 +91,10 @@ module _ (setup : Configured) (hash : List ℕ → List ℕ) (unread left held h
       let consumed = subst (λ (xs : List ℕ). Consumes unread now xs) (append-nil heard.read) (Consumes-trans unread left now heard.read [] heard.consumed nothing) in
       (heard.read, heard.history, heard_answered now consumed, inl (gave.1 none room, (rest, rest_heard, short)))
 
-  pub heard_to_failure : (now : Option (List ℕ)) → Keeps left now → (read : List ℕ) × (h : List Entry) × IsAnswered setup hash unread now held holds read h × ⊤
+  pub heard_to_failure : (now : Option (List ℕ)) → Keeps left now → (read : List ℕ) × (h : List Entry) × IsOwedWritten setup hash unread now held holds read h × ⊤
   heard_to_failure now kept = (heard.read, heard.history, heard_answered now (Consumes-kept unread left now heard.read heard.consumed kept), tt)
 
-  pub heard_too_often : turns ≡ most_reads → (read : List ℕ) × (h : List Entry) × IsAnswered setup hash unread left held holds read h × (most_reads ≤ length read)
+  pub heard_too_often : turns ≡ most_reads → (read : List ℕ) × (h : List Entry) × IsOwedWritten setup hash unread left held holds read h × (most_reads ≤ length read)
   heard_too_often e = (heard.read, heard.history, heard_answered left heard.consumed, omega (arith, heard.often))
 
 module _ (setup : Configured) (hash : List ℕ → List ℕ) (unread left held holds : Option (List ℕ)) (core : CoreState) (rest : List ℕ) (turns : ℕ) (heard : IsHeard setup hash unread left held holds core rest turns) where
@@ -110,7 +110,7 @@ module _ (setup : Configured) (hash : List ℕ → List ℕ) (unread left held h
     lines_more = ap lines whole_more ∙ lines_of_cut heard.sent (rest ++ piece) heard.cut.are_lines
 
     module _ (ended : Bool) (new : CoreState) (further : Option (List ℕ)) (left_over : List ℕ) (hears : HandlesAll setup hash (rest ++ piece) left_over ended core new holds further) where
-      goes : (h : List Entry) × IsUnderWay setup hash (record { held = held; sent = heard.sent ++ hears.0; history = h }) new further × IsCaughtUp setup hash h × (ended ≡ true → IsOver setup hash h)
+      goes : (h : List Entry) × IsUnderWay setup hash (record { held = held; sent = heard.sent ++ hears.0; history = h }) new further × IsAllWritten setup hash h × (ended ≡ true → IsOver setup hash h)
       goes = hears.3 (record { held = held; sent = heard.sent; history = heard.history }) heard.way heard.ready
 
       pub heard_more : 0 < length piece → IsHeard setup hash unread now held further new left_over (turns + 1)

@@ -10,9 +10,9 @@ use Rattle.hub_rules.specs.declared.history.Entry.{Entry}
 use Rattle.hub_rules.specs.declared.history.Verdict.{Verdict}
 use Rattle.hub_rules.specs.Configured.{Configured}
 use Rattle.hub_rules.specs.Prepared.{prepared_line}
-use Rattle.hub_rules.specs.Sights.{PreparedLine}
-use Rattle.hub_stdio.specs.Runs.{first, join, says, zeros, IsCaughtUp}
-use Rattle.hub_stdio.specs.Serving.{Run, IsUnderWay, IsReady, IsCutOff, run_after, CatchesUp, FallsShort, GoesOn, BreaksOff}
+use Rattle.hub_rules.specs.Views.{PreparedLine}
+use Rattle.hub_stdio.specs.Runs.{first, join, says, zeros, IsAllWritten}
+use Rattle.hub_stdio.specs.Serving.{Run, IsUnderWay, IsIdle, IsCutOff, run_after, CatchesUp, FallsShort, GoesOn, BreaksOff}
 use Rattle.hub_stdio.proofs.Steps.{said_entry, line_alone, line_written}
 use Rattle.hub_stdio.proofs.Takes.{SomeRuns, running_seated, cut_off}
 
@@ -33,7 +33,7 @@ module _ (setup : Configured) (hash : List ℕ → List ℕ) where
       (run.history, cut_before run.held run.sent more run.history holds (cut_off setup hash run core holds way))
 
   -- the connection has a seat
-  pub ready_seated : (core : CoreState) (holds : Option (List ℕ)) (connection : ℕ) → connection ≡ first → IsReady setup hash core holds → IsSeated connection core
+  pub ready_seated : (core : CoreState) (holds : Option (List ℕ)) (connection : ℕ) → connection ≡ first → IsIdle setup hash core holds → IsSeated connection core
   ready_seated core holds connection is_first ready = running_seated core holds connection is_first (setup, hash, (ready.0, ready.1))
 
   -- a line of connection c, whichever its number is, that was made ready for it
@@ -43,7 +43,7 @@ module _ (setup : Configured) (hash : List ℕ → List ℕ) where
     heard = subst (λ (c : ℕ). LineMoves old c line 0 verdict mid) is_first moves
 
     -- the run goes on, and has not caught up
-    said_way : (run : Run) → IsUnderWay setup hash run old holds → IsCaughtUp setup hash run.history
+    said_way : (run : Run) → IsUnderWay setup hash run old holds → IsAllWritten setup hash run.history
         → IsUnderWay setup hash (run_after run (bytes ∷ []) (said_entry bytes verdict ∷ run.history)) mid holds
     said_way run way ready = record {
       alone = line_alone setup hash run.history old mid way.alone bytes line verdict is_ready heard;
@@ -52,7 +52,7 @@ module _ (setup : Configured) (hash : List ℕ → List ℕ) where
       written = subst (λ (xs : List ℕ). Appends run.held holds xs) (sym (line_written setup hash run.history old mid way.alone bytes line verdict is_ready heard)) way.written;
     }
 
-    pub said_running : IsReady setup hash old holds → SomeRuns mid holds
+    pub said_running : IsIdle setup hash old holds → SomeRuns mid holds
     said_running ready = (setup, hash, (run_after ready.0 (bytes ∷ []) (said_entry bytes verdict ∷ ready.0.history), said_way ready.0 ready.1 ready.2))
 
     module _ (new : CoreState) (now : Option (List ℕ)) where

@@ -1,5 +1,5 @@
 -- The calls of the one caller, as entries of its history.
-use Rattle.hub_invariants.proofs.Becoming.{parts}
+use Rattle.hub_invariants.proofs.CallCases.{parts}
 use Rattle.std.proofs.Common.{◌≡◌, ◌∙◌, sym, ap, ap₂, refl, subst, ℕ, ◌+◌, ◌<◌, ◌≤◌, Bool, true, false, ◌&&◌, ◌||◌, List, [], ◌∷◌, ◌++◌, length, take, drop, map, arith, append-nil, length-take, length-drop, inl, inr}
 use Rattle.std.proofs.lemmas.Bool.{false≢true}
 use Rattle.std.proofs.lemmas.List.{take-append-le, take-append-drop}
@@ -23,13 +23,13 @@ use Rattle.hub_rules.specs.Effects.{is_over}
 use Rattle.hub_rules.specs.Facts.{Facts, after, effect_of_line, facts, with_lines_taken, happens}
 use Rattle.hub_rules.specs.Legal.{Legal, has_ended, is_open, reply}
 use Rattle.hub_rules.specs.Prepared.{prepared_line}
-use Rattle.hub_rules.specs.Shares.{About, affected_connection, has_room, owed_with, owes, waiting}
-use Rattle.hub_rules.specs.Sights.{PreparedLine}
+use Rattle.hub_rules.specs.Shares.{ConnState, affected_connection, has_room, owed_with, owes, waiting}
+use Rattle.hub_rules.specs.Views.{PreparedLine}
 use Rattle.hub_invariants.proofs.Calls.{sound_of}
 use Rattle.hub_invariants.proofs.Kept.{given-bytes}
 use Rattle.login_state.specs.declared.stage.Stage.{Stage}
 use Rattle.login_state.specs.declared.stage.Stage.TheVariants as stages
-use Rattle.hub_stdio.specs.Runs.{first, says, zeros, asked_in, IsCaughtUp, IsOver}
+use Rattle.hub_stdio.specs.Runs.{first, says, zeros, asked_in, IsAllWritten, IsOver}
 use Rattle.hub_stdio.specs.Serving.{IsAlone, about_first, taken_in}
 
 -- ---- one connection
@@ -47,7 +47,7 @@ only_over stages.Normal lags e = inr e
 only_over stages.Gone lags e = inl refl
 
 -- what an effect leaves of a connection: its owner, its challenge, and what was taken
-pub record IsKept (a b : About) : Type 0 where
+pub record IsKept (a b : ConnState) : Type 0 where
   pub owner : b.owner ≡ a.owner
   pub challenge : b.sender.challenge ≡ a.sender.challenge
   pub taken : take b.taken b.owed ≡ take a.taken a.owed
@@ -56,23 +56,23 @@ taken-kept : (room : Bool) (taken : ℕ) (owed share : List (List ℕ)) → take
 taken-kept true taken owed share within = take-append-le taken owed share within
 taken-kept false taken owed share within = refl
 
-affected-kept : (effect : Effect) (a : About) → a.taken ≤ length a.owed → IsKept a (affected_connection true effect a)
+affected-kept : (effect : Effect) (a : ConnState) → a.taken ≤ length a.owed → IsKept a (affected_connection true effect a)
 unfolding owed_with
 affected-kept effect a within =
     subst (IsKept a) (sym (parts true effect a))
     (record { owner = refl; challenge = refl; taken = taken-kept (has_room a (owes true effect a)) a.taken a.owed (owes true effect a) within })
 
 -- a take that gave fewer lines than it might leaves none
-given-all : (count : ℕ) (a : About) → a.taken ≤ length a.owed → length (take count (waiting a)) < count → (with_lines_taken count a).taken ≡ length (with_lines_taken count a).owed
+given-all : (count : ℕ) (a : ConnState) → a.taken ≤ length a.owed → length (take count (waiting a)) < count → (with_lines_taken count a).taken ≡ length (with_lines_taken count a).owed
 given-all count a h few = omega (arith, length-take count (drop a.taken a.owed), length-drop a.taken a.owed)
 
 -- so many wait no more
-given-waits : (count : ℕ) (a : About) → length (waiting (with_lines_taken count a)) + length (take count (waiting a)) ≡ length (waiting a)
+given-waits : (count : ℕ) (a : ConnState) → length (waiting (with_lines_taken count a)) + length (take count (waiting a)) ≡ length (waiting a)
 given-waits count a =
     omega (arith, length-take count (drop a.taken a.owed), length-drop a.taken a.owed, length-drop (a.taken + length (take count (drop a.taken a.owed))) a.owed)
 
 -- what is owed begins with what was taken
-pub taken-front : (a : About) → concat a.owed ≡ concat (take a.taken a.owed) ++ concat (drop a.taken a.owed)
+pub taken-front : (a : ConnState) → concat a.owed ≡ concat (take a.taken a.owed) ++ concat (drop a.taken a.owed)
 taken-front a = ap concat (sym (take-append-drop a.taken a.owed)) ∙ concat-append (take a.taken a.owed) (drop a.taken a.owed)
 
 -- the connection has a seat
@@ -142,13 +142,13 @@ module _ (setup : Configured) (hash : List ℕ → List ℕ) (h : List Entry) (o
       stands = stands_taken;
       own = own_more (Take first count) (Took bytes lines ended);
       opened = opened_taken ∙ alone.opened;
-      owner = ap (λ (a : About). a.owner) about_taken ∙ alone.owner;
-      challenge = ap (λ (a : About). a.sender.challenge) about_taken ∙ alone.challenge;
+      owner = ap (λ (a : ConnState). a.owner) about_taken ∙ alone.owner;
+      challenge = ap (λ (a : ConnState). a.sender.challenge) about_taken ∙ alone.challenge;
     }
 
     pub take_written : taken_in setup hash (took count bytes lines ended ∷ h) ≡ taken_in setup hash h ++ bytes
     take_written =
-        ap (λ (a : About). concat (take a.taken a.owed)) about_taken ∙ given-bytes count (about_first setup hash h)
+        ap (λ (a : ConnState). concat (take a.taken a.owed)) about_taken ∙ given-bytes count (about_first setup hash h)
         ∙ ap (λ xs. taken_in setup hash h ++ xs) (sym bytes_taken)
 
     pub take_asked : asked_in (took count bytes lines ended ∷ h) ≡ asked_in h
@@ -157,20 +157,20 @@ module _ (setup : Configured) (hash : List ℕ → List ℕ) (h : List Entry) (o
     -- where the take says that it has ended, nothing more will come
     pub take_over : ended ≡ true → IsOver setup hash (took count bytes lines ended ∷ h)
     take_over is =
-        subst (λ (a : About). (a.stage ≡ stages.Gone) ⊎ (a.lags ≡ true)) (sym about_taken)
+        subst (λ (a : ConnState). (a.stage ≡ stages.Gone) ⊎ (a.lags ≡ true)) (sym about_taken)
         (only_over (about_first setup hash h).stage (about_first setup hash h).lags (both _ _ (sym ended_taken ∙ is)))
 
     -- so many wait no more
     pub take_waits : length (waiting (about_first setup hash (took count bytes lines ended ∷ h))) + lines ≡ length (waiting (about_first setup hash h))
     take_waits =
-        subst (λ (a : About). length (waiting a) + lines ≡ length (waiting (about_first setup hash h))) (sym about_taken)
+        subst (λ (a : ConnState). length (waiting a) + lines ≡ length (waiting (about_first setup hash h))) (sym about_taken)
         (subst (λ (n : ℕ). length (waiting (with_lines_taken count (about_first setup hash h))) + n ≡ length (waiting (about_first setup hash h))) (sym lines_taken)
         (given-waits count (about_first setup hash h)))
 
     -- fewer lines than were asked for were the last
-    pub take_all_waiting : lines < count → IsCaughtUp setup hash (took count bytes lines ended ∷ h)
+    pub take_all_waiting : lines < count → IsAllWritten setup hash (took count bytes lines ended ∷ h)
     take_all_waiting few =
-        subst (λ (a : About). a.taken ≡ length a.owed) (sym about_taken)
+        subst (λ (a : ConnState). a.taken ≡ length a.owed) (sym about_taken)
         (given-all count (about_first setup hash h) within (subst (λ (n : ℕ). n < count) lines_taken few))
 
   -- after a line that was made ready for the connection
@@ -199,7 +199,7 @@ module _ (setup : Configured) (hash : List ℕ → List ℕ) (h : List Entry) (o
     opened_said = refl
 
     kept_said : IsKept (about_first setup hash h) (about_first setup hash (said_entry bytes verdict ∷ h))
-    kept_said = subst (λ (a : About). IsKept (about_first setup hash h) a) (sym about_said) (affected-kept effect_said (about_first setup hash h) within)
+    kept_said = subst (λ (a : ConnState). IsKept (about_first setup hash h) a) (sym about_said) (affected-kept effect_said (about_first setup hash h) within)
 
     pub line_alone : IsAlone setup hash (said_entry bytes verdict ∷ h) new
     line_alone = record {

@@ -7,7 +7,7 @@ use Rattle.std.proofs.KnownBytes.{Appends-trans}
 use Rattle.outboxes.specs.Backlogs.{Backlog}
 use Rattle.hub_core.specs.CoreState.{CoreState}
 use Rattle.hub_core.specs.Moves.{Moves}
-use Rattle.hub_core.specs.Waiting.{backlog_of}
+use Rattle.hub_core.specs.Backlogs.{backlog_of}
 use Rattle.hub_core.specs.State.{IsSeated, Stands}
 use Rattle.hub_rules.specs.declared.history.Call.TheVariants.{Take}
 use Rattle.hub_rules.specs.declared.history.Entry.{Entry}
@@ -15,7 +15,7 @@ use Rattle.hub_rules.specs.declared.history.Reply.TheVariants.{Took}
 use Rattle.hub_rules.specs.Configured.{Configured}
 use Rattle.hub_rules.specs.Facts.{facts}
 use Rattle.hub_rules.specs.Shares.{waiting}
-use Rattle.flushed_writes.specs.Parts.{AppendsFront}
+use Rattle.counted_io.specs.Parts.{AppendsFront}
 use Rattle.hub_stdio.specs.Runs.{first}
 use Rattle.hub_stdio.specs.Serving.{IsAlone, Run, IsUnderWay, IsRunning, IsCutOff, about_first, at_history, taken_in, CatchesUp, FallsShort}
 use Rattle.hub_stdio.proofs.Steps.{has-seat, took, take_alone, take_written, take_asked, take_over, take_waits, take_all_waiting, taken-front}

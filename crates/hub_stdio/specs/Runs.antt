@@ -57,8 +57,8 @@ abbrev pub IsOver : Configured → (List ℕ → List ℕ) → List Entry → Ty
 IsOver setup hash h = IsGone setup hash h ⊎ Lags setup hash h
 
 -- nothing that the connection is owed waits any more
-abbrev pub IsCaughtUp : Configured → (List ℕ → List ℕ) → List Entry → Type 0
-IsCaughtUp setup hash h = count_taken setup hash h first ≡ length (lines_owed setup hash h first)
+abbrev pub IsAllWritten : Configured → (List ℕ → List ℕ) → List Entry → Type 0
+IsAllWritten setup hash h = count_taken setup hash h first ≡ length (lines_owed setup hash h first)
 
 -- of a line, that this holds
 abbrev pub OfLine : Call → Type 0 → Type 0
@@ -70,7 +70,7 @@ OfLine (Take connection count) Holds = Unit
 -- each line was handed over when nothing that was owed for those before it waited any more
 abbrev pub AnswersInTurn : Configured → (List ℕ → List ℕ) → List Entry → Type 0
 AnswersInTurn setup hash [] = Unit
-AnswersInTurn setup hash (e ∷ h) = OfLine e.call (IsCaughtUp setup hash h) × AnswersInTurn setup hash h
+AnswersInTurn setup hash (e ∷ h) = OfLine e.call (IsAllWritten setup hash h) × AnswersInTurn setup hash h
 
 -- a legal history of the one caller
 pub record IsOwn (setup : Configured) (hash : List ℕ → List ℕ) (h : List Entry) : Type 0 where
@@ -79,7 +79,7 @@ pub record IsOwn (setup : Configured) (hash : List ℕ → List ℕ) (h : List E
 
 -- what was read was answered: in a legal history of one caller, which joins and then sends each line of what was read,
 -- the connection is owed what was written, each line after all that was owed before was taken
-pub record IsAnswered (setup : Configured) (hash : List ℕ → List ℕ) (unread left held holds : Option (List ℕ)) (read : List ℕ) (h : List Entry) : Type 0 where
+pub record IsOwedWritten (setup : Configured) (hash : List ℕ → List ℕ) (unread left held holds : Option (List ℕ)) (read : List ℕ) (h : List Entry) : Type 0 where
   pub consumed : Consumes unread left read
   pub history : IsOwn setup hash h
   pub calls : asked_in h ≡ join ∷ map says (lines read)
@@ -102,10 +102,10 @@ IsWellCut read = (rest : List ℕ) × (read ≡ joined_lines (lines read) ++ res
 -- all was answered, and the reader was at its end and no line too long, or nothing more will come from the hub
 abbrev pub IsServed : Configured → (List ℕ → List ℕ) → Option (List ℕ) → Option (List ℕ) → Option (List ℕ) → Option (List ℕ) → Type 0
 IsServed setup hash unread left held holds =
-    (read : List ℕ) × (h : List Entry) × IsAnswered setup hash unread left held holds read h
+    (read : List ℕ) × (h : List Entry) × IsOwedWritten setup hash unread left held holds read h
     × ((IsAtEnd left × IsWellCut read) ⊎ IsOver setup hash h)
 
 -- behind its lines a stream has over 65,536 bytes without a line feed
-abbrev pub IsTooLong : List ℕ → Type 0
-IsTooLong read =
+abbrev pub EndsTooLong : List ℕ → Type 0
+EndsTooLong read =
     (rest : List ℕ) × (read ≡ joined_lines (lines read) ++ rest) × (max_line < length rest) × HasNoLf (take (max_line + 1) rest)

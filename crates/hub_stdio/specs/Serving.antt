@@ -4,21 +4,21 @@ use Rattle.std.specs.List.{All, concat}
 use Rattle.std.specs.Io.KnownBytes.{Appends}
 use Rattle.adc_line.specs.Frames.{max_line, HasNoLf}
 use Rattle.adc_line.specs.Stream.{lines, joined_lines, IsLine}
-use Rattle.flushed_writes.specs.Calls.{LastFailed, NoneFailed}
-use Rattle.flushed_writes.specs.declared.failures.Failures.{Failures}
+use Rattle.counted_io.specs.Calls.{LastFailed, NoneFailed}
+use Rattle.counted_io.specs.declared.failures.Failures.{Failures}
 use Rattle.hub_core.specs.CoreState.{CoreState}
 use Rattle.hub_core.specs.Moves.{StandsAt}
 use Rattle.hub_rules.specs.declared.history.Entry.{Entry}
 use Rattle.hub_rules.specs.Configured.{Configured}
 use Rattle.hub_rules.specs.Facts.{facts}
 use Rattle.hub_rules.specs.History.{about}
-use Rattle.hub_rules.specs.Shares.{About}
+use Rattle.hub_rules.specs.Shares.{ConnState}
 use Rattle.hub_stdio.specs.declared.fault.RunFault.{RunFault}
 use Rattle.hub_stdio.specs.declared.fault.RunFault.TheVariants as faults
-use Rattle.hub_stdio.specs.Runs.{first, join, says, zeros, asked_in, owed_in, AnswersInTurn, IsCaughtUp, IsOver, IsOwn}
+use Rattle.hub_stdio.specs.Runs.{first, join, says, zeros, asked_in, owed_in, AnswersInTurn, IsAllWritten, IsOver, IsOwn}
 
 -- what the history makes of the connection
-abbrev pub about_first : Configured → (List ℕ → List ℕ) → List Entry → About
+abbrev pub about_first : Configured → (List ℕ → List ℕ) → List Entry → ConnState
 about_first setup hash h = about setup hash h first
 
 -- the hub stands at a history of the one caller, whose connection alone is on it
@@ -51,8 +51,8 @@ abbrev pub IsRunning : Configured → (List ℕ → List ℕ) → CoreState → 
 IsRunning setup hash core holds = (run : Run) × IsUnderWay setup hash run core holds
 
 -- and nothing waits
-abbrev pub IsReady : Configured → (List ℕ → List ℕ) → CoreState → Option (List ℕ) → Type 0
-IsReady setup hash core holds = (run : Run) × IsUnderWay setup hash run core holds × IsCaughtUp setup hash run.history
+abbrev pub IsIdle : Configured → (List ℕ → List ℕ) → CoreState → Option (List ℕ) → Type 0
+IsIdle setup hash core holds = (run : Run) × IsUnderWay setup hash run core holds × IsAllWritten setup hash run.history
 
 -- the run with this history
 abbrev pub at_history : Run → List Entry → Run
@@ -72,13 +72,13 @@ pub record IsCutOff (setup : Configured) (hash : List ℕ → List ℕ) (held : 
 -- a run can begin with this hub
 abbrev pub Starts : Configured → (List ℕ → List ℕ) → CoreState → Type 0
 Starts setup hash core =
-    (held : Option (List ℕ)) → (h : List Entry) × IsUnderWay setup hash (record { held = held; sent = []; history = h }) core held × IsCaughtUp setup hash h
+    (held : Option (List ℕ)) → (h : List Entry) × IsUnderWay setup hash (record { held = held; sent = []; history = h }) core held × IsAllWritten setup hash h
 
 -- whatever run was under way goes on, and then nothing waits; where it has ended, nothing more will come from the hub
 abbrev pub CatchesUp : Configured → (List ℕ → List ℕ) → Bool → CoreState → CoreState → Option (List ℕ) → Option (List ℕ) → Type 0
 CatchesUp setup hash ended old new before now =
     (run : Run) → IsUnderWay setup hash run old before
-    → (h : List Entry) × IsUnderWay setup hash (at_history run h) new now × IsCaughtUp setup hash h × (ended ≡ true → IsOver setup hash h)
+    → (h : List Entry) × IsUnderWay setup hash (at_history run h) new now × IsAllWritten setup hash h × (ended ≡ true → IsOver setup hash h)
 
 -- whatever run was under way was cut off
 abbrev pub FallsShort : Configured → (List ℕ → List ℕ) → CoreState → Option (List ℕ) → Option (List ℕ) → Type 0
@@ -88,13 +88,13 @@ FallsShort setup hash old before now =
 -- whatever run was ready was handed these lines, and is ready; where it has ended, nothing more will come from the hub
 abbrev pub GoesOn : Configured → (List ℕ → List ℕ) → List (List ℕ) → Bool → CoreState → CoreState → Option (List ℕ) → Option (List ℕ) → Type 0
 GoesOn setup hash more ended old new before now =
-    (run : Run) → IsUnderWay setup hash run old before → IsCaughtUp setup hash run.history
-    → (h : List Entry) × IsUnderWay setup hash (run_after run more h) new now × IsCaughtUp setup hash h × (ended ≡ true → IsOver setup hash h)
+    (run : Run) → IsUnderWay setup hash run old before → IsAllWritten setup hash run.history
+    → (h : List Entry) × IsUnderWay setup hash (run_after run more h) new now × IsAllWritten setup hash h × (ended ≡ true → IsOver setup hash h)
 
 -- whatever run was ready was cut off within these lines
 abbrev pub BreaksOff : Configured → (List ℕ → List ℕ) → List (List ℕ) → CoreState → Option (List ℕ) → Option (List ℕ) → Type 0
 BreaksOff setup hash more old before now =
-    (run : Run) → IsUnderWay setup hash run old before → IsCaughtUp setup hash run.history
+    (run : Run) → IsUnderWay setup hash run old before → IsAllWritten setup hash run.history
     → (h : List Entry) × IsCutOff setup hash run.held (run.sent ++ more) h now
 
 -- the bytes are these lines, each with its line feed, and then the rest

@@ -5,6 +5,6 @@ mod fault;
 mod run;
 mod session;
 
+pub use counted_io::{CountedRead, CountedWrite, Counting, Failures};
 pub use fault::RunFault;
-pub use flushed_writes::{CountedRead, CountedWrite, Counting, Failures};
 pub use run::run_one;

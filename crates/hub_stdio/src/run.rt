@@ -1,12 +1,12 @@
 ghost use Rattle.std.specs.Prelude.{◌≡◌, [], IfErr, OnOk};
 ghost use Rattle.std.specs.Arc.{arc_value};
-ghost use Rattle.flushed_writes.specs.Calls.{NoneFailed};
+ghost use Rattle.counted_io.specs.Calls.{NoneFailed};
 ghost use Rattle.hub_stdio.specs.Serving.{Starts};
 ghost use Rattle.hub_stdio.specs.Streams.{RunServes, RunStops};
 
 use crate::fault::RunFault;
 use crate::session::StreamSession;
-use flushed_writes::{CountedRead, CountedWrite};
+use counted_io::{CountedRead, CountedWrite};
 use hub_core::Setup;
 use session_hash::SessionHash;
 use std::alloc::Global;

@@ -3,11 +3,11 @@ ghost use Rattle.std.specs.Arc.{arc_value};
 ghost use Rattle.hub_core.specs.Moves.{StandsAt};
 ghost use Rattle.hub_rules.specs.Configured.{Configured};
 ghost use Rattle.hub_stdio.specs.Runs.{first};
-ghost use Rattle.hub_stdio.specs.Serving.{IsReady, IsRunning, Starts, FallsShort, IsInAnswering, WritesEnd};
+ghost use Rattle.hub_stdio.specs.Serving.{IsIdle, IsRunning, Starts, FallsShort, IsInAnswering, WritesEnd};
 
 use crate::fault::RunFault;
 use adc_line::{Framer, Next};
-use flushed_writes::{CountedWrite, write_and_flush_counted};
+use counted_io::{CountedWrite, write_and_flush_counted};
 use hub_core::{Conn, Core, JoinRefused, Setup, prepare};
 use session_hash::SessionHash;
 use std::alloc::Global;
@@ -71,7 +71,7 @@ impl StreamSession {
         piece: &[u8],
         writer: &mut W,
     ) -> Result<bool, RunFault>
-        requires ready { IsReady (arc_value setup.now) (H.digest_of hash.now) self.old.core (W.contents writer.old) }
+        requires ready { IsIdle (arc_value setup.now) (H.digest_of hash.now) self.old.core (W.contents writer.old) }
         ensures ok { IfOk result (λ ended. HearsPiece (arc_value setup.now) (H.digest_of hash.now) self.old piece.now ended self.new W.contents writer.old writer.new) }
         ensures fault { IfErr result (λ fault. StopsInPiece fault (arc_value setup.now) (H.digest_of hash.now) self.old piece.now self.new W.contents writer.old writer.new) }
         ensures writes { WritesEnd result (W.failures writer.old) (W.failures writer.new) }
@@ -97,7 +97,7 @@ impl StreamSession {
         hash: &H,
         writer: &mut W,
     ) -> Result<bool, RunFault>
-        requires ready { IsReady (arc_value setup.now) (H.digest_of hash.now) self.old.core (W.contents writer.old) }
+        requires ready { IsIdle (arc_value setup.now) (H.digest_of hash.now) self.old.core (W.contents writer.old) }
         ensures ok { IfOk result (λ ended. AnswersLine (arc_value setup.now) (H.digest_of hash.now) ended self.old self.new W.contents writer.old writer.new) }
         ensures framer { self.new.framer ≡ self.old.framer }
         ensures err { OnErr result (BreaksInLine (arc_value setup.now) (H.digest_of hash.now) self.old W.contents writer.old writer.new) }

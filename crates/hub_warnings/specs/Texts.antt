@@ -11,7 +11,7 @@ use Rattle.hub_warnings.specs.declared.moment.Moment.{Moment}
 use Rattle.hub_warnings.specs.declared.lines.Warning.{Warning}
 use Rattle.hub_warnings.specs.declared.lines.Dropped.{Dropped}
 use Rattle.hub_warnings.specs.declared.lines.Start.{Start}
-use Rattle.hub_warnings.specs.declared.lines.End.{End}
+use Rattle.hub_warnings.specs.declared.lines.EndLine.{EndLine}
 use Rattle.log.specs.declared.level.Level.{Level}
 use Rattle.log.specs.declared.level.Level.TheVariants as levels
 
@@ -78,5 +78,5 @@ abbrev pub joins_text : List ℕ → Option ℕ → List ℕ
 joins_text why None = why
 joins_text why (Some joins) = why ++ (codes ", joins " ++ decimal joins)
 
-abbrev pub end_text : End → List ℕ
+abbrev pub end_text : EndLine → List ℕ
 end_text e = moment_text e.moment ++ (codes " adc_hub ended: " ++ joins_text e.why.now e.joins)

@@ -15,7 +15,7 @@ mod warnings;
 pub use cause::Cause;
 pub use clock::{WallClock, seconds_since_1970};
 pub use journal::Journal;
-pub use lines::{Dropped, End, Start, Warning};
+pub use lines::{Dropped, EndLine, Start, Warning};
 pub use moment::Moment;
 pub use queued::{MOST_LINES, QueueEnd, QueueWriter, QueuedLines, queue};
 pub use said::{Said, say};

@@ -89,7 +89,7 @@ impl Display for Start<'_> {
 
 /// The line at the end of a server, as `2026-11-25T13:07:11Z adc_hub ended: stop_after is reached, joins 2`.
 #[derive(Clone, Copy)]
-pub struct End<'a> {
+pub struct EndLine<'a> {
     /// The second in which it is said.
     pub moment: Moment,
     /// The reason for which it ended.
@@ -98,7 +98,7 @@ pub struct End<'a> {
     pub joins: Option<u64>,
 }
 
-impl Display for End<'_> {
+impl Display for EndLine<'_> {
     ghost output = { λ e. Some (end_text e) };
 
     fn fmt<W: fmt::Write>(&self, f: &mut Formatter<W>) -> fmt::Result {

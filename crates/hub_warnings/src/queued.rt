@@ -9,7 +9,7 @@ use crate::clock::WallClock;
 use crate::journal::priority;
 use crate::lines::Dropped;
 use crate::moment::Moment;
-use crate::queued_line::{Ended, Line, OpenLine};
+use crate::queued_line::{Ended, OpenLine, QueuedLine};
 use crossbeam_channel::{Receiver, Sender, bounded};
 use log::Level;
 use std::alloc::{AllocError, Global};
@@ -30,7 +30,7 @@ const END: u64 = 900;
 pub struct QueueWriter<R: Wait + Drop> {
     rt: R,
     alloc: Global,
-    lines: Sender<Line, Global>,
+    lines: Sender<QueuedLine, Global>,
     line: OpenLine,
     dropped: Arc<AtomicU64, Global>,
 }
@@ -38,7 +38,7 @@ pub struct QueueWriter<R: Wait + Drop> {
 /// The other end of the queue, for the thread that writes.
 #[derive(Drop)]
 pub struct QueuedLines {
-    lines: Receiver<Line, Global>,
+    lines: Receiver<QueuedLine, Global>,
     dropped: Arc<AtomicU64, Global>,
     has_priorities: bool,
     // It is dropped with the rest, once the thread is done.
@@ -145,7 +145,7 @@ impl QueuedLines {
         &self,
         clock: &C,
         writer: &mut W,
-        line: &Line,
+        line: &QueuedLine,
         since: &mut usize,
     ) -> io::Result<()>
         ensures written { OnOk result (AppendsLine (is_for_journal self.now) line.now.bytes.items (W.contents writer.old) (W.contents writer.new)) }

@@ -8,12 +8,12 @@ use std::io::{self, Write};
 
 /// A line with its line feed.
 #[derive(Drop)]
-pub(crate) struct Line {
+pub(crate) struct QueuedLine {
     bytes: Vec<u8>,
     pub(crate) ghost whole: { IsTrue (is_line bytes.items) },
 }
 
-impl Line {
+impl QueuedLine {
     /// Writes it. It fails where a write does.
     pub(crate) fn write<W: Write>(&self, writer: &mut W) -> io::Result<()>
         ensures bytes { OnOk result (Appends (W.contents writer.old) (W.contents writer.new) self.now.bytes.items) }
@@ -35,7 +35,7 @@ pub(crate) struct OpenLine {
 /// A line whose line feed came: the line, unless memory was wanting for a part of it.
 #[derive(Drop)]
 pub(crate) enum Ended {
-    Whole(Line),
+    Whole(QueuedLine),
     Lost,
 }
 
@@ -80,6 +80,6 @@ impl OpenLine {
         if is_lost || bytes.push(b'\n').is_err() {
             return Ended::Lost;
         }
-        Ended::Whole(Line { bytes })
+        Ended::Whole(QueuedLine { bytes })
     }
 }

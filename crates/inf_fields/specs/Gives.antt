@@ -6,11 +6,11 @@ use Rattle.inf_fields.specs.declared.fault.InfFault.{InfFault}
 use Rattle.inf_fields.specs.declared.fault.InfFault.TheVariants.{Memory, BadName, TooMany}
 
 -- the answer is the one that is wanted; `Memory` says nothing
-abbrev pub Gives : Result (List Field) InfFault → Result (List Field) InfFault → Type 0
-Gives (Ok fields) wanted = wanted ≡ Ok fields
-Gives (Err Memory) wanted = Unit {0}
-Gives (Err BadName) wanted = wanted ≡ Err BadName
-Gives (Err TooMany) wanted = wanted ≡ Err TooMany
+abbrev pub GivesFields : Result (List Field) InfFault → Result (List Field) InfFault → Type 0
+GivesFields (Ok fields) wanted = wanted ≡ Ok fields
+GivesFields (Err Memory) wanted = Unit {0}
+GivesFields (Err BadName) wanted = wanted ≡ Err BadName
+GivesFields (Err TooMany) wanted = wanted ≡ Err TooMany
 
 -- the same of a change: after it the fields are the ones that are wanted, and after a refusal those before; `Memory`
 -- stands in place of no other refusal

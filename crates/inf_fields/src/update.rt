@@ -5,7 +5,7 @@ ghost use Rattle.std.specs.Str.{bytes_eq};
 ghost use Rattle.std.specs.String.{string_bytes};
 ghost use Rattle.inf_fields.specs.Cleaning.{asks_for_address, clean, is_held_back};
 ghost use Rattle.inf_fields.specs.Field.{field, printed_fields, value_of};
-ghost use Rattle.inf_fields.specs.Gives.{Gives};
+ghost use Rattle.inf_fields.specs.Gives.{GivesFields};
 ghost use Rattle.inf_fields.specs.Updates.{reading};
 
 use crate::address::dotted_decimal;
@@ -47,7 +47,7 @@ impl Update {
     /// Refused with the first of these that applies: `BadName` where a word begins with no name,
     /// `TooMany` where there are over 40 different names. `Memory` comes last.
     pub fn read(alloc: Global, words: &[&str]) -> Result<Update, InfFault>
-        ensures { Gives result (reading (map deref words.now)) }
+        ensures { GivesFields result (reading (map deref words.now)) }
     {
         let mut entries = IndexMap::with_capacity(alloc, words.len().min(MAX_FIELDS))?;
         for word in words {

@@ -23,11 +23,11 @@ unfoldable pub support_after : List (List ℕ) → List (List ℕ) → Result (L
 support_after before words = if not (are_mentions words) then Err Bad else unless_too_many (supported_after before (mentions_in words))
 
 -- the answer is the one that is wanted; `Memory` may stand in place of it, but not of `Bad`, which takes no memory to find
-abbrev pub Gives : Result (List (List ℕ)) SupFault → Result (List (List ℕ)) SupFault → Type 0
-Gives (Ok features) wanted = wanted ≡ Ok features
-Gives (Err Memory) wanted = wanted ≢ Err Bad
-Gives (Err Bad) wanted = wanted ≡ Err Bad
-Gives (Err TooMany) wanted = wanted ≡ Err TooMany
+abbrev pub GivesSupport : Result (List (List ℕ)) SupFault → Result (List (List ℕ)) SupFault → Type 0
+GivesSupport (Ok features) wanted = wanted ≡ Ok features
+GivesSupport (Err Memory) wanted = wanted ≢ Err Bad
+GivesSupport (Err Bad) wanted = wanted ≡ Err Bad
+GivesSupport (Err TooMany) wanted = wanted ≡ Err TooMany
 
 -- what is supported after these words, where the features before are those of a client that sent some SUP: those after this one too
 abbrev pub GoesOnLineByLine : List (List ℕ) → List (List ℕ) → Result (List (List ℕ)) SupFault → Type 0

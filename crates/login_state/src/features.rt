@@ -2,7 +2,7 @@ ghost use Rattle.std.specs.Prelude.{◌≡◌, ℕ, List, [], ◌∷◌, ◌++�
 ghost use Rattle.adc_line.specs.WordsLeft.{words_left};
 ghost use Rattle.login_state.specs.Seen.{is_in, unseen};
 ghost use Rattle.login_state.specs.Support.{has_feature, is_mentioned, speaks_of, features_added, features_of, all_said, mentions_in, features_left, supported_after, IsLastAdded};
-ghost use Rattle.login_state.specs.SupportAnswers.{are_mentions, support_after, Gives, GoesOnLineByLine};
+ghost use Rattle.login_state.specs.SupportAnswers.{are_mentions, support_after, GivesSupport, GoesOnLineByLine};
 ghost use Rattle.std.specs.List.{IsDistinct};
 ghost use Rattle.std.specs.Str.{bytes_eq};
 
@@ -52,7 +52,7 @@ impl Features {
     /// Refused with the first of these that applies: `Bad` where a word is no mention of a feature, `TooMany` where more
     /// than 64 features are left after the whole line. `Memory` comes last.
     pub fn apply(&self, alloc: Global, words: Words<'_>) -> Result<Features, SupFault>
-        ensures exact { Gives result (support_after self.now (words_left words.entry)) }
+        ensures exact { GivesSupport result (support_after self.now (words_left words.entry)) }
         ensures line_by_line { GoesOnLineByLine self.now (words_left words.entry) result }
     {
         self.read(alloc, words)
@@ -60,7 +60,7 @@ impl Features {
 
     #[tactic(auto, unfolding(crate::specs::SupportAnswers::support_after))]
     fn read(&self, alloc: Global, words: Words<'_>) -> Result<Features, SupFault>
-        ensures { Gives result (support_after self.now (words_left words.entry)) }
+        ensures { GivesSupport result (support_after self.now (words_left words.entry)) }
     {
         if !are_mentions(words) {
             return Err(SupFault::Bad);

@@ -6,36 +6,36 @@ use mathlib.Core.Logic.{dite}
 use native.Mathlib.Decide.{ℕ_discrete}
 use Rattle.one_history.specs.Histories.{Begins, total}
 use Rattle.one_history.specs.Claims.{claim, stamped, first_claim, other_claims, is_of, Agrees}
-use Rattle.one_history.specs.declared.view.Claim.{Claim}
+use Rattle.one_history.specs.declared.view.SeatClaim.{SeatClaim}
 use Rattle.one_history.proofs.Sums.{is_of-same, is_of-other}
-use Rattle.one_history.proofs.Beginnings.{begins_trans, entries-other, entries-between}
+use Rattle.one_history.proofs.Starts.{begins_trans, entries-other, entries-between}
 
 module _ {E : Type 0} where
-  abbrev pub Early : List E → Claim E → Type 0
+  abbrev pub Early : List E → SeatClaim E → Type 0
   Early h c = Begins h c.since
 
-  pub early_later : (h s : List E) (cs : List (Claim E)) → Begins h s → All (Early s) cs → All (Early h) cs
+  pub early_later : (h s : List E) (cs : List (SeatClaim E)) → Begins h s → All (Early s) cs → All (Early h) cs
   early_later h s cs b all = All-weaker (Early s) (Early h) (λ c e. begins_trans h s c.since b e) cs all
 
-  pub early_stamped : (h s : List E) (cs : List (Claim E)) → Begins h s → All (Early h) (stamped s cs)
+  pub early_stamped : (h s : List E) (cs : List (SeatClaim E)) → Begins h s → All (Early h) (stamped s cs)
   early_stamped h s [] b = All-nil (Early h)
   early_stamped h s (c ∷ cs) b = All-cons (Early h) (claim c.number c.mine s) (stamped s cs) b (early_stamped h s cs b)
 
-  pub parts_first : (P : Claim E → Type 0) (cs : List (Claim E)) → All P cs → All P (first_claim cs)
+  pub parts_first : (P : SeatClaim E → Type 0) (cs : List (SeatClaim E)) → All P cs → All P (first_claim cs)
   parts_first P [] all = All-nil P
   parts_first P (c ∷ cs) all = All-cons P c [] (All-head P c cs all) (All-nil P)
 
-  pub parts_other : (P : Claim E → Type 0) (cs : List (Claim E)) → All P cs → All P (other_claims cs)
+  pub parts_other : (P : SeatClaim E → Type 0) (cs : List (SeatClaim E)) → All P cs → All P (other_claims cs)
   parts_other P [] all = All-nil P
   parts_other P (c ∷ cs) all = All-tail P c cs all
 
   module _ (by : E → ℕ) where
-    pub agrees_stamped : (h s : List E) (cs : List (Claim E)) → All (Agrees by h) cs → All (Agrees by h) (stamped s cs)
+    pub agrees_stamped : (h s : List E) (cs : List (SeatClaim E)) → All (Agrees by h) cs → All (Agrees by h) (stamped s cs)
     agrees_stamped h s [] all = All-nil (Agrees by h)
     agrees_stamped h s (c ∷ cs) all =
         All-cons (Agrees by h) (claim c.number c.mine s) (stamped s cs) (All-head (Agrees by h) c cs all) (agrees_stamped h s cs (All-tail (Agrees by h) c cs all))
 
-    pub agrees_between : (h m s : List E) (cs : List (Claim E)) → Begins h m → Begins m s → All (Agrees by h) cs → All (Agrees by s) cs → All (Agrees by m) cs
+    pub agrees_between : (h m s : List E) (cs : List (SeatClaim E)) → Begins h m → Begins m s → All (Agrees by h) cs → All (Agrees by s) cs → All (Agrees by m) cs
     agrees_between h m s [] b d whole own = All-nil (Agrees by m)
     agrees_between h m s (c ∷ cs) b d whole own =
         All-cons (Agrees by m) c cs
@@ -43,7 +43,7 @@ module _ {E : Type 0} where
         (agrees_between h m s cs b d (All-tail (Agrees by h) c cs whole) (All-tail (Agrees by s) c cs own))
 
     -- an entry of a caller of whom there is no claim
-    pub agrees_others : (e : E) (h : List E) (cs : List (Claim E)) → total (is_of (by e)) cs ≡ 0 → All (Agrees by h) cs → All (Agrees by (e ∷ h)) cs
+    pub agrees_others : (e : E) (h : List E) (cs : List (SeatClaim E)) → total (is_of (by e)) cs ≡ 0 → All (Agrees by h) cs → All (Agrees by (e ∷ h)) cs
     agrees_others e h [] none all = All-nil (Agrees by (e ∷ h))
     agrees_others e h (c ∷ cs) none all =
         let other : by e ≢ c.number = λ same. omega (arith, is_of-same (by e) c (sym same)) in
@@ -52,7 +52,7 @@ module _ {E : Type 0} where
         (agrees_others e h cs (omega arith) (All-tail (Agrees by h) c cs all))
 
   -- a caller of whom there is a claim
-  pub claim_of : (p : ℕ) (cs : List (Claim E)) → 0 < total (is_of p) cs → Contains (map (λ (c : Claim E). c.number) cs) p
+  pub claim_of : (p : ℕ) (cs : List (SeatClaim E)) → 0 < total (is_of p) cs → Contains (map (λ (c : SeatClaim E). c.number) cs) p
   claim_of p [] some_of = absurd (omega arith)
   claim_of p (c ∷ cs) some_of =
       dite (ℕ_discrete c.number p)

@@ -1,8 +1,8 @@
 pub mod Sums
-pub mod Beginnings
+pub mod Starts
 pub mod Claims
 pub mod Moves
-pub mod Seating
+pub mod SeatRules
 pub mod Seats
-pub mod Meetings
-pub mod Endings
+pub mod Meets
+pub mod Ends

@@ -14,10 +14,10 @@ use Rattle.one_history.specs.Histories.{total}
 use Rattle.one_history.specs.Claims.{claim, is_of, added, Agrees, IsKnown}
 use Rattle.one_history.specs.Rule.{view, claimed, claims_in, holding, Fair, Fits, Rests, Kept}
 use Rattle.one_history.specs.Plays.{Tries, Adds, Returns, Learns}
-use Rattle.one_history.specs.declared.view.View.{View}
-use Rattle.one_history.specs.declared.view.Claim.{Claim}
+use Rattle.one_history.specs.declared.view.SeatView.{SeatView}
+use Rattle.one_history.specs.declared.view.SeatClaim.{SeatClaim}
 use Rattle.one_history.proofs.Sums.{total-set, term_le, terms_le, is_of-same}
-use Rattle.one_history.proofs.Beginnings.{begins_refl, begins_cons, entries-own}
+use Rattle.one_history.proofs.Starts.{begins_refl, begins_cons, entries-own}
 use Rattle.one_history.proofs.Claims.{Early, early_later, agrees_others}
 
 pub word_here : (ws : List ℕ) (n : ℕ) → length ws ≡ 1 → get_or (set ws 0 n) 0 0 ≡ n
@@ -26,22 +26,22 @@ word_here (w ∷ ws) n e = refl
 
 module _ {T E A : Type 0} (by : E → ℕ) (legal : A → List E → Type 0) (stands : A → T → List E → Type 0) (key : A) where
   abbrev pub Table : Type 0
-  Table = State (Option T) (View E A)
+  Table = State (Option T) (SeatView E A)
 
   abbrev pub Holds : Table → Type 0
   Holds s = Kept by legal stands key s
 
-  abbrev pub Fit : List E → View E A → Type 0
+  abbrev pub Fit : List E → SeatView E A → Type 0
   Fit log v = Fits by (legal key) key log v
 
-  abbrev pub SameClaims : View E A → View E A → Type 0
+  abbrev pub SameClaims : SeatView E A → SeatView E A → Type 0
   SameClaims v w = ((p : ℕ) → claimed p w ≡ claimed p v) × (claims_in w ≡ claims_in v)
 
   -- One view changes and keeps its callers; the word, the slot and the history may change with it
-  moved : (s : Table) (k : Holds s) (ws : List ℕ) (hs : List (mathlib.Core.Option.Option (Option T))) (log : List E) (id : ℕ) (v w : View E A)
+  moved : (s : Table) (k : Holds s) (ws : List ℕ) (hs : List (mathlib.Core.Option.Option (Option T))) (log : List E) (id : ℕ) (v w : SeatView E A)
       → get_elem? s.views id ≡ some v → SameClaims v w → w.count ≡ v.count
       → length ws ≡ 1 → legal key log → All (IsKnown by k.count) log
-      → Fit log w → ((j : ℕ) (u : View E A) → j ≢ id → get_elem? s.views j ≡ some u → Fit log u)
+      → Fit log w → ((j : ℕ) (u : SeatView E A) → j ≢ id → get_elem? s.views j ≡ some u → Fit log u)
       → (get_or ws 0 0 ≡ 0 → (total holding (set s.views id w) ≡ 0) × Rests (stands key) record { words = ws; homes = hs; views = set s.views id w } log)
       → (get_or ws 0 0 ≢ 0 → (total holding (set s.views id w) ≡ 1) × (get_elem? hs 0 ≡ some none))
       → Holds record { words = ws; homes = hs; views = set s.views id w }
@@ -54,7 +54,7 @@ module _ {T E A : Type 0} (by : E → ℕ) (legal : A → List E → Type 0) (st
         lawful = lawful;
         hosted = λ u here. ⊎_elim
             (λ t. let at0 : get_elem? s.views 0 ≡ some v = subst (λ i. get_elem? s.views i ≡ some v) (sym t.0) at in
-            ap (λ (x : View E A). x.count) (sym t.1) ∙ (count ∙ k.hosted v at0))
+            ap (λ (x : SeatView E A). x.count) (sym t.1) ∙ (count ∙ k.hosted v at0))
             (λ t. k.hosted u t.1)
             (at_set s.views id 0 w u here);
         fits = λ j u here. ⊎_elim (λ t. subst (Fit log) t.1 fit) (λ t. others j u t.0 t.1) (at_set s.views id j w u here);
@@ -67,7 +67,7 @@ module _ {T E A : Type 0} (by : E → ℕ) (legal : A → List E → Type 0) (st
       }
 
   -- the word may go from taken to taken, and nothing else changes
-  unmoved : (s : Table) (k : Holds s) (n id : ℕ) (v : View E A) → get_elem? s.views id ≡ some v
+  unmoved : (s : Table) (k : Holds s) (n id : ℕ) (v : SeatView E A) → get_elem? s.views id ≡ some v
       → (n ≡ 0 → get_or s.words 0 0 ≡ 0) → (get_or s.words 0 0 ≡ 0 → n ≡ 0)
       → Holds record { words = set s.words 0 n; homes = s.homes; views = set s.views id v }
   unmoved s k n id v at zero_back zero_on =
@@ -78,8 +78,8 @@ module _ {T E A : Type 0} (by : E → ℕ) (legal : A → List E → Type 0) (st
       (λ z. let f = k.free (zero_back (sym here ∙ z)) in (holders ∙ f.0, f.1))
       (λ nz. let t = k.taken (λ z. nz (here ∙ zero_on z)) in (holders ∙ t.0, t.1))
 
-  module _ (id : ℕ) (v : View E A) where
-    abbrev seized : List E → View E A
+  module _ (id : ℕ) (v : SeatView E A) where
+    abbrev seized : List E → SeatView E A
     seized log = view v.about log v.claims true v.count
 
     seizes_free : (s : Table) (k : Holds s) (n : ℕ) → get_elem? s.views id ≡ some v → v.busy ≡ false → 0 < length v.claims → n ≢ 0
@@ -147,7 +147,7 @@ module _ {T E A : Type 0} (by : E → ℕ) (legal : A → List E → Type 0) (st
         let some_hold : 1 ≤ total holding s.views = omega (arith, term_le holding s.views id v at) in
         (one, (k.taken (λ z. let none_hold = (k.free z).0 in absurd (omega arith))).0)
 
-    released : (s : Table) (k : Holds s) → get_elem? s.views id ≡ some v → v.busy ≡ true → (w : View E A) → holding w ≡ 0 → total holding (set s.views id w) ≡ 0
+    released : (s : Table) (k : Holds s) → get_elem? s.views id ≡ some v → v.busy ≡ true → (w : SeatView E A) → holding w ≡ 0 → total holding (set s.views id w) ≡ 0
     released s k at busy w idle = let h = held s k at busy in omega (arith, total-set holding s.views id v w at)
 
     -- to give both back unchanged
@@ -155,7 +155,7 @@ module _ {T E A : Type 0} (by : E → ℕ) (legal : A → List E → Type 0) (st
         → Allows Holds 1 id (v, (0, Some x) ∷ []) 0 (λ _. 0) (Returns (step 1 0 0 0 none) (v, (0, Some x) ∷ []))
     returns a x is busy rests s k one at fits =
         let fit = k.fits id v at in
-        let w : View E A = view v.about v.seen v.claims false v.count in
+        let w : SeatView E A = view v.about v.seen v.claims false v.count in
         let hs : List (mathlib.Core.Option.Option (Option T)) = set s.homes 0 (some (Some x)) in
         let same : a ≡ key = fit.told a is in
         let all : v.seen ≡ k.log = (fit.holder busy).0 in
@@ -178,17 +178,17 @@ module _ {T E A : Type 0} (by : E → ℕ) (legal : A → List E → Type 0) (st
           refl,
         )
 
-    entered : (c d : Claim E) → v.claims ≡ c ∷ [] → d.number ≡ c.number → ((p : ℕ) → total (is_of p) (d ∷ []) ≡ claimed p v) × (length (d ∷ []) ≡ claims_in v)
+    entered : (c d : SeatClaim E) → v.claims ≡ c ∷ [] → d.number ≡ c.number → ((p : ℕ) → total (is_of p) (d ∷ []) ≡ claimed p v) × (length (d ∷ []) ≡ claims_in v)
     entered c d only same = (
       λ p. ap (λ n. let m : ℕ = cond (eqb n p) 1 0 + 0 in m) same ∙ ap (total (is_of p)) (sym only),
       ap length (sym only),
     )
 
-    counted : (c : Claim E) (p : ℕ) → v.claims ≡ c ∷ [] → c.number ≡ p → claimed p v ≡ 1
+    counted : (c : SeatClaim E) (p : ℕ) → v.claims ≡ c ∷ [] → c.number ≡ p → claimed p v ≡ 1
     counted c p only same = ap (total (is_of p)) only ∙ omega (arith, is_of-same p c same)
 
     -- who has a claim was admitted
-    claimant : (s : Table) (k : Holds s) → get_elem? s.views id ≡ some v → (c : Claim E) → v.claims ≡ c ∷ [] → (e : E) → by e ≡ c.number → IsKnown by k.count e
+    claimant : (s : Table) (k : Holds s) → get_elem? s.views id ≡ some v → (c : SeatClaim E) → v.claims ≡ c ∷ [] → (e : E) → by e ≡ c.number → IsKnown by k.count e
     claimant s k at c only e mine =
         let one : claimed (by e) v ≡ 1 = counted c (by e) only (sym mine) in
         let some_have : 1 ≤ total (claimed (by e)) s.views = omega (arith, term_le (claimed (by e)) s.views id v at) in
@@ -198,8 +198,8 @@ module _ {T E A : Type 0} (by : E → ℕ) (legal : A → List E → Type 0) (st
         )
 
     -- an entry of this view's caller is nobody else's, and nobody else holds
-    other_fits : (s : Table) (k : Holds s) → get_elem? s.views id ≡ some v → v.busy ≡ true → (c : Claim E) → v.claims ≡ c ∷ [] → (e : E) → by e ≡ c.number
-        → (j : ℕ) (u : View E A) → j ≢ id → get_elem? s.views j ≡ some u → Fit (e ∷ k.log) u
+    other_fits : (s : Table) (k : Holds s) → get_elem? s.views id ≡ some v → v.busy ≡ true → (c : SeatClaim E) → v.claims ≡ c ∷ [] → (e : E) → by e ≡ c.number
+        → (j : ℕ) (u : SeatView E A) → j ≢ id → get_elem? s.views j ≡ some u → Fit (e ∷ k.log) u
     other_fits s k at busy c only e mine j u ne there =
         let fit = k.fits j u there in
         let known = claimant s k at c only e mine in
@@ -215,14 +215,14 @@ module _ {T E A : Type 0} (by : E → ℕ) (legal : A → List E → Type 0) (st
         }
 
     -- to give both back with an entry
-    adds : (a : A) (x : T) (c : Claim E) (e : E) → v.about ≡ Some a → v.busy ≡ true → v.claims ≡ c ∷ [] → by e ≡ c.number
+    adds : (a : A) (x : T) (c : SeatClaim E) (e : E) → v.about ≡ Some a → v.busy ≡ true → v.claims ≡ c ∷ [] → by e ≡ c.number
         → legal a (e ∷ v.seen) → stands a x (e ∷ v.seen)
         → Allows Holds 1 id (v, (0, Some x) ∷ []) 0 (λ _. 0) (Adds by legal e (step 1 0 0 0 none) (v, (0, Some x) ∷ []))
     adds a x c e is busy only mine lawful rests s k one at fits =
         let fit = k.fits id v at in
         let log : List E = e ∷ k.log in
-        let d : Claim E = claim c.number (e ∷ c.mine) c.since in
-        let w : View E A = view v.about (e ∷ v.seen) (d ∷ []) false v.count in
+        let d : SeatClaim E = claim c.number (e ∷ c.mine) c.since in
+        let w : SeatView E A = view v.about (e ∷ v.seen) (d ∷ []) false v.count in
         let hs : List (mathlib.Core.Option.Option (Option T)) = set s.homes 0 (some (Some x)) in
         let same : a ≡ key = fit.told a is in
         let all : e ∷ v.seen ≡ log = ap (λ t. e ∷ t) (fit.holder busy).0 in
@@ -272,36 +272,36 @@ module _ {T E A : Type 0} (by : E → ℕ) (legal : A → List E → Type 0) (st
         )
 
   -- the same of any idle seat, by a compare-exchange and by a swap
-  tries : (f : ℕ → ℕ) → f 0 ≢ 0 → ((n : ℕ) → n ≢ 0 → f n ≢ 0) → (slots id : ℕ) (m : Me (Option T) (View E A)) → slots ≡ 1 → IsIdle m → 0 < length m.0.claims
+  tries : (f : ℕ → ℕ) → f 0 ≢ 0 → ((n : ℕ) → n ≢ 0 → f n ≢ 0) → (slots id : ℕ) (m : Me (Option T) (SeatView E A)) → slots ≡ 1 → IsIdle m → 0 < length m.0.claims
       → Allows Holds slots id m 0 f (Tries by legal stands (step 1 0 0 0 none) m)
   tries f from_zero from_taken slots id m one idle claims =
       subst (λ k. Allows Holds k id m 0 f (Tries by legal stands (step 1 0 0 0 none) m)) (sym one)
       (subst (λ cs. Allows Holds 1 id (m.0, cs) 0 f (Tries by legal stands (step 1 0 0 0 none) (m.0, cs))) (sym idle.0) (seizes id m.0 f from_zero from_taken idle.1 claims))
 
-  pub attempts : (slots id : ℕ) (m : Me (Option T) (View E A)) → slots ≡ 1 → IsIdle m → 0 < length m.0.claims
+  pub attempts : (slots id : ℕ) (m : Me (Option T) (SeatView E A)) → slots ≡ 1 → IsIdle m → 0 < length m.0.claims
       → Allows Holds slots id m 0 (λ n. either (eqb n 0) 1 n) (Tries by legal stands (step 1 0 0 0 none) m)
   attempts = tries (λ n. either (eqb n 0) 1 n) (λ h. absurd (omega arith)) (λ n nz. exchanged n 0 1 (λ k. k ≢ 0) (λ _ h. absurd (omega arith)) (λ _. nz))
 
-  pub swaps : (slots id : ℕ) (m : Me (Option T) (View E A)) → slots ≡ 1 → IsIdle m → 0 < length m.0.claims
+  pub swaps : (slots id : ℕ) (m : Me (Option T) (SeatView E A)) → slots ≡ 1 → IsIdle m → 0 < length m.0.claims
       → Allows Holds slots id m 0 (λ n. 2) (Tries by legal stands (step 1 0 0 0 none) m)
   swaps = tries (λ n. 2) (λ h. absurd (omega arith)) (λ n nz h. absurd (omega arith))
 
   -- the same of the two steps that give back
-  pub gives_back : (slots id : ℕ) (m : Me (Option T) (View E A)) → slots ≡ 1 → IsUnchanged stands m
+  pub gives_back : (slots id : ℕ) (m : Me (Option T) (SeatView E A)) → slots ≡ 1 → IsUnchanged stands m
       → Allows Holds slots id m 0 (λ _. 0) (Returns (step 1 0 0 0 none) m)
   gives_back slots id m one r =
       subst (λ k. Allows Holds k id m 0 (λ _. 0) (Returns (step 1 0 0 0 none) m)) (sym one)
       (subst (λ cs. Allows Holds 1 id (m.0, cs) 0 (λ _. 0) (Returns (step 1 0 0 0 none) (m.0, cs))) (sym r.has.slot)
       (returns id m.0 r.about r.value r.has.told r.has.busy r.rests))
 
-  pub gives_entry : (e : E) (slots id : ℕ) (m : Me (Option T) (View E A)) → slots ≡ 1 → IsReady by legal stands e m
+  pub gives_entry : (e : E) (slots id : ℕ) (m : Me (Option T) (SeatView E A)) → slots ≡ 1 → IsReady by legal stands e m
       → Allows Holds slots id m 0 (λ _. 0) (Adds by legal e (step 1 0 0 0 none) m)
   gives_entry e slots id m one r =
       subst (λ k. Allows Holds k id m 0 (λ _. 0) (Adds by legal e (step 1 0 0 0 none) m)) (sym one)
       (subst (λ cs. Allows Holds 1 id (m.0, cs) 0 (λ _. 0) (Adds by legal e (step 1 0 0 0 none) (m.0, cs))) (sym r.has.slot)
       (adds id m.0 r.about r.value r.claim e r.has.told r.has.busy r.only r.mine r.lawful r.rests))
 
-  pub shows : (slots id : ℕ) (m : Me (Option T) (View E A)) → slots ≡ 1 → m.1 ≡ []
+  pub shows : (slots id : ℕ) (m : Me (Option T) (SeatView E A)) → slots ≡ 1 → m.1 ≡ []
       → Allows Holds slots id m 0 (λ n. n) (Learns by legal (step 1 0 0 0 none) m)
   shows slots id m one free =
       subst (λ k. Allows Holds k id m 0 (λ n. n) (Learns by legal (step 1 0 0 0 none) m)) (sym one)

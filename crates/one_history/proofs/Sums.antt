@@ -4,7 +4,7 @@ use mathlib.Core.Option.{some, some-injective, some-ne-none}
 use lib.ListN.{get_elem?}
 use Rattle.one_history.specs.Histories.{total}
 use Rattle.one_history.specs.Claims.{is_of, stamped, first_claim, other_claims}
-use Rattle.one_history.specs.declared.view.Claim.{Claim}
+use Rattle.one_history.specs.declared.view.SeatClaim.{SeatClaim}
 
 module _ {X : Type 0} (g : X → ℕ) where
   pub total-append : (l m : List X) → total g (l ++ m) ≡ total g l + total g m
@@ -29,24 +29,24 @@ module _ {X : Type 0} (g : X → ℕ) where
   terms_le (x ∷ xs) (suc j) (suc k) v u n e d = omega (arith, terms_le xs j k v u (λ h. n (ap suc h)) e d)
 
 module _ {E : Type 0} where
-  pub is_of-same : (p : ℕ) (c : Claim E) → c.number ≡ p → is_of p c ≡ 1
+  pub is_of-same : (p : ℕ) (c : SeatClaim E) → c.number ≡ p → is_of p c ≡ 1
   is_of-same p c e = ap (λ b. let n : ℕ = cond b 1 0 in n) (eq-eqb c.number p e)
 
-  pub is_of-other : (p : ℕ) (c : Claim E) → c.number ≢ p → is_of p c ≡ 0
+  pub is_of-other : (p : ℕ) (c : SeatClaim E) → c.number ≢ p → is_of p c ≡ 0
   is_of-other p c ne = ap (λ b. let n : ℕ = cond b 1 0 in n) (ne_eqb c.number p ne)
 
-  pub total-stamped : (p : ℕ) (seen : List E) (cs : List (Claim E)) → total (is_of p) (stamped seen cs) ≡ total (is_of p) cs
+  pub total-stamped : (p : ℕ) (seen : List E) (cs : List (SeatClaim E)) → total (is_of p) (stamped seen cs) ≡ total (is_of p) cs
   total-stamped p seen [] = refl
   total-stamped p seen (c ∷ cs) = ap (λ n. is_of p c + n) (total-stamped p seen cs)
 
-  pub length-stamped : (seen : List E) (cs : List (Claim E)) → length (stamped seen cs) ≡ length cs
+  pub length-stamped : (seen : List E) (cs : List (SeatClaim E)) → length (stamped seen cs) ≡ length cs
   length-stamped seen [] = refl
   length-stamped seen (c ∷ cs) = ap suc (length-stamped seen cs)
 
-  pub total-parts : (g : Claim E → ℕ) (cs : List (Claim E)) → total g (first_claim cs) + total g (other_claims cs) ≡ total g cs
+  pub total-parts : (g : SeatClaim E → ℕ) (cs : List (SeatClaim E)) → total g (first_claim cs) + total g (other_claims cs) ≡ total g cs
   total-parts g [] = refl
   total-parts g (c ∷ cs) = omega arith
 
-  pub length-parts : (cs : List (Claim E)) → length (first_claim cs) + length (other_claims cs) ≡ length cs
+  pub length-parts : (cs : List (SeatClaim E)) → length (first_claim cs) + length (other_claims cs) ≡ length cs
   length-parts [] = refl
   length-parts (c ∷ cs) = omega arith

@@ -30,7 +30,7 @@ pub record Caller (E : Type 0) : Type 0 where
   pub mine : List E
 
 -- the host: how many callers it has admitted, and those that have given their seats back
-pub record HostState (E A : Type 0) : Type 0 where
+pub record LockHostState (E A : Type 0) : Type 0 where
   pub home : Home A
   pub admitted : ℕ
   pub gathered : List (Caller E)
@@ -41,7 +41,7 @@ module _ {E A : Type 0} where
   newcomer l p = record { home = home_of l; number = p; seen = []; mine = []; holds = false }
 
   -- a host that has admitted nobody
-  abbrev pub first_host : LockState A → HostState E A
+  abbrev pub first_host : LockState A → LockHostState E A
   first_host l = record { home = home_of l; admitted = 0; gathered = [] }
 
   abbrev pub caller_of : SeatState E A → Caller E

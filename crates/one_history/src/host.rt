@@ -2,7 +2,7 @@ ghost use Rattle.std.specs.Prelude.{◌≡◌, ℕ, ◌+◌, ◌^◌, ◌<◌, �
 ghost use Rattle.one_history.specs.States.{home_of, newcomer, caller_of, IsIdleAt};
 ghost use Rattle.one_history.specs.Seats.{host_of, IsIdle};
 
-use crate::lock::{Lock, Place};
+use crate::lock::{Lock, LockSeat};
 use crate::rule::Recorded;
 use crate::seat::Seat;
 use crate::steps::{Admits, Gathers};
@@ -11,16 +11,16 @@ use std::marker::Model;
 /// The one seat that admits callers and takes their seats back. Contracts see how many it has
 /// admitted, and the callers that have gone, each with what it had seen and made.
 pub struct Host<T, E, A> {
-    pub(crate) place: Place<T, E, A>,
+    pub(crate) place: LockSeat<T, E, A>,
     pub(crate) admitted: u64,
     pub(crate) gathered: u64,
 }
 
 impl<T, E, A> Model for Host<T, E, A> {
-    ghost use Rattle.one_history.specs.States.{HostState};
+    ghost use Rattle.one_history.specs.States.{LockHostState};
     ghost use Rattle.one_history.specs.Seats.{host_of, IsHost};
 
-    ghost Value = { HostState E A };
+    ghost Value = { LockHostState E A };
 
     ghost view = { λ h. host_of h.place.table_id h.place.me.0 };
 
@@ -42,7 +42,7 @@ impl<T, E, A> Host<T, E, A> {
         self.gathered
     }
 
-    pub(crate) fn into_place(self) -> Place<T, E, A>
+    pub(crate) fn into_place(self) -> LockSeat<T, E, A>
         ensures shown { host_of result.table_id result.me.0 ≡ self }
         ensures first { result.id ≡ 0 }
         ensures idle { IsIdle result.me }

@@ -14,5 +14,5 @@ mod view;
 pub use close::NotAlone;
 pub use host::Host;
 pub use lock::Lock;
-pub use rule::{Recorded, Told};
+pub use rule::{MadeEntry, Recorded};
 pub use seat::{Seat, Seated};

@@ -5,10 +5,10 @@ ghost use Rattle.one_history.specs.Seats.{IsOne, IsIdle, IsReady, IsUnchanged};
 ghost use Rattle.one_history.specs.Rule.{Fair};
 ghost use Rattle.one_history.specs.Plays.{Seizes, with_entry, without_entry};
 
-use crate::rule::{OneHistory, Recorded, Told};
+use crate::rule::{MadeEntry, OneHistory, Recorded};
 use crate::seat::Seat;
-use crate::steps::{Gives, PutsBack, Takes};
-use crate::view::View;
+use crate::steps::{GiveStep, PutsBack, Takes};
+use crate::view::SeatView;
 use atomic_table::{Shared, Table};
 use std::alloc::Global;
 use std::hint::spin_loop;
@@ -18,7 +18,7 @@ use std::sync::Wait;
 /// A lock over a value that stands at a history of entries. All that its callers made stands in one
 /// legal history. Contracts see which lock it is, and what its values are about.
 pub struct Lock<T: Recorded<E, A>, E, A> {
-    pub(crate) table: Table<Option<T>, View<E, A>, A, OneHistory, Global>,
+    pub(crate) table: Table<Option<T>, SeatView<E, A>, A, OneHistory, Global>,
 }
 
 impl<T: Recorded<E, A>, E, A> Model for Lock<T, E, A> {
@@ -35,7 +35,7 @@ impl<T: Recorded<E, A>, E, A> Model for Lock<T, E, A> {
 impl<T: Recorded<E, A>, E, A> Lock<T, E, A> {
     /// Takes the value out. The seat has then seen the whole history, at which the value stands.
     /// It waits while another seat holds the value, and it is the only call that does.
-    pub fn take<R: Wait>(&self, rt: &R, seat: &mut Seat<T, E, A>) -> T
+    pub fn acquire<R: Wait>(&self, rt: &R, seat: &mut Seat<T, E, A>) -> T
         requires idle { IsIdleAt self.now seat.old }
         ensures seat { seat.new ≡ record seat.old { seen = seat.new.seen; holds = true } }
         ensures begins { Begins seat.new.seen seat.old.seen }
@@ -51,9 +51,9 @@ impl<T: Recorded<E, A>, E, A> Lock<T, E, A> {
         value
     }
 
-    /// Gives the value back with one more entry, which is the caller's own. The history ends with it.
+    /// GiveStep the value back with one more entry, which is the caller's own. The history ends with it.
     /// The proof of a call picks the entry, at `Brand` for `B`.
-    pub fn give<B: Told<E>>(&self, seat: &mut Seat<T, E, A>, value: T)
+    pub fn release_with<B: MadeEntry<E>>(&self, seat: &mut Seat<T, E, A>, value: T)
         requires holds { IsHolderAt self.now seat.old }
         requires mine { T.by B.entry ≡ seat.old.number }
         requires legal { T.legal self.now.about (B.entry ∷ seat.old.seen) }
@@ -69,8 +69,8 @@ impl<T: Recorded<E, A>, E, A> Lock<T, E, A> {
         release_with::<B, T, E, A>(board, &mut seat.place);
     }
 
-    /// Gives the value back as it stood, with no entry.
-    pub fn put_back(&self, seat: &mut Seat<T, E, A>, value: T)
+    /// GiveStep the value back as it stood, with no entry.
+    pub fn release(&self, seat: &mut Seat<T, E, A>, value: T)
         requires holds { IsHolderAt self.now seat.old }
         requires stands { T.stands self.now.about value seat.old.seen }
         ensures { seat.new ≡ record seat.old { holds = false } }
@@ -81,7 +81,7 @@ impl<T: Recorded<E, A>, E, A> Lock<T, E, A> {
         release(board, &mut seat.place);
     }
 
-    pub(crate) fn into_table(self) -> Table<Option<T>, View<E, A>, A, OneHistory, Global>
+    pub(crate) fn into_table(self) -> Table<Option<T>, SeatView<E, A>, A, OneHistory, Global>
         ensures shown { (result.shared.table_id ≡ self.table) × (result.shared.key ≡ self.about) }
         ensures one { IsOne result.shared.table_id }
     {
@@ -99,9 +99,9 @@ impl<T: Recorded<E, A> + Drop, E, A> Drop for Lock<T, E, A> {
 
 // The word: 0 free, 1 taken, 2 taken while other threads sleep until it is given back.
 // The table as threads share it, and a seat at it.
-pub(crate) type Board<T, E, A> = Shared<Option<T>, View<E, A>, A, OneHistory>;
+pub(crate) type Board<T, E, A> = Shared<Option<T>, SeatView<E, A>, A, OneHistory>;
 
-pub(crate) type Place<T, E, A> = atomic_table::Seat<Option<T>, View<E, A>>;
+pub(crate) type LockSeat<T, E, A> = atomic_table::Seat<Option<T>, SeatView<E, A>>;
 
 pub(crate) const FREE: u64 = 0;
 
@@ -117,7 +117,7 @@ const LOOKS: u32 = 100;
 pub(crate) fn seize<T: Recorded<E, A>, E, A, R: Wait>(
     rt: &R,
     board: &Board<T, E, A>,
-    place: &mut Place<T, E, A>,
+    place: &mut LockSeat<T, E, A>,
 )
     requires one { IsOne board.now.table_id }
     requires here { place.old.table_id ≡ board.now.table_id }
@@ -139,7 +139,7 @@ pub(crate) fn seize<T: Recorded<E, A>, E, A, R: Wait>(
 }
 
 // Takes the word where it is found free within a bounded number of looks.
-fn watch<T: Recorded<E, A>, E, A>(board: &Board<T, E, A>, place: &mut Place<T, E, A>) -> bool
+fn watch<T: Recorded<E, A>, E, A>(board: &Board<T, E, A>, place: &mut LockSeat<T, E, A>) -> bool
     requires one { IsOne board.now.table_id }
     requires here { place.old.table_id ≡ board.now.table_id }
     requires idle { IsIdle place.old.me }
@@ -161,7 +161,7 @@ fn watch<T: Recorded<E, A>, E, A>(board: &Board<T, E, A>, place: &mut Place<T, E
 }
 
 // Takes the word if it is free.
-fn attempt<T: Recorded<E, A>, E, A>(board: &Board<T, E, A>, place: &mut Place<T, E, A>) -> bool
+fn attempt<T: Recorded<E, A>, E, A>(board: &Board<T, E, A>, place: &mut LockSeat<T, E, A>) -> bool
     requires one { IsOne board.now.table_id }
     requires here { place.old.table_id ≡ board.now.table_id }
     requires idle { IsIdle place.old.me }
@@ -174,7 +174,7 @@ fn attempt<T: Recorded<E, A>, E, A>(board: &Board<T, E, A>, place: &mut Place<T,
 }
 
 // Takes the word if it is free. Where it is taken, whoever gives it back is told that somebody waits.
-fn claim<T: Recorded<E, A>, E, A>(board: &Board<T, E, A>, place: &mut Place<T, E, A>) -> bool
+fn claim<T: Recorded<E, A>, E, A>(board: &Board<T, E, A>, place: &mut LockSeat<T, E, A>) -> bool
     requires one { IsOne board.now.table_id }
     requires here { place.old.table_id ≡ board.now.table_id }
     requires idle { IsIdle place.old.me }
@@ -186,10 +186,10 @@ fn claim<T: Recorded<E, A>, E, A>(board: &Board<T, E, A>, place: &mut Place<T, E
     board.swap::<Takes>(place, 0, AWAITED) == FREE
 }
 
-// Gives the word and the slot back with an entry.
-pub(crate) fn release_with<B: Told<E>, T: Recorded<E, A>, E, A>(
+// GiveStep the word and the slot back with an entry.
+pub(crate) fn release_with<B: MadeEntry<E>, T: Recorded<E, A>, E, A>(
     board: &Board<T, E, A>,
-    place: &mut Place<T, E, A>,
+    place: &mut LockSeat<T, E, A>,
 )
     requires one { IsOne board.now.table_id }
     requires here { place.old.table_id ≡ board.now.table_id }
@@ -198,11 +198,14 @@ pub(crate) fn release_with<B: Told<E>, T: Recorded<E, A>, E, A>(
     ensures added { place.new.me ≡ with_entry B.entry place.old.me }
     ensures fair { (a : A) → place.old.me.0.about ≡ Some a → Fair T.by (T.legal a) place.new.me.0 }
 {
-    wake_after(board, board.swap::<Gives<B>>(place, 0, FREE));
+    wake_after(board, board.swap::<GiveStep<B>>(place, 0, FREE));
 }
 
-// Gives both back unchanged.
-pub(crate) fn release<T: Recorded<E, A>, E, A>(board: &Board<T, E, A>, place: &mut Place<T, E, A>)
+// GiveStep both back unchanged.
+pub(crate) fn release<T: Recorded<E, A>, E, A>(
+    board: &Board<T, E, A>,
+    place: &mut LockSeat<T, E, A>,
+)
     requires one { IsOne board.now.table_id }
     requires here { place.old.table_id ≡ board.now.table_id }
     requires ready { IsUnchanged T.stands place.old.me }

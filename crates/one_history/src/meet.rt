@@ -5,10 +5,10 @@ ghost use Rattle.one_history.specs.Rule.{Fair};
 ghost use Rattle.one_history.specs.Plays.{paired};
 ghost use Rattle.one_history.specs.Seats.{IsOne, IsIdle};
 
-use crate::lock::{Board, Lock, Place};
+use crate::lock::{Board, Lock, LockSeat};
 use crate::rule::Recorded;
 use crate::seat::Seat;
-use crate::steps::{Looks, Meets};
+use crate::steps::{LookStep, Meets};
 
 impl<T: Recorded<E, A>, E, A> Lock<T, E, A> {
     /// Lets two callers compare what they have seen. Both seats come back, in the order given. Each
@@ -35,8 +35,8 @@ impl<T: Recorded<E, A>, E, A> Lock<T, E, A> {
 // Puts both callers into one seat, which shows that the longer history begins with both.
 fn compare<T: Recorded<E, A>, E, A>(
     board: &Board<T, E, A>,
-    first: &mut Place<T, E, A>,
-    second: Place<T, E, A>,
+    first: &mut LockSeat<T, E, A>,
+    second: LockSeat<T, E, A>,
 )
     requires one { IsOne board.now.table_id }
     requires here { (first.old.table_id ≡ board.now.table_id) × (second.table_id ≡ board.now.table_id) }
@@ -48,5 +48,5 @@ fn compare<T: Recorded<E, A>, E, A>(
         (a : A) → first.old.me.0.about ≡ Some a → Fair T.by (T.legal a) pair }
 {
     board.join_seat::<Meets>(first, second);
-    board.load::<Looks>(first, 0);
+    board.load::<LookStep>(first, 0);
 }

@@ -1,7 +1,7 @@
 ghost use Rattle.std.specs.Prelude.{ℕ, List};
 ghost use Rattle.one_history.specs.Rule.{Kept, opener};
 
-use crate::view::View;
+use crate::view::SeatView;
 use atomic_table::TableRule;
 
 /// A value that stands at a history: `E` is an entry of it, and `A` what all of it is about, such as
@@ -18,14 +18,14 @@ pub trait Recorded<E, A> {
 }
 
 /// The entry that is made. The proof of a call picks it.
-pub trait Told<E> {
+pub trait MadeEntry<E> {
     ghost entry: { E };
 }
 
 // The rule of the lock.
 pub struct OneHistory;
 
-impl<T: Recorded<E, A>, E, A> TableRule<Option<T>, View<E, A>, A> for OneHistory {
+impl<T: Recorded<E, A>, E, A> TableRule<Option<T>, SeatView<E, A>, A> for OneHistory {
     ghost holds = { Kept T.by T.legal T.stands };
 
     ghost first = { opener };

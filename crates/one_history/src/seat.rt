@@ -1,13 +1,13 @@
 ghost use Rattle.std.specs.Prelude.{◌≡◌};
 ghost use Rattle.one_history.specs.Seats.{seat_of, IsSeat};
 
-use crate::lock::Place;
+use crate::lock::LockSeat;
 use std::marker::Model;
 
 /// A caller's seat at a lock. It has no bytes. Contracts see the caller's number, the beginning of
 /// the history that it has seen, its own entries, and whether it holds the value.
 pub struct Seat<T, E, A> {
-    pub(crate) place: Place<T, E, A>,
+    pub(crate) place: LockSeat<T, E, A>,
 }
 
 impl<T, E, A> Model for Seat<T, E, A> {
@@ -22,7 +22,7 @@ impl<T, E, A> Model for Seat<T, E, A> {
 }
 
 impl<T, E, A> Seat<T, E, A> {
-    pub(crate) fn into_place(self) -> Place<T, E, A>
+    pub(crate) fn into_place(self) -> LockSeat<T, E, A>
         ensures shown { seat_of result.table_id result.me.0 ≡ self }
         ensures seat { IsSeat result.me }
     {

@@ -10,7 +10,7 @@ use Rattle.operator_acts.specs.declared.act.Act.{Act}
 use Rattle.operator_acts.specs.declared.act.Act.TheVariants as acts
 use Rattle.operator_acts.specs.declared.fault.ActFault.{ActFault}
 use Rattle.operator_acts.specs.Acts.{nick_at, seconds_at, kick_of, ban_of, unban_of, rest_of, words, words_after}
-use Rattle.operator_acts.specs.Gives.{Gives, fault_of}
+use Rattle.operator_acts.specs.Gives.{GivesAct, fault_of}
 use Rattle.operator_acts.proofs.Cuts.{some-word}
 
 -- a nick that is read, and one that is none
@@ -32,7 +32,7 @@ kick-read ws more word nick reason are is good rest =
     ap kick_of are ∙ ap (kicks more) (nick-there word nick is good) ∙ ap (λ r. Some (acts.Kick nick r)) (sym rest)
 
 pub kick-refused : (ws more : List (List ℕ)) (word : List ℕ) (fault : NickFault) → ws ≡ word ∷ more → (fault ≡ nicks.Invalid → is_nick (chars word) ≡ false)
-    → (fault ≡ nicks.Memory → is_nick (chars word) ≡ true) → Gives (Err (fault_of fault)) (kick_of ws)
+    → (fault ≡ nicks.Memory → is_nick (chars word) ≡ true) → GivesAct (Err (fault_of fault)) (kick_of ws)
 kick-refused ws more word nicks.Memory are bad good =
     ap is_some (ap kick_of are ∙ ap (kicks more) (nick-there word (chars word) refl (good refl)))
 kick-refused ws more word nicks.Invalid are bad good = ap kick_of are ∙ ap (kicks more) (nick-none word (bad refl))
@@ -48,7 +48,7 @@ ban-read ws others more word time nick reason seconds are and-are long is good r
 
 pub ban-refused : (ws others more : List (List ℕ)) (word time : List ℕ) (seconds : ℕ) (fault : NickFault) → ws ≡ word ∷ others → others ≡ time ∷ more
     → seconds_at time ≡ Some seconds → (fault ≡ nicks.Invalid → is_nick (chars word) ≡ false)
-    → (fault ≡ nicks.Memory → is_nick (chars word) ≡ true) → Gives (Err (fault_of fault)) (ban_of ws)
+    → (fault ≡ nicks.Memory → is_nick (chars word) ≡ true) → GivesAct (Err (fault_of fault)) (ban_of ws)
 ban-refused ws others more word time seconds nicks.Memory are and-are long bad good =
     ap is_some (ap ban_of (are ∙ ap (λ xs. word ∷ xs) and-are) ∙ ap (λ s. bans more s (nick_at word)) long
     ∙ ap (bans more (Some seconds)) (nick-there word (chars word) refl (good refl)))
@@ -68,9 +68,9 @@ pub unban-read : (ws : List (List ℕ)) (word cid : List ℕ) → ws ≡ word �
 unban-read ws word cid are spelt = ap unban_of are ∙ ap (λ o. option_map (λ (bytes : List ℕ). acts.Unban bytes) o) spelt
 
 -- a fault passed on by `?`
-pub passed-on : (answer : Result Act ActFault) (fault : NickFault) (said : Option Act) → IsErrAnd answer (λ made. made ≡ fault_of fault) → Gives (Err (fault_of fault)) said → Gives answer said
+pub passed-on : (answer : Result Act ActFault) (fault : NickFault) (said : Option Act) → IsErrAnd answer (λ made. made ≡ fault_of fault) → GivesAct (Err (fault_of fault)) said → GivesAct answer said
 passed-on (Ok act) fault said made refused = absurd made
-passed-on (Err made) fault said is refused = subst (λ (e : ActFault). Gives (Err e) said) (sym is) refused
+passed-on (Err made) fault said is refused = subst (λ (e : ActFault). GivesAct (Err e) said) (sym is) refused
 
 -- an option that was made a result
 pub some-there : {X : Type 0} (o : Option X) (fault : ActFault) (x : X) → ok_or o fault ≡ Ok x → o ≡ Some x

@@ -7,10 +7,10 @@ use Rattle.operator_acts.specs.declared.fault.ActFault.{ActFault}
 use Rattle.operator_acts.specs.declared.fault.ActFault.TheVariants.{Memory, Bad}
 
 -- the act that is there, or the fault that there is none; want of memory stands only in the place of an act
-abbrev pub Gives : Result Act ActFault → Option Act → Type 0
-Gives (Ok act) said = said ≡ Some act
-Gives (Err Memory) said = is_some said ≡ true
-Gives (Err Bad) said = said ≡ None
+abbrev pub GivesAct : Result Act ActFault → Option Act → Type 0
+GivesAct (Ok act) said = said ≡ Some act
+GivesAct (Err Memory) said = is_some said ≡ true
+GivesAct (Err Bad) said = said ≡ None
 
 -- a text whose nick is none is no act
 abbrev pub fault_of : NickFault → ActFault

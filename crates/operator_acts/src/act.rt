@@ -1,7 +1,7 @@
 ghost use Rattle.std.specs.Prelude.{◌≡◌, ◌∷◌};
 ghost use Rattle.std.specs.Option.{option_copied};
 ghost use Rattle.operator_acts.specs.Acts.{act_at, act_of, ban_of, kick_of, unban_of, words, words_after};
-ghost use Rattle.operator_acts.specs.Gives.{Gives};
+ghost use Rattle.operator_acts.specs.Gives.{GivesAct};
 
 use crate::fault::ActFault;
 use crate::free_text::FreeText;
@@ -47,7 +47,7 @@ impl<'a> Act<'a> {
     /// memory runs out.
     #[tactic(auto, unfolding(crate::specs::Acts::act_at))]
     pub fn parse(alloc: Global, text: &'a str) -> Result<Act<'a>, ActFault>
-        ensures { Gives result (act_at text.now) }
+        ensures { GivesAct result (act_at text.now) }
     {
         let (command, arguments) = split_word(text);
         Act::of(alloc, command, arguments)
@@ -55,7 +55,7 @@ impl<'a> Act<'a> {
 
     #[tactic(auto, unfolding(crate::specs::Acts::act_of))]
     fn of(alloc: Global, command: &str, arguments: Option<&'a str>) -> Result<Act<'a>, ActFault>
-        ensures { Gives result (act_of command.now (words_after (option_copied arguments.entry))) }
+        ensures { GivesAct result (act_of command.now (words_after (option_copied arguments.entry))) }
     {
         match command {
             "!kick" => kick(alloc, arguments),
@@ -78,7 +78,7 @@ fn split_word(text: &str) -> (&str, Option<&str>)
 }
 
 fn kick<'a>(alloc: Global, arguments: Option<&'a str>) -> Result<Act<'a>, ActFault>
-    ensures { Gives result (kick_of (words_after (option_copied arguments.entry))) }
+    ensures { GivesAct result (kick_of (words_after (option_copied arguments.entry))) }
 {
     let (nick, reason) = split_word(arguments.ok_or(ActFault::Bad)?);
     Ok(Act::Kick {
@@ -88,7 +88,7 @@ fn kick<'a>(alloc: Global, arguments: Option<&'a str>) -> Result<Act<'a>, ActFau
 }
 
 fn ban<'a>(alloc: Global, arguments: Option<&'a str>) -> Result<Act<'a>, ActFault>
-    ensures { Gives result (ban_of (words_after (option_copied arguments.entry))) }
+    ensures { GivesAct result (ban_of (words_after (option_copied arguments.entry))) }
 {
     let (nick, rest) = split_word(arguments.ok_or(ActFault::Bad)?);
     let (seconds, reason) = split_word(rest.ok_or(ActFault::Bad)?);
@@ -101,7 +101,7 @@ fn ban<'a>(alloc: Global, arguments: Option<&'a str>) -> Result<Act<'a>, ActFaul
 }
 
 fn unban<'a>(arguments: Option<&str>) -> Result<Act<'a>, ActFault>
-    ensures { Gives result (unban_of (words_after (option_copied arguments.entry))) }
+    ensures { GivesAct result (unban_of (words_after (option_copied arguments.entry))) }
 {
     let (cid, more) = split_word(arguments.ok_or(ActFault::Bad)?);
     if more.is_some() {

@@ -27,7 +27,7 @@ pub enum Command {
 
 /// The answer to a [`Command`].
 #[derive(Clone, Copy, PartialEq, Eq)]
-pub enum Answer {
+pub enum CommandAnswer {
     /// The command was not made, since its condition did not hold.
     Skipped,
     /// The user was put in or updated.

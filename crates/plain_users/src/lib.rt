@@ -6,6 +6,6 @@ mod finding;
 mod plain;
 mod run;
 
-pub use command::{Answer, Command};
+pub use command::{Command, CommandAnswer};
 pub use plain::PlainUsers;
 pub use run::{RunRefused, run_users};

@@ -2,12 +2,12 @@ ghost use Rattle.user_table.specs.Changes.{key_of};
 ghost use Rattle.std.specs.Prelude.{◌≡◌, IfOk, OnErr, Some};
 ghost use Rattle.std.specs.Option.{option_copied, option_map};
 ghost use Rattle.std.specs.String.{string_bytes};
-ghost use Rattle.plain_users.specs.Commands.{HaveRun, IsAnswered, is_key, said_key, says_nick};
+ghost use Rattle.plain_users.specs.Commands.{HaveRun, AnswersCommand, is_key, said_key, says_nick};
 ghost use Rattle.user_table.specs.Indexes.{sid_of};
 ghost use Rattle.plain_users.specs.declared.command.Command.TheVariants as commands;
-ghost use Rattle.plain_users.specs.declared.command.Answer.TheVariants as answers;
+ghost use Rattle.plain_users.specs.declared.command.CommandAnswer.TheVariants as answers;
 
-use crate::command::{Answer, Command};
+use crate::command::{Command, CommandAnswer};
 use adc_base32::Sid;
 use adc_ids::Nick;
 use adc_line::{UnescapeFault, unescape};
@@ -45,7 +45,7 @@ pub fn run_users<U: Users>(
     alloc: Global,
     users: &mut U,
     commands: Vec<Command>,
-) -> Result<Vec<Answer>, RunRefused>
+) -> Result<Vec<CommandAnswer>, RunRefused>
     ensures ran { IfOk result (λ answers. HaveRun (U.listed users.old) commands.items answers.items (U.listed users.new)) }
     ensures unchanged { OnErr result (U.listed users.new ≡ U.listed users.old) }
 {
@@ -58,18 +58,18 @@ pub fn run_users<U: Users>(
 }
 
 /// Makes a command.
-fn answer<U: Users>(alloc: Global, users: &mut U, command: Command) -> Answer
-    ensures { IsAnswered (U.listed users.old) command result (U.listed users.new) }
+fn answer<U: Users>(alloc: Global, users: &mut U, command: Command) -> CommandAnswer
+    ensures { AnswersCommand (U.listed users.old) command result (U.listed users.new) }
 {
     match command {
         Command::Insert(user) => insert(users, user),
         Command::Remove(sid) => remove(users, sid),
         Command::MergeInfo(sid, update, nick) => merge_info(alloc, users, sid, &update, nick),
-        Command::BySid(sid) => Answer::Found(sid_of(users.by_sid(sid))),
-        Command::ByCid(cid) => Answer::Found(sid_of(users.by_cid(cid))),
-        Command::ByNick(key) => Answer::Found(sid_of(users.by_nick(&key))),
-        Command::At(place) => Answer::Found(sid_of(users.at(place))),
-        Command::Count => Answer::Counted(users.totals()),
+        Command::BySid(sid) => CommandAnswer::Found(sid_of(users.by_sid(sid))),
+        Command::ByCid(cid) => CommandAnswer::Found(sid_of(users.by_cid(cid))),
+        Command::ByNick(key) => CommandAnswer::Found(sid_of(users.by_nick(&key))),
+        Command::At(place) => CommandAnswer::Found(sid_of(users.at(place))),
+        Command::Count => CommandAnswer::Counted(users.totals()),
     }
 }
 
@@ -82,35 +82,35 @@ fn sid_of(user: Option<&User>) -> Option<Sid>
     }
 }
 
-fn insert<U: Users>(users: &mut U, user: User) -> Answer
-    ensures { IsAnswered (U.listed users.old) (commands.Insert user) result (U.listed users.new) }
+fn insert<U: Users>(users: &mut U, user: User) -> CommandAnswer
+    ensures { AnswersCommand (U.listed users.old) (commands.Insert user) result (U.listed users.new) }
 {
     if users.by_sid(user.sid()).is_some() {
         drop(user);
-        return Answer::Skipped;
+        return CommandAnswer::Skipped;
     }
     match users.insert(user) {
-        Ok(()) => Answer::Done,
+        Ok(()) => CommandAnswer::Done,
         Err(back) => refused(back),
     }
 }
 
 /// Lets go of a user who was not put in.
-fn refused(back: (TableRefused, User)) -> Answer
+fn refused(back: (TableRefused, User)) -> CommandAnswer
     ensures { result ≡ answers.Refused back.0 }
 {
     let (refused, user) = back;
     drop(user);
-    Answer::Refused(refused)
+    CommandAnswer::Refused(refused)
 }
 
-fn remove<U: Users>(users: &mut U, sid: Sid) -> Answer
-    ensures { IsAnswered (U.listed users.old) (commands.Remove sid) result (U.listed users.new) }
+fn remove<U: Users>(users: &mut U, sid: Sid) -> CommandAnswer
+    ensures { AnswersCommand (U.listed users.old) (commands.Remove sid) result (U.listed users.new) }
 {
     let removed = users.remove(sid);
     let found = sid_of(removed.as_ref());
     drop(removed);
-    Answer::Found(found)
+    CommandAnswer::Found(found)
 }
 
 fn merge_info<U: Users>(
@@ -119,20 +119,20 @@ fn merge_info<U: Users>(
     sid: Sid,
     update: &Update,
     nick: Option<Nick>,
-) -> Answer
-    ensures { IsAnswered (U.listed users.old) (commands.MergeInfo sid update.now nick) result (U.listed users.new) }
+) -> CommandAnswer
+    ensures { AnswersCommand (U.listed users.old) (commands.MergeInfo sid update.now nick) result (U.listed users.new) }
 {
     if !takes_update(users, sid, update) {
-        return Answer::Skipped;
+        return CommandAnswer::Skipped;
     }
     match says_nick(alloc, update, &nick) {
         Ok(true) => {}
-        Ok(false) => return Answer::Skipped,
-        Err(AllocError) => return Answer::Refused(TableRefused::Memory),
+        Ok(false) => return CommandAnswer::Skipped,
+        Err(AllocError) => return CommandAnswer::Refused(TableRefused::Memory),
     }
     match users.merge_info(sid, update, nick) {
-        Ok(()) => Answer::Done,
-        Err(refused) => Answer::Refused(refused),
+        Ok(()) => CommandAnswer::Done,
+        Err(refused) => CommandAnswer::Refused(refused),
     }
 }
 

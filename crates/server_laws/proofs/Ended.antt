@@ -14,17 +14,17 @@ use Rattle.hub_rules.specs.Configured.{Configured}
 use Rattle.hub_rules.specs.Effects.{is_over}
 use Rattle.hub_rules.specs.Facts.{Facts, facts, after, with_lines_taken, with_one}
 use Rattle.hub_rules.specs.History.{lines_owed, count_taken, lags, stage}
-use Rattle.hub_invariants.specs.Lagging.{all_fit, share, shares_that_fit}
+use Rattle.hub_invariants.specs.Lag.{all_fit, share, shares_that_fit}
 use Rattle.hub_rules.specs.Legal.{Legal, MayCall, reply, take_reply, has_ended}
 use Rattle.hub_invariants.specs.Promises.{taken_in, lines_taken}
-use Rattle.hub_rules.specs.Shares.{About, waiting}
+use Rattle.hub_rules.specs.Shares.{ConnState, waiting}
 use Rattle.hub_invariants.proofs.Calls.{sound_of}
 use Rattle.hub_invariants.proofs.Kept.{joins-grow, taken_is_the_sum}
 use Rattle.hub_invariants.proofs.Members.{both}
 use Rattle.hub_invariants.proofs.Sids.{not-true}
 use Rattle.hub_invariants.proofs.Sound.{Sound, or-true}
-use Rattle.hub_laws.proofs.Lagging.{given-nothing, lag_is_the_first, owed_are_shares, share-beyond}
-use Rattle.hub_laws.proofs.Leaving.{out_is_for_good}
+use Rattle.hub_laws.proofs.Lag.{given-nothing, lag_is_the_first, owed_are_shares, share-beyond}
+use Rattle.hub_laws.proofs.ShutOut.{out_is_for_good}
 use Rattle.hub_shared.specs.Connections.{entries_of}
 
 -- ---- takes that were told so
@@ -57,7 +57,7 @@ is-gone stages.Gone is = refl
 is-gone _ is = absurd (false≢true is)
 
 -- all that it is owed was taken, and no call will owe it more
-pub record Spent (a : About) : Type 0 where
+pub record Spent (a : ConnState) : Type 0 where
   pub shut : (is_over a.stage || a.lags) ≡ true
   pub all : length a.owed ≤ a.taken
 
@@ -121,7 +121,7 @@ module _ (setup : Configured) (hash : List ℕ → List ℕ) where
 
   -- ---- the take that was told so
 
-  all-waiting : (count : ℕ) (a : About) → has_ended count a ≡ true → Spent (with_lines_taken count a)
+  all-waiting : (count : ℕ) (a : ConnState) → has_ended count a ≡ true → Spent (with_lines_taken count a)
   all-waiting count a is =
       let parts = both (nat_le (length (waiting a)) count) (is_over a.stage || a.lags) is in
       let few : length (waiting a) ≤ count = leb-true (length (waiting a)) count parts.0 in
@@ -136,21 +136,21 @@ module _ (setup : Configured) (hash : List ℕ → List ℕ) where
 
   take-ends : (f : Facts) (c d count : ℕ) (same : Bool) → (d == c) ≡ same → d ≤ f.joins → told_so same (take_reply count (f.about d)) ≡ true
       → IsSpent (record f { about = with_one d (with_lines_taken count) f.about }) c
-  take-ends f c d count true is old told =
-      subst (IsSpent (record f { about = with_one d (with_lines_taken count) f.about })) (eqb-true d c is) (record { old = old; its = own-ends f d count told })
-  take-ends f c d count false is old told = absurd (false≢true told)
+  take-ends f c d count true is old reports =
+      subst (IsSpent (record f { about = with_one d (with_lines_taken count) f.about })) (eqb-true d c is) (record { old = old; its = own-ends f d count reports })
+  take-ends f c d count false is old reports = absurd (false≢true reports)
 
   ends-now : (f : Facts) (caller c : ℕ) (call : Call) → Sound f → MayCall f caller call → is_ended_by c call (reply setup hash f caller call) ≡ true
       → IsSpent (after setup hash f caller call) c
   unfolding after reply
-  ends-now f caller c (Take d count) sound may told = take-ends f c d count (d == c) refl (sound.counted d may.0) told
-  ends-now f caller c (Join peer challenge now) sound may told = absurd (false≢true told)
-  ends-now f caller c (Line d bytes now) sound may told = absurd (false≢true told)
-  ends-now f caller c (Quit d) sound may told = absurd (false≢true told)
+  ends-now f caller c (Take d count) sound may reports = take-ends f c d count (d == c) refl (sound.counted d may.0) reports
+  ends-now f caller c (Join peer challenge now) sound may reports = absurd (false≢true reports)
+  ends-now f caller c (Line d bytes now) sound may reports = absurd (false≢true reports)
+  ends-now f caller c (Quit d) sound may reports = absurd (false≢true reports)
 
   last-ends : (e : Entry) (h : List Entry) (c : ℕ) → Legal setup hash (e ∷ h) → is_ended_by c e.call e.reply ≡ true → IsSpent (facts setup hash (e ∷ h)) c
   unfolding facts Legal
-  last-ends e h c legal told = ends-now (facts setup hash h) e.caller c e.call (sound_of setup hash h) legal.1 (ap (is_ended_by c e.call) (sym legal.2) ∙ told)
+  last-ends e h c legal reports = ends-now (facts setup hash h) e.caller c e.call (sound_of setup hash h) legal.1 (ap (is_ended_by c e.call) (sym legal.2) ∙ reports)
 
   spent-by : (e : Entry) (h : List Entry) (c : ℕ) → Legal setup hash (e ∷ h) → (has_ended_in c h ≡ true → IsSpent (facts setup hash h) c)
       → (now : Bool) → is_ended_by c e.call e.reply ≡ now → (now || has_ended_in c h) ≡ true → IsSpent (facts setup hash (e ∷ h)) c

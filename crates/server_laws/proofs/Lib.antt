@@ -1,3 +1,3 @@
 mod Ended
 mod Takes
-mod Owing
+mod Owed

@@ -9,12 +9,12 @@ use Rattle.hub_rules.specs.declared.history.Reply.{Reply}
 use Rattle.hub_rules.specs.Configured.{Configured}
 use Rattle.hub_rules.specs.Facts.{Facts, facts}
 use Rattle.hub_rules.specs.Legal.{Legal, MayCall}
-use Rattle.hub_invariants.specs.Opening.{has_joined, joins_as}
+use Rattle.hub_invariants.specs.OpenConnections.{has_joined, joins_as}
 use Rattle.hub_invariants.proofs.Kept.{fresh-taken}
 use Rattle.hub_laws.specs.Delivery.{bytes_taken, bytes_of_take, bytes_delivered}
 use Rattle.hub_laws.proofs.Delivery.{delivered_are_the_first}
 use Rattle.hub_shared.specs.Connections.{entries_of}
-use Rattle.hub_shared.proofs.Keeping.{is-new}
+use Rattle.hub_shared.proofs.KeptJoins.{is-new}
 use Rattle.hub_shared.proofs.Known.{is-known}
 
 -- ---- what takes delivered

@@ -3,7 +3,7 @@
 
 ghost use Rattle.hub_server.specs.ServedAll.{Arrives};
 ghost use Rattle.hub_server.specs.declared.terms.Terms.{Terms};
-ghost use Rattle.server_laws.specs.Payment.{VisitsArePaid, WrittenIsOwed};
+ghost use Rattle.server_laws.specs.Written.{EachWroteTheFirst, WrittenIsOwed};
 
 use adc_sessions::Stream;
 use hub_listener::Moments;
@@ -15,8 +15,8 @@ use session_hash::SessionHash;
 /// the connection is owed where the hub said that nothing will follow. That holds however the calls of a caller are read as visits, and
 /// whatever moments the clock tells.
 pub fn written_laws<S: Stream, T: Ticket<S, H, C>, H: SessionHash, C: Moments>(clock: &C)
-    ensures paid { (terms : Terms H C) → VisitsArePaid ⟦<S as Stream>⟧.told (C.tells clock.now) (Arrives T.terms T.number T.peer T.began terms) }
-    ensures written { WrittenIsOwed T.terms T.number T.peer T.began ⟦<S as Stream>⟧.told (C.tells clock.now) }
+    ensures paid { (terms : Terms H C) → EachWroteTheFirst ⟦<S as Stream>⟧.reports (C.may_read clock.now) (Arrives T.terms T.number T.peer T.began terms) }
+    ensures written { WrittenIsOwed T.terms T.number T.peer T.began ⟦<S as Stream>⟧.reports (C.may_read clock.now) }
 {
     let _ = clock;
 }

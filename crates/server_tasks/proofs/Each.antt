@@ -1,7 +1,7 @@
 -- Rings for one after the other.
 use Rattle.std.proofs.Common.{◌≡◌, ◌≢◌, ◌<◌, ◌+◌, ℕ, true, arith, sym, ◌∙◌, subst, inl, inr, slice_get, length, ◌≤◌}
 use Rattle.std.proofs.lemmas.Option.{slice_get_within}
-use Rattle.server_tasks.specs.declared.bells.Bell.{Bell}
+use Rattle.server_tasks.specs.declared.bells.BellState.{BellState}
 use Rattle.server_tasks.specs.Bells.{is_unheard}
 use Rattle.server_tasks.specs.Rung.{At, IsRung, IsAwake, OthersStay, SameSlots}
 use Rattle.server_tasks.specs.declared.bells.Bells.{Bells}
@@ -43,7 +43,7 @@ one_left_out own bound old new were e = (
 )
 
 -- there is nothing at or past the bound
-pub all_below : {P : Bell → Type 0} (own bound : ℕ) (new : Bells) → length new.bells.items ≤ bound →
+pub all_below : {P : BellState → Type 0} (own bound : ℕ) (new : Bells) → length new.bells.items ≤ bound →
     ((slot : ℕ) → slot ≢ own → slot < bound → At new slot P) → (slot : ℕ) → slot ≢ own → At new slot P
 all_below own bound new le each slot ne bell got =
     let within : slot < length new.bells.items = slice_get_within new.bells.items slot bell got in

@@ -4,10 +4,10 @@ use Rattle.std.specs.BTreeMap.{BTreeMap, UpdatesBy}
 use Rattle.std.specs.Cmp.{unsigned_tied}
 use Rattle.std.specs.Ordering.{nat_cmp}
 use Rattle.std.proofs.lemmas.Option.{same_Some}
-use Rattle.server_tasks.specs.Named.{IsSetAt, slot_at}
+use Rattle.server_tasks.specs.Named.{IsSetAtName, slot_at}
 use Rattle.server_tasks.proofs.Indexes.{same_or_not}
 
-slot-set : (sid : ℕ) (m n : BTreeMap ℕ ℕ) (found : Option ℕ) → UpdatesBy nat_cmp (nat_cmp sid) m n found → IsSetAt sid found m.entries n.entries
+slot-set : (sid : ℕ) (m n : BTreeMap ℕ ℕ) (found : Option ℕ) → UpdatesBy nat_cmp (nat_cmp sid) m n found → IsSetAtName sid found m.entries n.entries
 slot-set sid m n found updates = λ other. updates.0 other ∙ ap (λ b. cond b found (slot_at m.entries other)) (unsigned_tied sid other)
 
 differs : (sid other : ℕ) → other ≢ sid → (sid == other) ≡ false

@@ -5,7 +5,7 @@ use Rattle.std.proofs.lemmas.List.{take-append-le, take_all}
 use Rattle.server_tasks.specs.Becomes.{OneBecomes}
 use Rattle.server_tasks.specs.Bells.{AreBells, AreDue, is_among, is_unheard, passed_over, woken, woken_if_rung}
 use Rattle.server_tasks.specs.Rung.{At, IsRung, IsAwake, IsDue, SameSlots, StaysOrIsWoken}
-use Rattle.server_tasks.specs.declared.bells.Bell.{Bell}
+use Rattle.server_tasks.specs.declared.bells.BellState.{BellState}
 use Rattle.server_tasks.specs.declared.bells.Bells.{Bells}
 use Rattle.server_tasks.proofs.Indexes.{same_or_not}
 use Rattle.server_tasks.proofs.LetGo.{last_there, there_too}
@@ -41,7 +41,7 @@ awake_or_due bells slot are rung = elim (nothing_or_some bells.bells.items slot)
 ]
 
 -- nobody hears or forgets a ring as it is woken
-pub hears_same : (old new : Bells) (slot : ℕ) (was bell : Bell) → StaysOrIsWoken old new slot → new.rings ≡ old.rings →
+pub hears_same : (old new : Bells) (slot : ℕ) (was bell : BellState) → StaysOrIsWoken old new slot → new.rings ≡ old.rings →
     slice_get old.bells.items slot ≡ Some was → slice_get new.bells.items slot ≡ Some bell → is_unheard new.rings bell ≡ is_unheard old.rings was
 hears_same old new slot was bell stays rings got there = elim (stays was got) [
   | inl same ↦ ap (is_unheard new.rings) (same_Some bell was (sym there ∙ same)) ∙ ap (λ n. is_unheard n was) rings
@@ -106,8 +106,8 @@ less_due (suc due) place slot rest lt ne there =
     subst (λ n. IsTrue (is_among place (take n rest))) (sym same) (among_rest place slot (take due rest) ne there)
 
 -- the first was woken, and waits no more
-pub gone_are : (bells new : List Bell) (slot : ℕ) (rest : List ℕ) (rings : ℕ) → OneBecomes (woken_if_rung rings) slot bells new →
-    ((was : Bell) → slice_get bells slot ≡ Some was → is_unheard rings was ≡ true) → AreBells bells (slot ∷ rest) rings → AreBells new rest rings
+pub gone_are : (bells new : List BellState) (slot : ℕ) (rest : List ℕ) (rings : ℕ) → OneBecomes (woken_if_rung rings) slot bells new →
+    ((was : BellState) → slice_get bells slot ≡ Some was → is_unheard rings was ≡ true) → AreBells bells (slot ∷ rest) rings → AreBells new rest rings
 gone_are bells new slot rest rings becomes rung are =
     each_become
     (λ place bell. (IsTrue bell.waits → IsTrue (is_among place rest)) × (IsTrue (is_some bell.waker) → IsTrue (is_among place rest)) × (bell.heard ≤ rings))
@@ -119,8 +119,8 @@ gone_are bells new slot rest rings becomes rung are =
     × ((if b then woken was else was).heard ≤ rings))
     (sym (rung was got)) (λ w. grind (arith, w), λ w. grind (arith, w), (are slot was got).2))
 
-pub gone_due : (bells new : List Bell) (slot : ℕ) (rest : List ℕ) (due rings : ℕ) → OneBecomes (woken_if_rung rings) slot bells new →
-    ((was : Bell) → slice_get bells slot ≡ Some was → is_unheard rings was ≡ true) → 0 < due → AreDue bells (slot ∷ rest) due rings → AreDue new rest (due - 1) rings
+pub gone_due : (bells new : List BellState) (slot : ℕ) (rest : List ℕ) (due rings : ℕ) → OneBecomes (woken_if_rung rings) slot bells new →
+    ((was : BellState) → slice_get bells slot ≡ Some was → is_unheard rings was ≡ true) → 0 < due → AreDue bells (slot ∷ rest) due rings → AreDue new rest (due - 1) rings
 gone_due bells new slot rest due rings becomes rung lt are =
     each_become
     (λ place bell. IsTrue (is_some bell.waker) → is_unheard rings bell ≡ true → IsTrue (is_among place (take (due - 1) rest)))
@@ -131,8 +131,8 @@ gone_due bells new slot rest due rings becomes rung lt are =
     (sym (rung was got)) (λ left unheard. grind (arith, left)))
 
 -- the first has heard all rings, and waits behind the others
-pub kept_are : (bells new : List Bell) (slot : ℕ) (rest : List ℕ) (rings : ℕ) → OneBecomes (woken_if_rung rings) slot bells new →
-    ((was : Bell) → slice_get bells slot ≡ Some was → is_unheard rings was ≡ false) → AreBells bells (slot ∷ rest) rings → AreBells new (rest ++ slot ∷ []) rings
+pub kept_are : (bells new : List BellState) (slot : ℕ) (rest : List ℕ) (rings : ℕ) → OneBecomes (woken_if_rung rings) slot bells new →
+    ((was : BellState) → slice_get bells slot ≡ Some was → is_unheard rings was ≡ false) → AreBells bells (slot ∷ rest) rings → AreBells new (rest ++ slot ∷ []) rings
 kept_are bells new slot rest rings becomes heard are =
     each_become
     (λ place bell. (IsTrue bell.waits → IsTrue (is_among place (rest ++ slot ∷ []))) × (IsTrue (is_some bell.waker) → IsTrue (is_among place (rest ++ slot ∷ []))) × (bell.heard ≤ rings))
@@ -144,8 +144,8 @@ kept_are bells new slot rest rings becomes heard are =
     × ((if b then woken was else was).heard ≤ rings))
     (sym (heard was got)) (λ w. last_there slot rest, λ w. last_there slot rest, (are slot was got).2))
 
-pub kept_due : (bells new : List Bell) (slot : ℕ) (rest : List ℕ) (due rings : ℕ) → OneBecomes (woken_if_rung rings) slot bells new →
-    ((was : Bell) → slice_get bells slot ≡ Some was → is_unheard rings was ≡ false) → 0 < due → due ≤ length (slot ∷ rest) → AreDue bells (slot ∷ rest) due rings →
+pub kept_due : (bells new : List BellState) (slot : ℕ) (rest : List ℕ) (due rings : ℕ) → OneBecomes (woken_if_rung rings) slot bells new →
+    ((was : BellState) → slice_get bells slot ≡ Some was → is_unheard rings was ≡ false) → 0 < due → due ≤ length (slot ∷ rest) → AreDue bells (slot ∷ rest) due rings →
     AreDue new (rest ++ slot ∷ []) (due - 1) rings
 kept_due bells new slot rest due rings becomes heard lt le are =
     let same : take (due - 1) (rest ++ slot ∷ []) ≡ take (due - 1) rest = take-append-le (due - 1) rest (slot ∷ []) (omega (arith, lt, le)) in
@@ -158,22 +158,22 @@ kept_due bells new slot rest due rings becomes heard lt le are =
     (sym (heard was got)) (λ left unheard. let all : is_unheard rings was ≡ false = heard was got in grind (arith, unheard, all)))
 
 -- more that wait behind those who are due
-pub due_grown : (bells : List Bell) (old new : List ℕ) (due rings : ℕ) → take due new ≡ take due old → AreDue bells old due rings → AreDue bells new due rings
+pub due_grown : (bells : List BellState) (old new : List ℕ) (due rings : ℕ) → take due new ≡ take due old → AreDue bells old due rings → AreDue bells new due rings
 due_grown bells old new due rings same are slot bell got left unheard = subst (λ w. IsTrue (is_among slot w)) (sym same) (are slot bell got left unheard)
 
-passed_bound : (rings : ℕ) (was : Bell) → was.heard < rings → (passed_over rings was).heard ≤ rings
+passed_bound : (rings : ℕ) (was : BellState) → was.heard < rings → (passed_over rings was).heard ≤ rings
 passed_bound rings was lt = elim (yes_or_no (was.heard == rings - 1)) [
   | inl last ↦ subst (λ b. (if b then rings else was.heard) ≤ rings) (sym last) (omega arith)
   | inr earlier ↦ subst (λ b. (if b then rings else was.heard) ≤ rings) (sym earlier) (omega (arith, lt))
 ]
 
-passed_heard : (before : ℕ) (was : Bell) → was.heard ≤ before → is_unheard (before + 1) (passed_over (before + 1) was) ≡ is_unheard before was
+passed_heard : (before : ℕ) (was : BellState) → was.heard ≤ before → is_unheard (before + 1) (passed_over (before + 1) was) ≡ is_unheard before was
 passed_heard before was le =
     let less : before + 1 - 1 ≡ before = omega arith in
     elim (yes_or_no (was.heard == before)) [ inl last ↦ grind (arith, last, less) | inr earlier ↦ grind (arith, earlier, less, le) ]
 
 -- a ring of everybody but one is counted
-pub counted_are : (bells new : List Bell) (own : ℕ) (waiting : List ℕ) (rings next : ℕ) → next ≡ rings + 1 → OneBecomes (passed_over next) own bells new →
+pub counted_are : (bells new : List BellState) (own : ℕ) (waiting : List ℕ) (rings next : ℕ) → next ≡ rings + 1 → OneBecomes (passed_over next) own bells new →
     AreBells bells waiting rings → AreBells new waiting next
 counted_are bells new own waiting rings next is becomes are =
     each_become
@@ -182,21 +182,21 @@ counted_are bells new own waiting rings next is becomes are =
     (λ place bell got ne. let bound : bell.heard ≤ rings = (are place bell got).2 in ((are place bell got).0, (are place bell got).1, omega (arith, bound, is)))
     (λ was got. let bound : was.heard ≤ rings = (are own was got).2 in ((are own was got).0, (are own was got).1, passed_bound next was (omega (arith, bound, is))))
 
-pub counted_due : (bells : List Bell) (waiting : List ℕ) (due rings : ℕ) → due ≡ length waiting → AreBells bells waiting rings → AreDue bells waiting due rings
+pub counted_due : (bells : List BellState) (waiting : List ℕ) (due rings : ℕ) → due ≡ length waiting → AreBells bells waiting rings → AreDue bells waiting due rings
 counted_due bells waiting due rings all are slot bell got left unheard =
     subst (λ w. IsTrue (is_among slot w)) (sym (take_all due waiting (omega (arith, all)))) ((are slot bell got).1 left)
 
-late : (rings : ℕ) (bell : Bell) → bell.heard < rings → is_unheard rings bell ≡ true
+late : (rings : ℕ) (bell : BellState) → bell.heard < rings → is_unheard rings bell ≡ true
 late rings bell lt = grind (arith, lt)
 
-pub others_rung : (bells new : List Bell) (own : ℕ) (waiting : List ℕ) (rings next : ℕ) → next ≡ rings + 1 → OneBecomes (passed_over next) own bells new →
-    AreBells bells waiting rings → (slot : ℕ) → slot ≢ own → (bell : Bell) → slice_get new slot ≡ Some bell → is_unheard next bell ≡ true
+pub others_rung : (bells new : List BellState) (own : ℕ) (waiting : List ℕ) (rings next : ℕ) → next ≡ rings + 1 → OneBecomes (passed_over next) own bells new →
+    AreBells bells waiting rings → (slot : ℕ) → slot ≢ own → (bell : BellState) → slice_get new slot ≡ Some bell → is_unheard next bell ≡ true
 others_rung bells new own waiting rings next is becomes are slot ne bell got =
     let bound : bell.heard ≤ rings = (are slot bell (sym (becomes.2 slot ne) ∙ got)).2 in
     late next bell (omega (arith, bound, is))
 
-pub own_stays : (bells new : List Bell) (own : ℕ) (waiting : List ℕ) (rings next : ℕ) → next ≡ rings + 1 → OneBecomes (passed_over next) own bells new →
-    AreBells bells waiting rings → (was : Bell) → slice_get bells own ≡ Some was → (bell : Bell) → slice_get new own ≡ Some bell → is_unheard next bell ≡ is_unheard rings was
+pub own_stays : (bells new : List BellState) (own : ℕ) (waiting : List ℕ) (rings next : ℕ) → next ≡ rings + 1 → OneBecomes (passed_over next) own bells new →
+    AreBells bells waiting rings → (was : BellState) → slice_get bells own ≡ Some was → (bell : BellState) → slice_get new own ≡ Some bell → is_unheard next bell ≡ is_unheard rings was
 own_stays bells new own waiting rings next is becomes are was got bell there =
     let same : bell ≡ passed_over next was = same_Some bell (passed_over next was) (sym there ∙ becomes.1 was got) in
     ap (is_unheard next) same ∙ subst (λ n. is_unheard n (passed_over n was) ≡ is_unheard rings was) (sym is) (passed_heard rings was (are own was got).2)

@@ -9,7 +9,7 @@ use Rattle.server_tasks.specs.declared.permission.Permission.{Permission}
 use Rattle.server_tasks.specs.declared.permission.Permission.TheVariants.{Unasked, Asked, Lost}
 use Rattle.server_tasks.specs.declared.sender.Throttle.{Throttle}
 use Rattle.server_tasks.specs.declared.sight.Sight.{Sight}
-use Rattle.server_tasks.specs.declared.slots.Deed.TheVariants as deeds
+use Rattle.server_tasks.specs.declared.slots.SlotEvent.TheVariants as deeds
 use Rattle.server_tasks.specs.declared.slots.Slot.{Slot}
 use Rattle.server_tasks.specs.declared.slots.Slots.{Slots}
 

@@ -6,8 +6,8 @@ use Rattle.futures.specs.declared.task.Poll.{Poll}
 use Rattle.futures.specs.declared.task.Poll.TheVariants.{Ready, Pending}
 use Rattle.server_tasks.specs.declared.held.Kept.{Kept}
 use Rattle.server_tasks.specs.declared.lingering_socket.LingeringSocket.{LingeringSocket}
-use Rattle.server_tasks.specs.declared.lingering_socket.Next.{Next}
-use Rattle.server_tasks.specs.declared.lingering_socket.Next.TheVariants.{Over, Rest, Again}
+use Rattle.server_tasks.specs.declared.lingering_socket.NextStep.{NextStep}
+use Rattle.server_tasks.specs.declared.lingering_socket.NextStep.TheVariants.{Over, Rest, Again}
 
 -- the moment is now, or was before
 abbrev pub is_past : Instant → Instant → Bool
@@ -18,7 +18,7 @@ abbrev pub is_due : Instant → Instant → Instant → Bool → Bool
 is_due soon until now is_end = is_past until now || (is_end && is_past soon now)
 
 -- What follows a read, if so many bytes are dropped at most. It is over if the client has closed, or sends too much.
-abbrev pub next_by : {E : Type 0} → Poll (Result ℕ E) → ℕ → Next
+abbrev pub next_by : {E : Type 0} → Poll (Result ℕ E) → ℕ → NextStep
 next_by Pending left = Rest
 next_by (Ready (Err fault)) left = Over
 next_by (Ready (Ok count)) left = if count == 0 then Over else if nat_le count left then Again (left - count) else Over

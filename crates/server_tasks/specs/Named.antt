@@ -11,8 +11,8 @@ abbrev pub slot_at : List (ℕ × ℕ) → ℕ → Option ℕ
 slot_at places sid = lookup (is_at (nat_cmp sid)) places
 
 -- the second has this under the identifier, and what the first has under each other
-abbrev pub IsSetAt : ℕ → Option ℕ → List (ℕ × ℕ) → List (ℕ × ℕ) → Type 0
-IsSetAt sid found before after = (other : ℕ) → slot_at after other ≡ cond (sid == other) found (slot_at before other)
+abbrev pub IsSetAtName : ℕ → Option ℕ → List (ℕ × ℕ) → List (ℕ × ℕ) → Type 0
+IsSetAtName sid found before after = (other : ℕ) → slot_at after other ≡ cond (sid == other) found (slot_at before other)
 
 -- the same slots stand under the same identifiers
 abbrev pub SameIndex : Slots → Slots → Type 0

@@ -1,14 +1,14 @@
 -- When the session of a slot has a ring that it has not heard yet.
 use Rattle.std.specs.Prelude.{◌≡◌, ◌≢◌, ◌⊎◌, ℕ, true, false, Some, None, length, IsTrue, IsSomeAnd, slice_get, take}
 use Rattle.server_tasks.specs.Bells.{is_among, is_unheard, woken}
-use Rattle.server_tasks.specs.declared.bells.Bell.{Bell}
+use Rattle.server_tasks.specs.declared.bells.BellState.{BellState}
 use Rattle.server_tasks.specs.declared.bells.Bells.{Bells}
 use Rattle.futures.specs.Task.{Wakes}
 use Rattle.futures.specs.declared.task.context.Context.{Context}
 
 -- what holds of the bell of a slot, if there is that slot
-abbrev pub At : Bells → ℕ → (Bell → Type 0) → Type 0
-At bells slot P = (bell : Bell) → slice_get bells.bells.items slot ≡ Some bell → P bell
+abbrev pub At : Bells → ℕ → (BellState → Type 0) → Type 0
+At bells slot P = (bell : BellState) → slice_get bells.bells.items slot ≡ Some bell → P bell
 
 -- the session of the slot has a ring that it has not heard
 abbrev pub IsRung : Bells → ℕ → Type 0

@@ -2,7 +2,7 @@
 use Rattle.std.specs.Prelude.{◌≡◌, ℕ, List, [], ◌∷◌, ◌++◌, codes, Some}
 use Rattle.std.specs.Net.Text.{socket_text}
 use Rattle.std.specs.declared.net.socket_addr.SocketAddr.{SocketAddr}
-use Rattle.server_tasks.specs.declared.state.Fault.TheVariants.{Output}
+use Rattle.server_tasks.specs.declared.state.ServerFault.TheVariants.{Output}
 use Rattle.server_tasks.specs.declared.state.Told.TheVariants as told
 use Rattle.server_tasks.specs.declared.startup.Opening.{Opening}
 use Rattle.server_tasks.specs.declared.startup.Opening.TheVariants.{Open, Shut}
@@ -12,6 +12,6 @@ abbrev pub listening_text : SocketAddr → List ℕ
 listening_text address = codes "listening " ++ (socket_text address ++ 10 ∷ [])
 
 -- A server was told to open, and its address was said, or it was closed for its output.
-abbrev pub IsSettled : Opening → Type 0 → Type 0
-IsSettled (Open word) IsSaid = (word ≡ told.Open) × IsSaid
-IsSettled (Shut closed) IsSaid = closed ≡ told.Closed (Some Output)
+abbrev pub IsOpeningSettled : Opening → Type 0 → Type 0
+IsOpeningSettled (Open word) IsSaid = (word ≡ told.Open) × IsSaid
+IsOpeningSettled (Shut closed) IsSaid = closed ≡ told.Closed (Some Output)

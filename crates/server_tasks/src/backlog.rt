@@ -71,7 +71,7 @@ impl Backlog {
 
     /// Counts what was taken, after which more may be left or none is. What was given to it alone between the take and this count
     /// waits.
-    pub fn count_taken(&mut self, said: Amount, taken: Amount, has_more: bool)
+    pub fn note_taken(&mut self, said: Amount, taken: Amount, has_more: bool)
         ensures { self.new ≡ with_take said taken has_more self.old }
     {
         let waiting = if has_more {

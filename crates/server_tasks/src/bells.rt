@@ -11,7 +11,7 @@ const PORTION: usize = 32;
 
 /// The bell of a slot, by which its session is woken.
 #[derive(Drop)]
-pub(crate) struct Bell {
+pub(crate) struct BellState {
     // The number of rings of everybody that it has heard.
     heard: u64,
     is_called: bool,
@@ -32,7 +32,7 @@ fn put_among(slots: &mut VecDeque<usize>, slot: usize, is_there: bool) -> bool
     is_there || slots.push_back(slot).is_ok()
 }
 
-impl Bell {
+impl BellState {
     /// Leaves a ring of everybody out, the last of `rings`.
     fn pass_over(&mut self, rings: u64)
         requires { 0 < rings }
@@ -58,7 +58,7 @@ impl Bell {
 }
 
 /// Leaves a ring of everybody out at the bell of a slot, the last of `rings`.
-fn pass_over(bells: &mut Vec<Bell>, slot: usize, rings: u64)
+fn pass_over(bells: &mut Vec<BellState>, slot: usize, rings: u64)
     requires { 0 < rings }
     ensures { OneBecomes (passed_over rings) slot bells.old.items bells.new.items }
 {
@@ -68,9 +68,9 @@ fn pass_over(bells: &mut Vec<Bell>, slot: usize, rings: u64)
 }
 
 /// Wakes who waits at the bell of a slot, unless it has heard all of `rings`. Answers whether it has not.
-fn wake_if_rung(bells: &mut Vec<Bell>, slot: usize, rings: u64) -> bool
+fn wake_if_rung(bells: &mut Vec<BellState>, slot: usize, rings: u64) -> bool
     ensures woken { OneBecomes (woken_if_rung rings) slot bells.old.items bells.new.items }
-    ensures rung { (was : Bell) → slice_get bells.old.items slot ≡ Some was → result ≡ is_unheard rings was }
+    ensures rung { (was : BellState) → slice_get bells.old.items slot ≡ Some was → result ≡ is_unheard rings was }
 {
     match bells.get_mut(slot) {
         Some(bell) => bell.wake_if_rung(rings),
@@ -81,7 +81,7 @@ fn wake_if_rung(bells: &mut Vec<Bell>, slot: usize, rings: u64) -> bool
 /// The bells of all slots.
 #[derive(Drop)]
 pub(crate) struct Bells {
-    bells: Vec<Bell>,
+    bells: Vec<BellState>,
     // The slots that have left a waker, and maybe some that were rung since.
     waiting: VecDeque<usize>,
     // The number of rings that were of everybody.
@@ -105,7 +105,7 @@ impl Bells {
     pub(crate) fn new(alloc: Global, count: usize) -> Result<Bells, AllocError> {
         let mut bells = Vec::with_capacity(alloc, count)?;
         for _slot in 0..count {
-            bells.push(Bell {
+            bells.push(BellState {
                 heard: 0,
                 is_called: false,
                 waker: None,

@@ -1,7 +1,7 @@
 ghost use Rattle.std.specs.Prelude.{◌≡◌, true, false, IfOk, IfErr};
 ghost use Rattle.server_tasks.specs.Cries.{once_more};
 
-use crate::slots::{Deed, Receipt};
+use crate::slots::{Receipt, SlotEvent};
 use futures::spin::GaveUp;
 
 /// How often a task cried, and whether somebody was left to be woken. It is counted by the words of the cries alone.
@@ -25,7 +25,7 @@ impl Cries {
 
     /// Counts a cry by its word, with what it answered, or one that gave up. Answers whether somebody may be left.
     pub(crate) fn count(&mut self, cried: Result<(Receipt, bool), GaveUp>) -> bool
-        requires { IfOk cried (λ cried. cried.0 ≡ Deed.Cried cried.1) }
+        requires { IfOk cried (λ cried. cried.0 ≡ SlotEvent.Cried cried.1) }
         ensures counted { self.new.count ≡ once_more self.old.count }
         ensures more { IfOk cried (λ cried. self.new.has_more ≡ cried.1) }
         ensures unsure { IfErr cried (λ _. self.new.has_more ≡ true) }

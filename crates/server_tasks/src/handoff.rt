@@ -2,7 +2,7 @@ ghost use Rattle.std.specs.Prelude.{◌≡◌};
 ghost use Rattle.futures.specs.Task.{IsArmed, Keeps};
 ghost use Rattle.futures.specs.Poll.{OnPending};
 
-use crate::left::Left;
+use crate::left::LeftPlaces;
 use crate::places::{Places, PlacesDeed, PlacesWord};
 use futures::task::{Context, Poll, Source};
 use std::alloc::{AllocError, Global};
@@ -67,7 +67,7 @@ impl<T> Handoff<T> {
     }
 
     /// Ends it, and gives the connections that were left and not taken, with the word of it.
-    pub(crate) fn into_left(self) -> (PlacesWord, Left<T>)
+    pub(crate) fn into_left(self) -> (PlacesWord, LeftPlaces<T>)
         ensures { result.0 ≡ PlacesDeed.Emptied }
     {
         let Handoff { source, places } = self;

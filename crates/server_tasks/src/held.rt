@@ -142,7 +142,7 @@ impl<S: AsyncRead + AsyncWrite> Held<S> {
         }
     }
 
-    pub(crate) fn linger(
+    pub(crate) fn poll_lingering(
         &mut self,
         cx: &mut Context<'_>,
         source: &Source,

@@ -7,11 +7,11 @@ use std::marker::Model;
 
 /// The connections that were left in a hand-off and not taken. Contracts see their list. `end`
 /// ends it, once `next` has given nothing.
-pub struct Left<T> {
+pub struct LeftPlaces<T> {
     places: Vec<Place<T>>,
 }
 
-impl<T> Model for Left<T> {
+impl<T> Model for LeftPlaces<T> {
     ghost use Rattle.std.specs.Prelude.{List};
 
     ghost Value = { List T };
@@ -21,11 +21,11 @@ impl<T> Model for Left<T> {
     ghost view = { λ left. arrivals_in left.places.items };
 }
 
-impl<T> Left<T> {
-    pub(crate) fn of(places: Vec<Place<T>>) -> Left<T>
+impl<T> LeftPlaces<T> {
+    pub(crate) fn of(places: Vec<Place<T>>) -> LeftPlaces<T>
         ensures { result ≡ arrivals_in places.items }
     {
-        Left { places }
+        LeftPlaces { places }
     }
 
     /// Gives the last of them, or nothing where none is left.
@@ -41,7 +41,7 @@ impl<T> Left<T> {
     pub fn end(self)
         requires { self ≡ [] }
     {
-        let Left { mut places } = self;
+        let LeftPlaces { mut places } = self;
         match next_in(&mut places) {
             Some(_) => unreachable!(),
             None => places.destroy_empty(),

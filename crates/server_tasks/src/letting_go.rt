@@ -20,13 +20,13 @@ impl Slots {
     {
         let is_behind = self.look(said);
         if !is_behind {
-            self.let_go();
+            self.release_throttled();
         }
         is_behind
     }
 
     /// Wakes those who give way.
-    pub(crate) fn let_go(&mut self)
+    pub(crate) fn release_throttled(&mut self)
         ensures rung { (slot : ℕ) → IsTrue (is_among slot self.old.held.items) → IsRung self.new.bells slot }
         ensures woken { (slot : ℕ) → IsTrue (is_among slot self.old.held.items) → IsAwake self.new.bells slot }
         ensures others { (slot : ℕ) → is_among slot self.old.held.items ≡ false
@@ -62,7 +62,7 @@ impl Slots {
     }
 
     /// Answers whether somebody gives way. Where nobody does, the ticker is woken once somebody will.
-    pub(crate) fn has_held(&mut self, cx: &mut Context<'_>, source: &Source) -> bool
+    pub(crate) fn has_throttled(&mut self, cx: &mut Context<'_>, source: &Source) -> bool
         ensures some { result ≡ not (length self.old.held.items == 0) }
         ensures rests { result ≡ false → (cx.new.lacks_waker ≡ true) ⊎ IsSomeAnd self.new.ticker (λ waker. Wakes waker cx.old) }
         ensures held { self.new.held ≡ self.old.held }

@@ -2,7 +2,7 @@ ghost use Rattle.std.specs.Prelude.{◌≡◌, None, IfOk, IfErr};
 ghost use Rattle.futures.specs.Task.{IsArmed, Keeps};
 ghost use Rattle.futures.specs.Poll.{OnPending};
 
-use crate::state::{Fault, State, Told, Word};
+use crate::state::{LifecycleState, ServerFault, Told, Word};
 use futures::spin::{GaveUp, lock, lock_or_give_up};
 use futures::task::{Context, Poll, Source};
 use std::sync::Mutex;
@@ -11,7 +11,7 @@ use std::sync::Mutex;
 #[derive(Drop)]
 pub(crate) struct Lifecycle {
     source: Source,
-    state: Mutex<State>,
+    state: Mutex<LifecycleState>,
 }
 
 impl Lifecycle {
@@ -19,7 +19,7 @@ impl Lifecycle {
     pub(crate) fn new() -> Lifecycle {
         Lifecycle {
             source: Source::new(),
-            state: Mutex::new(State::new()),
+            state: Mutex::new(LifecycleState::new()),
         }
     }
 
@@ -32,7 +32,7 @@ impl Lifecycle {
     }
 
     /// Closes the server, because of this where it is a fault, and gives the word that it is closed. The first fault counts.
-    pub(crate) fn close(&self, fault: Option<Fault>) -> Result<Word, GaveUp>
+    pub(crate) fn close(&self, fault: Option<ServerFault>) -> Result<Word, GaveUp>
         ensures { IfOk result (λ word. word ≡ Told.Closed fault) }
     {
         let mut state = lock_or_give_up(&self.state)?;
@@ -40,7 +40,7 @@ impl Lifecycle {
     }
 
     /// Gives the fault, where there was one, with the word of it.
-    pub(crate) fn fault(&self) -> (Result<Word, GaveUp>, Option<Fault>)
+    pub(crate) fn fault(&self) -> (Result<Word, GaveUp>, Option<ServerFault>)
         ensures word { IfOk result.0 (λ word. word ≡ Told.Asked result.1) }
         ensures unseen { IfErr result.0 (λ _. result.1 ≡ None) }
     {

@@ -31,17 +31,17 @@ pub struct Lingering<S> {
 }
 
 /// The moments until which a socket lingers: at the end, and at last.
-struct Moments {
+struct LingerMoments {
     soon: Instant,
     until: Instant,
 }
 
 /// Gives the moments of a socket that begins to linger now, for so many seconds at most: at the end, and at last.
-fn moments_from(now: Instant, at_end: u64, longest: u64) -> Result<Moments, NoClock>
+fn moments_from(now: Instant, at_end: u64, longest: u64) -> Result<LingerMoments, NoClock>
     ensures soon { IfOk result (λ at. instant_nanos at.soon ≡ instant_nanos now + at_end * 1_000_000_000) }
     ensures until { IfOk result (λ at. instant_nanos at.until ≡ instant_nanos now + longest * 1_000_000_000) }
 {
-    Ok(Moments {
+    Ok(LingerMoments {
         soon: clock::later(now, at_end)?,
         until: clock::later(now, longest)?,
     })
@@ -63,16 +63,12 @@ impl<S: AsyncRead + AsyncWrite> Lingering<S> {
 
     /// Lets a socket go by and by, and gives the word of it; at once where the clock cannot be read. Where too many linger, the
     /// oldest of them is closed.
-    pub fn let_out<R: Wait + Clock>(
-        &self,
-        rt: &R,
-        socket: LeavingSocket<S>,
-    ) -> Result<Kept, NoClock>
+    pub fn linger<R: Wait + Clock>(&self, rt: &R, socket: LeavingSocket<S>) -> Result<Kept, NoClock>
         ensures { IfOk result (IsKeptFor self.now.at_end self.now.longest) }
     {
         let stream = socket.into_stream();
         let now = clock::read(rt)?;
-        let Moments { soon, until } = moments_from(now, self.at_end, self.longest)?;
+        let LingerMoments { soon, until } = moments_from(now, self.at_end, self.longest)?;
         let lingering = LingeringSocket::new(stream, soon, until);
         let (kept, oldest) = self.held.lock(rt).replace(lingering);
         // It is closed here, and not under the lock.
@@ -82,7 +78,7 @@ impl<S: AsyncRead + AsyncWrite> Lingering<S> {
 
     /// Drops what clients have sent, closes the sockets that are done, and tells whether some linger still. The task is woken
     /// where there is more to do, and for the next socket. It is the end, at which nobody is served any more, or is not.
-    pub fn linger<R: Wait + Clock>(
+    pub fn poll_lingering<R: Wait + Clock>(
         &self,
         rt: &R,
         cx: &mut Context<'_>,
@@ -93,7 +89,11 @@ impl<S: AsyncRead + AsyncWrite> Lingering<S> {
         ensures kept { Keeps cx.old cx.new }
     {
         match clock::read(rt) {
-            Ok(now) => Ok(self.held.lock(rt).linger(cx, &self.source, now, is_end)),
+            Ok(now) => Ok(
+                self.held
+                    .lock(rt)
+                    .poll_lingering(cx, &self.source, now, is_end),
+            ),
             Err(unread) => {
                 let _: Poll<()> = cx.yield_now();
                 Err(unread)

@@ -88,9 +88,9 @@ impl<S: AsyncRead + AsyncWrite> LingeringSocket<S> {
         let mut bytes = [0; ROOM];
         for read in 0..READS {
             match next_of(&self.stream.poll_read(cx, &mut bytes), self.left) {
-                Next::Again(left) => self.left = left,
-                Next::Rest => return true,
-                Next::Over => return false,
+                NextStep::Again(left) => self.left = left,
+                NextStep::Rest => return true,
+                NextStep::Over => return false,
             }
         }
         let _: Poll<()> = cx.yield_now();
@@ -99,7 +99,7 @@ impl<S: AsyncRead + AsyncWrite> LingeringSocket<S> {
 }
 
 /// What follows a read.
-pub(crate) enum Next {
+pub(crate) enum NextStep {
     /// The socket is held no longer.
     Over,
     /// It is waited until there is more.
@@ -109,16 +109,16 @@ pub(crate) enum Next {
 }
 
 /// Tells what follows a read, where so many bytes are dropped at most.
-fn next_of(read: &Poll<io::Result<usize>>, left: usize) -> Next
+fn next_of(read: &Poll<io::Result<usize>>, left: usize) -> NextStep
     ensures { result ≡ next_by read.now left }
 {
     match read {
-        Poll::Ready(Ok(0)) | Poll::Ready(Err(_)) => Next::Over,
+        Poll::Ready(Ok(0)) | Poll::Ready(Err(_)) => NextStep::Over,
         Poll::Ready(Ok(count)) => match left.checked_sub(*count) {
-            Some(left) => Next::Again(left),
-            None => Next::Over,
+            Some(left) => NextStep::Again(left),
+            None => NextStep::Over,
         },
-        Poll::Pending => Next::Rest,
+        Poll::Pending => NextStep::Rest,
     }
 }
 

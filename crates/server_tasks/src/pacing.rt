@@ -29,11 +29,11 @@ impl Slot {
     }
 
     /// Counts what was taken for its client.
-    fn count_taken(&mut self, said: Amount, taken: Amount, has_more: bool)
+    fn note_taken(&mut self, said: Amount, taken: Amount, has_more: bool)
         ensures { self.new ≡ took said taken has_more self.old }
     {
         if let Some(backlog) = &mut self.backlog {
-            backlog.count_taken(said, taken, has_more);
+            backlog.note_taken(said, taken, has_more);
         }
     }
 
@@ -99,13 +99,13 @@ impl Slots {
     }
 
     /// Counts what was taken for the session of this slot.
-    pub(crate) fn count_taken(&mut self, slot: usize, said: Amount, taken: Amount, has_more: bool)
+    pub(crate) fn note_taken(&mut self, slot: usize, said: Amount, taken: Amount, has_more: bool)
         ensures taken { OneBecomes (took said taken has_more) slot self.old.slots.items self.new.slots.items }
         ensures bells { self.new.bells ≡ self.old.bells }
         ensures index { SameIndex self.old self.new }
     {
         if let Some(slot) = self.slots.get_mut(slot) {
-            slot.count_taken(said, taken, has_more);
+            slot.note_taken(said, taken, has_more);
         }
     }
 

@@ -4,7 +4,7 @@ ghost use Rattle.server_tasks.specs.Becomes.{EachBecomes};
 ghost use Rattle.server_tasks.specs.HandOff.{next_of, has_left, awake, arrivals_in, OthersStayLeft};
 ghost use Rattle.futures.specs.Poll.{OnPending};
 
-use crate::left::Left;
+use crate::left::LeftPlaces;
 use futures::task::{Context, Poll, Source, Waker};
 use std::alloc::{AllocError, Global};
 use std::marker::Model;
@@ -164,7 +164,7 @@ impl<T> Places<T> {
     }
 
     /// Gives what was left in the places and not taken, with the word of it.
-    pub(crate) fn into_left(self) -> (PlacesWord, Left<T>)
+    pub(crate) fn into_left(self) -> (PlacesWord, LeftPlaces<T>)
         ensures word { result.0 ≡ PlacesDeed.Emptied }
         ensures left { result.1 ≡ arrivals_in self.places.items }
     {
@@ -176,6 +176,6 @@ impl<T> Places<T> {
         let word = PlacesWord {
             deed: PlacesDeed::Emptied,
         };
-        (word, Left::of(places))
+        (word, LeftPlaces::of(places))
     }
 }

@@ -4,12 +4,12 @@ ghost use Rattle.futures.specs.Poll.{OnPending};
 
 use crate::handoff::Handoff;
 use crate::held::TickerWoken;
-use crate::left::Left;
+use crate::left::LeftPlaces;
 use crate::lifecycle::Lifecycle;
 use crate::lingering::Lingering;
 use crate::places::{PlacesDeed, PlacesWord};
 use crate::slots::Receipt;
-use crate::state::{Fault, Told, Word};
+use crate::state::{ServerFault, Told, Word};
 use crate::wakers::Wakers;
 use futures::spin::GaveUp;
 use futures::task::{Context, Poll};
@@ -44,7 +44,7 @@ impl Model for Closed {
     ghost use Rattle.std.specs.Prelude.{◌≡◌};
     ghost use Rattle.server_tasks.specs.declared.state.Told.{Told};
     ghost use Rattle.server_tasks.specs.declared.places.PlacesDeed.TheVariants.{NobodyComes};
-    ghost use Rattle.server_tasks.specs.declared.slots.Deed.TheVariants.{HelpEnded};
+    ghost use Rattle.server_tasks.specs.declared.slots.SlotEvent.TheVariants.{HelpEnded};
 
     ghost Value = { Told };
 
@@ -70,11 +70,11 @@ impl Model for OneEnded {
 
 /// What was seen of those who are served.
 #[derive(Clone, Copy)]
-pub(crate) struct Served {
+pub(crate) struct ServedCount {
     is_over: bool,
 }
 
-impl Served {
+impl ServedCount {
     /// Answers whether nobody is served any more, and nobody will be.
     pub(crate) fn is_over(self) -> bool
         ensures { result ≡ self.is_over }
@@ -85,7 +85,7 @@ impl Served {
 
 impl<T, S: Drop> Shared<T, S> {
     /// Ends it, and gives the connections that were left for a task and not taken, with the word of it.
-    pub fn into_left(self) -> (PlacesWord, Left<T>)
+    pub fn into_left(self) -> (PlacesWord, LeftPlaces<T>)
         ensures { result.0 ≡ PlacesDeed.Emptied }
     {
         let Shared {
@@ -129,7 +129,7 @@ impl<T, S> Shared<T, S> {
 
     /// Lets no more connections come, because of this where it is a fault, and gives the word of it. All tasks end once their
     /// sessions have.
-    pub fn close<R: Wait>(&self, rt: &R, fault: Option<Fault>) -> Result<Closed, GaveUp>
+    pub fn close<R: Wait>(&self, rt: &R, fault: Option<ServerFault>) -> Result<Closed, GaveUp>
         ensures { IfOk result (λ closed. closed ≡ Told.Closed fault) }
     {
         let word = self.lifecycle.close(fault);
@@ -167,17 +167,17 @@ impl<T, S> Shared<T, S> {
     }
 
     /// Looks whether nobody is served any more, and nobody will be.
-    pub(crate) fn served<R: Wait>(&self, rt: &R) -> Served {
+    pub(crate) fn served<R: Wait>(&self, rt: &R) -> ServedCount {
         let (_, fault) = self.lifecycle.fault();
         let is_over = match fault {
-            Some(Fault::Start) => true,
+            Some(ServerFault::Start) => true,
             _ => self.handoff.is_over(rt),
         };
-        Served { is_over }
+        ServedCount { is_over }
     }
 
     /// Gives why no more connections came, where that was a fault, with the word of it.
-    pub fn fault(&self) -> (Result<Word, GaveUp>, Option<Fault>)
+    pub fn fault(&self) -> (Result<Word, GaveUp>, Option<ServerFault>)
         ensures word { IfOk result.0 (λ word. word ≡ Told.Asked result.1) }
         ensures unseen { IfErr result.0 (λ _. result.1 ≡ None) }
     {

@@ -4,7 +4,7 @@ ghost use Rattle.server_tasks.specs.Becomes.{OneBecomes};
 ghost use Rattle.server_tasks.specs.Clients.{gave, IsGivenBy, newcomer_in, with_line_for, is_behind_at};
 ghost use Rattle.server_tasks.specs.Senders.{weight_of};
 ghost use Rattle.server_tasks.specs.Bells.{is_among};
-ghost use Rattle.server_tasks.specs.Named.{IsSetAt, IsNamed, OthersStayNamed, SameIndex, slot_at};
+ghost use Rattle.server_tasks.specs.Named.{IsSetAtName, IsNamed, OthersStayNamed, SameIndex, slot_at};
 ghost use Rattle.server_tasks.specs.Rung.{IsRung, HasHeard, IsAwake, IsDue, Rests, OthersStay, SameSlots, StaysRung};
 
 mod sending;
@@ -60,7 +60,7 @@ pub(crate) struct Slots {
 
 /// What was done to the slots.
 #[derive(Clone, Copy)]
-pub enum Deed {
+pub enum SlotEvent {
     /// The slot was given to another session: one with a client, or none.
     Cleared(usize, bool),
     /// The session of the slot is known by the identifier.
@@ -94,13 +94,13 @@ pub enum Deed {
 /// The word of what was done to the slots. Only they give it, under their lock, as they do it. Contracts see the deed.
 #[derive(Drop)]
 pub struct Receipt {
-    deed: Deed,
+    deed: SlotEvent,
 }
 
 impl Model for Receipt {
-    ghost use Rattle.server_tasks.specs.declared.slots.Deed.{Deed};
+    ghost use Rattle.server_tasks.specs.declared.slots.SlotEvent.{SlotEvent};
 
-    ghost Value = { Deed };
+    ghost Value = { SlotEvent };
 
     ghost view = { λ receipt. receipt.deed };
 }
@@ -154,7 +154,7 @@ impl Slots {
             → slice_get self.new.slots.items slot ≡ Some (newcomer_in was backlog) }
         ensures forgotten { (sid : ℕ) → IsNamed self.old slot sid → slot_at self.new.places.entries sid ≢ Some slot }
         ensures same { (other : ℕ) → other ≢ slot → slice_get self.new.slots.items other ≡ slice_get self.old.slots.items other }
-        ensures word { result ≡ Deed.Cleared slot (is_some backlog) }
+        ensures word { result ≡ SlotEvent.Cleared slot (is_some backlog) }
         ensures heard { HasHeard self.new.bells slot }
         ensures woken { IsAwake self.new.bells slot }
         ensures others { OthersStay self.old.bells self.new.bells slot }
@@ -170,7 +170,7 @@ impl Slots {
             slot.given = Given::new();
         }
         Receipt {
-            deed: Deed::Cleared(place, backlog.is_some()),
+            deed: SlotEvent::Cleared(place, backlog.is_some()),
         }
     }
 
@@ -178,7 +178,7 @@ impl Slots {
     pub(crate) fn name(&mut self, slot: usize, sid: Sid)
         ensures bells { self.new.bells ≡ self.old.bells }
         ensures named { slot < length self.old.slots.items
-            → IsSetAt sid (Some slot) self.old.places.entries self.new.places.entries ⊎ ((self.new.lacks_some ≡ true) × (self.new.places.entries ≡ self.old.places.entries)) }
+            → IsSetAtName sid (Some slot) self.old.places.entries self.new.places.entries ⊎ ((self.new.lacks_some ≡ true) × (self.new.places.entries ≡ self.old.places.entries)) }
         ensures known { slot < length self.old.slots.items → IsNamed self.new slot sid }
     {
         let place = slot;
@@ -192,15 +192,15 @@ impl Slots {
 
     /// Notes it as `name` does, and gives the word of it.
     pub(crate) fn name_by(&mut self, slot: usize, sid: Sid) -> Receipt
-        ensures word { result ≡ Deed.Named slot sid }
+        ensures word { result ≡ SlotEvent.Named slot sid }
         ensures bells { self.new.bells ≡ self.old.bells }
         ensures named { slot < length self.old.slots.items
-            → IsSetAt sid (Some slot) self.old.places.entries self.new.places.entries ⊎ ((self.new.lacks_some ≡ true) × (self.new.places.entries ≡ self.old.places.entries)) }
+            → IsSetAtName sid (Some slot) self.old.places.entries self.new.places.entries ⊎ ((self.new.lacks_some ≡ true) × (self.new.places.entries ≡ self.old.places.entries)) }
         ensures known { slot < length self.old.slots.items → IsNamed self.new slot sid }
     {
         self.name(slot, sid);
         Receipt {
-            deed: Deed::Named(slot, sid),
+            deed: SlotEvent::Named(slot, sid),
         }
     }
 
@@ -236,7 +236,7 @@ impl Slots {
         second: u64,
         said: Amount,
     ) -> (Receipt, bool)
-        ensures word { result.0 ≡ Deed.WokeOne sid own bytes second }
+        ensures word { result.0 ≡ SlotEvent.WokeOne sid own bytes second }
         ensures second { result.1 ≡ true → self.new.second ≡ second }
         ensures given { result.1 ≡ true → (place : ℕ) → slot_at self.old.places.entries sid ≡ Some place → place ≢ own
             → IsGivenBy own second bytes place self.old.slots.items self.new.slots.items }
@@ -256,7 +256,7 @@ impl Slots {
             self.count_given(own, second, bytes.saturating_add(EACH_LINE));
         }
         let receipt = Receipt {
-            deed: Deed::WokeOne(sid, own, bytes, second),
+            deed: SlotEvent::WokeOne(sid, own, bytes, second),
         };
         (receipt, is_behind)
     }
@@ -305,7 +305,7 @@ impl Slots {
 
     /// Wakes them, and gives the word of it. What they were given counts for the session of the slot `own` in this second.
     pub(crate) fn wake_everybody(&mut self, own: usize, given: Amount, second: u64) -> Receipt
-        ensures word { result ≡ Deed.WokeEverybody own given second }
+        ensures word { result ≡ SlotEvent.WokeEverybody own given second }
         ensures given { OneBecomes (gave second (weight_of given)) own self.old.slots.items self.new.slots.items }
         ensures second { self.new.second ≡ second }
         ensures rung { (slot : ℕ) → slot ≢ own → IsRung self.new.bells slot }
@@ -319,13 +319,13 @@ impl Slots {
         self.count_given(own, second, given.bytes.saturating_add(weight));
         self.ring_everybody(own);
         Receipt {
-            deed: Deed::WokeEverybody(own, given, second),
+            deed: SlotEvent::WokeEverybody(own, given, second),
         }
     }
 
     /// Wakes the session of one slot.
     pub(crate) fn wake_slot(&mut self, slot: usize) -> Receipt
-        ensures word { result ≡ Deed.WokeSlot slot }
+        ensures word { result ≡ SlotEvent.WokeSlot slot }
         ensures clients { self.new.slots ≡ self.old.slots }
         ensures rung { IsRung self.new.bells slot }
         ensures woken { IsAwake self.new.bells slot }
@@ -338,7 +338,7 @@ impl Slots {
     {
         self.bells.ring(slot);
         Receipt {
-            deed: Deed::WokeSlot(slot),
+            deed: SlotEvent::WokeSlot(slot),
         }
     }
 
@@ -350,7 +350,7 @@ impl Slots {
         cx: &mut Context<'_>,
         source: &Source,
     ) -> (Receipt, bool)
-        ensures word { result.0 ≡ Deed.Looked slot result.1 }
+        ensures word { result.0 ≡ SlotEvent.Looked slot result.1 }
         ensures seen { result.1 ≡ false → HasHeard self.old.bells slot }
         ensures heard { HasHeard self.new.bells slot }
         ensures rests { result.1 ≡ false → Rests self.new.bells slot cx.old cx.new }
@@ -361,7 +361,7 @@ impl Slots {
     {
         let was_woken = self.bells.was_rung(slot, cx, source);
         let receipt = Receipt {
-            deed: Deed::Looked(slot, was_woken),
+            deed: SlotEvent::Looked(slot, was_woken),
         };
         (receipt, was_woken)
     }

@@ -1,9 +1,9 @@
 ghost use Rattle.std.specs.Prelude.{◌≡◌, None, IfOk, IfSome, IsSome, OnOk};
 ghost use Rattle.std.specs.Io.KnownBytes.{Appends};
-ghost use Rattle.server_tasks.specs.Start.{listening_text, IsSettled};
+ghost use Rattle.server_tasks.specs.Start.{listening_text, IsOpeningSettled};
 
 use crate::shared::{Closed, Shared};
-use crate::state::{Fault, Word};
+use crate::state::{ServerFault, Word};
 use futures::spin::GaveUp;
 use std::io::{self, Write};
 use std::net::SocketAddr;
@@ -43,7 +43,7 @@ impl<'a, T, S, R: Wait, W: Write> Startup<'a, T, S, R, W> {
     /// Says `listening` and the address, and opens the server. Where that cannot be said, it is closed.
     pub fn open(&mut self)
         ensures settled { IsSome self.new.settled }
-        ensures told { IfSome self.new.settled (λ settled. IfOk settled (λ opening. IsSettled opening
+        ensures told { IfSome self.new.settled (λ settled. IfOk settled (λ opening. IsOpeningSettled opening
             (Appends (W.contents self.old.output.now) (W.contents self.new.output.now) (listening_text self.old.address)))) }
     {
         let settled = self.settle();
@@ -52,12 +52,12 @@ impl<'a, T, S, R: Wait, W: Write> Startup<'a, T, S, R, W> {
 
     /// Does so, and gives the word of what the server was told.
     fn settle(&mut self) -> Result<Opening, GaveUp>
-        ensures { IfOk result (λ opening. IsSettled opening
+        ensures { IfOk result (λ opening. IsOpeningSettled opening
             (Appends (W.contents self.old.output.now) (W.contents self.new.output.now) (listening_text self.old.address))) }
     {
         match say(self.output, self.address) {
             Ok(()) => Ok(Opening::Open(self.shared.open()?)),
-            Err(_) => Ok(Opening::Shut(self.shared.close(self.rt, Some(Fault::Output))?)),
+            Err(_) => Ok(Opening::Shut(self.shared.close(self.rt, Some(ServerFault::Output))?)),
         }
     }
 }
@@ -89,7 +89,7 @@ impl<T, S, R: Wait, W> Drop for Startup<'_, T, S, R, W> {
             settled,
         } = self;
         if settled.is_none() {
-            let _ = shared.close(rt, Some(Fault::Start));
+            let _ = shared.close(rt, Some(ServerFault::Start));
         }
         drop(settled);
     }

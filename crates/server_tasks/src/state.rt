@@ -8,7 +8,7 @@ use std::marker::Model;
 
 /// The cause for which a server ends before all were served that it was to serve.
 #[derive(Clone, Copy, Debug, PartialEq, Eq)]
-pub enum Fault {
+pub enum ServerFault {
     /// Not all tasks of the server could be had.
     Start,
     /// The address at which the server listens could not be said.
@@ -19,10 +19,10 @@ pub enum Fault {
 
 /// The state of a server's life.
 #[derive(Drop)]
-pub(crate) struct State {
+pub(crate) struct LifecycleState {
     is_open: bool,
     is_closed: bool,
-    fault: Option<Fault>,
+    fault: Option<ServerFault>,
     waker: Option<Waker>,
 }
 
@@ -32,9 +32,9 @@ pub enum Told {
     /// All of its tasks came to be.
     Open,
     /// Nobody comes any more, because of this where it is a fault.
-    Closed(Option<Fault>),
+    Closed(Option<ServerFault>),
     /// It was asked for the fault by which nobody comes any more, and told this.
-    Asked(Option<Fault>),
+    Asked(Option<ServerFault>),
 }
 
 /// The word of what a server was told or asked. Only its state gives it, under its lock. Contracts see what that was.
@@ -51,11 +51,11 @@ impl Model for Word {
     ghost view = { λ word. word.told };
 }
 
-impl State {
-    pub(crate) fn new() -> State
+impl LifecycleState {
+    pub(crate) fn new() -> LifecycleState
         ensures { result ≡ record { is_open = false; is_closed = false; fault = None; waker = None } }
     {
-        State {
+        LifecycleState {
             is_open: false,
             is_closed: false,
             fault: None,
@@ -64,7 +64,7 @@ impl State {
     }
 
     /// Gives the first fault, where there was one, with the word of it.
-    pub(crate) fn fault(&self) -> (Word, Option<Fault>)
+    pub(crate) fn fault(&self) -> (Word, Option<ServerFault>)
         ensures word { result.0 ≡ Told.Asked result.1 }
         ensures fault { result.1 ≡ self.now.fault }
     {
@@ -85,7 +85,7 @@ impl State {
     }
 
     /// Closes the server, and wakes who waits for it.
-    pub(crate) fn close(&mut self, fault: Option<Fault>) -> Word
+    pub(crate) fn close(&mut self, fault: Option<ServerFault>) -> Word
         ensures closed { self.new ≡ closed fault self.old }
         ensures word { result ≡ Told.Closed fault }
     {

@@ -9,7 +9,7 @@ ghost use Rattle.server_tasks.specs.Cries.{once_more};
 use crate::clock::NoClock;
 use crate::cries::Cries;
 use crate::held::Lingered;
-use crate::shared::{Served, Shared};
+use crate::shared::{ServedCount, Shared};
 use futures::task::{Context, Poll};
 use std::sync::Wait;
 use std::time::{Clock, Duration, Instant};
@@ -38,7 +38,7 @@ pub struct Ticker<'a, T, S, R> {
 /// The word that all is over: nobody is served any more, and nobody lingers, as far as the clock tells.
 #[derive(Clone, Copy)]
 struct Over {
-    served: Served,
+    served: ServedCount,
     lingered: Result<Lingered, NoClock>,
     ghost nobody_served: { served.is_over ≡ true },
     ghost nobody_lingers: { ForOk lingered (λ seen. seen.some ≡ false) },
@@ -102,7 +102,7 @@ impl<'a, T, S: AsyncRead + AsyncWrite, R: Wait + Clock> Ticker<'a, T, S, R> {
         ensures kept { Keeps cx.old cx.new }
     {
         let is_end = self.shared.is_over(self.rt);
-        let lingered = self.shared.lingering.linger(self.rt, cx, is_end);
+        let lingered = self.shared.lingering.poll_lingering(self.rt, cx, is_end);
         if let Ok(seen) = &lingered
             && seen.some()
         {
@@ -113,7 +113,7 @@ impl<'a, T, S: AsyncRead + AsyncWrite, R: Wait + Clock> Ticker<'a, T, S, R> {
         if served.is_over() {
             return Poll::Ready(Over { served, lingered });
         }
-        if self.shared.wakers.has_held(cx) {
+        if self.shared.wakers.has_throttled(cx) {
             return self.wait(cx);
         }
         Poll::Pending

@@ -7,7 +7,7 @@ use crate::backlog::Backlog;
 use crate::behind::Behind;
 use crate::permission::Permission;
 use crate::sender::{BURST, BURST_BYTES, SHORT, Throttle};
-use crate::slots::{Deed, Receipt, Slots};
+use crate::slots::{Receipt, SlotEvent, Slots};
 use adc_base32::Sid;
 use futures::spin::{GaveUp, lock, lock_or_give_up};
 use futures::task::{Context, Poll, Source};
@@ -58,14 +58,14 @@ impl Wakers {
 
     /// Gives the slot to a session, and gives the word of it.
     pub fn occupy(&self, slot: usize) -> Result<Receipt, GaveUp>
-        ensures { IfOk result (λ receipt. receipt ≡ Deed.Cleared slot true) }
+        ensures { IfOk result (λ receipt. receipt ≡ SlotEvent.Cleared slot true) }
     {
         self.clear(slot, true)
     }
 
     /// Gives the slot to a session that has come, or to none, and gives the word of it.
     fn clear(&self, slot: usize, is_taken: bool) -> Result<Receipt, GaveUp>
-        ensures { IfOk result (λ receipt. receipt ≡ Deed.Cleared slot is_taken) }
+        ensures { IfOk result (λ receipt. receipt ≡ SlotEvent.Cleared slot is_taken) }
     {
         let mut slots = lock_or_give_up(&self.slots)?;
         let newcomer = if is_taken {
@@ -78,7 +78,7 @@ impl Wakers {
 
     /// Notes the session identifier by which the session of this slot is known, and gives the word of it.
     pub fn name(&self, slot: usize, sid: Sid) -> Result<Receipt, GaveUp>
-        ensures { IfOk result (λ receipt. receipt ≡ Deed.Named slot sid) }
+        ensures { IfOk result (λ receipt. receipt ≡ SlotEvent.Named slot sid) }
     {
         let mut slots = lock_or_give_up(&self.slots)?;
         Ok(slots.name_by(slot, sid))
@@ -95,7 +95,7 @@ impl Wakers {
     /// Wakes the session with this identifier, which was given a line of so many bytes by the session of the slot `own` in this
     /// second, and gives the word of it. A session is not woken by its own call: it takes what waits after each of them.
     pub fn wake_one(&self, sid: Sid, own: usize, bytes: u64, second: u64) -> Result<Receipt, GaveUp>
-        ensures { IfOk result (λ receipt. receipt ≡ Deed.WokeOne sid own bytes second) }
+        ensures { IfOk result (λ receipt. receipt ≡ SlotEvent.WokeOne sid own bytes second) }
     {
         let mut slots = lock_or_give_up(&self.slots)?;
         let (receipt, is_behind) = slots.wake_one(sid, own, bytes, second, self.broadcasts());
@@ -114,8 +114,8 @@ impl Wakers {
         bytes: u64,
         second: u64,
     ) -> Result<(Receipt, Receipt), GaveUp>
-        ensures one { IfOk result (λ receipts. receipts.0 ≡ Deed.WokeOne one own bytes second) }
-        ensures other { IfOk result (λ receipts. receipts.1 ≡ Deed.WokeOne other own bytes second) }
+        ensures one { IfOk result (λ receipts. receipts.0 ≡ SlotEvent.WokeOne one own bytes second) }
+        ensures other { IfOk result (λ receipts. receipts.1 ≡ SlotEvent.WokeOne other own bytes second) }
     {
         let first = self.wake_one(one, own, bytes, second)?;
         let then = self.wake_one(other, own, bytes, second)?;
@@ -125,7 +125,7 @@ impl Wakers {
     /// Wakes all sessions but that of the slot `own`, which gave them lines of so many bytes in this second, and gives the word
     /// of it. 256 bytes more count for each line.
     pub fn wake_everybody(&self, own: usize, given: Amount, second: u64) -> Result<Receipt, GaveUp>
-        ensures { IfOk result (λ receipt. receipt ≡ Deed.WokeEverybody own given second) }
+        ensures { IfOk result (λ receipt. receipt ≡ SlotEvent.WokeEverybody own given second) }
     {
         let mut slots = lock_or_give_up(&self.slots)?;
         Ok(slots.wake_everybody(own, given, second))
@@ -133,7 +133,7 @@ impl Wakers {
 
     /// Wakes the session of one slot, and gives the word of it.
     pub fn wake_slot(&self, slot: usize) -> Result<Receipt, GaveUp>
-        ensures { IfOk result (λ receipt. receipt ≡ Deed.WokeSlot slot) }
+        ensures { IfOk result (λ receipt. receipt ≡ SlotEvent.WokeSlot slot) }
     {
         let mut slots = lock_or_give_up(&self.slots)?;
         Ok(slots.wake_slot(slot))
@@ -142,7 +142,7 @@ impl Wakers {
     /// Answers whether this slot was woken since the last `true`, with the word of it. Where it was not, the next wake wakes the
     /// task.
     pub fn was_woken(&self, slot: usize, cx: &mut Context<'_>) -> (Result<Receipt, GaveUp>, bool)
-        ensures word { IfOk result.0 (λ receipt. receipt ≡ Deed.Looked slot result.1) }
+        ensures word { IfOk result.0 (λ receipt. receipt ≡ SlotEvent.Looked slot result.1) }
         ensures unseen { IfErr result.0 (λ _. result.1 ≡ false) }
         ensures registered { result.1 ≡ false → IsArmed cx.new }
         ensures kept { Keeps cx.old cx.new }
@@ -180,9 +180,9 @@ impl Wakers {
     /// Counts what was taken for the session of this slot, after which more may be left or none is. Before the hub was asked for
     /// it, `said` had been said to everybody; what was said since may be left. Where that is much, the session is woken to take
     /// again.
-    pub fn count_taken(&self, slot: usize, said: Amount, taken: Amount, has_more: bool) {
+    pub fn note_taken(&self, slot: usize, said: Amount, taken: Amount, has_more: bool) {
         if let Some(mut slots) = lock(&self.slots) {
-            slots.count_taken(slot, said, taken, has_more);
+            slots.note_taken(slot, said, taken, has_more);
             if !has_more && slots.is_slot_behind(slot, self.broadcasts()) {
                 slots.wake_slot(slot);
             }
@@ -201,7 +201,7 @@ impl Wakers {
 
     /// Answers whether somebody is behind, as was last seen, with the word of it.
     pub fn is_behind(&self) -> (Result<Receipt, GaveUp>, bool)
-        ensures word { IfOk result.0 (λ receipt. receipt ≡ Deed.LookedBehind result.1) }
+        ensures word { IfOk result.0 (λ receipt. receipt ≡ SlotEvent.LookedBehind result.1) }
         ensures unseen { IfErr result.0 (λ _. result.1 ≡ false) }
     {
         match lock_or_give_up(&self.slots) {
@@ -243,7 +243,7 @@ impl Wakers {
     /// Notes that the last line of the session of this slot was said, if it was a long one, and gives the word of it.
     pub fn end_line(&self, slot: usize, throttle: &mut Throttle) -> Option<Result<Receipt, GaveUp>>
         ensures asked { throttle.old.is_on_the_way ≡ true → IsSome result }
-        ensures word { IfSome result (λ ended. IfOk ended (λ receipt. receipt ≡ Deed.LineEnded slot)) }
+        ensures word { IfSome result (λ ended. IfOk ended (λ receipt. receipt ≡ SlotEvent.LineEnded slot)) }
         ensures over { throttle.new ≡ record throttle.old { is_on_the_way = false } }
     {
         if !throttle.is_on_the_way {
@@ -272,7 +272,7 @@ impl Wakers {
 
     /// Counts it, and gives the word of it.
     pub(crate) fn tick_by(&self, second: u64, due: u64) -> Result<Receipt, GaveUp>
-        ensures { IfOk result (λ receipt. receipt ≡ Deed.Ticked second due) }
+        ensures { IfOk result (λ receipt. receipt ≡ SlotEvent.Ticked second due) }
     {
         let mut slots = lock_or_give_up(&self.slots)?;
         let (receipt, is_behind) = slots.pass_tick(self.broadcasts(), second, due);
@@ -283,7 +283,7 @@ impl Wakers {
     /// Wakes the next of those for whom everybody was woken, 32 at once, and gives the word of it. Answers whether some are left.
     /// Where none are, the task is woken once some will be.
     pub(crate) fn cry(&self, cx: &mut Context<'_>) -> Result<(Receipt, bool), GaveUp>
-        ensures word { IfOk result (λ cried. cried.0 ≡ Deed.Cried cried.1) }
+        ensures word { IfOk result (λ cried. cried.0 ≡ SlotEvent.Cried cried.1) }
         ensures registered { IfOk result (λ cried. cried.1 ≡ false → IsArmed cx.new) }
         ensures kept { Keeps cx.old cx.new }
     {
@@ -292,12 +292,12 @@ impl Wakers {
     }
 
     /// Answers whether somebody gives way. Where nobody does, the task is woken once somebody will.
-    pub(crate) fn has_held(&self, cx: &mut Context<'_>) -> bool
+    pub(crate) fn has_throttled(&self, cx: &mut Context<'_>) -> bool
         ensures registered { result ≡ false → IsArmed cx.new }
         ensures kept { Keeps cx.old cx.new }
     {
         match lock(&self.slots) {
-            Some(mut slots) => slots.has_held(cx, &self.source),
+            Some(mut slots) => slots.has_throttled(cx, &self.source),
             None => {
                 let _: Poll<()> = cx.yield_now();
                 false
@@ -325,7 +325,7 @@ impl Wakers {
 
     /// Stops using it, and gives the word of it.
     pub(crate) fn end_help_by(&self) -> Result<Receipt, GaveUp>
-        ensures { IfOk result (λ receipt. receipt ≡ Deed.HelpEnded) }
+        ensures { IfOk result (λ receipt. receipt ≡ SlotEvent.HelpEnded) }
     {
         let mut slots = lock_or_give_up(&self.slots)?;
         Ok(slots.end_help())
@@ -334,7 +334,7 @@ impl Wakers {
     /// Wakes the accept task, or everybody where there is none, and gives the word of it. The session of the slot `own` makes the
     /// call.
     pub fn call_for_help(&self, own: usize) -> Result<Receipt, GaveUp>
-        ensures { IfOk result (λ receipt. receipt ≡ Deed.CalledForHelp own) }
+        ensures { IfOk result (λ receipt. receipt ≡ SlotEvent.CalledForHelp own) }
     {
         let mut slots = lock_or_give_up(&self.slots)?;
         Ok(slots.call_for_help(own))
@@ -357,7 +357,7 @@ impl Wakers {
     /// Answers whether a socket was closed since the listener began to rest, with the word of it. Where none was, the task is woken
     /// once one is.
     pub fn wait_for_room(&self, cx: &mut Context<'_>) -> (Result<Receipt, GaveUp>, bool)
-        ensures word { IfOk result.0 (λ receipt. receipt ≡ Deed.LookedForRoom result.1) }
+        ensures word { IfOk result.0 (λ receipt. receipt ≡ SlotEvent.LookedForRoom result.1) }
         ensures unseen { IfErr result.0 (λ _. result.1 ≡ false) }
         ensures registered { result.1 ≡ false → IsArmed cx.new }
         ensures kept { Keeps cx.old cx.new }

@@ -4,8 +4,8 @@ use Rattle.toml.specs.Data.{Data, string, integer, float, boolean, datetime, arr
 use Rattle.toml.specs.View.{view}
 use Rattle.hub_settings.specs.Unknown.{is_among}
 use Rattle.settings_report.proofs.Unknown.{some_same}
-use Rattle.settings_report.specs.FaultWords.{IsConcealed, IsSaid, concealing_words, kind_words}
-use Rattle.settings_report.specs.Findings.{HidesPasswords, IsOpenKey, text_of}
+use Rattle.settings_report.specs.FaultWords.{IsConcealed, IsFindingText, concealing_words, kind_words}
+use Rattle.settings_report.specs.Findings.{FindingHidesPasswords, IsOpenKey, text_of}
 use Rattle.settings_report.specs.declared.findings.Finding.{Finding}
 use Rattle.settings_report.specs.declared.findings.Found.{Found}
 use Rattle.settings_report.specs.declared.findings.Found.TheVariants as found
@@ -20,7 +20,7 @@ kind_concealing (datetime d) = refl
 kind_concealing (array items) = refl
 kind_concealing (table _) = refl
 
-concealing : (it : Found) (words : List ℕ) → IsConcealed it → IsSaid it words → is_among concealing_words words ≡ true
+concealing : (it : Found) (words : List ℕ) → IsConcealed it → IsFindingText it words → is_among concealing_words words ≡ true
 concealing (found.Value value) words hidden said = absurd hidden
 concealing (found.Twice value) words hidden said = absurd hidden
 concealing (found.Secret value) words hidden said = subst (λ w. is_among concealing_words w ≡ true) (sym said) (kind_concealing (view value.now))
@@ -33,8 +33,8 @@ open_inner None inner is none = absurd none
 open_inner (Some key) inner is (inl nick) = inl (is ∙ nick)
 open_inner (Some key) inner is (inr operator) = inr (is ∙ operator)
 
-pub hidden : (finding : Finding) (key inner words : List ℕ) → key ≡ finding.key.now → HidesPasswords finding → inner ≡ unwrap_or (text_of finding.inner) []
-    → IsSaid finding.found words → Some key ≡ Some (codes "account")
+pub hidden : (finding : Finding) (key inner words : List ℕ) → key ≡ finding.key.now → FindingHidesPasswords finding → inner ≡ unwrap_or (text_of finding.inner) []
+    → IsFindingText finding.found words → Some key ≡ Some (codes "account")
     → ((inner ≡ codes "nick") ⊎ (inner ≡ codes "operator")) ⊎ (is_among concealing_words words ≡ true)
 hidden finding key inner words same hides is said account =
     elim (hides (sym same ∙ some_same key (codes "account") account)) [

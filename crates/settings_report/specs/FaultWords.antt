@@ -24,13 +24,13 @@ IsShown (table ms) words = words ≡ kind_words (table ms)
 IsShown value words = IsValueText false value words
 
 -- the words for what was found
-abbrev pub IsSaid : Found → List ℕ → Type 0
-IsSaid (found.Value value) words = IsShown (view value.now) words
-IsSaid (found.Secret value) words = words ≡ kind_words (view value.now)
-IsSaid found.Unknown words = words ≡ codes "an unknown key"
-IsSaid found.Nothing words = words ≡ codes "nothing"
-IsSaid found.Surplus words = words ≡ codes "one more"
-IsSaid (found.Twice value) words = (shown : List ℕ) × IsShown (view value.now) shown × (words ≡ shown ++ codes " once more")
+abbrev pub IsFindingText : Found → List ℕ → Type 0
+IsFindingText (found.Value value) words = IsShown (view value.now) words
+IsFindingText (found.Secret value) words = words ≡ kind_words (view value.now)
+IsFindingText found.Unknown words = words ≡ codes "an unknown key"
+IsFindingText found.Nothing words = words ≡ codes "nothing"
+IsFindingText found.Surplus words = words ≡ codes "one more"
+IsFindingText (found.Twice value) words = (shown : List ℕ) × IsShown (view value.now) shown × (words ≡ shown ++ codes " once more")
 
 -- the words for what was found show no value
 abbrev pub IsConcealed : Found → Type 0

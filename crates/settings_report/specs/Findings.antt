@@ -69,5 +69,5 @@ IsOpenKey (Some inner) = (inner ≡ codes "nick") ⊎ (inner ≡ codes "operator
 abbrev pub ConcealsAccount : Option (List ℕ) → Found → Type 0
 ConcealsAccount inner found = IsOpenKey inner ⊎ IsConcealed found
 
-abbrev pub HidesPasswords : Finding → Type 0
-HidesPasswords finding = finding.key.now ≡ codes "account" → ConcealsAccount (text_of finding.inner) finding.found
+abbrev pub FindingHidesPasswords : Finding → Type 0
+FindingHidesPasswords finding = finding.key.now ≡ codes "account" → ConcealsAccount (text_of finding.inner) finding.found

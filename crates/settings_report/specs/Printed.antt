@@ -5,9 +5,9 @@ use Rattle.hub_settings.specs.Settings.{known_keys}
 use Rattle.settings_report.specs.MenuTexts.{flaw_words}
 use Rattle.settings_report.specs.declared.allowed.Allowed.{Allowed}
 use Rattle.settings_report.specs.declared.allowed.Allowed.TheVariants as allowed
-use Rattle.settings_report.specs.declared.fault.Fault.{Fault}
-use Rattle.settings_report.specs.declared.places.Place.{Place}
-use Rattle.settings_report.specs.declared.warnings.Warning.{Warning}
+use Rattle.settings_report.specs.declared.fault.ReportedFault.{ReportedFault}
+use Rattle.settings_report.specs.declared.places.TextPlace.{TextPlace}
+use Rattle.settings_report.specs.declared.warnings.SettingsWarning.{SettingsWarning}
 
 -- words with a comma and a blank between each two
 abbrev pub with_commas : List (List ℕ) → List ℕ
@@ -27,7 +27,7 @@ allowed_text (allowed.Number low high) = codes "a whole number from " ++ decimal
 allowed_text allowed.Keys = keys_text
 
 -- a place: line and column
-abbrev pub place_text : Place → List ℕ
+abbrev pub place_text : TextPlace → List ℕ
 place_text place = decimal place.line ++ 58 ∷ decimal place.column ++ codes ": "
 
 -- the number of an entry, behind a blank; 0 is none
@@ -41,19 +41,19 @@ inner_text [] = []
 inner_text (b ∷ bs) = codes ", " ++ b ∷ bs
 
 -- what stands at a key, and what is allowed there
-abbrev pub told_at_key : List ℕ → Fault → List ℕ
+abbrev pub told_at_key : List ℕ → ReportedFault → List ℕ
 told_at_key key fault =
     key ++ (entry_text fault.entry ++ (inner_text (string_bytes fault.inner)
     ++ (codes ": found " ++ (string_bytes fault.found ++ (codes "; allowed: " ++ allowed_text fault.allowed)))))
 
 -- a fault: its place, its key, what stands there, and what is allowed; of what is no TOML its place and why
-abbrev pub told_at : Option (List ℕ) → Fault → List ℕ
+abbrev pub told_at : Option (List ℕ) → ReportedFault → List ℕ
 told_at None fault = codes "no TOML: " ++ string_bytes fault.found
 told_at (Some key) fault = told_at_key key fault
 
-abbrev pub fault_text : Fault → List ℕ
+abbrev pub fault_text : ReportedFault → List ℕ
 fault_text fault = place_text fault.place ++ told_at fault.key fault
 
 -- a warning: its place, its entry and the flaw of its text
-abbrev pub warning_text : Warning → List ℕ
+abbrev pub warning_text : SettingsWarning → List ℕ
 warning_text warning = place_text warning.place ++ codes "command " ++ decimal warning.entry ++ codes ", text: " ++ flaw_words warning.flaw

@@ -5,25 +5,25 @@ use Rattle.std.specs.Str.{IsUtf8}
 use Rattle.std.specs.Str.Lossy.{utf8_valid_len}
 use Rattle.toml.specs.Data.{Data, Items, Members, as_array, get_member, item, no_items}
 use Rattle.toml.specs.Parse.{parse_document}
-use Rattle.hub_settings.specs.Reading.{IsRead}
+use Rattle.hub_settings.specs.Reading.{ReadsSettings}
 use Rattle.hub_settings.specs.Settings.{ServerSettings}
 use Rattle.hub_settings.specs.declared.fault.SettingsFault.TheVariants as faults
 use Rattle.settings_report.specs.Faults.{Shows}
 use Rattle.settings_report.specs.Places.{IsBehind}
 use Rattle.settings_report.specs.Summaries.{Summarizes}
 use Rattle.settings_report.specs.Warned.{WarnsOfMenu, menu_in}
-use Rattle.settings_report.specs.declared.report.Report.{Report}
-use Rattle.settings_report.specs.declared.report.Report.TheVariants.{Well, Faulty}
+use Rattle.settings_report.specs.declared.report.SettingsReport.{SettingsReport}
+use Rattle.settings_report.specs.declared.report.SettingsReport.TheVariants.{Well, Faulty}
 
 -- the fault that a hub meets in the text, by the key that is named
 abbrev pub IsBlamed : List ℕ → Option (List ℕ) → Type 0
-IsBlamed text None = IsRead text 0 (Err faults.Text)
-IsBlamed text (Some key) = IsRead text 0 (Err (faults.Key key))
+IsBlamed text None = ReadsSettings text 0 (Err faults.Text)
+IsBlamed text (Some key) = ReadsSettings text 0 (Err (faults.Key key))
 
 -- a hub that opens at moment 0 reads settings of this summary, or meets this fault
-abbrev pub Tells : List ℕ → Report → Type 0
-Tells text (Well summary warnings) = (settings : ServerSettings) × IsRead text 0 (Ok settings) × Summarizes settings summary
-Tells text (Faulty fault) = IsBlamed text fault.key
+abbrev pub Summarises : List ℕ → SettingsReport → Type 0
+Summarises text (Well summary warnings) = (settings : ServerSettings) × ReadsSettings text 0 (Ok settings) × Summarizes settings summary
+Summarises text (Faulty fault) = IsBlamed text fault.key
 
 -- how many entries a list has
 abbrev pub items_len : Items → ℕ
@@ -35,30 +35,30 @@ abbrev pub entries_of : Option Data → ℕ
 entries_of value = option_map_or items_len (option_and_then as_array value) 0
 
 -- the summary counts the entries of the document's lists
-abbrev pub Counts : List ℕ → Report → Type 0
-Counts text (Well summary warnings) =
+abbrev pub CountsEntries : List ℕ → SettingsReport → Type 0
+CountsEntries text (Well summary warnings) =
     (document : Members) × (parse_document text ≡ Some document)
     × (summary.accounts ≡ entries_of (get_member (codes "account") document))
     × (summary.commands ≡ entries_of (get_member (codes "command") document))
-Counts text (Faulty fault) = Unit {0}
+CountsEntries text (Faulty fault) = Unit {0}
 
 -- the warnings are those of the document's menu
-abbrev pub Warns : List ℕ → Report → Type 0
+abbrev pub Warns : List ℕ → SettingsReport → Type 0
 Warns text (Well summary warnings) = (document : Members) × (parse_document text ≡ Some document) × WarnsOfMenu (menu_in document) warnings.items
 Warns text (Faulty fault) = Unit {0}
 
 -- all that is told of the bytes of a text
-pub record Reports (text : List ℕ) (report : Report) : Type 0 where
-  pub tells : Tells text report
+pub record ReportsText (text : List ℕ) (report : SettingsReport) : Type 0 where
+  pub tells : Summarises text report
   pub shows : Shows text report
-  pub counts : Counts text report
+  pub counts : CountsEntries text report
   pub warns : Warns text report
 
 -- the fault of bytes that are no text: no key, and the place behind the text with which they begin
-abbrev pub IsNoText : List ℕ → Report → Type 0
+abbrev pub IsNoText : List ℕ → SettingsReport → Type 0
 IsNoText bytes (Well summary warnings) = ⊥
 IsNoText bytes (Faulty fault) =
     (fault.key ≡ None) × IsBehind (take (utf8_valid_len bytes) bytes) fault.place × (string_bytes fault.found ≡ codes "a byte that is not UTF-8")
 
-abbrev pub ReportsFile : List ℕ → Report → Type 0
-ReportsFile bytes report = (IsUtf8 bytes × Reports bytes report) ⊎ (¬ (IsUtf8 bytes) × IsNoText bytes report)
+abbrev pub ReportsFile : List ℕ → SettingsReport → Type 0
+ReportsFile bytes report = (IsUtf8 bytes × ReportsText bytes report) ⊎ (¬ (IsUtf8 bytes) × IsNoText bytes report)

@@ -5,7 +5,7 @@ ghost use Rattle.std.specs.Option.{option_map};
 ghost use Rattle.settings_report.specs.Allowances.{IsAllowedAt, IsAllowedFor};
 ghost use Rattle.settings_report.specs.Printed.{allowed_text, with_commas};
 
-use hub_settings::{KEYS, Kind};
+use hub_settings::{KEYS, SettingKind};
 use std::fmt;
 
 /// What may stand at a place of the settings.
@@ -35,7 +35,10 @@ impl fmt::Display for Allowed {
 }
 
 /// Writes the names of keys, with a comma and a blank between each two.
-fn write_names<W: fmt::Write>(f: &mut fmt::Formatter<W>, keys: &[(&str, Kind)]) -> fmt::Result
+fn write_names<W: fmt::Write>(
+    f: &mut fmt::Formatter<W>,
+    keys: &[(&str, SettingKind)],
+) -> fmt::Result
     ensures { WritesOnOk W.write_str_gives f.old result (with_commas (names (map key_seen keys.now))) f.new }
 {
     let mut comma = "";
@@ -47,7 +50,7 @@ fn write_names<W: fmt::Write>(f: &mut fmt::Formatter<W>, keys: &[(&str, Kind)]) 
     Ok(())
 }
 
-fn name_of<'a>(key: &(&'a str, Kind)) -> &'a str
+fn name_of<'a>(key: &(&'a str, SettingKind)) -> &'a str
     ensures { result.now ≡ (key_seen key.now).name }
 {
     key.0
@@ -88,7 +91,7 @@ pub(crate) const CONTENT: Allowed = Allowed::Words("a text, or separator = true"
 pub(crate) const NO_TEXT: Allowed = Allowed::Words("no text beside separator = true");
 
 /// Gives what may stand at a key of this kind; the keys, if there is no such key.
-pub(crate) fn allowed_at(kind: Option<Kind>) -> Allowed
+pub(crate) fn allowed_at(kind: Option<SettingKind>) -> Allowed
     ensures { IsAllowedAt (option_map kind_seen kind) result }
 {
     match kind {
@@ -98,17 +101,17 @@ pub(crate) fn allowed_at(kind: Option<Kind>) -> Allowed
 }
 
 /// Gives what may stand at a key of this kind.
-fn allowed_for(kind: Kind) -> Allowed
+fn allowed_for(kind: SettingKind) -> Allowed
     ensures { IsAllowedFor (kind_seen kind) result }
 {
     match kind {
-        Kind::SomeText(_) => SOME_TEXT,
-        Kind::Text(_) => TEXT,
-        Kind::Address(example) => Allowed::Address(example),
-        Kind::Hash(_) => HASH,
-        Kind::Truth => TRUTH,
-        Kind::Number(low, high, _) => Allowed::Number(low, high),
-        Kind::Accounts => ACCOUNT_LIST,
-        Kind::Commands => COMMAND_LIST,
+        SettingKind::SomeText(_) => SOME_TEXT,
+        SettingKind::Text(_) => TEXT,
+        SettingKind::Address(example) => Allowed::Address(example),
+        SettingKind::Hash(_) => HASH,
+        SettingKind::Truth => TRUTH,
+        SettingKind::Number(low, high, _) => Allowed::Number(low, high),
+        SettingKind::Accounts => ACCOUNT_LIST,
+        SettingKind::Commands => COMMAND_LIST,
     }
 }

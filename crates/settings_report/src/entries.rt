@@ -9,13 +9,13 @@ ghost use Rattle.hub_settings.specs.Unknown.{first_unknown, is_among};
 ghost use Rattle.hub_settings.specs.Values.{not_empty, truth_of};
 ghost use Rattle.settings_report.specs.Allowances.{IsAllowedAt};
 ghost use Rattle.settings_report.specs.FaultWords.{IsConcealed};
-ghost use Rattle.settings_report.specs.Findings.{ConcealsAccount, HidesPasswords, IsFlawIn, IsFlawOf, IsWhatStands, text_of};
+ghost use Rattle.settings_report.specs.Findings.{ConcealsAccount, FindingHidesPasswords, IsFlawIn, IsFlawOf, IsWhatStands, text_of};
 ghost use Rattle.settings_report.specs.Findings.{IsFoundAmong, IsFoundIn, IsFoundInList};
 
 use crate::allowed::{self, Allowed, allowed_at};
 use crate::findings::{Finding, Found, value_at};
 use adc_ids::{Nick, NickFault};
-use hub_settings::{Kind, kind_of};
+use hub_settings::{SettingKind, kind_of};
 use hub_setup::{MOST_ACCOUNTS, MOST_COMMANDS};
 use std::alloc::{AllocError, Global};
 use toml::{Table, Value};
@@ -64,7 +64,7 @@ pub(crate) fn finding_at<'a>(
 ) -> Result<Finding<'a>, AllocError>
     ensures key { IfOk result (λ finding. finding.key.now ≡ key.entry.now) }
     ensures stands { IfOk result (IsFoundIn (table_view table.entry.now)) }
-    ensures hides { IfOk result HidesPasswords }
+    ensures hides { IfOk result FindingHidesPasswords }
     ensures unknown { IfOk result (λ finding. kind_of key.entry.now ≡ None → IsConcealed finding.found) }
     ensures allowed { IfOk result (λ finding. finding.entry ≡ None → IsAllowedAt (kind_of key.entry.now) finding.allowed) }
 {
@@ -82,14 +82,14 @@ pub(crate) fn finding_at<'a>(
 }
 
 /// What stands at a key of this kind. A list of accounts is not shown, nor what stands at a key that is none.
-fn found_of_kind<'a>(value: Option<&'a Value>, kind: Option<Kind>) -> Found<'a>
+fn found_of_kind<'a>(value: Option<&'a Value>, kind: Option<SettingKind>) -> Found<'a>
     ensures stands { IsWhatStands (option_map (λ value. view value.now) value.entry) result }
     ensures accounts { option_map kind_seen kind ≡ Some Accounts → IsConcealed result }
     ensures unknown { option_map kind_seen kind ≡ None → IsConcealed result }
 {
     match (value, kind) {
         (Some(_), None) => Found::Unknown,
-        (Some(value), Some(Kind::Accounts)) => Found::Secret(value),
+        (Some(value), Some(SettingKind::Accounts)) => Found::Secret(value),
         (Some(value), Some(_)) => Found::Value(value),
         (None, _) => Found::Nothing,
     }
@@ -100,7 +100,7 @@ fn finding_in_list<'a>(
     alloc: Global,
     key: &'a str,
     value: Option<&'a Value>,
-    kind: Option<Kind>,
+    kind: Option<SettingKind>,
 ) -> Result<Option<Finding<'a>>, AllocError>
     ensures key { IfOk result (λ found. IfSome found (λ finding. finding.key.now ≡ key.entry.now)) }
     ensures stands { IfOk result (λ found. IfSome found (IsFoundInList (option_map (λ value. view value.now) value.entry))) }
@@ -116,8 +116,8 @@ fn finding_in_list<'a>(
         return Ok(None);
     };
     match kind {
-        Some(Kind::Accounts) => account_finding(alloc, key, items),
-        Some(Kind::Commands) => Ok(command_finding(key, items)),
+        Some(SettingKind::Accounts) => account_finding(alloc, key, items),
+        Some(SettingKind::Commands) => Ok(command_finding(key, items)),
         _ => Ok(None),
     }
 }

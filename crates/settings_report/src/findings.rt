@@ -3,7 +3,7 @@ ghost use Rattle.std.specs.Option.{option_map};
 ghost use Rattle.toml.specs.Data.{get_member};
 ghost use Rattle.toml.specs.Text.{IsValueText};
 ghost use Rattle.toml.specs.View.{table_view, view};
-ghost use Rattle.settings_report.specs.FaultWords.{IsSaid, IsShown, kind_words};
+ghost use Rattle.settings_report.specs.FaultWords.{IsFindingText, IsShown, kind_words};
 
 use crate::allowed::Allowed;
 use std::alloc::{AllocError, Global};
@@ -64,7 +64,7 @@ impl Finding<'_> {
 
     /// Tells what stands there, in words.
     pub(crate) fn words(&self, alloc: Global) -> Result<String, AllocError>
-        ensures { IfOk result (λ words. IsSaid self.now.found (string_bytes words)) }
+        ensures { IfOk result (λ words. IsFindingText self.now.found (string_bytes words)) }
     {
         match self.found {
             Found::Value(value) => value_text(alloc, value),

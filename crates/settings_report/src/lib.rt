@@ -13,9 +13,9 @@ mod summary;
 mod warnings;
 
 pub use allowed::Allowed;
-pub use fault::Fault;
+pub use fault::ReportedFault;
 pub use menu_texts::TextFlaw;
-pub use places::Place;
-pub use report::{Report, report_file, report_settings};
+pub use places::TextPlace;
+pub use report::{SettingsReport, report_file, report_settings};
 pub use summary::Summary;
-pub use warnings::Warning;
+pub use warnings::SettingsWarning;

@@ -8,19 +8,19 @@ use std::alloc::{AllocError, Global};
 
 /// A place in a text: line and column from 1, the column in characters.
 #[derive(Clone, Copy, Debug, PartialEq, Eq)]
-pub struct Place {
+pub struct TextPlace {
     /// The line.
     pub line: usize,
     /// The column.
     pub column: usize,
 }
 
-impl Place {
+impl TextPlace {
     /// The place behind these bytes, with which a text begins.
-    pub(crate) fn behind(bytes: &[u8]) -> Place
+    pub(crate) fn behind(bytes: &[u8]) -> TextPlace
         ensures { IsBehind bytes.now result }
     {
-        let mut place = Place { line: 1, column: 1 };
+        let mut place = TextPlace { line: 1, column: 1 };
         for byte in bytes {
             if *byte == b'\n' {
                 place.line = place.line.saturating_add(1);
@@ -46,14 +46,14 @@ pub(crate) fn place_of(
     alloc: Global,
     text: &str,
     finding: &Finding<'_>,
-) -> Result<Place, AllocError> {
+) -> Result<TextPlace, AllocError> {
     let statements = statements(alloc, text)?;
     let place = match first_with(alloc, text, &statements, finding)? {
-        Some(found) => Place {
+        Some(found) => TextPlace {
             line: found.line,
             column: found.column,
         },
-        None => Place { line: 1, column: 1 },
+        None => TextPlace { line: 1, column: 1 },
     };
     drop(statements);
     Ok(place)

@@ -3,15 +3,15 @@ ghost use Rattle.toml.specs.Parse.{parse_document};
 ghost use Rattle.std.specs.Option.{option_map};
 ghost use Rattle.toml.specs.View.{table_view, view};
 ghost use Rattle.settings_report.specs.Faults.{Shows};
-ghost use Rattle.settings_report.specs.Reports.{Counts, ReportsFile, Tells, Warns, entries_of};
-ghost use Rattle.settings_report.specs.declared.report.Report.TheVariants.{Faulty};
+ghost use Rattle.settings_report.specs.Reports.{CountsEntries, ReportsFile, Summarises, Warns, entries_of};
+ghost use Rattle.settings_report.specs.declared.report.SettingsReport.TheVariants.{Faulty};
 
 use crate::entries::finding_at;
-use crate::fault::Fault;
+use crate::fault::ReportedFault;
 use crate::findings::value_at;
-use crate::places::{Place, place_of};
+use crate::places::{TextPlace, place_of};
 use crate::summary::Summary;
-use crate::warnings::{Warning, warnings_of};
+use crate::warnings::{SettingsWarning, warnings_of};
 use hub_settings::{KeyName, SettingsFault, read_settings};
 use std::alloc::{AllocError, Global};
 use std::str;
@@ -19,24 +19,28 @@ use toml::{Table, Value};
 
 /// A report on a settings file.
 #[derive(Drop)]
-pub enum Report {
+pub enum SettingsReport {
     /// All is well. The warnings are of entries of the menu that a hub takes, and that do not what they are for.
-    Well(Summary, Vec<Warning>),
+    Well(Summary, Vec<SettingsWarning>),
     /// This is the first fault, in the order in which a hub looks for them.
-    Faulty(Fault),
+    Faulty(ReportedFault),
 }
 
 /// Tells what a hub reads in the bytes of a settings file, as [`report_settings`] does. Bytes that are no UTF-8 are no TOML.
 ///
 /// Refused only where memory runs out.
-pub fn report_file(alloc: Global, bytes: &[u8]) -> Result<Report, AllocError>
+pub fn report_file(alloc: Global, bytes: &[u8]) -> Result<SettingsReport, AllocError>
     ensures { IfOk result (ReportsFile bytes.now) }
 {
     match str::from_utf8(bytes) {
         Ok(text) => report_settings(alloc, text),
         Err(error) => {
-            let place = Place::behind(&bytes[..error.valid_up_to()]);
-            Ok(Report::Faulty(Fault::of_text(alloc, place, "a byte that is not UTF-8")?))
+            let place = TextPlace::behind(&bytes[..error.valid_up_to()]);
+            Ok(SettingsReport::Faulty(ReportedFault::of_text(
+                alloc,
+                place,
+                "a byte that is not UTF-8",
+            )?))
         }
     }
 }
@@ -45,10 +49,10 @@ pub fn report_file(alloc: Global, bytes: &[u8]) -> Result<Report, AllocError>
 /// there and what is allowed.
 ///
 /// Refused only where memory runs out.
-pub fn report_settings(alloc: Global, text: &str) -> Result<Report, AllocError>
-    ensures tells { IfOk result (λ report. Tells text.now report) }
+pub fn report_settings(alloc: Global, text: &str) -> Result<SettingsReport, AllocError>
+    ensures tells { IfOk result (λ report. Summarises text.now report) }
     ensures shows { IfOk result (Shows text.now) }
-    ensures counts { IfOk result (Counts text.now) }
+    ensures counts { IfOk result (CountsEntries text.now) }
     ensures warns { IfOk result (Warns text.now) }
 {
     match read_settings(alloc, text, 0) {
@@ -58,11 +62,11 @@ pub fn report_settings(alloc: Global, text: &str) -> Result<Report, AllocError>
             let commands = count_of(value_at(&table, "command"));
             let summary = Summary::of(&settings, accounts, commands);
             let warnings = warnings_of(alloc, text, &table)?;
-            Ok(Report::Well(summary, warnings))
+            Ok(SettingsReport::Well(summary, warnings))
         }
         Err(SettingsFault::Memory) => Err(AllocError),
-        Err(SettingsFault::Text) => Ok(Report::Faulty(text_fault(alloc, text)?)),
-        Err(SettingsFault::Key(key)) => Ok(Report::Faulty(key_fault(alloc, text, key)?)),
+        Err(SettingsFault::Text) => Ok(SettingsReport::Faulty(text_fault(alloc, text)?)),
+        Err(SettingsFault::Key(key)) => Ok(SettingsReport::Faulty(key_fault(alloc, text, key)?)),
     }
 }
 
@@ -92,24 +96,24 @@ fn table_of(alloc: Global, text: &str) -> Result<Table, AllocError>
 
 /// The fault of a text that is no TOML.
 #[tactic(auto, using(crate::proofs::Told::no_key))]
-fn text_fault(alloc: Global, text: &str) -> Result<Fault, AllocError>
+fn text_fault(alloc: Global, text: &str) -> Result<ReportedFault, AllocError>
     ensures key { IfOk result (λ fault. fault.key ≡ None) }
     ensures shows { IfOk result (λ fault. Shows text.now (Faulty fault)) }
 {
     match toml::table_from_str(alloc, text) {
-        Ok(_) => Fault::of_text(alloc, Place::behind(b""), ""),
+        Ok(_) => ReportedFault::of_text(alloc, TextPlace::behind(b""), ""),
         Err(error) => {
             let Some(span) = error.span() else {
                 return Err(AllocError);
             };
             let before = text.as_bytes().get(..span.start).unwrap_or(b"");
-            Fault::of_text(alloc, Place::behind(before), error.message())
+            ReportedFault::of_text(alloc, TextPlace::behind(before), error.message())
         }
     }
 }
 
 /// The fault at a key.
-fn key_fault(alloc: Global, text: &str, key: KeyName) -> Result<Fault, AllocError>
+fn key_fault(alloc: Global, text: &str, key: KeyName) -> Result<ReportedFault, AllocError>
     ensures key { IfOk result (λ fault. fault.key ≡ Some key) }
     ensures shows { IfOk result (λ fault. Shows text.now (Faulty fault)) }
 {
@@ -117,5 +121,5 @@ fn key_fault(alloc: Global, text: &str, key: KeyName) -> Result<Fault, AllocErro
     let name = String::from_str(alloc, key.as_str())?;
     let finding = finding_at(alloc, &table, &name)?;
     let place = place_of(alloc, text, &finding)?;
-    Fault::of(alloc, key, &finding, place)
+    ReportedFault::of(alloc, key, &finding, place)
 }

@@ -4,28 +4,28 @@ ghost use Rattle.toml.specs.View.{items_view, table_view, view};
 ghost use Rattle.settings_report.specs.Places.{after};
 ghost use Rattle.settings_report.specs.Printed.{warning_text};
 ghost use Rattle.settings_report.specs.Warned.{WarnsOf, WarnsOfEntry, WarnsOfItems, WarnsOfMenu, menu_in, text_in};
-ghost use Rattle.settings_report.specs.declared.warnings.Warning.{Warning};
+ghost use Rattle.settings_report.specs.declared.warnings.SettingsWarning.{SettingsWarning};
 
 use crate::allowed::TEXT;
 use crate::findings::{Finding, Found, value_at};
 use crate::menu_texts::{TextFlaw, has_flaw};
-use crate::places::{Place, place_of};
+use crate::places::{TextPlace, place_of};
 use std::alloc::{AllocError, Global};
 use std::fmt;
 use toml::{Table, Value};
 
 /// A warning of an entry of the menu, which a hub takes as it is.
 #[derive(Clone, Copy, Debug, PartialEq, Eq)]
-pub struct Warning {
+pub struct SettingsWarning {
     /// The entry, counted from 1.
     pub entry: usize,
     /// The place where the statement begins that has its text.
-    pub place: Place,
+    pub place: TextPlace,
     /// The flaw of its text.
     pub flaw: TextFlaw,
 }
 
-impl fmt::Display for Warning {
+impl fmt::Display for SettingsWarning {
     ghost output = { λ warning. Some (warning_text warning) };
 
     fn fmt<W: fmt::Write>(&self, f: &mut fmt::Formatter<W>) -> fmt::Result {
@@ -40,7 +40,7 @@ pub(crate) fn warnings_of(
     alloc: Global,
     text: &str,
     table: &Table,
-) -> Result<Vec<Warning>, AllocError>
+) -> Result<Vec<SettingsWarning>, AllocError>
     ensures { IfOk result (λ warnings. WarnsOfMenu (menu_in (table_view table.now)) warnings.items) }
 {
     let Some(list) = value_at(table, "command") else {
@@ -52,7 +52,11 @@ pub(crate) fn warnings_of(
     }
 }
 
-fn warnings_of_items(alloc: Global, text: &str, items: &[Value]) -> Result<Vec<Warning>, AllocError>
+fn warnings_of_items(
+    alloc: Global,
+    text: &str,
+    items: &[Value],
+) -> Result<Vec<SettingsWarning>, AllocError>
     ensures { IfOk result (λ warnings. WarnsOfItems 0 (items_view items.now) warnings.items) }
 {
     let mut found = Vec::new(alloc);
@@ -68,9 +72,9 @@ fn push_warnings(
     text: &str,
     before: usize,
     value: Option<&Value>,
-    found: &mut Vec<Warning>,
+    found: &mut Vec<SettingsWarning>,
 ) -> Result<(), AllocError>
-    ensures { OnOk result ((own : List Warning) × (found.new.items ≡ found.old.items ++ own)
+    ensures { OnOk result ((own : List SettingsWarning) × (found.new.items ≡ found.old.items ++ own)
         × WarnsOfEntry (after before) (option_map (λ value. view value.now) value.entry) own) }
 {
     let Some(value) = value else {
@@ -88,9 +92,9 @@ fn push_warning(
     before: usize,
     value: &Value,
     flaw: TextFlaw,
-    found: &mut Vec<Warning>,
+    found: &mut Vec<SettingsWarning>,
 ) -> Result<(), AllocError>
-    ensures { OnOk result ((own : List Warning) × (found.new.items ≡ found.old.items ++ own)
+    ensures { OnOk result ((own : List SettingsWarning) × (found.new.items ≡ found.old.items ++ own)
         × WarnsOf (after before) (text_in (view value.now)) flaw own) }
 {
     if has_flaw(alloc, value.as_str().unwrap_or("\n"), flaw)? {
@@ -105,7 +109,7 @@ fn warning_of(
     before: usize,
     value: &Value,
     flaw: TextFlaw,
-) -> Result<Warning, AllocError>
+) -> Result<SettingsWarning, AllocError>
     ensures entry { IfOk result (λ warning. warning.entry ≡ after before) }
     ensures flaw { IfOk result (λ warning. warning.flaw ≡ flaw) }
 {
@@ -116,7 +120,7 @@ fn warning_of(
         found: Found::Value(value),
         allowed: TEXT,
     };
-    Ok(Warning {
+    Ok(SettingsWarning {
         entry: before.saturating_add(1),
         place: place_of(alloc, text, &finding)?,
         flaw,

@@ -11,14 +11,14 @@ use Rattle.std.proofs.lemmas.List.{drop-drop, drop_all, get_or-drop, take-append
 use Rattle.std.proofs.lemmas.List.Sums.{sum_by-append}
 use Rattle.std.proofs.lemmas.Option.{get_or_from_slice_get}
 use Rattle.outboxes.specs.Backlogs.{Backlog, backlog_after, fits, size_of, with_lines}
-use Rattle.shared_log.specs.declared.entry.Entry.{Entry}
+use Rattle.shared_log.specs.declared.entry.LogEntry.{LogEntry}
 use Rattle.shared_log.specs.OwnLines.{own_with}
 use Rattle.shared_log.specs.Entries.{after_all, all_lines, entry_lines}
 use Rattle.shared_log.specs.declared.cursor.Cursor.{Cursor}
-use Rattle.shared_log.specs.declared.part.Part.{Part}
-use Rattle.shared_log.specs.declared.part.Run.{Run}
-use Rattle.shared_log.specs.Cursors.{AreWithin, IsWithin, owed, row_of}
-use Rattle.shared_log.specs.Parts.{AreWhole, IsPart, IsTaken, backlog_of, between}
+use Rattle.shared_log.specs.declared.part.LogPart.{LogPart}
+use Rattle.shared_log.specs.declared.part.LogRun.{LogRun}
+use Rattle.shared_log.specs.Cursors.{AreWithin, IsInLog, owed, row_of}
+use Rattle.shared_log.specs.Parts.{AreWhole, IsLogPart, IsTakenPart, backlog_of, between}
 use Rattle.shared_log.specs.Tables.{Row, at_place, new_row, taken}
 use Rattle.shared_log.proofs.Places.{read-map}
 use Rattle.shared_log.proofs.Tallies.{given-fits, given-lags, given-not}
@@ -28,15 +28,15 @@ Lines = List (List ℕ)
 
 -- ---- entries
 
-pub all-append : (xs ys : List Entry) → all_lines (xs ++ ys) ≡ all_lines xs ++ all_lines ys
+pub all-append : (xs ys : List LogEntry) → all_lines (xs ++ ys) ≡ all_lines xs ++ all_lines ys
 all-append [] ys = refl
 all-append (x ∷ xs) ys = ap (λ ls. entry_lines x ++ ls) (all-append xs ys) ∙ sym (append_assoc (entry_lines x) (all_lines xs) (all_lines ys))
 
-pub none-between : (log : List Entry) (tail : ℕ) → between log tail tail ≡ []
+pub none-between : (log : List LogEntry) (tail : ℕ) → between log tail tail ≡ []
 none-between log tail =
     let none : tail - tail ≡ 0 = omega arith in ap (λ n. take n (drop tail log)) none
 
-pub between-more : (log : List Entry) (tail place : ℕ) (e : Entry) → tail ≤ place → place < length log → Some e ≡ slice_get log place → between log tail (place + 1) ≡ between log tail place ++ e ∷ []
+pub between-more : (log : List LogEntry) (tail place : ℕ) (e : LogEntry) → tail ≤ place → place < length log → Some e ≡ slice_get log place → between log tail (place + 1) ≡ between log tail place ++ e ∷ []
 between-more log tail place e from h is =
     let count : place + 1 - tail ≡ (place - tail) + 1 = omega arith in
     let here : tail + (place - tail) ≡ place = omega arith in
@@ -44,18 +44,18 @@ between-more log tail place e from h is =
     ap (λ n. take n (drop tail log)) count ∙ take_more (drop tail log) (place - tail) e (omega (arith, length-drop tail log))
     ∙ ap (λ f. take (place - tail) (drop tail log) ++ f ∷ []) read
 
-pub lines-more : (log : List Entry) (tail place : ℕ) (e : Entry) → tail ≤ place → place < length log → Some e ≡ slice_get log place
+pub lines-more : (log : List LogEntry) (tail place : ℕ) (e : LogEntry) → tail ≤ place → place < length log → Some e ≡ slice_get log place
     → all_lines (between log tail (place + 1)) ≡ all_lines (between log tail place) ++ entry_lines e
 lines-more log tail place e from h is =
     ap all_lines (between-more log tail place e from h is) ∙ all-append (between log tail place) (e ∷ []) ∙ ap (λ ls. all_lines (between log tail place) ++ ls) (append-nil (entry_lines e))
 
 -- those from a place on are those up to another, and the others
-pub parted : (log : List Entry) (tail end : ℕ) → tail ≤ end → drop tail log ≡ between log tail end ++ drop end log
+pub parted : (log : List LogEntry) (tail end : ℕ) → tail ≤ end → drop tail log ≡ between log tail end ++ drop end log
 parted log tail end from =
     let there : tail + (end - tail) ≡ end = omega (arith, from) in
     sym (ap (λ es. between log tail end ++ es) (ap (λ n. drop n log) (sym there) ∙ sym (drop-drop (end - tail) tail log)) ∙ take-append-drop (end - tail) (drop tail log))
 
-pub lines-parted : (log : List Entry) (tail end : ℕ) → tail ≤ end → all_lines (drop tail log) ≡ all_lines (between log tail end) ++ all_lines (drop end log)
+pub lines-parted : (log : List LogEntry) (tail end : ℕ) → tail ≤ end → all_lines (drop tail log) ≡ all_lines (between log tail end) ++ all_lines (drop end log)
 lines-parted log tail end from = ap all_lines (parted log tail end from) ∙ all-append (between log tail end) (drop end log)
 
 -- ---- lists
@@ -97,7 +97,7 @@ as-told b share false true is fitting open' = (refl, refl)
 as-told b share false false is fitting open' = absurd (false≢true (sym open' ∙ ap (λ (x : Backlog). x.lags) (given-not b share is fitting)))
 
 -- a backlog that does not lag after all
-pub open-before : (b : Backlog) (es : List Entry) → (after_all b es).lags ≡ false → b.lags ≡ false
+pub open-before : (b : Backlog) (es : List LogEntry) → (after_all b es).lags ≡ false → b.lags ≡ false
 unfolding after_all
 open-before b [] open' = open'
 open-before b (e ∷ es) open' = (as-told b (entry_lines e) b.lags (fits b (entry_lines e)) refl refl (open-before (backlog_after b (entry_lines e)) es open')).0
@@ -106,7 +106,7 @@ given-open : (b : Backlog) (share : Lines) → (backlog_after b share).lags ≡ 
 given-open b share open' =
     let told = as-told b share b.lags (fits b share) refl refl open' in given-fits b share told.0 told.1
 
-pub all-fit : (b : Backlog) (es : List Entry) → (after_all b es).lags ≡ false → after_all b es ≡ with_lines b (b.lines ++ all_lines es)
+pub all-fit : (b : Backlog) (es : List LogEntry) → (after_all b es).lags ≡ false → after_all b es ≡ with_lines b (b.lines ++ all_lines es)
 unfolding after_all
 all-fit b [] open' = ap (with_lines b) (sym (append-nil b.lines))
 all-fit b (e ∷ es) open' =
@@ -121,7 +121,7 @@ size-drop n ls = omega (arith, ap size_of (take-append-drop n ls), sum_by-append
 size-less : (n : ℕ) (ls more : Lines) → size_of (drop n ls) ≤ size_of (ls ++ more)
 size-less n ls more = let less = size-drop n ls in omega (arith, less, sum_by-append length ls more)
 
-pub after-append : (b : Backlog) (xs ys : List Entry) → after_all b (xs ++ ys) ≡ after_all (after_all b xs) ys
+pub after-append : (b : Backlog) (xs ys : List LogEntry) → after_all b (xs ++ ys) ≡ after_all (after_all b xs) ys
 unfolding after_all
 after-append b [] ys = refl
 after-append b (x ∷ xs) ys = after-append (backlog_after b (entry_lines x)) xs ys
@@ -130,7 +130,7 @@ fits-less : (b : Backlog) (fewer share : Lines) → length fewer ≤ length b.li
 fits-less b fewer share count size fit = grind (arith, nat_tests)
 
 -- what fits behind more lines fits behind fewer
-pub less-fits : (b : Backlog) (es : List Entry) (fewer : Lines) → length fewer ≤ length b.lines → size_of fewer ≤ size_of b.lines → (after_all b es).lags ≡ false
+pub less-fits : (b : Backlog) (es : List LogEntry) (fewer : Lines) → length fewer ≤ length b.lines → size_of fewer ≤ size_of b.lines → (after_all b es).lags ≡ false
     → after_all (with_lines b fewer) es ≡ with_lines b (fewer ++ all_lines es)
 unfolding after_all
 less-fits b [] fewer count size open' = ap (with_lines b) (sym (append-nil fewer))
@@ -155,7 +155,7 @@ first-of all xs ys n is long = sym (ap (λ ls. take n ls) is ∙ ap (λ m. take 
   take-front (x ∷ xs) ys = ap (λ ls. x ∷ ls) (take-front xs ys)
 
 -- with as many lines as were wanted
-pub first-exact : (log : List Entry) (tail end count : ℕ) → tail ≤ end → length (all_lines (between log tail end)) ≡ count → all_lines (between log tail end) ≡ take count (all_lines (drop tail log))
+pub first-exact : (log : List LogEntry) (tail end count : ℕ) → tail ≤ end → length (all_lines (between log tail end)) ≡ count → all_lines (between log tail end) ≡ take count (all_lines (drop tail log))
 first-exact log tail end count from long = first-of (all_lines (drop tail log)) (all_lines (between log tail end)) (all_lines (drop end log)) count (lines-parted log tail end from) long
 
 short-all : (all : Lines) (n : ℕ) → length all ≤ n → take n all ≡ all
@@ -165,7 +165,7 @@ short-all (x ∷ xs) zero few = absurd (omega (arith, few))
 short-all (x ∷ xs) (suc n) few = ap (λ ls. x ∷ ls) (short-all xs n (omega (arith, few)))
 
 -- with all lines there are
-pub first-whole : (log : List Entry) (tail end count : ℕ) → tail ≤ end → end ≡ length log → length (all_lines (between log tail end)) ≤ count
+pub first-whole : (log : List LogEntry) (tail end count : ℕ) → tail ≤ end → end ≡ length log → length (all_lines (between log tail end)) ≤ count
     → all_lines (between log tail end) ≡ take count (all_lines (drop tail log))
 first-whole log tail end count from over few =
     let none : drop end log ≡ [] = drop_all end log (omega (arith, over)) in
@@ -173,13 +173,13 @@ first-whole log tail end count from over few =
     lines-parted log tail end from ∙ ap (λ es. all_lines (between log tail end) ++ all_lines es) none ∙ append-nil (all_lines (between log tail end)) in
     sym (ap (take count) all ∙ short-all (all_lines (between log tail end)) count few)
 
-pub bytes-more : (log : List Entry) (tail place : ℕ) (e : Entry) → tail ≤ place → place < length log → Some e ≡ slice_get log place
+pub bytes-more : (log : List LogEntry) (tail place : ℕ) (e : LogEntry) → tail ≤ place → place < length log → Some e ≡ slice_get log place
     → concat (all_lines (between log tail (place + 1))) ≡ concat (all_lines (between log tail place)) ++ concat (entry_lines e)
 bytes-more log tail place e from h is = ap concat (lines-more log tail place e from h is) ∙ concat-append (all_lines (between log tail place)) (entry_lines e)
 
 -- ---- a part
 
-module _ (log : List Entry) (cursor : Cursor) (count tail n : ℕ) (run : Run) (member : cursor.tail ≡ Some tail) (open' : (row_of log cursor).backlog.lags ≡ false)
+module _ (log : List LogEntry) (cursor : Cursor) (count tail n : ℕ) (run : LogRun) (member : cursor.tail ≡ Some tail) (open' : (row_of log cursor).backlog.lags ≡ false)
     (own : n ≡ min (length cursor.own.backlog.lines) count) (whole : AreWhole log tail (count - n) run) where
   waits : (row_of log cursor).backlog ≡ with_lines cursor.own.backlog (cursor.own.backlog.lines ++ all_lines (drop tail log))
   waits =
@@ -202,7 +202,7 @@ module _ (log : List Entry) (cursor : Cursor) (count tail n : ℕ) (run : Run) (
       ∙ ap (λ m. drop m cursor.own.backlog.lines ++ drop (count - m) (all_lines (drop tail log))) own
       ∙ sym (drop-both cursor.own.backlog.lines (all_lines (drop tail log)) count) ∙ sym (ap (drop count) lines-are)
 
-  pub part-is : IsPart log cursor count (record { own = n; tail = tail; end = run.end; lines = count - run.left })
+  pub part-is : IsLogPart log cursor count (record { own = n; tail = tail; end = run.end; lines = count - run.left })
   part-is = record {
     member = member;
     fits = open';
@@ -214,7 +214,7 @@ module _ (log : List Entry) (cursor : Cursor) (count tail n : ℕ) (run : Run) (
     lines = omega (arith, own, whole.counted, ap length first-is, length-append (take n cursor.own.backlog.lines) (all_lines (between log tail run.end)), length-take n cursor.own.backlog.lines);
   }
 
-module _ (log : List Entry) (cursor : Cursor) (count : ℕ) (part : Part) (is : IsPart log cursor count part) where
+module _ (log : List LogEntry) (cursor : Cursor) (count : ℕ) (part : LogPart) (is : IsLogPart log cursor count part) where
   -- what is left where a part was taken
   pub row-after : row_of log (record { own = own_with (with_lines cursor.own.backlog (drop part.own cursor.own.backlog.lines)) cursor.own; tail = Some part.end }) ≡ taken count (row_of log cursor)
   row-after =
@@ -251,14 +251,14 @@ and-false : (b : Bool) → (b && false) ≡ false
 and-false true = refl
 and-false false = refl
 
-pub taken-is : (log : List Entry) (cursors : List Cursor) (place count : ℕ) (before : List ℕ) (part : Part) (cursor now : Cursor) (after : List ℕ) → cursor ≡ get_or cursors place cursor → place < length cursors
-    → IsPart log cursor count part → AreWithin log cursors → row_of log now ≡ taken count (row_of log cursor) → IsWithin (length log) now
-    → after ≡ before ++ concat (take count (row_of log cursor).backlog.lines) → IsTaken log cursors place count before (record { lines = part.lines; ended = false }) (set cursors place now) after
+pub taken-is : (log : List LogEntry) (cursors : List Cursor) (place count : ℕ) (before : List ℕ) (part : LogPart) (cursor now : Cursor) (after : List ℕ) → cursor ≡ get_or cursors place cursor → place < length cursors
+    → IsLogPart log cursor count part → AreWithin log cursors → row_of log now ≡ taken count (row_of log cursor) → IsInLog (length log) now
+    → after ≡ before ++ concat (take count (row_of log cursor).backlog.lines) → IsTakenPart log cursors place count before (record { lines = part.lines; ended = false }) (set cursors place now) after
 taken-is log cursors place count before part cursor now after at inside is all row within bytes =
     let read : backlog_of log cursors place ≡ (row_of log cursor).backlog = ap (λ (r : Row). r.backlog) (read-map (row_of log) place cursors cursor (new_row 0 0) at inside) in
     record {
       rows = map-changed (row_of log) (taken count) place cursors cursor now at inside row;
-      within = all-set (IsWithin (length log)) place cursors now within all;
+      within = all-set (IsInLog (length log)) place cursors now within all;
       bytes = bytes ∙ ap (λ (b : Backlog). before ++ concat (take count b.lines)) (sym read);
       lines = is.lines ∙ ap (λ (b : Backlog). length (take count b.lines)) (sym read);
       ended = sym (ap (λ (b : Backlog). (length (drop count b.lines) == 0) && b.lags) read ∙ ap (λ f. (length (drop count (row_of log cursor).backlog.lines) == 0) && f) is.fits
@@ -271,10 +271,10 @@ same-item (x ∷ xs) zero d e within = refl
 same-item (x ∷ xs) (suc i) d e within = same-item xs i d e (omega (arith, within))
 
 -- the same of the cursor that was read twice
-pub taken-at : (log : List Entry) (cursors : List Cursor) (place count : ℕ) (before : List ℕ) (part : Part) (d e now : Cursor) (after : List ℕ) → place < length cursors
-    → IsPart log (get_or cursors place d) count part → AreWithin log cursors → row_of log now ≡ taken count (row_of log (get_or cursors place e)) → IsWithin (length log) now
+pub taken-at : (log : List LogEntry) (cursors : List Cursor) (place count : ℕ) (before : List ℕ) (part : LogPart) (d e now : Cursor) (after : List ℕ) → place < length cursors
+    → IsLogPart log (get_or cursors place d) count part → AreWithin log cursors → row_of log now ≡ taken count (row_of log (get_or cursors place e)) → IsInLog (length log) now
     → after ≡ before ++ concat (take count (row_of log (get_or cursors place e)).backlog.lines)
-    → IsTaken log cursors place count before (record { lines = part.lines; ended = false }) (set cursors place now) after
+    → IsTakenPart log cursors place count before (record { lines = part.lines; ended = false }) (set cursors place now) after
 taken-at log cursors place count before part d e now after inside is all row within bytes =
     taken-is log cursors place count before part (get_or cursors place e) now after (same-item cursors place e (get_or cursors place e) inside) inside
-    (subst (λ (cursor : Cursor). IsPart log cursor count part) (same-item cursors place d e inside) is) all row within bytes
+    (subst (λ (cursor : Cursor). IsLogPart log cursor count part) (same-item cursors place d e inside) is) all row within bytes

@@ -5,12 +5,12 @@ use Rattle.std.proofs.lemmas.Option.{slice_get-map}
 use Rattle.std.proofs.lemmas.Bool.{eqb-true, false≢true}
 use Rattle.outboxes.specs.Backlogs.{Backlog}
 use Rattle.shared_log.specs.declared.cursor.Cursor.{Cursor}
-use Rattle.shared_log.specs.declared.entry.Entry.{Entry}
+use Rattle.shared_log.specs.declared.entry.LogEntry.{LogEntry}
 use Rattle.shared_log.specs.Cursors.{is_at_end, is_settled, owed}
 use Rattle.shared_log.proofs.Logs.{after-none}
 
 -- all that waits is its own
-pub owed-settled : (log : List Entry) (own : Backlog) (tail : Option ℕ) → is_at_end (length log) tail ≡ true → owed log own tail ≡ own
+pub owed-settled : (log : List LogEntry) (own : Backlog) (tail : Option ℕ) → is_at_end (length log) tail ≡ true → owed log own tail ≡ own
 owed-settled log own None is = refl
 owed-settled log own (Some tail) is =
     let end : tail ≡ length log = eqb-true tail (length log) is in

@@ -8,16 +8,16 @@ use Rattle.std.proofs.lemmas.List.{drop-append-le, drop-drop}
 use Rattle.std.proofs.lemmas.List.Elements.{All-cons, All-head, All-nil, All-tail}
 use Rattle.outboxes.specs.Backlogs.{Backlog, backlog_after, with_lines}
 use Rattle.shared_log.specs.declared.cursor.Cursor.{Cursor}
-use Rattle.shared_log.specs.declared.entry.Entry.{Entry}
-use Rattle.shared_log.specs.Cursors.{IsPast, IsTailWithin, IsWithin, shifted, tail_after, cursor_given, cursor_taken, own_at, is_at_end, is_kept_at, is_settled, row_of, with_tail}
+use Rattle.shared_log.specs.declared.entry.LogEntry.{LogEntry}
+use Rattle.shared_log.specs.Cursors.{IsPast, IsTailWithin, IsInLog, shifted, tail_after, cursor_given, cursor_taken, own_at, is_at_end, is_kept_at, is_settled, row_of, with_tail}
 use Rattle.shared_log.specs.Entries.{after_all, entry_lines}
-use Rattle.shared_log.specs.OwnLines.{Own}
+use Rattle.shared_log.specs.OwnLines.{OwnQueue}
 use Rattle.shared_log.specs.Tables.{Row, at_place, given, new_row, settled_but, taken, told, with_membership}
 use Rattle.shared_log.proofs.Logs.{after-none, after-push}
 use Rattle.shared_log.proofs.Places.{map-at, map-at-same}
 use Rattle.shared_log.proofs.Settled.{cursor-kept, cursor-settled, owed-settled}
 
-own-waits-at : (log : List Entry) (cursors : List Cursor) (place : ℕ) → slice_get (map (is_settled (length log)) cursors) place ≡ Some true → own_at place cursors ≡ (get_or (map (row_of log) cursors) place (new_row 0 0)).backlog
+own-waits-at : (log : List LogEntry) (cursors : List Cursor) (place : ℕ) → slice_get (map (is_settled (length log)) cursors) place ≡ Some true → own_at place cursors ≡ (get_or (map (row_of log) cursors) place (new_row 0 0)).backlog
 own-waits-at log [] zero settled = refl
 own-waits-at log [] (suc place) settled = refl
 own-waits-at log (c ∷ cursors) zero settled = sym (owed-settled log c.own.backlog c.tail (cursor-settled (length log) (c ∷ cursors) zero c settled refl))
@@ -28,7 +28,7 @@ kept-at n [] place settled = absurd (cc)
 kept-at n (c ∷ cursors) zero settled = cursor-kept n (c ∷ cursors) zero c settled refl
 kept-at n (c ∷ cursors) (suc place) settled = kept-at n cursors place settled
 
-module _ (log : List Entry) (cursors : List Cursor) (place : ℕ) (settled : slice_get (map (is_settled (length log)) cursors) place ≡ Some true) where
+module _ (log : List LogEntry) (cursors : List Cursor) (place : ℕ) (settled : slice_get (map (is_settled (length log)) cursors) place ≡ Some true) where
   -- lines of its own are behind all that waits
   pub rows-given : (share : List (List ℕ)) → map (row_of log) (at_place place (cursor_given share) cursors) ≡ at_place place (given share) (map (row_of log) cursors)
   rows-given share =
@@ -86,20 +86,20 @@ module _ (log : List Entry) (cursors : List Cursor) (place : ℕ) (settled : sli
   own-kept = kept-at (length log) cursors place settled
 
 -- an entry behind the others is for the members
-row-told : (log : List Entry) (e : Entry) (own : Own) (tail : Option ℕ) → IsWithin (length log) (record { own = own; tail = tail })
+row-told : (log : List LogEntry) (e : LogEntry) (own : OwnQueue) (tail : Option ℕ) → IsInLog (length log) (record { own = own; tail = tail })
     → row_of (log ++ e ∷ []) (record { own = own; tail = tail }) ≡ told (entry_lines e) (row_of log (record { own = own; tail = tail }))
 row-told log e own None within = refl
 row-told log e own (Some tail) within =
     ap (λ b. record { backlog = b; is_member = true }) (ap (after_all own.backlog) (drop-append-le tail log (e ∷ []) within) ∙ after-push own.backlog (drop tail log) e)
 
-pub rows-told : (log : List Entry) (e : Entry) (cursors : List Cursor) → All (IsWithin (length log)) cursors → map (row_of (log ++ e ∷ [])) cursors ≡ map (told (entry_lines e)) (map (row_of log) cursors)
+pub rows-told : (log : List LogEntry) (e : LogEntry) (cursors : List Cursor) → All (IsInLog (length log)) cursors → map (row_of (log ++ e ∷ [])) cursors ≡ map (told (entry_lines e)) (map (row_of log) cursors)
 rows-told log e [] all = refl
 rows-told log e (c ∷ cursors) all =
-    ap (λ row. row ∷ map (row_of (log ++ e ∷ [])) cursors) (row-told log e c.own c.tail (All-head (IsWithin (length log)) c cursors all))
-    ∙ ap (λ rows. told (entry_lines e) (row_of log c) ∷ rows) (rows-told log e cursors (All-tail (IsWithin (length log)) c cursors all))
+    ap (λ row. row ∷ map (row_of (log ++ e ∷ [])) cursors) (row-told log e c.own c.tail (All-head (IsInLog (length log)) c cursors all))
+    ∙ ap (λ rows. told (entry_lines e) (row_of log c) ∷ rows) (rows-told log e cursors (All-tail (IsInLog (length log)) c cursors all))
 
 -- then only those are settled that are no members
-unsettled : (log : List Entry) (e : Entry) (own : Own) (tail : Option ℕ) → IsWithin (length log) (record { own = own; tail = tail })
+unsettled : (log : List LogEntry) (e : LogEntry) (own : OwnQueue) (tail : Option ℕ) → IsInLog (length log) (record { own = own; tail = tail })
     → is_settled (length (log ++ e ∷ [])) (record { own = own; tail = tail })
     ≡ (not (row_of log (record { own = own; tail = tail })).is_member && is_settled (length log) (record { own = own; tail = tail }))
 unsettled log e own None within = refl
@@ -107,22 +107,22 @@ unsettled log e own (Some tail) within =
     let other : (tail == length (log ++ e ∷ [])) ≡ false = grind (arith, length-append log (e ∷ []), eqb_tells tail (length (log ++ e ∷ []))) in
     ap (λ b. b && own.is_kept) other
 
-pub settled-told : (log : List Entry) (e : Entry) (cursors : List Cursor) → All (IsWithin (length log)) cursors
+pub settled-told : (log : List LogEntry) (e : LogEntry) (cursors : List Cursor) → All (IsInLog (length log)) cursors
     → map (is_settled (length (log ++ e ∷ []))) cursors ≡ settled_but (map (row_of log) cursors) (map (is_settled (length log)) cursors)
 settled-told log e [] all = refl
 settled-told log e (c ∷ cursors) all =
-    ap (λ b. b ∷ map (is_settled (length (log ++ e ∷ []))) cursors) (unsettled log e c.own c.tail (All-head (IsWithin (length log)) c cursors all))
-    ∙ ap (λ bs. (not (row_of log c).is_member && is_settled (length log) c) ∷ bs) (settled-told log e cursors (All-tail (IsWithin (length log)) c cursors all))
+    ap (λ b. b ∷ map (is_settled (length (log ++ e ∷ []))) cursors) (unsettled log e c.own c.tail (All-head (IsInLog (length log)) c cursors all))
+    ∙ ap (λ bs. (not (row_of log c).is_member && is_settled (length log) c) ∷ bs) (settled-told log e cursors (All-tail (IsInLog (length log)) c cursors all))
 
 -- the first entries have left the log, and none of them waited
-row-shifted : (log : List Entry) (count : ℕ) (own : Own) (tail : Option ℕ) → IsPast count (record { own = own; tail = tail })
+row-shifted : (log : List LogEntry) (count : ℕ) (own : OwnQueue) (tail : Option ℕ) → IsPast count (record { own = own; tail = tail })
     → row_of (drop count log) (shifted count (record { own = own; tail = tail })) ≡ row_of log (record { own = own; tail = tail })
 row-shifted log count own None past = refl
 row-shifted log count own (Some tail) past =
     let places : count + (tail - count) ≡ tail = omega (arith, past) in
     ap (λ b. record { backlog = b; is_member = true }) (ap (after_all own.backlog) (drop-drop (tail - count) count log ∙ ap (λ n. drop n log) places))
 
-pub rows-shifted : (log : List Entry) (count : ℕ) (cursors : List Cursor) → All (IsPast count) cursors → map (row_of (drop count log)) (map (shifted count) cursors) ≡ map (row_of log) cursors
+pub rows-shifted : (log : List LogEntry) (count : ℕ) (cursors : List Cursor) → All (IsPast count) cursors → map (row_of (drop count log)) (map (shifted count) cursors) ≡ map (row_of log) cursors
 rows-shifted log count [] all = refl
 rows-shifted log count (c ∷ cursors) all =
     ap (λ row. row ∷ map (row_of (drop count log)) (map (shifted count) cursors)) (row-shifted log count c.own c.tail (All-head (IsPast count) c cursors all))
@@ -132,9 +132,9 @@ tail-shifted : (n count : ℕ) (tail : Option ℕ) → IsTailWithin n tail → I
 tail-shifted n count None within = tt
 tail-shifted n count (Some tail) within = omega (arith, within)
 
-pub within-shifted : (log : List Entry) (count : ℕ) (cursors : List Cursor) → All (IsWithin (length log)) cursors → All (IsWithin (length (drop count log))) (map (shifted count) cursors)
-within-shifted log count [] all = All-nil (IsWithin (length (drop count log)))
+pub within-shifted : (log : List LogEntry) (count : ℕ) (cursors : List Cursor) → All (IsInLog (length log)) cursors → All (IsInLog (length (drop count log))) (map (shifted count) cursors)
+within-shifted log count [] all = All-nil (IsInLog (length (drop count log)))
 within-shifted log count (c ∷ cursors) all =
     let first : IsTailWithin (length (drop count log)) (tail_after count c.tail) =
-    rw length-drop (tail-shifted (length log) count c.tail (All-head (IsWithin (length log)) c cursors all)) in
-    All-cons (IsWithin (length (drop count log))) (shifted count c) (map (shifted count) cursors) first (within-shifted log count cursors (All-tail (IsWithin (length log)) c cursors all))
+    rw length-drop (tail-shifted (length log) count c.tail (All-head (IsInLog (length log)) c cursors all)) in
+    All-cons (IsInLog (length (drop count log))) (shifted count c) (map (shifted count) cursors) first (within-shifted log count cursors (All-tail (IsInLog (length log)) c cursors all))

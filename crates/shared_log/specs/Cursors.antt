@@ -3,17 +3,17 @@ use Rattle.std.specs.Prelude.{ℕ, ◌-◌, ◌≤◌, ◌==◌, ◌&&◌, Bool,
 use Rattle.std.specs.List.{All}
 use Rattle.outboxes.specs.Backlogs.{Backlog, backlog_after, with_lines}
 use Rattle.shared_log.specs.declared.cursor.Cursor.{Cursor}
-use Rattle.shared_log.specs.declared.entry.Entry.{Entry}
+use Rattle.shared_log.specs.declared.entry.LogEntry.{LogEntry}
 use Rattle.shared_log.specs.Entries.{after_all}
 use Rattle.shared_log.specs.OwnLines.{nothing_own, own_with}
 use Rattle.shared_log.specs.Tables.{Row}
 
 -- lines of its own wait first, and then the entries of the log from its place on
-abbrev pub owed : List Entry → Backlog → Option ℕ → Backlog
+abbrev pub owed : List LogEntry → Backlog → Option ℕ → Backlog
 owed log own None = own
 owed log own (Some tail) = after_all own (drop tail log)
 
-abbrev pub row_of : List Entry → Cursor → Row
+abbrev pub row_of : List LogEntry → Cursor → Row
 row_of log cursor = record { backlog = owed log cursor.own.backlog cursor.tail; is_member = is_some cursor.tail }
 
 -- nothing of a log of this size waits
@@ -30,8 +30,8 @@ IsTailWithin size None = Unit {0}
 IsTailWithin size (Some tail) = tail ≤ size
 
 -- its place is one of a log of this size, or its end
-abbrev pub IsWithin : ℕ → Cursor → Type 0
-IsWithin size cursor = IsTailWithin size cursor.tail
+abbrev pub IsInLog : ℕ → Cursor → Type 0
+IsInLog size cursor = IsTailWithin size cursor.tail
 
 abbrev pub IsTailPast : ℕ → Option ℕ → Type 0
 IsTailPast count None = Unit {0}
@@ -51,14 +51,14 @@ shifted count cursor = record cursor { tail = tail_after count cursor.tail }
 
 -- ---- all connections
 
-abbrev pub rows_of : List Entry → List Cursor → List Row
+abbrev pub rows_of : List LogEntry → List Cursor → List Row
 rows_of log cursors = map (row_of log) cursors
 
-abbrev pub settled_of : List Entry → List Cursor → List Bool
+abbrev pub settled_of : List LogEntry → List Cursor → List Bool
 settled_of log cursors = map (is_settled (length log)) cursors
 
-abbrev pub AreWithin : List Entry → List Cursor → Type 0
-AreWithin log cursors = All (IsWithin (length log)) cursors
+abbrev pub AreWithin : List LogEntry → List Cursor → Type 0
+AreWithin log cursors = All (IsInLog (length log)) cursors
 
 -- ---- changes of the lines of its own, and of its place
 

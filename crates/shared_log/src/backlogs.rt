@@ -5,7 +5,7 @@ ghost use Rattle.shared_log.specs.Tables.{with_membership, with_new, with_room, 
 
 use crate::cursor::Cursor;
 use crate::cursors::{give_at, rest_at, set_tail, settle_at, take_at, take_whole_at, tally_at};
-use crate::entry::Entry;
+use crate::entry::LogEntry;
 use crate::evict::make_room;
 use crate::own_lines::OwnLines;
 use crate::spares::Spares;
@@ -20,7 +20,7 @@ use std::marker::Model;
 pub struct Backlogs {
     spares: Spares,
     cursors: Vec<Cursor>,
-    log: HeapCircularBuffer<Entry>,
+    log: HeapCircularBuffer<LogEntry>,
     is_ready: bool,
     /// At least the bytes of the batches of the log.
     log_bytes: usize,
@@ -139,7 +139,7 @@ impl Backlogs {
         self.is_ready = false;
         let bytes = batch.size_within(self.bytes).unwrap_or(self.bytes);
         self.log_bytes = self.log_bytes.saturating_add(bytes);
-        match self.log.try_push_back(Entry::Lines(batch)) {
+        match self.log.try_push_back(LogEntry::Lines(batch)) {
             Ok(()) => {}
             Err(_) => unreachable!(),
         }
@@ -177,7 +177,7 @@ impl Backlogs {
     {
         let cursor = self.cursors.remove(place);
         if cursor.tail.is_some() {
-            match self.log.try_push_back(Entry::Quit(sid)) {
+            match self.log.try_push_back(LogEntry::Quit(sid)) {
                 Ok(()) => {}
                 Err(_) => unreachable!(),
             }

@@ -1,8 +1,8 @@
 ghost use Rattle.std.specs.Prelude.{◌≡◌, ◌≤◌, true, length, OnErr, OnOk, Some, None};
 ghost use Rattle.shared_log.specs.Tallies.{IsTally};
-ghost use Rattle.shared_log.specs.Cursors.{IsWithin, IsPast, is_settled, row_of, shifted};
+ghost use Rattle.shared_log.specs.Cursors.{IsInLog, IsPast, is_settled, row_of, shifted};
 
-use crate::entry::Entry;
+use crate::entry::LogEntry;
 use crate::own_lines::OwnLines;
 use crate::spares::Spares;
 use crate::tally::Tally;
@@ -30,11 +30,11 @@ impl Cursor {
     pub(crate) fn settle(
         &mut self,
         spares: &mut Spares,
-        log: &HeapCircularBuffer<Entry>,
+        log: &HeapCircularBuffer<LogEntry>,
     ) -> Result<(), AllocError>
-        requires { IsWithin (length log.now.items) self.old }
+        requires { IsInLog (length log.now.items) self.old }
         ensures kept { row_of log.now.items self.new ≡ row_of log.now.items self.old }
-        ensures within { IsWithin (length log.now.items) self.new }
+        ensures within { IsInLog (length log.now.items) self.new }
         ensures settled { OnOk result (is_settled (length log.now.items) self.new ≡ true) }
         ensures err { OnErr result (is_settled (length log.now.items) self.new ≡ is_settled (length log.now.items) self.old) }
     {
@@ -56,13 +56,13 @@ impl Cursor {
     pub(crate) fn settle_before(
         &mut self,
         spares: &mut Spares,
-        log: &HeapCircularBuffer<Entry>,
+        log: &HeapCircularBuffer<LogEntry>,
         count: usize,
     ) -> Result<(), AllocError>
-        requires within { IsWithin (length log.now.items) self.old }
+        requires within { IsInLog (length log.now.items) self.old }
         requires count { count ≤ length log.now.items }
         ensures kept { row_of log.now.items self.new ≡ row_of log.now.items self.old }
-        ensures within { IsWithin (length log.now.items) self.new }
+        ensures within { IsInLog (length log.now.items) self.new }
         ensures past { OnOk result (IsPast count self.new) }
     {
         match self.tail {
@@ -74,11 +74,11 @@ impl Cursor {
     fn settle_at_end(
         &mut self,
         spares: &mut Spares,
-        log: &HeapCircularBuffer<Entry>,
+        log: &HeapCircularBuffer<LogEntry>,
     ) -> Result<(), AllocError>
-        requires { IsWithin (length log.now.items) self.old }
+        requires { IsInLog (length log.now.items) self.old }
         ensures kept { row_of log.now.items self.new ≡ row_of log.now.items self.old }
-        ensures within { IsWithin (length log.now.items) self.new }
+        ensures within { IsInLog (length log.now.items) self.new }
         ensures past { OnOk result (IsPast (length log.now.items) self.new) }
     {
         self.settle(spares, log)
@@ -95,8 +95,8 @@ impl Cursor {
     }
 
     /// Counts what waits: what is its own, and then the log from its place on.
-    pub(crate) fn tally(&self, log: &HeapCircularBuffer<Entry>) -> Tally
-        requires { IsWithin (length log.now.items) self.now }
+    pub(crate) fn tally(&self, log: &HeapCircularBuffer<LogEntry>) -> Tally
+        requires { IsInLog (length log.now.items) self.now }
         ensures { IsTally (row_of log.now.items self.now).backlog result }
     {
         let mut tally = self.own.tally();

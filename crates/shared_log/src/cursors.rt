@@ -1,13 +1,13 @@
 ghost use Rattle.std.specs.Prelude.{◌≡◌, ◌<◌, ◌≤◌, ◌==◌, ◌&&◌, ◌++◌, true, List, get_or, length, map, drop, take, slice_get, Some, IfNone, IfOk, IfSome, OnErr, OnOk};
 ghost use Rattle.std.specs.List.{All, concat};
 ghost use Rattle.shared_log.specs.Cursors.{AreWithin, IsPast, rows_of, settled_of, shifted, cursor_given, cursor_taken, is_kept_at, own_at, with_tail};
-ghost use Rattle.shared_log.specs.declared.entry.Entry.{Entry};
+ghost use Rattle.shared_log.specs.declared.entry.LogEntry.{LogEntry};
 ghost use Rattle.shared_log.specs.Tables.{at_place, new_row};
-ghost use Rattle.shared_log.specs.Parts.{IsTaken};
+ghost use Rattle.shared_log.specs.Parts.{IsTakenPart};
 ghost use Rattle.shared_log.specs.Tallies.{IsTally};
 
 use crate::cursor::Cursor;
-use crate::entry::Entry;
+use crate::entry::LogEntry;
 use crate::spares::Spares;
 use crate::tally::Tally;
 use circular_buffer::HeapCircularBuffer;
@@ -19,7 +19,7 @@ pub(crate) fn settle_at(
     spares: &mut Spares,
     cursors: &mut [Cursor],
     place: usize,
-    log: &HeapCircularBuffer<Entry>,
+    log: &HeapCircularBuffer<LogEntry>,
 ) -> Result<(), AllocError>
     requires place { place < length cursors.old }
     requires within { AreWithin log.now.items cursors.old }
@@ -35,7 +35,7 @@ pub(crate) fn settle_at(
 pub(crate) fn settle_before(
     spares: &mut Spares,
     cursors: &mut [Cursor],
-    log: &HeapCircularBuffer<Entry>,
+    log: &HeapCircularBuffer<LogEntry>,
     count: usize,
 ) -> Result<(), AllocError>
     requires within { AreWithin log.now.items cursors.old }
@@ -100,8 +100,8 @@ pub(crate) fn take_at(
 /// Lets the outbox of the connection at a place go where nothing waits in it.
 pub(crate) fn rest_at(spares: &mut Spares, cursors: &mut [Cursor], place: usize)
     requires { place < length cursors.old }
-    ensures kept { (log : List Entry) → rows_of log cursors.new ≡ rows_of log cursors.old }
-    ensures within { (log : List Entry) → AreWithin log cursors.old → AreWithin log cursors.new }
+    ensures kept { (log : List LogEntry) → rows_of log cursors.new ≡ rows_of log cursors.old }
+    ensures within { (log : List LogEntry) → AreWithin log cursors.old → AreWithin log cursors.new }
     ensures many { length cursors.new ≡ length cursors.old }
 {
     cursors[place].own.rest(spares);
@@ -112,13 +112,13 @@ pub(crate) fn rest_at(spares: &mut Spares, cursors: &mut [Cursor], place: usize)
 pub(crate) fn take_whole_at(
     cursors: &mut [Cursor],
     place: usize,
-    log: &HeapCircularBuffer<Entry>,
+    log: &HeapCircularBuffer<LogEntry>,
     count: usize,
     out: &mut Vec<u8>,
 ) -> Result<Option<Taken>, AllocError>
     requires place { place < length cursors.old }
     requires within { AreWithin log.now.items cursors.old }
-    ensures taken { IfOk result (λ took. IfSome took (λ taken. IsTaken log.now.items cursors.old place count out.old.items taken cursors.new out.new.items)) }
+    ensures taken { IfOk result (λ took. IfSome took (λ taken. IsTakenPart log.now.items cursors.old place count out.old.items taken cursors.new out.new.items)) }
     ensures none { IfOk result (λ took. IfNone took ((cursors.new ≡ cursors.old) × (out.new.items ≡ out.old.items))) }
     ensures err { OnErr result ((cursors.new ≡ cursors.old) × (out.new.items ≡ out.old.items)) }
 {
@@ -133,7 +133,11 @@ pub(crate) fn take_whole_at(
 }
 
 /// Counts what waits for the connection at a place.
-pub(crate) fn tally_at(cursors: &[Cursor], place: usize, log: &HeapCircularBuffer<Entry>) -> Tally
+pub(crate) fn tally_at(
+    cursors: &[Cursor],
+    place: usize,
+    log: &HeapCircularBuffer<LogEntry>,
+) -> Tally
     requires place { place < length cursors.now }
     requires within { AreWithin log.now.items cursors.now }
     ensures { IsTally (get_or (rows_of log.now.items cursors.now) place (new_row 0 0)).backlog result }

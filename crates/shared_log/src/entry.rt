@@ -14,14 +14,14 @@ const QUIT_BYTES: usize = 10;
 
 /// What one call gave to all members.
 #[derive(Drop)]
-pub enum Entry {
+pub enum LogEntry {
     /// The lines of a batch.
     Lines(Batch),
     /// The news that this user has left.
     Quit(Sid),
 }
 
-impl Entry {
+impl LogEntry {
     /// Gives another handle of its lines to a connection that has an outbox.
     pub(crate) fn give_to(&self, own: &mut OwnLines) -> Result<(), AllocError>
         requires { own.old.is_kept ≡ true }
@@ -29,8 +29,8 @@ impl Entry {
         ensures err { OnErr result (own.new ≡ own.old) }
     {
         match self {
-            Entry::Lines(batch) => own.give(batch.share()?),
-            Entry::Quit(sid) => own.give_quit(*sid),
+            LogEntry::Lines(batch) => own.give(batch.share()?),
+            LogEntry::Quit(sid) => own.give_quit(*sid),
         }
         Ok(())
     }
@@ -41,8 +41,8 @@ impl Entry {
         ensures err { OnErr result (out.new.items ≡ out.old.items) }
     {
         match self {
-            Entry::Lines(batch) => batch.write(out),
-            Entry::Quit(sid) => out.extend_from_slice(&quit_line(*sid)),
+            LogEntry::Lines(batch) => batch.write(out),
+            LogEntry::Quit(sid) => out.extend_from_slice(&quit_line(*sid)),
         }
     }
 
@@ -51,8 +51,8 @@ impl Entry {
         ensures { result ≡ length (entry_lines self.now) }
     {
         match self {
-            Entry::Lines(batch) => batch.count(),
-            Entry::Quit(_) => 1,
+            LogEntry::Lines(batch) => batch.count(),
+            LogEntry::Quit(_) => 1,
         }
     }
 
@@ -62,9 +62,9 @@ impl Entry {
         ensures none { IfNone result (room < size_of (entry_lines self.now)) }
     {
         match self {
-            Entry::Lines(batch) => batch.size_within(room),
-            Entry::Quit(_) if room < QUIT_BYTES => None,
-            Entry::Quit(_) => Some(QUIT_BYTES),
+            LogEntry::Lines(batch) => batch.size_within(room),
+            LogEntry::Quit(_) if room < QUIT_BYTES => None,
+            LogEntry::Quit(_) => Some(QUIT_BYTES),
         }
     }
 }

@@ -5,7 +5,7 @@ ghost use Rattle.shared_log.specs.Cursors.{AreWithin, rows_of};
 
 use crate::cursor::Cursor;
 use crate::cursors::{settle_before, shift};
-use crate::entry::Entry;
+use crate::entry::LogEntry;
 use crate::spares::Spares;
 use circular_buffer::HeapCircularBuffer;
 use std::alloc::AllocError;
@@ -14,7 +14,7 @@ use std::alloc::AllocError;
 pub(crate) fn evict(
     spares: &mut Spares,
     cursors: &mut [Cursor],
-    log: &mut HeapCircularBuffer<Entry>,
+    log: &mut HeapCircularBuffer<LogEntry>,
     count: usize,
 ) -> Result<(), AllocError>
     requires within { AreWithin log.old.items cursors.old }
@@ -35,7 +35,7 @@ pub(crate) fn evict(
 pub(crate) fn make_room(
     spares: &mut Spares,
     cursors: &mut [Cursor],
-    log: &mut HeapCircularBuffer<Entry>,
+    log: &mut HeapCircularBuffer<LogEntry>,
     wanted: usize,
     is_heavy: bool,
 ) -> Result<(), AllocError>

@@ -23,9 +23,9 @@ pub struct OwnLines {
 }
 
 impl Model for OwnLines {
-    ghost use Rattle.shared_log.specs.OwnLines.{Own, own_in};
+    ghost use Rattle.shared_log.specs.OwnLines.{OwnQueue, own_in};
 
-    ghost Value = { Own };
+    ghost Value = { OwnQueue };
 
     ghost view = { own_in };
 }

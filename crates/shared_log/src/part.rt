@@ -1,19 +1,19 @@
 ghost use Rattle.std.specs.Prelude.{◌≡◌, ◌≤◌, ◌-◌, ◌++◌, length, take, drop, IfOk, IfSome, OnErr, OnOk};
 ghost use Rattle.std.specs.List.{concat};
 ghost use Rattle.outboxes.specs.Backlogs.{size_of};
-ghost use Rattle.shared_log.specs.Cursors.{IsWithin, row_of};
+ghost use Rattle.shared_log.specs.Cursors.{IsInLog, row_of};
 ghost use Rattle.shared_log.specs.Entries.{all_lines};
-ghost use Rattle.shared_log.specs.Parts.{AreWhole, IsPart, lines_in};
+ghost use Rattle.shared_log.specs.Parts.{AreWhole, IsLogPart, lines_in};
 ghost use Rattle.shared_log.specs.Tables.{taken};
 
 use crate::cursor::Cursor;
-use crate::entry::Entry;
+use crate::entry::LogEntry;
 use circular_buffer::HeapCircularBuffer;
 use std::alloc::AllocError;
 
 /// The first lines that wait for a connection: some of its own, and then whole entries of the log.
 #[derive(Drop)]
-pub struct Part {
+pub struct LogPart {
     /// How many are its own.
     pub(crate) own: usize,
     /// The place of the first entry.
@@ -26,7 +26,7 @@ pub struct Part {
 
 /// Entries from a place on.
 #[derive(Drop)]
-pub struct Run {
+pub struct LogRun {
     /// The place behind them.
     pub(crate) end: usize,
     /// How many lines more were wanted.
@@ -34,21 +34,21 @@ pub struct Run {
 }
 
 /// Finds the entries from a place on that have so many lines, or all; nothing where an entry would be parted.
-fn run_from(log: &HeapCircularBuffer<Entry>, tail: usize, count: usize) -> Option<Run>
+fn run_from(log: &HeapCircularBuffer<LogEntry>, tail: usize, count: usize) -> Option<LogRun>
     requires { tail ≤ length log.now.items }
     ensures { IfSome result (λ run. AreWhole log.now.items tail count run) }
 {
     let mut left = count;
     for place in tail..log.len() {
         if left == 0 {
-            return Some(Run { end: place, left });
+            return Some(LogRun { end: place, left });
         }
         match log.get(place) {
             Some(entry) => left = left.checked_sub(entry.count())?,
             None => unreachable!(),
         }
     }
-    Some(Run {
+    Some(LogRun {
         end: log.len(),
         left,
     })
@@ -56,9 +56,9 @@ fn run_from(log: &HeapCircularBuffer<Entry>, tail: usize, count: usize) -> Optio
 
 impl Cursor {
     /// Finds the first `count` lines that wait, or all. Nothing where it lags, or where an entry would be parted.
-    pub(crate) fn part(&self, log: &HeapCircularBuffer<Entry>, count: usize) -> Option<Part>
-        requires { IsWithin (length log.now.items) self.now }
-        ensures { IfSome result (λ part. IsPart log.now.items self.now count part) }
+    pub(crate) fn part(&self, log: &HeapCircularBuffer<LogEntry>, count: usize) -> Option<LogPart>
+        requires { IsInLog (length log.now.items) self.now }
+        ensures { IfSome result (λ part. IsLogPart log.now.items self.now count part) }
     {
         let tail = self.tail?;
         if self.tally(log).lags {
@@ -66,7 +66,7 @@ impl Cursor {
         }
         let own = self.own.waiting().min(count);
         let run = run_from(log, tail, count - own)?;
-        Some(Part {
+        Some(LogPart {
             own,
             tail,
             end: run.end,
@@ -77,14 +77,14 @@ impl Cursor {
     /// Takes what was found. Where memory runs out it is as before.
     pub(crate) fn take_part(
         &mut self,
-        log: &HeapCircularBuffer<Entry>,
+        log: &HeapCircularBuffer<LogEntry>,
         count: usize,
-        part: &Part,
+        part: &LogPart,
         out: &mut Vec<u8>,
     ) -> Result<(), AllocError>
-        requires { IsPart log.now.items self.old count part.now }
+        requires { IsLogPart log.now.items self.old count part.now }
         ensures row { OnOk result (row_of log.now.items self.new ≡ taken count (row_of log.now.items self.old)) }
-        ensures within { OnOk result (IsWithin (length log.now.items) self.new) }
+        ensures within { OnOk result (IsInLog (length log.now.items) self.new) }
         ensures bytes { OnOk result (out.new.items ≡ out.old.items ++ concat (take count (row_of log.now.items self.old).backlog.lines)) }
         ensures err { OnErr result (self.new ≡ self.old) }
         ensures out_kept { OnErr result (out.new.items ≡ out.old.items) }
@@ -104,7 +104,7 @@ impl Cursor {
 
 /// Appends the lines of the entries from a place on, up to another.
 fn write_run(
-    log: &HeapCircularBuffer<Entry>,
+    log: &HeapCircularBuffer<LogEntry>,
     tail: usize,
     end: usize,
     out: &mut Vec<u8>,

@@ -3,7 +3,7 @@ ghost use Rattle.outboxes.specs.Backlogs.{Backlog, backlog_after, empty_backlog,
 ghost use Rattle.shared_log.specs.Entries.{entry_lines};
 ghost use Rattle.shared_log.specs.Tallies.{IsTally, grown};
 
-use crate::entry::Entry;
+use crate::entry::LogEntry;
 use outboxes::Outbox;
 
 /// How many lines wait for a connection, how many bytes they have, and whether it lags; and what may wait.
@@ -45,7 +45,7 @@ impl Tally {
     }
 
     /// Counts in what an entry gives.
-    pub(crate) fn add(&mut self, entry: &Entry)
+    pub(crate) fn add(&mut self, entry: &LogEntry)
         ensures { (b : Backlog) → IsTally b self.old → IsTally (backlog_after b (entry_lines entry.now)) self.new }
     {
         if self.lags {
@@ -58,7 +58,7 @@ impl Tally {
     }
 
     /// Counts what waits if an entry is given; `None` where it does not fit.
-    fn grown(&self, entry: &Entry) -> Option<Tally>
+    fn grown(&self, entry: &LogEntry) -> Option<Tally>
         ensures { result ≡ grown self.now (length (entry_lines entry.now)) (size_of (entry_lines entry.now)) }
     {
         let lines = self.lines.checked_add(entry.count())?;

@@ -20,7 +20,7 @@ use crate::users::alike::{keep, say_run};
 use crate::users::play_table;
 use crate::users::samples::{say_totals, user};
 use login_state::{Deny, NamedField};
-use plain_users::{Answer, Command, PlainUsers, RunRefused, run_users};
+use plain_users::{Command, CommandAnswer, PlainUsers, RunRefused, run_users};
 use user_table::{IndexedUsers, Users};
 
 #[test]
@@ -229,7 +229,7 @@ fn runs<U: Users>(rt: &impl Machine) {
 }
 
 /// Runs the commands, once more where memory was refused: nobody is there then.
-fn run_twice<U: Users>(rt: &impl Machine, users: &mut U) -> Vec<Answer> {
+fn run_twice<U: Users>(rt: &impl Machine, users: &mut U) -> Vec<CommandAnswer> {
     match run_users(rt.alloc(), users, commands(rt)) {
         Ok(answers) => answers,
         Err(RunRefused::Memory) => {

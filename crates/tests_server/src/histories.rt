@@ -9,7 +9,7 @@ use crate::conversation::spelled;
 use crate::histories::play::{Way, plays};
 use crate::histories::record::write_history;
 use crate::machine::*;
-use history_check::{Entry, Judgement, Reply, check_history, read_history};
+use history_check::{Judgement, WrittenEntry, WrittenReply, check_history, read_history};
 use hub_core::{Account, Options, PlainOptions, Setup};
 
 /// The number of times that the clients talk on threads of their own.
@@ -109,22 +109,27 @@ fn setup_for(alloc: Global, users: u32) -> Result<Arc<Setup>, AllocError> {
 }
 
 /// Plays a conversation, once more where memory was refused.
-fn history<R: ServerMachine>(rt: &R, setup: &Arc<Setup>, text: &str, way: Way) -> Vec<Entry> {
+fn history<R: ServerMachine>(
+    rt: &R,
+    setup: &Arc<Setup>,
+    text: &str,
+    way: Way,
+) -> Vec<WrittenEntry> {
     let text = spelled(rt, &[text]);
     again!(rt; plays(rt, &text, setup, way).ok_or(AllocError))
 }
 
-fn judge<R: Machine>(rt: &R, setup: &Arc<Setup>, history: &[Entry]) -> Judgement {
+fn judge<R: Machine>(rt: &R, setup: &Arc<Setup>, history: &[WrittenEntry]) -> Judgement {
     again!(rt; check_history(rt.alloc(), again!(rt; setup.clone()), &First24, history))
 }
 
 /// Counts those who joined, and those who left.
-fn visits(history: &[Entry]) -> (usize, usize) {
+fn visits(history: &[WrittenEntry]) -> (usize, usize) {
     let (mut joined, mut left) = (0usize, 0usize);
     for entry in history {
         match entry.reply {
-            Reply::Joined(_) => joined = joined.wrapping_add(1),
-            Reply::Left => left = left.wrapping_add(1),
+            WrittenReply::Joined(_) => joined = joined.wrapping_add(1),
+            WrittenReply::Left => left = left.wrapping_add(1),
             _ => {}
         }
     }
@@ -132,7 +137,7 @@ fn visits(history: &[Entry]) -> (usize, usize) {
 }
 
 /// Stops the test unless a history is legal in which as many joined and left as there were places.
-fn is_legal<R: Machine>(rt: &R, setup: &Arc<Setup>, history: &[Entry], places: u32) {
+fn is_legal<R: Machine>(rt: &R, setup: &Arc<Setup>, history: &[WrittenEntry], places: u32) {
     let visits = visits(history);
     assert!(rt; visits == (places as usize, places as usize), "{visits:?}");
     if let Judgement::Fault(place, _) = judge(rt, setup, history) {

@@ -58,13 +58,13 @@ impl AsyncWrite for Silent<'_> {
 }
 
 /// Lets a socket of this number begin to linger.
-fn let_out<'a, R: Wait>(
+fn linger<'a, R: Wait>(
     lingering: &Lingering<Silent<'a>>,
     clock: &StillClock<R>,
     number: u64,
     closed: &'a AtomicU64,
 ) {
-    let _ = lingering.let_out(clock, LeavingSocket::new(Silent { number, closed }));
+    let _ = lingering.linger(clock, LeavingSocket::new(Silent { number, closed }));
 }
 
 /// Answers whether a socket still lingers so many seconds after its session.
@@ -73,10 +73,10 @@ fn lingers<R: Wait + RandomSource + AllocGlobal>(rt: &R, seconds: u64) -> Result
     let closed = AtomicU64::new(0);
     let task = MockTask::new(rt).map_err(|_| AllocError)?;
     let lingering = Lingering::new(rt.alloc())?;
-    let_out(&lingering, &clock, 1, &closed);
+    linger(&lingering, &clock, 1, &closed);
     clock.set(seconds);
     Ok(task.enter(|cx| lingering
-        .linger(&clock, cx, false)
+        .poll_lingering(&clock, cx, false)
         .is_ok_and(|seen| seen.some())))
 }
 
@@ -95,7 +95,7 @@ fn closed_of<R: Wait + AllocGlobal>(rt: &R, count: u64) -> Result<u64, AllocErro
     let lingering = Lingering::new(rt.alloc())?;
     for before in 0..count {
         clock.set(before);
-        let_out(&lingering, &clock, before.wrapping_add(1), &closed);
+        linger(&lingering, &clock, before.wrapping_add(1), &closed);
     }
     Ok(closed.load(Ordering::SeqCst))
 }
@@ -117,7 +117,7 @@ fn is_over_after<R: ServerMachine>(rt: &R, seconds: u64) -> Result<bool, AllocEr
     let timer = time.sleep(rt, Duration::ZERO).map_err(|_| AllocError)?;
     let task = MockTask::new(rt).map_err(|_| AllocError)?;
     let shared: Shared<(), Silent<'_>> = Shared::new(rt.alloc(), 0)?;
-    let_out(&shared.lingering, &clock, 1, &closed);
+    linger(&shared.lingering, &clock, 1, &closed);
     let _ = shared.close(&clock, None);
     clock.set(seconds);
     let is_over = is_over(&shared, &clock, timer, &task);

@@ -1,6 +1,6 @@
 // A session over memory, with a connection of the server.
 ghost use Rattle.std.specs.Prelude.{◌≡◌, Some, ℕ, ⊤};
-ghost use Rattle.hub_server.specs.Naming.{home_in};
+ghost use Rattle.hub_server.specs.NamedHub.{home_in};
 
 use crate::sessions::hold;
 use adc_sessions::End;
@@ -84,8 +84,8 @@ fn session<
     input: &[u8],
 ) -> Option<(End, Vec<u8>)>
     requires here { B.hub ≡ Some hub.now }
-    requires timed { (moment : ℕ) → ⟦<R as Moments>⟧.tells rt.now moment → ∥ B.tells moment ∥₁ }
-    requires timely { (moment : ℕ) → B.tells moment → ∥ ⟦<R as Moments>⟧.tells rt.now moment ∥₁ }
+    requires timed { (moment : ℕ) → ⟦<R as Moments>⟧.may_read rt.now moment → ∥ B.may_read moment ∥₁ }
+    requires timely { (moment : ℕ) → B.may_read moment → ∥ ⟦<R as Moments>⟧.may_read rt.now moment ∥₁ }
     requires host { host.old ≡ record { home = hub.now.home; admitted = 0 } }
     requires set { hub.now.setup ≡ setup.now }
 {

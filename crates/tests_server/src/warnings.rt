@@ -1,6 +1,6 @@
 // Warnings: what stands in each line, what the journal has of them, and the queue by which nobody waits.
 use crate::machine::*;
-use hub_warnings::{Cause, Dropped, End, Journal, Moment, Start, Warning, Warnings, queue};
+use hub_warnings::{Cause, Dropped, EndLine, Journal, Moment, Start, Warning, Warnings, queue};
 use log::{Level, Logged};
 use std::fmt::Display;
 use std::io::{self, Write};
@@ -109,7 +109,7 @@ fn a_server_says_its_start_and_its_end(rt: HostRuntime) {
     let text =
         "2026-11-25T13:07:11Z adc_hub 1.0 serves hub.toml at 127.0.0.1:4111, descriptors: 544 needed, 2048 allowed";
     shows(&rt, &start, text);
-    let end = End {
+    let end = EndLine {
         moment,
         why: "standard output failed",
         joins: None,

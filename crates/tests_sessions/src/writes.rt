@@ -1,4 +1,4 @@
-use flushed_writes::{CountedRead, Counting, write_and_flush, write_and_flush_counted};
+use counted_io::{CountedRead, Counting, write_and_flush, write_and_flush_counted};
 use std::alloc::AllocGlobal;
 use std::io::{self, Read};
 use std::process::Abort;

@@ -1,8 +1,8 @@
 use crate::memory::{Memory, Rest};
 use adc_base32::Sid;
 use hub_client::{
-    Client, ClientFault, Entry, Identity, NickText, Request, User, act_line, chat_line, field_text,
-    login_line, password_line,
+    Client, ClientFault, ClientIdentity, HubRequest, HubUser, LoginStep, NickText, act_line,
+    chat_line, field_text, login_line, password_line,
 };
 use session_hash::First24;
 use std::alloc::{AllocError, Global};
@@ -38,10 +38,10 @@ fn outcome(alloc: Global, memory: &mut Memory<'_>, deed: Deed) -> Told {
     let mut client = Client::new(alloc, memory);
     let sid = client.hello(false)?.sid;
     let nick = NickText::parse(alloc, "op").map_err(|_| ClientFault::Memory)?;
-    let login = login_line(alloc, sid, &Identity::of(&First24, [0; 24]), &nick)?;
-    if let Entry::Challenged(challenge) = client.enter(sid, &login)? {
+    let login = login_line(alloc, sid, &ClientIdentity::of(&First24, [0; 24]), &nick)?;
+    if let LoginStep::Challenged(challenge) = client.enter(sid, &login)? {
         let answer = password_line(alloc, &First24, "secret", &challenge)?;
-        if let Entry::Challenged(_) = client.enter(sid, &answer)? {
+        if let LoginStep::Challenged(_) = client.enter(sid, &answer)? {
             return Err(ClientFault::NotAdc);
         }
     }
@@ -51,7 +51,7 @@ fn outcome(alloc: Global, memory: &mut Memory<'_>, deed: Deed) -> Told {
 fn act(alloc: Global, client: &mut Client<&mut Memory<'_>>, sid: Sid, deed: Deed) -> Told {
     match deed {
         Deed::Kick => {
-            let Ok(request) = Request::kick(alloc, "ana", "be kind") else {
+            let Ok(request) = HubRequest::kick(alloc, "ana", "be kind") else {
                 return Err(ClientFault::Memory);
             };
             let Ok(line) = act_line(alloc, &request) else {
@@ -73,14 +73,14 @@ fn act(alloc: Global, client: &mut Client<&mut Memory<'_>>, sid: Sid, deed: Deed
         Deed::List => {
             let mut list = String::new(alloc);
             for line in client.users() {
-                push_user(&mut list, &User::read(alloc, line)?)?;
+                push_user(&mut list, &HubUser::read(alloc, line)?)?;
             }
             Ok(list)
         }
     }
 }
 
-fn push_user(list: &mut String, user: &User) -> Result<(), AllocError> {
+fn push_user(list: &mut String, user: &HubUser) -> Result<(), AllocError> {
     list.push_str(&user.nick)?;
     list.push_str("|")?;
     list.push_str(user.role.name())?;
@@ -176,7 +176,7 @@ fn logins_are_refused(rt: HostRuntime) {
 
 #[test]
 fn connections_fail(rt: HostRuntime) {
-    talk! { rt, Kick, Closes, ["op says HSUP ADBASE ADTIGR -> HTTP/1.1 400 Bad Request"], "this is no ADC hub" }
+    talk! { rt, Kick, Closes, ["op says HSUP ADBASE ADTIGR -> HTTP/1.1 400 Bad HubRequest"], "this is no ADC hub" }
     for (rest, wanted) in [
         (Rest::Closes, "the hub closed the connection"),
         (Rest::Waits, "the hub did not answer in time"),

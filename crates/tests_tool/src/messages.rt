@@ -1,11 +1,11 @@
 use adc_base32::Sid;
-use hub_client::{ClientFault, Identity, NickText, Request, act_line, login_line};
+use hub_client::{ClientFault, ClientIdentity, HubRequest, NickText, act_line, login_line};
 use session_hash::TableTiger;
 use std::alloc::{AllocGlobal, Global};
 use std::process::Abort;
 use tests_support::again;
 
-fn sends(rt: &(impl Abort + AllocGlobal), request: &Request<'_>, wanted: &str) {
+fn sends(rt: &(impl Abort + AllocGlobal), request: &HubRequest<'_>, wanted: &str) {
     let line = again!(rt; act_line(rt.alloc(), request));
     assert_eq!(rt; line.text(), wanted);
 }
@@ -13,24 +13,24 @@ fn sends(rt: &(impl Abort + AllocGlobal), request: &Request<'_>, wanted: &str) {
 #[test]
 fn requests_are_messages(rt: HostRuntime) {
     let alloc = rt.alloc();
-    let kick = again!(&rt; Request::kick(alloc, "bob", ""));
+    let kick = again!(&rt; HubRequest::kick(alloc, "bob", ""));
     sends(&rt, &kick, "HMSG !kick\\sbob");
-    let kick = again!(&rt; Request::kick(alloc, "bób", "be kind \\ leave\nnow"));
+    let kick = again!(&rt; HubRequest::kick(alloc, "bób", "be kind \\ leave\nnow"));
     sends(&rt, &kick, r"HMSG !kick\sbób\sbe\skind\s\\\sleave\nnow");
-    let ban = again!(&rt; Request::ban(alloc, "bob", 0, ""));
+    let ban = again!(&rt; HubRequest::ban(alloc, "bob", 0, ""));
     sends(&rt, &ban, "HMSG !ban\\sbob\\s0");
-    let ban = again!(&rt; Request::ban(alloc, "bob", 4_294_967_295, "spam"));
+    let ban = again!(&rt; HubRequest::ban(alloc, "bob", 4_294_967_295, "spam"));
     sends(&rt, &ban, "HMSG !ban\\sbob\\s4294967295\\sspam");
-    sends(&rt, &Request::topic(""), "HMSG !topic");
-    let topic = Request::topic("Films of the week");
+    sends(&rt, &HubRequest::topic(""), "HMSG !topic");
+    let topic = HubRequest::topic("Films of the week");
     sends(&rt, &topic, r"HMSG !topic\sFilms\sof\sthe\sweek");
-    let Some(unban) = Request::unban("ONSWG4TFOQAAAAAAAAAAAAAAAAAAAAAAAAAAAAA") else {
+    let Some(unban) = HubRequest::unban("ONSWG4TFOQAAAAAAAAAAAAAAAAAAAAAAAAAAAAA") else {
         panic!(rt; "no client identifier");
     };
     let wanted = r"HMSG !unban\sONSWG4TFOQAAAAAAAAAAAAAAAAAAAAAAAAAAAAA";
     sends(&rt, &unban, wanted);
-    assert!(rt; Request::unban("ONSWG4TFOQ").is_none());
-    again!(&rt; match Request::kick(alloc, "a b", "") {
+    assert!(rt; HubRequest::unban("ONSWG4TFOQ").is_none());
+    again!(&rt; match HubRequest::kick(alloc, "a b", "") {
         Ok(_) => panic!(rt; "no nick"),
         Err(adc_ids::NickFault::Invalid) => Ok(()),
         Err(fault) => Err(fault),
@@ -46,7 +46,7 @@ fn login(alloc: Global) -> Result<String, ClientFault> {
     ) else {
         return Err(ClientFault::Memory);
     };
-    let line = login_line(alloc, sid, &Identity::of(&hash, [7; 24]), &nick)?;
+    let line = login_line(alloc, sid, &ClientIdentity::of(&hash, [7; 24]), &nick)?;
     Ok(String::from_str(alloc, line.text())?)
 }
 

@@ -1,5 +1,5 @@
 use hub_settings::KEYS;
-use settings_report::{Report, Summary, Warning, report_file};
+use settings_report::{SettingsReport, SettingsWarning, Summary, report_file};
 use std::alloc::{AllocError, Global};
 use tests_support::{Machine, again};
 
@@ -14,13 +14,17 @@ pub(crate) fn report_on(alloc: Global, text: &str) -> Result<String, AllocError>
 
 fn said_of_bytes(alloc: Global, bytes: &[u8]) -> Result<String, AllocError> {
     match report_file(alloc, bytes)? {
-        Report::Well(summary, warnings) => said_well(alloc, &summary, &warnings),
-        Report::Faulty(fault) => fault.to_string(alloc).map_err(|_| AllocError),
+        SettingsReport::Well(summary, warnings) => said_well(alloc, &summary, &warnings),
+        SettingsReport::Faulty(fault) => fault.to_string(alloc).map_err(|_| AllocError),
     }
 }
 
 /// The summary, and behind it the warnings.
-fn said_well(alloc: Global, summary: &Summary, warnings: &[Warning]) -> Result<String, AllocError> {
+fn said_well(
+    alloc: Global,
+    summary: &Summary,
+    warnings: &[SettingsWarning],
+) -> Result<String, AllocError> {
     let (listen, hash) = (summary.listen, summary.hash_name());
     let (accounts, commands) = (summary.accounts, summary.commands);
     let descriptors = summary.descriptors;

@@ -14,7 +14,7 @@ use Rattle.inf_fields.specs.Amounts.{is_short_number, number_at}
 use Rattle.inf_fields.specs.Field.{Field, value_of}
 use Rattle.inf_fields.specs.FieldNames.{share_size_name, shared_files_name}
 use Rattle.user_table.specs.declared.totals.Totals.{Totals}
-use Rattle.user_table.specs.declared.totals.Shared.{Shared}
+use Rattle.user_table.specs.declared.totals.SharedTotals.{SharedTotals}
 use Rattle.user_table.specs.Listed.{Listed}
 use Rattle.user_table.specs.Shares.{shared_by, totals_with, totals_without}
 use Rattle.user_table.specs.Tables.{amount, totals_of}
@@ -141,33 +141,33 @@ less-fits : (s b a : ℕ) → s + a < 2 ^ 128 → s - b + a < 2 ^ 128
 less-fits s b a e = omega arith
 
 -- after one is taken away there is room for another
-pub ss-fits-again : (users : List Listed) (totals lower : Totals) (b a : Shared) (user : Listed) → totals ≡ totals_of users → lower ≡ totals_without b totals
+pub ss-fits-again : (users : List Listed) (totals lower : Totals) (b a : SharedTotals) (user : Listed) → totals ≡ totals_of users → lower ≡ totals_without b totals
     → a ≡ shared_by user → totals.users < 2 ^ 64 → lower.ss + a.ss < 2 ^ 128
 ss-fits-again users totals lower b a user is low shared counted =
     rw (low, shared, is) (less-fits (sum_by ss_of users) b.ss (ss_of user) (ss-fits users (ss_of user) (subst (λ (t : Totals). t.users < 2 ^ 64) is counted) (amount-small share_size_name user.fields)))
 
-pub sf-fits-again : (users : List Listed) (totals lower : Totals) (b a : Shared) (user : Listed) → totals ≡ totals_of users → lower ≡ totals_without b totals
+pub sf-fits-again : (users : List Listed) (totals lower : Totals) (b a : SharedTotals) (user : Listed) → totals ≡ totals_of users → lower ≡ totals_without b totals
     → a ≡ shared_by user → totals.users < 2 ^ 64 → lower.sf + a.sf < 2 ^ 128
 sf-fits-again users totals lower b a user is low shared counted =
     rw (low, shared, is) (less-fits (sum_by sf_of users) b.sf (sf_of user) (sf-fits users (sf_of user) (subst (λ (t : Totals). t.users < 2 ^ 64) is counted) (amount-small shared_files_name user.fields)))
 
 -- before anything is taken away there is room for one more
-pub ss-fits-more : (users : List Listed) (totals : Totals) (a : Shared) (user : Listed) → totals ≡ totals_of users → a ≡ shared_by user → totals.users < 2 ^ 64
+pub ss-fits-more : (users : List Listed) (totals : Totals) (a : SharedTotals) (user : Listed) → totals ≡ totals_of users → a ≡ shared_by user → totals.users < 2 ^ 64
     → totals.ss + a.ss < 2 ^ 128
 ss-fits-more users totals a user is shared counted =
     rw (shared, is) (ss-fits users (ss_of user) (subst (λ (t : Totals). t.users < 2 ^ 64) is counted) (amount-small share_size_name user.fields))
 
-pub sf-fits-more : (users : List Listed) (totals : Totals) (a : Shared) (user : Listed) → totals ≡ totals_of users → a ≡ shared_by user → totals.users < 2 ^ 64
+pub sf-fits-more : (users : List Listed) (totals : Totals) (a : SharedTotals) (user : Listed) → totals ≡ totals_of users → a ≡ shared_by user → totals.users < 2 ^ 64
     → totals.sf + a.sf < 2 ^ 128
 sf-fits-more users totals a user is shared counted =
     rw (shared, is) (sf-fits users (sf_of user) (subst (λ (t : Totals). t.users < 2 ^ 64) is counted) (amount-small shared_files_name user.fields))
 
 -- what a user shares is counted
-pub ss-counted : (test : ℕ → Bool) (entries : List (ℕ × Listed)) (totals : Totals) (b : Shared) (user : Listed) → totals ≡ totals_of (values_of entries)
+pub ss-counted : (test : ℕ → Bool) (entries : List (ℕ × Listed)) (totals : Totals) (b : SharedTotals) (user : Listed) → totals ≡ totals_of (values_of entries)
     → b ≡ shared_by user → lookup test entries ≡ Some user → b.ss ≤ totals.ss
 ss-counted test entries totals b user is shared e = rw (shared, is) (part-below ss_of test entries user e)
 
-pub sf-counted : (test : ℕ → Bool) (entries : List (ℕ × Listed)) (totals : Totals) (b : Shared) (user : Listed) → totals ≡ totals_of (values_of entries)
+pub sf-counted : (test : ℕ → Bool) (entries : List (ℕ × Listed)) (totals : Totals) (b : SharedTotals) (user : Listed) → totals ≡ totals_of (values_of entries)
     → b ≡ shared_by user → lookup test entries ≡ Some user → b.sf ≤ totals.sf
 sf-counted test entries totals b user is shared e = rw (shared, is) (part-below sf_of test entries user e)
 

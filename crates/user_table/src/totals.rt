@@ -14,14 +14,14 @@ pub struct Totals {
 
 /// The share of one user: bytes by the field SS, files by the field SF.
 #[derive(Clone, Copy, PartialEq, Eq)]
-pub(crate) struct Shared {
+pub(crate) struct SharedTotals {
     pub(crate) ss: u64,
     pub(crate) sf: u64,
 }
 
 impl Totals {
     /// Counts one user more.
-    pub(crate) fn raise(&mut self, shared: Shared)
+    pub(crate) fn raise(&mut self, shared: SharedTotals)
         requires users { self.old.users + 1 < 2 ^ 64 }
         requires ss { self.old.ss + shared.ss < 2 ^ 128 }
         requires sf { self.old.sf + shared.sf < 2 ^ 128 }
@@ -33,7 +33,7 @@ impl Totals {
     }
 
     /// Counts one user less, who was counted.
-    pub(crate) fn lower(&mut self, shared: Shared)
+    pub(crate) fn lower(&mut self, shared: SharedTotals)
         requires users { 1 ≤ self.old.users }
         requires ss { shared.ss ≤ self.old.ss }
         requires sf { shared.sf ≤ self.old.sf }

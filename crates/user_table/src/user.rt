@@ -8,7 +8,7 @@ ghost use Rattle.user_table.specs.Renaming.{with_other_key};
 ghost use Rattle.user_table.specs.Shares.{shared_by};
 ghost use Rattle.user_table.specs.Tables.{amount, updated_user};
 
-use crate::totals::Shared;
+use crate::totals::SharedTotals;
 use adc_base32::Sid;
 use adc_ids::Cid;
 use inf_fields::{FieldName, Fields, Update, shared_amount};
@@ -107,10 +107,10 @@ impl User {
     }
 
     /// Gives what the user shares.
-    pub(crate) fn files_shared(&self) -> Shared
+    pub(crate) fn files_shared(&self) -> SharedTotals
         ensures { result ≡ shared_by self.now }
     {
-        Shared {
+        SharedTotals {
             ss: self.share_size(),
             sf: self.shared_files(),
         }

@@ -1,4 +1,4 @@
-use Rattle.server_laws.proofs.Owing.{visits_are_paid, written_is_owed}
+use Rattle.server_laws.proofs.Owed.{visits_are_paid, written_is_owed}
 use Rattle.server_laws.proofs.written_laws.Goals as goal
 
 pub returns-clause-paid : goal.returns-clause-paid

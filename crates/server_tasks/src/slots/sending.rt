@@ -4,7 +4,7 @@ ghost use Rattle.server_tasks.specs.Becomes.{OneBecomes};
 ghost use Rattle.server_tasks.specs.GivingWay.{line_over};
 ghost use Rattle.server_tasks.specs.Named.{SameIndex};
 
-use super::{Deed, Receipt, Slot, Slots};
+use super::{Receipt, Slot, SlotEvent, Slots};
 use crate::amount::Amount;
 use crate::sender::Throttle;
 
@@ -17,7 +17,7 @@ impl Slots {
         said: Amount,
         throttle: &mut Throttle,
     ) -> (Receipt, bool)
-        ensures word { result.0 ≡ Deed.Asked slot bytes result.1 }
+        ensures word { result.0 ≡ SlotEvent.Asked slot bytes result.1 }
         ensures told { result.1 ≡ false → self.new.ticker ≡ None }
         ensures behind { result.1 ≡ false → self.new.sight.is_behind ≡ true }
         ensures on_the_way { throttle.new.is_on_the_way ≡ (result.1 && nat_lt 4_096 bytes) }
@@ -27,32 +27,32 @@ impl Slots {
     {
         let may_send = self.lets_send(slot, bytes, said, throttle);
         let receipt = Receipt {
-            deed: Deed::Asked(slot, bytes, may_send),
+            deed: SlotEvent::Asked(slot, bytes, may_send),
         };
         (receipt, may_send)
     }
 
     /// Notes that the last line of the session of this slot was said, and gives the word of it.
     pub(crate) fn end_line_by(&mut self, slot: usize) -> Receipt
-        ensures word { result ≡ Deed.LineEnded slot }
+        ensures word { result ≡ SlotEvent.LineEnded slot }
         ensures over { OneBecomes line_over slot self.old.slots.items self.new.slots.items }
         ensures bells { self.new.bells ≡ self.old.bells }
         ensures index { SameIndex self.old self.new }
     {
         self.end_line(slot);
         Receipt {
-            deed: Deed::LineEnded(slot),
+            deed: SlotEvent::LineEnded(slot),
         }
     }
 
     /// Answers whether somebody was seen to be behind, and gives the word of it.
     pub(crate) fn look_behind(&self) -> (Receipt, bool)
-        ensures word { result.0 ≡ Deed.LookedBehind result.1 }
+        ensures word { result.0 ≡ SlotEvent.LookedBehind result.1 }
         ensures behind { result.1 ≡ self.now.sight.is_behind }
     {
         let is_behind = self.is_behind();
         let receipt = Receipt {
-            deed: Deed::LookedBehind(is_behind),
+            deed: SlotEvent::LookedBehind(is_behind),
         };
         (receipt, is_behind)
     }

@@ -2,7 +2,7 @@
 ghost use Rattle.std.specs.Prelude.{◌≡◌, ◌∷◌, false, IfOk, IfSome, IfNone};
 ghost use Rattle.one_history.specs.States.{IsIdleAt, IsHolderAt, first_host};
 
-use one_history::{Host, Lock, Recorded, Seat, Told};
+use one_history::{Host, Lock, MadeEntry, Recorded, Seat};
 use std::alloc::{AllocFailed, Global};
 use std::marker::Brand;
 use std::sync::Wait;
@@ -41,7 +41,7 @@ pub type CountersHost = Host<Counter, Line, u64>;
 
 pub type CountersSeat = Seat<Counter, Line, u64>;
 
-impl Told<Line> for Brand {
+impl MadeEntry<Line> for Brand {
     ghost entry = { record { caller = 0; amount = 0; reply = 0 } };
 }
 
@@ -79,7 +79,7 @@ pub fn add<R: Wait>(
         ≡ record { caller = caller; amount = amount; reply = reply } ∷ seat.old.mine) }
     ensures none { IfNone result (seat.new.mine ≡ seat.old.mine) }
 {
-    let mut counter = lock.take(rt, seat);
+    let mut counter = lock.acquire(rt, seat);
     match counter.sum.checked_add(amount) {
         Some(reply) => {
             counter.sum = reply;
@@ -92,14 +92,19 @@ pub fn add<R: Wait>(
             Some(reply)
         }
         None => {
-            lock.put_back(seat, counter);
+            lock.release(seat, counter);
             None
         }
     }
 }
 
 // Gives the counter back with this line. Its caller's proof picks it as the entry.
-fn enter<B: Told<Line>>(lock: &Counters, seat: &mut CountersSeat, counter: Counter, line: &Line)
+fn enter<B: MadeEntry<Line>>(
+    lock: &Counters,
+    seat: &mut CountersSeat,
+    counter: Counter,
+    line: &Line,
+)
     requires holds { IsHolderAt lock.now seat.old }
     requires entry { B.entry ≡ line.now }
     requires mine { B.entry.caller ≡ seat.old.number }
@@ -109,5 +114,5 @@ fn enter<B: Told<Line>>(lock: &Counters, seat: &mut CountersSeat, counter: Count
         let mine = B.entry ∷ seat.old.mine in
         seat.new ≡ record seat.old { seen = seen; mine = mine; holds = false } }
 {
-    lock.give::<B>(seat, counter);
+    lock.release_with::<B>(seat, counter);
 }

@@ -69,9 +69,9 @@ pub fn hold<R: Wait + Clock>(rt: &R, lock: &Counters, seat: CountersSeat) -> Cou
     ensures { IsIdleAt lock.now result }
 {
     let mut seat = seat;
-    let counter = lock.take(rt, &mut seat);
+    let counter = lock.acquire(rt, &mut seat);
     thread::sleep(rt, Duration::from_millis(HELD));
-    lock.put_back(&mut seat, counter);
+    lock.release(&mut seat, counter);
     seat
 }
 

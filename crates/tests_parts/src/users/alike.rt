@@ -5,13 +5,13 @@ use super::{entering, say_answer};
 use crate::base32::sid;
 use crate::rows::*;
 use adc_ids::Cid;
-use plain_users::{Answer, Command, PlainUsers, RunRefused, run_users};
+use plain_users::{Command, CommandAnswer, PlainUsers, RunRefused, run_users};
 use user_table::{IndexedUsers, TableRefused, Totals, Users};
 
 const COUNT: usize = 2_000;
 
 /// Runs commands, the same once more where memory was refused, and gives what is said of the users then, and the answers.
-fn run<U: Users>(rt: &impl Machine) -> (Vec<u8>, Vec<Answer>) {
+fn run<U: Users>(rt: &impl Machine) -> (Vec<u8>, Vec<CommandAnswer>) {
     for _ in 0..2 {
         if let Some(both) = run_once::<U>(rt) {
             return both;
@@ -20,14 +20,14 @@ fn run<U: Users>(rt: &impl Machine) -> (Vec<u8>, Vec<Answer>) {
     unknown(rt, "refused twice")
 }
 
-fn run_once<U: Users>(rt: &impl Machine) -> Option<(Vec<u8>, Vec<Answer>)> {
+fn run_once<U: Users>(rt: &impl Machine) -> Option<(Vec<u8>, Vec<CommandAnswer>)> {
     let mut users = U::new(rt.alloc());
     match run_users(rt.alloc(), &mut users, draw_commands(rt)) {
         Err(RunRefused::Memory) => {
             say_refused_memory(rt, "plain_users::run_users", users.totals().users == 0);
             None
         }
-        Ok(answers) if answers.contains(&Answer::Refused(TableRefused::Memory)) => None,
+        Ok(answers) if answers.contains(&CommandAnswer::Refused(TableRefused::Memory)) => None,
         Ok(answers) => Some((say_users(rt, &users), answers)),
     }
 }
@@ -46,15 +46,15 @@ pub(crate) fn keep(rt: &impl Abort, commands: &mut Vec<Command>, command: Comman
     tests_support::push(commands, command).expect(rt, "refused twice");
 }
 
-fn kind_of(answer: &Answer) -> usize {
+fn kind_of(answer: &CommandAnswer) -> usize {
     match answer {
-        Answer::Skipped => 0,
-        Answer::Done => 1,
-        Answer::Refused(TableRefused::CidTaken) => 2,
-        Answer::Refused(_) => 3,
-        Answer::Found(Some(_)) => 4,
-        Answer::Found(None) => 5,
-        Answer::Counted(_) => 6,
+        CommandAnswer::Skipped => 0,
+        CommandAnswer::Done => 1,
+        CommandAnswer::Refused(TableRefused::CidTaken) => 2,
+        CommandAnswer::Refused(_) => 3,
+        CommandAnswer::Found(Some(_)) => 4,
+        CommandAnswer::Found(None) => 5,
+        CommandAnswer::Counted(_) => 6,
     }
 }
 
@@ -75,7 +75,7 @@ fn answer_2000_commands_alike(rt: HostRuntime) {
     assert!(rt; count(&answers, 0) < 1_000);
 }
 
-fn count(answers: &[Answer], kind: usize) -> usize {
+fn count(answers: &[CommandAnswer], kind: usize) -> usize {
     answers
         .iter()
         .filter(|answer| kind_of(answer) == kind)
@@ -107,13 +107,13 @@ impl<U: Users> CommandRun<U> {
     }
 
     /// Gives the answer to a command, or nothing where memory is refused.
-    fn run(&mut self, rt: &impl Machine, command: Command) -> Option<Answer> {
+    fn run(&mut self, rt: &impl Machine, command: Command) -> Option<CommandAnswer> {
         let mut commands = again!(rt; Vec::with_capacity(rt.alloc(), 1));
         keep(rt, &mut commands, command);
         match run_users(rt.alloc(), &mut self.users, commands) {
             Err(RunRefused::Memory) => None,
             Ok(answers) => match answers.first() {
-                Some(Answer::Refused(TableRefused::Memory)) => None,
+                Some(CommandAnswer::Refused(TableRefused::Memory)) => None,
                 Some(answer) => Some(*answer),
                 None => unknown(rt, "no answer"),
             },
@@ -138,14 +138,14 @@ fn command_of(rt: &impl Machine, name: &str, text: &str) -> Command {
     }
 }
 
-pub(crate) fn say_run(rt: &impl Machine, said: &mut Vec<u8>, answer: Answer) {
+pub(crate) fn say_run(rt: &impl Machine, said: &mut Vec<u8>, answer: CommandAnswer) {
     match answer {
-        Answer::Skipped => say(rt, said, "skipped"),
-        Answer::Done => say(rt, said, "done"),
-        Answer::Refused(refused) => say_answer(rt, said, Some(refused)),
-        Answer::Found(Some(sid)) => say_number(rt, said, sid.number() as u128),
-        Answer::Found(None) => say(rt, said, "nobody"),
-        Answer::Counted(Totals { users, ss, sf }) => {
+        CommandAnswer::Skipped => say(rt, said, "skipped"),
+        CommandAnswer::Done => say(rt, said, "done"),
+        CommandAnswer::Refused(refused) => say_answer(rt, said, Some(refused)),
+        CommandAnswer::Found(Some(sid)) => say_number(rt, said, sid.number() as u128),
+        CommandAnswer::Found(None) => say(rt, said, "nobody"),
+        CommandAnswer::Counted(Totals { users, ss, sf }) => {
             say_number(rt, said, users as u128);
             say_number(rt, said, ss);
             say_number(rt, said, sf);

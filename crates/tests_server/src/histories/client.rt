@@ -1,13 +1,13 @@
 // A client over memory, whose connection's calls are recorded.
 ghost use Rattle.std.specs.Prelude.{◌≡◌, Some, ⊤};
-ghost use Rattle.hub_server.specs.Naming.{home_in};
+ghost use Rattle.hub_server.specs.NamedHub.{home_in};
 
 use crate::histories::clock::StillClock;
 use crate::histories::record::Desk;
 use crate::machine::*;
 use crate::sessions::begin;
 use adc_sessions::{Port, Session};
-use history_check::{Call, Reply};
+use history_check::{WrittenCall, WrittenReply};
 use hub_core::{JoinRefused, LineRefused, TakeRefused, Taken, Verdict};
 use hub_server::{Connection, OfHub, Server, SlotBell, Ticket};
 use hub_shared::{Hub, Visitor};
@@ -154,7 +154,7 @@ impl<P: Port, R: Wait> Port for Recorder<'_, P, R> {
         } = self;
         let mut record = desk.record();
         let left = port.quit();
-        record.note(caller, Call::Quit(connection), Reply::Left);
+        record.note(caller, WrittenCall::Quit(connection), WrittenReply::Left);
         left
     }
 }
@@ -214,7 +214,7 @@ pub(crate) fn joins<
 {
     let address = Ipv4Addr::parse_ascii(step.line.as_bytes()).ok()?.octets();
     let Guest { visitor, .. } = guest;
-    let call = Call::Join(address, CHALLENGE, step.moment);
+    let call = WrittenCall::Join(address, CHALLENGE, step.moment);
     let mut record = desk.record();
     match hub.join(&desk.clock, alloc, visitor, address, CHALLENGE, step.moment) {
         Ok(pass) => {
@@ -231,7 +231,7 @@ pub(crate) fn joins<
             begin(alloc, wire, port, bell).map(Some)
         }
         Err((JoinRefused::Full, _)) => {
-            record.note(caller, call, Reply::Full);
+            record.note(caller, call, WrittenReply::Full);
             Some(None)
         }
         Err(_) => None,

@@ -1,13 +1,13 @@
 // Conversations as text, and how they are played.
 ghost use Rattle.std.specs.Prelude.{◌≡◌, Some, ℕ};
-ghost use Rattle.hub_server.specs.Naming.{home_in};
+ghost use Rattle.hub_server.specs.NamedHub.{home_in};
 
 use crate::histories::client::{Guest, StillServer, Talk, joins};
 use crate::histories::clock::StillClock;
 use crate::histories::polls::{are_over, go_round, goes_to_end};
 use crate::histories::record::Desk;
 use crate::machine::*;
-use history_check::Entry;
+use history_check::WrittenEntry;
 use hub_core::Setup;
 use hub_listener::Moments;
 use hub_server::{OfHub, Server, TcpTicket, Ticket};
@@ -35,7 +35,7 @@ pub(crate) fn plays<R: ServerMachine>(
     text: &str,
     setup: &Arc<Setup>,
     way: Way,
-) -> Option<Vec<Entry>> {
+) -> Option<Vec<WrittenEntry>> {
     let steps = steps_of(rt.alloc(), text)?;
     let desk = Desk::new(rt.alloc());
     let (hub, mut host) = Hub::open(rt.alloc(), setup.clone().ok()?, &First24).ok()?;
@@ -62,8 +62,8 @@ fn converses<
     way: Way,
 ) -> Option<()>
     requires here { B.hub ≡ Some hub.now }
-    requires timed { (moment : ℕ) → ⟦<StillClock<R> as Moments>⟧.tells desk.now.clock moment → ∥ B.tells moment ∥₁ }
-    requires timely { (moment : ℕ) → B.tells moment → ∥ ⟦<StillClock<R> as Moments>⟧.tells desk.now.clock moment ∥₁ }
+    requires timed { (moment : ℕ) → ⟦<StillClock<R> as Moments>⟧.may_read desk.now.clock moment → ∥ B.may_read moment ∥₁ }
+    requires timely { (moment : ℕ) → B.may_read moment → ∥ ⟦<StillClock<R> as Moments>⟧.may_read desk.now.clock moment ∥₁ }
     requires host { host.old ≡ record { home = hub.now.home; admitted = 0 } }
     requires set { hub.now.setup ≡ setup.now }
 {

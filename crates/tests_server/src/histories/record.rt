@@ -1,7 +1,7 @@
 // The history of a hub as it is recorded, and as text.
 use crate::histories::clock::StillClock;
 use adc_base32::encode24;
-use history_check::{Call, Entry, LineCount, Reply, Verdict};
+use history_check::{LineCount, Verdict, WrittenCall, WrittenEntry, WrittenReply};
 use hub_core::Taken;
 use std::alloc::{AllocError, Global};
 use std::net::Ipv4Addr;
@@ -14,7 +14,7 @@ const DIGITS: [u8; 16] = *b"0123456789ABCDEF";
 #[derive(Drop)]
 pub(crate) struct Record {
     alloc: Global,
-    entries: Vec<Entry>,
+    entries: Vec<WrittenEntry>,
     joins: u64,
     // A note was refused memory, or a session.
     pub(crate) is_lost: bool,
@@ -30,8 +30,8 @@ pub(crate) struct Desk<R> {
 
 impl Record {
     /// Notes a call with its reply.
-    pub(crate) fn note(&mut self, caller: u64, call: Call, reply: Reply) {
-        let entry = Entry {
+    pub(crate) fn note(&mut self, caller: u64, call: WrittenCall, reply: WrittenReply) {
+        let entry = WrittenEntry {
             caller,
             call,
             reply,
@@ -42,9 +42,9 @@ impl Record {
     }
 
     /// Notes a join that was accepted, and gives the number of its connection.
-    pub(crate) fn note_join(&mut self, caller: u64, join: Call) -> u64 {
+    pub(crate) fn note_join(&mut self, caller: u64, join: WrittenCall) -> u64 {
         self.joins = self.joins.wrapping_add(1);
-        self.note(caller, join, Reply::Joined(self.joins));
+        self.note(caller, join, WrittenReply::Joined(self.joins));
         self.joins
     }
 
@@ -52,8 +52,8 @@ impl Record {
     pub fn note_line(&mut self, caller: u64, of: u64, line: &[u8], moment: u64, said: Verdict) {
         match Vec::from_slice(self.alloc, line) {
             Ok(line) => {
-                let call = Call::Line(of, line, moment);
-                self.note(caller, call, Reply::Said(said));
+                let call = WrittenCall::Line(of, line, moment);
+                self.note(caller, call, WrittenReply::Said(said));
             }
             Err(_) => self.is_lost = true,
         }
@@ -63,8 +63,8 @@ impl Record {
     pub fn note_take(&mut self, caller: u64, of: u64, count: usize, bytes: &[u8], taken: Taken) {
         match (LineCount::new(count), Vec::from_slice(self.alloc, bytes)) {
             (Some(count), Ok(bytes)) => {
-                let reply = Reply::Took(bytes, taken.lines, taken.ended);
-                self.note(caller, Call::Take(of, count), reply);
+                let reply = WrittenReply::Took(bytes, taken.lines, taken.ended);
+                self.note(caller, WrittenCall::Take(of, count), reply);
             }
             _ => self.is_lost = true,
         }
@@ -97,7 +97,7 @@ impl<R> Desk<R> {
     }
 
     /// Gives the history; nothing where it is not whole.
-    pub(crate) fn into_history(self) -> Option<Vec<Entry>> {
+    pub(crate) fn into_history(self) -> Option<Vec<WrittenEntry>> {
         let Desk { record, .. } = self;
         let record = record.into_inner();
         (!record.is_lost).then_some(record.entries)
@@ -118,7 +118,10 @@ impl<R: Wait> Desk<R> {
 }
 
 /// Writes a history, an entry a line.
-pub(crate) fn write_history(alloc: Global, history: &[Entry]) -> Result<Vec<u8>, AllocError> {
+pub(crate) fn write_history(
+    alloc: Global,
+    history: &[WrittenEntry],
+) -> Result<Vec<u8>, AllocError> {
     let mut text = Vec::new(alloc);
     for entry in history {
         append_call(&mut text, alloc, entry)?;
@@ -128,20 +131,20 @@ pub(crate) fn write_history(alloc: Global, history: &[Entry]) -> Result<Vec<u8>,
     Ok(text)
 }
 
-fn append_call(text: &mut Vec<u8>, alloc: Global, entry: &Entry) -> Result<(), AllocError> {
+fn append_call(text: &mut Vec<u8>, alloc: Global, entry: &WrittenEntry) -> Result<(), AllocError> {
     let caller = entry.caller;
     let words = match &entry.call {
-        Call::Join([a, b, c, d], challenge, moment) => {
+        WrittenCall::Join([a, b, c, d], challenge, moment) => {
             let address = Ipv4Addr::new(*a, *b, *c, *d);
             text.extend_from_slice(format!(in alloc; "{caller} join {address} ")?.as_bytes())?;
             text.extend_from_slice(&encode24(challenge))?;
             format!(in alloc; " {moment} ")?
         }
-        Call::Line(connection, _, moment) => {
+        WrittenCall::Line(connection, _, moment) => {
             format!(in alloc; "{caller} line {connection} {moment} ")?
         }
-        Call::Quit(connection) => format!(in alloc; "{caller} quit {connection} ")?,
-        Call::Take(connection, count) => {
+        WrittenCall::Quit(connection) => format!(in alloc; "{caller} quit {connection} ")?,
+        WrittenCall::Take(connection, count) => {
             let count = count.get();
             format!(in alloc; "{caller} take {connection} {count} ")?
         }
@@ -149,14 +152,14 @@ fn append_call(text: &mut Vec<u8>, alloc: Global, entry: &Entry) -> Result<(), A
     text.extend_from_slice(words.as_bytes())
 }
 
-fn append_reply(text: &mut Vec<u8>, alloc: Global, entry: &Entry) -> Result<(), AllocError> {
+fn append_reply(text: &mut Vec<u8>, alloc: Global, entry: &WrittenEntry) -> Result<(), AllocError> {
     match &entry.reply {
-        Reply::Joined(number) => {
+        WrittenReply::Joined(number) => {
             text.extend_from_slice(format!(in alloc; "joined {number}")?.as_bytes())
         }
-        Reply::Full => text.extend_from_slice(b"full"),
-        Reply::JoinsSpent => text.extend_from_slice(b"joins-spent"),
-        Reply::Said(verdict) => {
+        WrittenReply::Full => text.extend_from_slice(b"full"),
+        WrittenReply::JoinsSpent => text.extend_from_slice(b"joins-spent"),
+        WrittenReply::Said(verdict) => {
             let said = match verdict {
                 Verdict::Kept => b"kept ".as_slice(),
                 Verdict::Ended => b"ended ".as_slice(),
@@ -164,8 +167,8 @@ fn append_reply(text: &mut Vec<u8>, alloc: Global, entry: &Entry) -> Result<(), 
             text.extend_from_slice(said)?;
             append_bytes(text, line_of(&entry.call))
         }
-        Reply::Left => text.extend_from_slice(b"left"),
-        Reply::Took(bytes, lines, ended) => {
+        WrittenReply::Left => text.extend_from_slice(b"left"),
+        WrittenReply::Took(bytes, lines, ended) => {
             let end = if *ended { "over" } else { "more" };
             text.extend_from_slice(format!(in alloc; "{lines} {end} ")?.as_bytes())?;
             append_bytes(text, bytes)
@@ -174,9 +177,9 @@ fn append_reply(text: &mut Vec<u8>, alloc: Global, entry: &Entry) -> Result<(), 
 }
 
 /// Gives the bytes of a line that was sent.
-fn line_of(call: &Call) -> &[u8] {
+fn line_of(call: &WrittenCall) -> &[u8] {
     match call {
-        Call::Line(_, line, _) => line,
+        WrittenCall::Line(_, line, _) => line,
         _ => b"",
     }
 }

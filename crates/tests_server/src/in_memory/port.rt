@@ -63,7 +63,7 @@ impl<'a, R: Clock + Sync> BindPort<Wire<'a, R>, WireTicket<'a, R>, First24, R> f
 impl<'a, R: Clock + Sync> Listens for Lobby<'a, R> {
     ghost use Rattle.std.specs.Prelude.{◌≡◌, ◌+◌};
     ghost use Rattle.std.proofs.Common.{◌∙◌, ap, refl};
-    ghost use Rattle.hub_server.specs.Arriving.{HasCome};
+    ghost use Rattle.hub_server.specs.Arrivals.{HasCome};
 
     type Socket = Wire<'a, R>;
 
@@ -144,8 +144,8 @@ impl<'a, R: Clock> WireTicket<'a, R> {
 impl<'a, R: Clock> Ticket<Wire<'a, R>, First24, R> for WireTicket<'a, R> {
     ghost use Rattle.std.specs.Prelude.{IsSome};
     ghost use Rattle.hub_listener.specs.Peers.{octets_of};
-    ghost use Rattle.hub_server.specs.Owing.{WritesFull, challenge_of};
-    ghost use Rattle.hub_server.specs.Turning.{IsRefusal};
+    ghost use Rattle.hub_server.specs.Owed.{WritesFull, challenge_of};
+    ghost use Rattle.hub_server.specs.JoinRefusals.{IsRefusal};
 
     ghost terms = { λ ticket. ticket.terms.value.value };
 

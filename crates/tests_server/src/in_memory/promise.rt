@@ -30,7 +30,7 @@ where
     R: ServerMachine,
     W: Write,
     E: Write + Send,
-    ensures paid { result ≡ 0 → (joins : ℕ) × HasPaid T.terms T.number T.peer T.began ⟦<S as Stream>⟧.told I.terms I.accepted ⟦<R as Moments>⟧.tells
+    ensures paid { result ≡ 0 → (joins : ℕ) × HasPaid T.terms T.number T.peer T.began ⟦<S as Stream>⟧.reports I.terms I.accepted ⟦<R as Moments>⟧.may_read
         W.contents settings.now.hub ⟦<First24 as SessionHash>⟧.digest_of (arc_value hash) rt.now seed settings.now.stop_after output.new joins }
 {
     let status = serve_at::<S, T, I, First24, R, W, E>(

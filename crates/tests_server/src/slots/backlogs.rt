@@ -19,7 +19,7 @@ fn behind_by(count: u64) -> Backlog {
     let mut backlog = Backlog::new(Amount::NONE);
     // One line more was for this client alone. A take of one line leaves as many as were for everybody.
     backlog.give(LINE);
-    backlog.count_taken(lines(count), lines(1), true);
+    backlog.note_taken(lines(count), lines(1), true);
     backlog
 }
 
@@ -34,13 +34,13 @@ fn a_backlog_grows_and_shrinks(rt: HostRuntime) {
     has(&rt, &backlog, 100, 100);
     has(&rt, &backlog, 150, 150);
     let mut taken = backlog;
-    taken.count_taken(lines(150), lines(90), true);
+    taken.note_taken(lines(150), lines(90), true);
     has(&rt, &taken, 150, 60);
     has(&rt, &taken, 160, 70);
-    taken.count_taken(lines(160), lines(10), false);
+    taken.note_taken(lines(160), lines(10), false);
     has(&rt, &taken, 160, 0);
     // A count that was too high is put right, and one that was too low does not go below none.
-    taken.count_taken(lines(160), lines(256), true);
+    taken.note_taken(lines(160), lines(256), true);
     has(&rt, &taken, 160, 0);
 }
 
@@ -51,11 +51,11 @@ fn what_is_given_during_a_take_waits(rt: HostRuntime) {
     for _line in 0..512 {
         backlog.give(LINE);
     }
-    backlog.count_taken(Amount::NONE, lines(10), false);
+    backlog.note_taken(Amount::NONE, lines(10), false);
     has(&rt, &backlog, 0, 502);
     // All of them are taken, and nothing is given meanwhile.
-    backlog.count_taken(Amount::NONE, lines(256), true);
-    backlog.count_taken(Amount::NONE, lines(246), false);
+    backlog.note_taken(Amount::NONE, lines(256), true);
+    backlog.note_taken(Amount::NONE, lines(246), false);
     has(&rt, &backlog, 0, 0);
 }
 
@@ -78,9 +78,9 @@ fn who_does_not_move_is_waited_for_no_longer(rt: HostRuntime) {
     }
     assert!(&rt; !backlog.is_behind(far));
     // A take without a line is no move, one with a line is.
-    backlog.count_taken(far, Amount::NONE, true);
+    backlog.note_taken(far, Amount::NONE, true);
     assert!(&rt; !backlog.is_behind(far.plus(lines(1))));
-    backlog.count_taken(far.plus(lines(1)), lines(1), true);
+    backlog.note_taken(far.plus(lines(1)), lines(1), true);
     assert!(&rt; backlog.is_behind(far.plus(lines(2))));
     // Ticks do not count where little waits.
     let mut backlog = Backlog::new(Amount::NONE);
@@ -109,9 +109,9 @@ fn who_reads_is_waited_for_at_its_pace(rt: HostRuntime) {
     assert!(&rt; !backlog.reads() && waited_for(&backlog, far) == 40);
     // What was taken counts for six seconds at most.
     let mut taken = backlog;
-    taken.count_taken(far, bytes(8_200), true);
+    taken.note_taken(far, bytes(8_200), true);
     assert!(&rt; taken.reads() && waited_for(&taken, far.plus(far)) == 100);
-    taken.count_taken(far, bytes(200_000), true);
+    taken.note_taken(far, bytes(200_000), true);
     assert!(&rt; waited_for(&taken, far.plus(far)) == 1_200);
     // What a full socket took counts likewise: 16 KB for a second.
     backlog.count_written(16_400);

@@ -1,6 +1,6 @@
 use Rattle.std.proofs.Common.{◌∙◌, sym}
 use Rattle.std.proofs.lemmas.Bool.{false≢true}
-use Rattle.history_check.proofs.Finding.{at-place, found-open, none-closed, none-later, none-of-zero}
+use Rattle.history_check.proofs.FoundCallers.{at-place, found-open, none-closed, none-later, none-of-zero}
 use Rattle.history_check.proofs.check.find.Goals as goal
 
 pub returns-then-connection-eq0-clause-finds : goal.returns-then-connection-eq0-clause-finds

@@ -4,7 +4,7 @@ use Rattle.hub_core.specs.declared.refused.JoinRefused.{JoinRefused}
 use Rattle.hub_rules.specs.declared.history.Call.TheVariants.{Join}
 use Rattle.hub_rules.specs.declared.history.Reply.TheVariants.{Full, JoinsSpent, Joined}
 use Rattle.hub_core.specs.Moves.{entry}
-use Rattle.history_check.proofs.Joining.{follows-join, follows-refused}
+use Rattle.history_check.proofs.Joins.{follows-join, follows-refused}
 use Rattle.history_check.proofs.check.join.Goals as goal
 
 pub returns-in-Err-Full : goal.returns-in-Err-Full

@@ -2,7 +2,7 @@ use Rattle.std.proofs.Common.{Option, subst, take, []}
 use Rattle.history_check.specs.declared.check.Demand.{Demand}
 use Rattle.history_check.specs.Following.{Looks}
 use Rattle.history_check.specs.Written.{history_of}
-use Rattle.history_check.proofs.Judging.{follows-more, follows-none}
+use Rattle.history_check.proofs.Judged.{follows-more, follows-none}
 use Rattle.history_check.proofs.check.play.Goals as goal
 
 pub loop-place-init : goal.loop-place-init

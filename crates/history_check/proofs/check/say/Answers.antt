@@ -1,4 +1,4 @@
-use Rattle.history_check.proofs.Making.{line-said}
+use Rattle.history_check.proofs.Calls.{line-said}
 use Rattle.history_check.proofs.check.say.Goals as goal
 
 pub returns-in-Ok-line : goal.returns-in-Ok-line

@@ -7,7 +7,7 @@ use Rattle.std.specs.List.{slice_split}
 use Rattle.std.specs.Option.{option_map}
 use Rattle.history_check.proofs.Grammar.{entry-takes, no-entry}
 use Rattle.history_check.proofs.Lines.{ReadSoFar, read-all, read-entry, read-fault, read-silent, silent-empty, silent-hash, spoken, turn-line}
-use Rattle.history_check.specs.declared.written.Entry.{Entry}
+use Rattle.history_check.specs.declared.written.WrittenEntry.{WrittenEntry}
 use Rattle.history_check.specs.Text.{is_line_feed, is_silent}
 use Rattle.history_check.specs.Written.{entry_of}
 use Rattle.history_check.proofs.reading.read_history.Goals as goal
@@ -49,7 +49,7 @@ loop-place-preserved c =
     let next = length c.loop-place.yielded + 1 in
     let entries = c.loop-place.written.entries.items in
     subst (λ (k : ℕ). ReadSoFar lines k c.push.new.self.items c.push-in-loop-place.new.self.items) (sym more)
-    (subst (λ (es : List Entry). ReadSoFar lines next es c.push-in-loop-place.new.self.items) (sym c.in_ok-push.ensures.items)
+    (subst (λ (es : List WrittenEntry). ReadSoFar lines next es c.push-in-loop-place.new.self.items) (sym c.in_ok-push.ensures.items)
     (subst (λ (ns : List ℕ). ReadSoFar lines next (entries ++ entry ∷ []) ns) (sym c.in_ok-push-2.ensures.items)
     (read-entry lines (length c.loop-place.yielded) c.in-Some.line.now entries c.loop-place.written.lines.items entry (c.in-Some.place + 1) within line heard (ap (λ (n : ℕ). n + 1) at) writes c.loop-place.invariant)))
 

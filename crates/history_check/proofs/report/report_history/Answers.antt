@@ -1,10 +1,10 @@
 use Rattle.std.proofs.Common.{◌∙◌, ap, sym, subst, List, ℕ, inl, inr}
 use Rattle.std.proofs.lemmas.Result.{IfOk-weaker}
 use Rattle.std.specs.Arc.{arc_value}
-use Rattle.history_check.proofs.Reporting.{judged-reports, reports-legal}
-use Rattle.history_check.specs.declared.written.Entry.{Entry}
+use Rattle.history_check.proofs.Reported.{judged-reports, reports-legal}
+use Rattle.history_check.specs.declared.written.WrittenEntry.{WrittenEntry}
 use Rattle.history_check.specs.Judged.{IsJudged}
-use Rattle.history_check.specs.Reported.{Reports, judgement_text}
+use Rattle.history_check.specs.Reported.{ReportsHistory, judgement_text}
 use Rattle.history_check.specs.Text.{IsFirstFault}
 use Rattle.history_check.proofs.report.report_history.Goals as goal
 
@@ -25,10 +25,10 @@ returns-clause-reports g c =
     let setup = arc_value c.args.setup in
     let hash = g.H.SessionHash.digest_of c.args.hash.now in
     let judgement = c.in_ok-judgement.judgement in
-    let judged = subst (λ (es : List Entry). IsJudged setup hash es judgement) c.deref.ensures.value c.in_ok-judgement.ensures in
+    let judged = subst (λ (es : List WrittenEntry). IsJudged setup hash es judgement) c.deref.ensures.value c.in_ok-judgement.ensures in
     let reports = judged-reports setup hash c.args.text.now c.in-Ok.written judgement c.in-Ok.ensures.written judged in
     IfOk-weaker c.tell_judgement.result _ _
-    (λ report is. subst (λ (text : List ℕ). Reports setup hash c.args.text.now text) (sym (is ∙ ap (λ (lines : List ℕ). judgement_text lines judgement) c.deref-2.ensures.value)) reports)
+    (λ report is. subst (λ (text : List ℕ). ReportsHistory setup hash c.args.text.now text) (sym (is ∙ ap (λ (lines : List ℕ). judgement_text lines judgement) c.deref-2.ensures.value)) reports)
     c.tell_judgement.ensures
 
 pub returns-clause-legal : goal.returns-clause-legal
@@ -36,9 +36,9 @@ returns-clause-legal g c =
     let setup = arc_value c.args.setup in
     let hash = g.H.SessionHash.digest_of c.args.hash.now in
     let judgement = c.in_ok-judgement.judgement in
-    let judged = subst (λ (es : List Entry). IsJudged setup hash es judgement) c.deref.ensures.value c.in_ok-judgement.ensures in
+    let judged = subst (λ (es : List WrittenEntry). IsJudged setup hash es judgement) c.deref.ensures.value c.in_ok-judgement.ensures in
     let reports = judged-reports setup hash c.args.text.now c.in-Ok.written judgement c.in-Ok.ensures.written judged in
     IfOk-weaker c.tell_judgement.result _ _
     (λ report is. reports-legal setup hash c.args.text.now report.items
-    (subst (λ (text : List ℕ). Reports setup hash c.args.text.now text) (sym (is ∙ ap (λ (lines : List ℕ). judgement_text lines judgement) c.deref-2.ensures.value)) reports))
+    (subst (λ (text : List ℕ). ReportsHistory setup hash c.args.text.now text) (sym (is ∙ ap (λ (lines : List ℕ). judgement_text lines judgement) c.deref-2.ensures.value)) reports))
     c.tell_judgement.ensures

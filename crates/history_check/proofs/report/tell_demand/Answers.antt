@@ -1,6 +1,6 @@
 use Rattle.std.proofs.Common.{◌∙◌, ap, sym, List, ℕ, ◌++◌}
 use Rattle.std.specs.Prelude.{codes}
-use Rattle.history_check.proofs.Reporting.{line_text_append}
+use Rattle.history_check.proofs.Reported.{line_text_append}
 use Rattle.history_check.specs.declared.check.Demand.{Demand}
 use Rattle.history_check.specs.Reported.{demand_text, line_text, reply_text}
 use Rattle.history_check.specs.Written.{reply_of}

@@ -1,7 +1,7 @@
 use Rattle.std.proofs.Common.{rules, tests}
 use Rattle.std.proofs.lemmas.Iterator.{YieldsList-from_slice}
 use Rattle.std.proofs.lemmas.Iterator.Search.{position_from_yields_List}
-use Rattle.history_check.proofs.Splitting.{Found, behind-found, behind-missing, first-found, first-missing}
+use Rattle.history_check.proofs.Splits.{Found, behind-found, behind-missing, first-found, first-missing}
 use Rattle.history_check.specs.Reading.{is_blank}
 use Rattle.history_check.proofs.words.word.Goals as goal
 

@@ -1,7 +1,7 @@
 use Rattle.std.proofs.Common.{◌≡◌, [], inl, inr, subst, arith}
 use Rattle.std.proofs.lemmas.Bool.Decides.{nat_tests}
 use Rattle.hub_client.specs.Addresses.{IsSplit}
-use Rattle.hub_client.proofs.Addressing.{host_has_none, no_colon, split_at, two_colons, without_bytes}
+use Rattle.hub_client.proofs.Addresses.{host_has_none, no_colon, split_at, two_colons, without_bytes}
 use Rattle.hub_client.proofs.address.host_and_digits.Goals as goal
 
 pub returns-in_default-clause-refused : goal.returns-in_default-clause-refused

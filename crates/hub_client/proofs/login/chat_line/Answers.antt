@@ -4,7 +4,7 @@ use Rattle.std.proofs.lemmas.Str.{IsUtf8-string_bytes}
 use Rattle.adc_base32.specs.Sids.{sid_count}
 use Rattle.adc_line.specs.Escapes.{escaped_text}
 use Rattle.hub_client.specs.Sayings.{chat_text}
-use Rattle.hub_client.proofs.Speaking.{unsayable-chat}
+use Rattle.hub_client.proofs.ClientMessages.{unsayable-chat}
 use Rattle.hub_client.proofs.login.chat_line.Goals as goal
 
 pub returns-clause-unsayable : goal.returns-clause-unsayable

@@ -6,7 +6,7 @@ use Rattle.std.proofs.lemmas.Str.{IsUtf8-string_bytes}
 use Rattle.adc_base32.specs.Sids.{sid_count}
 use Rattle.adc_line.specs.Escapes.{escaped_text}
 use Rattle.adc_line.specs.Grammar.{Reads}
-use Rattle.hub_client.proofs.Speaking.{login_message, nick-short, reads-login}
+use Rattle.hub_client.proofs.ClientMessages.{login_message, nick-short, reads-login}
 use Rattle.hub_client.specs.Requests.{nick_bytes}
 use Rattle.hub_client.specs.Sayings.{login_text}
 use Rattle.hub_client.proofs.login.login_line.Goals as goal

@@ -1,7 +1,7 @@
 use Rattle.std.proofs.Common.{rules, ◌≡◌, ◌++◌, ℕ, List, length, sym, subst}
 use Rattle.std.specs.Prelude.{codes}
 use Rattle.adc_line.specs.Grammar.{Reads}
-use Rattle.hub_client.proofs.Speaking.{password_message, reads-password}
+use Rattle.hub_client.proofs.ClientMessages.{password_message, reads-password}
 use Rattle.hub_client.proofs.login.password_line.Goals as goal
 
 pub returns-clause-refused : goal.returns-clause-refused

@@ -2,7 +2,7 @@ use Rattle.std.proofs.Common.{◌≡◌, List, ℕ, rules, subst, sym}
 use Rattle.std.specs.Str.{IsUtf8}
 use Rattle.adc_line.specs.Grammar.{Reads}
 use Rattle.hub_client.specs.Sayings.{support_text}
-use Rattle.hub_client.proofs.Supporting.{reads-support, support_message}
+use Rattle.hub_client.proofs.Supports.{reads-support, support_message}
 use Rattle.hub_client.proofs.login.support_line.Goals as goal
 
 pub returns-clause-refused : goal.returns-clause-refused

@@ -2,7 +2,7 @@ use Rattle.std.proofs.Common.{sym, ◌∙◌, subst}
 use Rattle.std.specs.Arc.{arc_value}
 use Rattle.std.specs.Vec.{vec_capacity}
 use Rattle.std.specs.Vec.Iter.{into_iter_items}
-use Rattle.hub_core.proofs.Running.{AreUnderWay, none-left, room-left, run-end, run-step}
+use Rattle.hub_core.proofs.CallRuns.{AreUnderWay, none-left, room-left, run-end, run-step}
 use Rattle.hub_core.proofs.calls.run_calls.Goals as goal
 
 pub loop-asked-preserved : goal.loop-asked-preserved

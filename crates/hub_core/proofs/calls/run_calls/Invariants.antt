@@ -3,7 +3,7 @@ use Rattle.std.proofs.Common.{◌+◌, ◌≤◌, length}
 use Rattle.std.specs.Arc.{arc_value}
 use Rattle.std.specs.Vec.{vec_capacity}
 use Rattle.std.specs.Vec.Iter.{into_iter_items}
-use Rattle.hub_core.proofs.Running.{AreUnderWay}
+use Rattle.hub_core.proofs.CallRuns.{AreUnderWay}
 use Rattle.hub_core.proofs.calls.run_calls.Given as goal
 
 abbrev pub invariant-loop-asked : goal.invariant-loop-asked

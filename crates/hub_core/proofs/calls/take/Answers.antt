@@ -1,5 +1,5 @@
 use Rattle.hub_core.specs.declared.calls.Ask.TheVariants.{Take}
-use Rattle.hub_core.proofs.Running.{not-skipped}
+use Rattle.hub_core.proofs.CallRuns.{not-skipped}
 use Rattle.hub_core.proofs.calls.take.Goals as goal
 
 pub returns-then-not-is_open-clause-answers : goal.returns-then-not-is_open-clause-answers

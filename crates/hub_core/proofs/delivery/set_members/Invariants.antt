@@ -1,6 +1,6 @@
 use Rattle.std.proofs.Common.{◌≡◌, drop, length}
 use Rattle.hub_core.specs.Deliveries.{with_members}
-use Rattle.hub_core.specs.Waiting.{here_in}
+use Rattle.hub_core.specs.Backlogs.{here_in}
 use Rattle.shared_log.specs.Tables.{with_rows}
 use Rattle.hub_core.proofs.delivery.set_members.Given as goal
 

@@ -1,7 +1,7 @@
 use Rattle.std.proofs.Common.{◌∙◌, sym, subst, ℕ, ◌<◌, length, get_or}
 use Rattle.std.specs.Prelude.{◌≢◌, IfNone}
 use Rattle.hub_core.specs.declared.seat.Seat.{Seat}
-use Rattle.hub_core.proofs.Reaching.{found-has, nobody-has, none-has}
+use Rattle.hub_core.proofs.Hearers.{found-has, nobody-has, none-has}
 use Rattle.hub_core.proofs.share.place_by_sid.Goals as goal
 
 pub returns-in_err-get-clause-none : goal.returns-in_err-get-clause-none

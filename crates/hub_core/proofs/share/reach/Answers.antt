@@ -1,7 +1,7 @@
 use Rattle.std.proofs.Common.{sym}
 use Rattle.std.proofs.lemmas.Bool.{eqb-true}
 use Rattle.hub_core.proofs.Places.{stands_first}
-use Rattle.hub_core.proofs.Reaching.{quiet-alone, quiet-away, quiet-but}
+use Rattle.hub_core.proofs.Hearers.{quiet-alone, quiet-away, quiet-but}
 use Rattle.hub_core.proofs.share.reach.Goals as goal
 
 pub returns-then-eq : goal.returns-then-eq

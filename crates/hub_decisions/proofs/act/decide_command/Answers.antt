@@ -1,8 +1,8 @@
 use Rattle.std.proofs.Common.{◌∙◌, sym, ap, true, false}
 use Rattle.operator_acts.specs.Acts.{act_at}
 use Rattle.hub_decisions.specs.Commands.{effect_of_asked}
-use Rattle.hub_decisions.proofs.Commanding.{operator-asks, others-ask, operator-is}
-use Rattle.hub_decisions.proofs.Knowing.{when-ok}
+use Rattle.hub_decisions.proofs.Acts.{operator-asks, others-ask, operator-is}
+use Rattle.hub_decisions.proofs.KnownUsers.{when-ok}
 use Rattle.hub_decisions.proofs.act.decide_command.Goals as goal
 
 pub returns-then-not-is_operator : goal.returns-then-not-is_operator

@@ -1,6 +1,6 @@
 use Rattle.std.proofs.Common.{◌∙◌, sym}
 use Rattle.hub_decisions.specs.Present.{kept_line}
-use Rattle.hub_decisions.proofs.Keeping.{first-of}
+use Rattle.hub_decisions.proofs.KeptLines.{first-of}
 use Rattle.hub_decisions.proofs.Told.{lines-more}
 use Rattle.hub_decisions.proofs.lines.add_rest.Goals as goal
 

@@ -1,5 +1,5 @@
 use Rattle.std.proofs.Common.{◌<◌, ◌∙◌, sym, arith, length, length-set}
-use Rattle.hub_decisions.proofs.Keeping.{line-renewed, line-stays}
+use Rattle.hub_decisions.proofs.KeptLines.{line-renewed, line-stays}
 use Rattle.hub_decisions.proofs.lines.renew_at.Goals as goal
 use Rattle.hub_decisions.proofs.lines.renew_at.Goals.{then-eq+in-Some, else-eq}
 

@@ -3,7 +3,7 @@ use Rattle.inf_fields.specs.Field.{Field}
 use Rattle.user_table.specs.Listed.{Listed}
 use Rattle.user_table.specs.Tables.{with_update}
 use Rattle.hub_decisions.specs.Present.{AreFirst}
-use Rattle.hub_decisions.proofs.Keeping.{AreRenewed}
+use Rattle.hub_decisions.proofs.KeptLines.{AreRenewed}
 use Rattle.hub_decisions.proofs.lines.renew_at.Given as goal
 
 abbrev pub invariant-loop-place : goal.invariant-loop-place

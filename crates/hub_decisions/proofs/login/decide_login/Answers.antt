@@ -1,8 +1,8 @@
 use Rattle.std.proofs.Common.{◌∙◌, ap}
-use Rattle.hub_rules.specs.Sights.{user_after}
+use Rattle.hub_rules.specs.Views.{user_after}
 use Rattle.hub_decisions.specs.Requested.{effect_of_login}
-use Rattle.hub_decisions.proofs.Knowing.{when-ok}
-use Rattle.hub_decisions.proofs.Logging.{login-admitted, login-denied}
+use Rattle.hub_decisions.proofs.KnownUsers.{when-ok}
+use Rattle.hub_decisions.proofs.Logins.{login-admitted, login-denied}
 use Rattle.hub_decisions.proofs.login.decide_login.Goals as goal
 
 pub returns-in-Ok : goal.returns-in-Ok

@@ -1,7 +1,7 @@
 use Rattle.std.proofs.Common.{◌∙◌, ap}
 use Rattle.feature_route.specs.Matching.{feature_set}
 use Rattle.hub_rules.specs.Identities.{value_or_empty}
-use Rattle.hub_decisions.proofs.Logging.{made-entrant}
+use Rattle.hub_decisions.proofs.Logins.{made-entrant}
 use Rattle.hub_decisions.proofs.login.entrant.Goals as goal
 
 pub returns : goal.returns

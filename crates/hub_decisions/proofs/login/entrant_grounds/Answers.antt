@@ -6,19 +6,19 @@ use Rattle.operator_acts.specs.Bans.{left_of_bans}
 use Rattle.user_table.specs.Tables.{has_cid, has_key}
 use Rattle.hub_rules.specs.Grounds.{ban_ground, is_digest, is_wrong_address, value_ground}
 use Rattle.hub_rules.specs.Identities.{value_or_empty}
-use Rattle.hub_rules.specs.Sights.{Own, Sight, is_account, is_here}
+use Rattle.hub_rules.specs.Views.{SenderView, HubView, is_account, is_here}
 use Rattle.hub_decisions.proofs.GroundLists.{before, by-test}
 use Rattle.hub_decisions.proofs.login.entrant_grounds.Goals as goal
 
 pub returns : goal.returns
 returns c =
     λ user same_cid same_key.
-    let hub : Sight = c.args.hub.now in
+    let hub : HubView = c.args.hub.now in
     let u : List Field = c.args.inf.now in
     let keyed = c.key-key.ensures ∙ sym same_key in
     let left : c.left-left.result ≡ left_of_bans hub.bans user.cid c.args.now =
-    c.left-left.ensures ∙ ap₂ (λ (h : Sight) i. left_of_bans h.bans i c.args.now) c.hub.view_is (sym same_cid) in
-    let peer = ap (λ (o : Own). o.sender.peer) c.own.view_is in
+    c.left-left.ensures ∙ ap₂ (λ (h : HubView) i. left_of_bans h.bans i c.args.now) c.hub.view_is (sym same_cid) in
+    let peer = ap (λ (o : SenderView). o.sender.peer) c.own.view_is in
     before (by-test _ (ap not c.is_some-has_owner.ensures))
     (before (c.value_ground.ensures ∙ ap (value_ground Fatal) c.update-update.ensures)
     (before (by-test _ (ap not (c.is_digest.ensures ∙ ap (λ e. is_digest e c.args.owner) (c.bytes.ensures ∙ sym same_cid))))

@@ -2,7 +2,7 @@ use Rattle.std.proofs.Common.{◌∙◌, sym, ap, List, [], unwrap_or}
 use Rattle.inf_fields.specs.Field.{Field}
 use Rattle.hub_rules.specs.Grounds.{entrant_grounds, first_ground, identifier_grounds, login_grounds}
 use Rattle.hub_decisions.proofs.FirstGrounds.{among-first, may-past}
-use Rattle.hub_decisions.proofs.Knowing.{when-ok}
+use Rattle.hub_decisions.proofs.KnownUsers.{when-ok}
 use Rattle.hub_decisions.proofs.login.may_enter.Goals as goal
 
 pub returns-in-Some : goal.returns-in-Some

@@ -6,15 +6,15 @@ use Rattle.inf_fields.specs.Merging.{merged_with}
 use Rattle.user_table.specs.Listed.{Listed}
 use Rattle.hub_rules.specs.Effects.{entrant}
 use Rattle.hub_rules.specs.Identities.{cid_in, key_in, listed_user}
-use Rattle.hub_rules.specs.Sights.{Own, user_after}
-use Rattle.hub_decisions.proofs.Knowing.{after-key}
-use Rattle.hub_decisions.proofs.Logging.{after-cid, after-fields, known-key}
+use Rattle.hub_rules.specs.Views.{SenderView, user_after}
+use Rattle.hub_decisions.proofs.KnownUsers.{after-key}
+use Rattle.hub_decisions.proofs.Logins.{after-cid, after-fields, known-key}
 use Rattle.hub_decisions.proofs.login.user_of_login.Goals as goal
 
 pub returns-in_ok-entrant-in-Ok : goal.returns-in_ok-entrant-in-Ok
 returns-in_ok-entrant-in-Ok c =
     λ none.
-    let own : Own = c.args.own.now in
+    let own : SenderView = c.args.own.now in
     let u : List Field = c.args.inf.now in
     let user : Listed = user_after own u in
     let fields : c.in_ok-fields-in-Ok.fields ≡ merged_with own.fields (clean u own.sender.peer) =
@@ -24,12 +24,12 @@ returns-in_ok-entrant-in-Ok c =
     let may = rw c.in-Ok.is at (c.in_ok-cid.ensures user (after-cid own u none) (known-key own u none)) in (
       may.1,
       c.in_ok-entrant-in-Ok.ensures (sym may.0 ∙ after-fields own u ∙ ap cid_in (sym fields)) keyed
-          ∙ ap (λ s. entrant (listed_user s c.in_ok-fields-in-Ok.fields)) (ap (λ (o : Own). o.sender.sid) c.own.view_is) ∙ ap (λ f. entrant (listed_user own.sender.sid f)) fields,
+          ∙ ap (λ s. entrant (listed_user s c.in_ok-fields-in-Ok.fields)) (ap (λ (o : SenderView). o.sender.sid) c.own.view_is) ∙ ap (λ f. entrant (listed_user own.sender.sid f)) fields,
     )
 
 pub returns-in-Err : goal.returns-in-Err
 returns-in-Err c =
     λ none.
-    let own : Own = c.args.own.now in
+    let own : SenderView = c.args.own.now in
     let u : List Field = c.args.inf.now in
     rw c.in-Err.is at (c.in_ok-cid.ensures (user_after own u) (after-cid own u none) (known-key own u none))

@@ -2,8 +2,8 @@ use Rattle.std.proofs.Common.{◌∙◌, sym, ap₂, refl}
 use Rattle.inf_fields.specs.Cleaning.{clean}
 use Rattle.inf_fields.specs.Field.{value_of}
 use Rattle.hub_rules.proofs.Merges.{nick-clean}
-use Rattle.hub_decisions.proofs.Knowing.{after-key, user-key}
-use Rattle.hub_decisions.proofs.Updating.{key-given, key-renewed}
+use Rattle.hub_decisions.proofs.KnownUsers.{after-key, user-key}
+use Rattle.hub_decisions.proofs.Updates.{key-given, key-renewed}
 use Rattle.hub_decisions.proofs.update.key_after.Goals as goal
 
 pub returns-in-Some : goal.returns-in-Some

@@ -1,6 +1,6 @@
 use Rattle.std.proofs.Common.{◌∙◌}
-use Rattle.hub_decisions.proofs.Knowing.{when-ok}
-use Rattle.hub_decisions.proofs.Updating.{support-renewed}
+use Rattle.hub_decisions.proofs.KnownUsers.{when-ok}
+use Rattle.hub_decisions.proofs.Updates.{support-renewed}
 use Rattle.hub_decisions.proofs.update.support_after.Goals as goal
 
 pub returns : goal.returns

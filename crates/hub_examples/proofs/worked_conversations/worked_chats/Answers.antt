@@ -1,6 +1,6 @@
 use Rattle.std.proofs.Common.{ap, refl, [], ◌∷◌}
 use Rattle.hub_examples.specs.Conversations.{one, plain, said_hi, zeros}
-use Rattle.hub_examples.proofs.Computing.{computing}
+use Rattle.hub_examples.proofs.Opened.{computing}
 use Rattle.hub_examples.proofs.Lags.{who-takes-nothing-lags}
 use Rattle.hub_examples.proofs.Played.{computed}
 use Rattle.hub_examples.proofs.worked_conversations.worked_chats.Goals as goal

@@ -1,6 +1,6 @@
 use Rattle.std.proofs.Common.{ap, refl, []}
 use Rattle.hub_examples.specs.Identifiers.{for_two, let_in}
-use Rattle.hub_examples.proofs.Computing.{computing}
+use Rattle.hub_examples.proofs.Opened.{computing}
 use Rattle.hub_examples.proofs.Identifiers.{first-is-given-again}
 use Rattle.hub_examples.proofs.Played.{computed}
 use Rattle.hub_examples.proofs.worked_conversations.worked_identifiers.Goals as goal

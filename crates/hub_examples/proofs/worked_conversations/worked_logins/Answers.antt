@@ -1,6 +1,6 @@
 use Rattle.std.proofs.Common.{ap, refl, [], ◌∷◌}
 use Rattle.hub_examples.specs.Conversations.{ana_entered, bob_entered, one, one_asked, one_denied, plain, zeros}
-use Rattle.hub_examples.proofs.Computing.{computing}
+use Rattle.hub_examples.proofs.Opened.{computing}
 use Rattle.hub_examples.proofs.Played.{computed}
 use Rattle.hub_examples.proofs.worked_conversations.worked_logins.Goals as goal
 

@@ -3,7 +3,7 @@ use Rattle.hub_examples.specs.Conversations.{one, plain, zeros}
 use Rattle.hub_examples.specs.Departures.{ana_left, ana_lied}
 use Rattle.hub_examples.specs.Messages.{dan_entered, messages_sent, searches_sent, updates_sent}
 use Rattle.hub_examples.specs.Visitors.{three, two}
-use Rattle.hub_examples.proofs.Computing.{computing}
+use Rattle.hub_examples.proofs.Opened.{computing}
 use Rattle.hub_examples.proofs.Played.{computed}
 use Rattle.hub_examples.proofs.worked_conversations.worked_messages.Goals as goal
 

@@ -3,7 +3,7 @@ use Rattle.hub_examples.specs.Commands.{other_asked}
 use Rattle.hub_examples.specs.Conversations.{one, zeros}
 use Rattle.hub_examples.specs.PasswordLogins.{staffed_hub}
 use Rattle.hub_examples.specs.Removals.{again_entered, bob_entered, kick_taken, late_entered}
-use Rattle.hub_examples.proofs.Computing.{computing}
+use Rattle.hub_examples.proofs.Opened.{computing}
 use Rattle.hub_examples.proofs.Played.{computed}
 use Rattle.hub_examples.proofs.worked_conversations.worked_operators.Goals as goal
 

@@ -1,7 +1,7 @@
 use Rattle.std.proofs.Common.{◌++◌, ap, codes, refl, [], ◌∷◌}
 use Rattle.hub_examples.specs.Conversations.{one, zeros}
 use Rattle.hub_examples.specs.PasswordLogins.{op_entered, op_named, op_refused, rival_refused, staffed_hub}
-use Rattle.hub_examples.proofs.Computing.{computing}
+use Rattle.hub_examples.proofs.Opened.{computing}
 use Rattle.hub_examples.proofs.Played.{computed, sample}
 use Rattle.hub_examples.proofs.worked_conversations.worked_passwords.Goals as goal
 

@@ -2,7 +2,7 @@ use Rattle.std.proofs.Common.{ap, refl, [], ◌∷◌}
 use Rattle.hub_examples.specs.Conversations.{plain, zeros}
 use Rattle.hub_examples.specs.Pings.{hub_asked}
 use Rattle.hub_examples.specs.Searches.{late_search, patient}
-use Rattle.hub_examples.proofs.Computing.{computing}
+use Rattle.hub_examples.proofs.Opened.{computing}
 use Rattle.hub_examples.proofs.Played.{computed}
 use Rattle.hub_examples.proofs.worked_conversations.worked_questions.Goals as goal
 

@@ -1,4 +1,4 @@
-use Rattle.hub_laws.proofs.Vouching.{nicks_are_proved, only_accounts_enter}
+use Rattle.hub_laws.proofs.AccountPasswords.{nicks_are_proved, only_accounts_enter}
 use Rattle.hub_laws.proofs.laws.account_laws.Goals as goal
 
 pub returns-clause-proved : goal.returns-clause-proved

@@ -1,4 +1,4 @@
-use Rattle.hub_laws.proofs.Searching.{search_is_the_last, totals_are_sums}
+use Rattle.hub_laws.proofs.Searches.{search_is_the_last, totals_are_sums}
 use Rattle.hub_laws.proofs.laws.counting_laws.Goals as goal
 
 pub returns-clause-search : goal.returns-clause-search

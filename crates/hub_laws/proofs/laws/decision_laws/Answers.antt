@@ -1,4 +1,4 @@
-use Rattle.hub_laws.proofs.Taking.{decided_is_taken}
+use Rattle.hub_laws.proofs.CarriedOut.{decided_is_taken}
 use Rattle.hub_laws.proofs.laws.decision_laws.Goals as goal
 
 pub returns : goal.returns

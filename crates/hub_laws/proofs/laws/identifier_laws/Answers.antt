@@ -1,5 +1,5 @@
 use Rattle.hub_laws.proofs.Words.{few_are_open, sids_are_given, sids_differ}
-use Rattle.hub_laws.proofs.Joining.{joins_are_counted, joins_stay}
+use Rattle.hub_laws.proofs.Joins.{joins_are_counted, joins_stay}
 use Rattle.hub_laws.proofs.laws.identifier_laws.Goals as goal
 
 pub returns-clause-differ : goal.returns-clause-differ

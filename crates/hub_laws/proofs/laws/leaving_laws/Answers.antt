@@ -1,5 +1,5 @@
-use Rattle.hub_laws.proofs.Departing.{departures_are_heard}
-use Rattle.hub_laws.proofs.Leaving.{kicks_shut_out, out_is_for_good, who_is_out_hears_nothing}
+use Rattle.hub_laws.proofs.Departures.{departures_are_heard}
+use Rattle.hub_laws.proofs.ShutOut.{kicks_shut_out, out_is_for_good, who_is_out_hears_nothing}
 use Rattle.hub_laws.proofs.laws.leaving_laws.Goals as goal
 
 pub returns-clause-nothing : goal.returns-clause-nothing

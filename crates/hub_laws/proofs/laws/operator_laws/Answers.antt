@@ -1,6 +1,6 @@
-use Rattle.hub_laws.proofs.Banning.{bans_are_apart, bans_are_few}
-use Rattle.hub_laws.proofs.Operating.{nobody_banned_enters, only_operators_ban, only_operators_set_topics, only_operators_shut_out}
-use Rattle.hub_laws.proofs.Telling.{acts_are_heard}
+use Rattle.hub_laws.proofs.Bans.{bans_are_apart, bans_are_few}
+use Rattle.hub_laws.proofs.Operators.{nobody_banned_enters, only_operators_ban, only_operators_set_topics, only_operators_shut_out}
+use Rattle.hub_laws.proofs.OperatorActs.{acts_are_heard}
 use Rattle.hub_laws.proofs.Worlds.{ban_is_the_last_act, topic_is_the_last}
 use Rattle.hub_laws.proofs.laws.operator_laws.Goals as goal
 

@@ -1,4 +1,4 @@
-use Rattle.hub_laws.proofs.Ordering.{calls_keep_their_order, messages_keep_their_order, owed_grows, senders_are_named}
+use Rattle.hub_laws.proofs.SenderOrder.{calls_keep_their_order, messages_keep_their_order, owed_grows, senders_are_named}
 use Rattle.hub_laws.proofs.laws.order_laws.Goals as goal
 
 pub returns-clause-grows : goal.returns-clause-grows

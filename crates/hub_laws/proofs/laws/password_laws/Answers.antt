@@ -1,4 +1,4 @@
-use Rattle.hub_laws.proofs.Asking.{challenges_are_told}
+use Rattle.hub_laws.proofs.PasswordRequests.{challenges_are_told}
 use Rattle.hub_laws.proofs.Passwords.{passwords_are_not_told}
 use Rattle.hub_laws.proofs.laws.password_laws.Goals as goal
 

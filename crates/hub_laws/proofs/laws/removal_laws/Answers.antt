@@ -1,4 +1,4 @@
-use Rattle.hub_laws.proofs.Removing.{namesakes_come_later, only_users_are_removed, removals_are_heard, removals_come_first}
+use Rattle.hub_laws.proofs.Removals.{namesakes_come_later, only_users_are_removed, removals_are_heard, removals_come_first}
 use Rattle.hub_laws.proofs.laws.removal_laws.Goals as goal
 
 pub returns-clause-heard : goal.returns-clause-heard

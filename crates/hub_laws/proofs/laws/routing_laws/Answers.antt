@@ -1,6 +1,6 @@
-use Rattle.hub_laws.proofs.Routing.{empty_lines_owe_nothing, joins_and_takes_owe_nothing, messages_are_routed, quiet_quits, who_is_out_is_not_heard}
+use Rattle.hub_laws.proofs.Routes.{empty_lines_owe_nothing, joins_and_takes_owe_nothing, messages_are_routed, quiet_quits, who_is_out_is_not_heard}
 use Rattle.hub_laws.proofs.Strangers.{strangers_are_not_heard}
-use Rattle.hub_laws.proofs.Welcoming.{entrants_are_welcomed, entries_are_heard}
+use Rattle.hub_laws.proofs.Welcome.{entrants_are_welcomed, entries_are_heard}
 use Rattle.hub_laws.proofs.laws.routing_laws.Goals as goal
 
 pub returns-clause-messages : goal.returns-clause-messages

@@ -1,5 +1,5 @@
 use Rattle.hub_laws.proofs.Public.{info_is_public}
-use Rattle.hub_laws.proofs.Updating.{updates_are_heard, updates_are_passed}
+use Rattle.hub_laws.proofs.Updates.{updates_are_heard, updates_are_passed}
 use Rattle.hub_laws.proofs.laws.secret_laws.Goals as goal
 
 pub returns-clause-info : goal.returns-clause-info

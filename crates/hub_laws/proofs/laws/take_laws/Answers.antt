@@ -1,6 +1,6 @@
 use Rattle.hub_laws.proofs.Words.{taken_is_the_sum}
 use Rattle.hub_laws.proofs.Delivery.{delivered_are_the_first}
-use Rattle.hub_laws.proofs.Lagging.{lag_is_the_first, owed_are_shares}
+use Rattle.hub_laws.proofs.Lag.{lag_is_the_first, owed_are_shares}
 use Rattle.hub_laws.proofs.laws.take_laws.Goals as goal
 
 pub returns-clause-taken : goal.returns-clause-taken

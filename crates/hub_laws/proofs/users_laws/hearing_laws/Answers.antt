@@ -1,5 +1,5 @@
-use Rattle.hub_laws.proofs.Hearing.{all_hear_in_one_order}
-use Rattle.hub_laws.proofs.Hearing.{all_hear_the_same}
+use Rattle.hub_laws.proofs.CommonOrder.{all_hear_in_one_order}
+use Rattle.hub_laws.proofs.CommonOrder.{all_hear_the_same}
 use Rattle.hub_laws.proofs.users_laws.hearing_laws.Goals as goal
 
 pub returns-clause-order : goal.returns-clause-order

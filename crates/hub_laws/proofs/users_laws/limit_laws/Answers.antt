@@ -1,6 +1,6 @@
 use Rattle.hub_laws.proofs.Limits.{few_lines_wait}
 use Rattle.hub_laws.proofs.Words.{few_are_open}
-use Rattle.hub_laws.proofs.Banning.{bans_are_few}
+use Rattle.hub_laws.proofs.Bans.{bans_are_few}
 use Rattle.hub_laws.proofs.Limits.{users_are_well_formed}
 use Rattle.hub_laws.proofs.Types.{operators_have_accounts}
 use Rattle.hub_laws.proofs.users_laws.limit_laws.Goals as goal

@@ -1,6 +1,6 @@
 use Rattle.std.proofs.Common.{subst}
 use Rattle.std.specs.Io.KnownBytes.{Appends}
-use Rattle.hub_server.specs.Reporting.{report_line}
+use Rattle.hub_server.specs.ServerEnd.{report_line}
 use Rattle.hub_server.proofs.entries.run_and_report.Goals as goal
 
 -- the report is that of the hub that was closed, in which nobody is present

@@ -1,5 +1,5 @@
 use Rattle.std.proofs.Common.{◌∙◌, sym}
-use Rattle.hub_server.proofs.Reporting.{is-served}
+use Rattle.hub_server.proofs.ServerEnd.{is-served}
 use Rattle.hub_server.proofs.entries.run_to_status.Goals as goal
 
 pub returns-clause-served : goal.returns-clause-served

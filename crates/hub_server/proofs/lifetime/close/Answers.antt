@@ -1,5 +1,5 @@
 use Rattle.std.proofs.Common.{ap}
-use Rattle.hub_server.proofs.Closing.{served-all}
+use Rattle.hub_server.proofs.Close.{served-all}
 use Rattle.hub_server.proofs.lifetime.close.Goals as goal
 
 pub returns-clause-all : goal.returns-clause-all

@@ -1,4 +1,4 @@
-use Rattle.hub_server.proofs.Stopping.{stopped-of}
+use Rattle.hub_server.proofs.Stop.{stopped-of}
 use Rattle.hub_server.proofs.lifetime.serve_hub.Goals as goal
 
 pub returns-clause-stopped : goal.returns-clause-stopped

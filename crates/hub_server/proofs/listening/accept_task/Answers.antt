@@ -1,8 +1,8 @@
 use Rattle.std.proofs.Common.{◌∙◌, ap, sym, subst}
-use Rattle.adc_sessions.specs.Accepting.{incoming_of}
+use Rattle.adc_sessions.specs.AcceptEnds.{incoming_of}
 use Rattle.hub_listener.specs.Rests.{socket_of}
-use Rattle.hub_server.specs.Stopping.{StopsWhen}
-use Rattle.hub_server.proofs.Stopping.{stops-first}
+use Rattle.hub_server.specs.Stop.{StopsWhen}
+use Rattle.hub_server.proofs.Stop.{stops-first}
 use Rattle.hub_server.proofs.listening.accept_task.Goals as goal
 
 pub new-requires-2 : goal.new-requires-2

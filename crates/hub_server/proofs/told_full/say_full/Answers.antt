@@ -1,5 +1,5 @@
-use Rattle.hub_server.specs.Refusing.{hub_full}
-use Rattle.hub_server.proofs.Refusing.{wrote-first}
+use Rattle.hub_server.specs.Refusals.{hub_full}
+use Rattle.hub_server.proofs.Refusals.{wrote-first}
 use Rattle.hub_server.proofs.told_full.say_full.Goals as goal
 
 pub returns : goal.returns

@@ -2,7 +2,7 @@ use Rattle.std.proofs.Common.{◌≡◌, ◌<◌, ◌^◌, ◌+◌, ◌++◌, le
 use Rattle.std.specs.List.{All}
 use Rattle.one_history.specs.States.{callers_of, home_of}
 use Rattle.hub_shared.specs.Callers.{seat_of}
-use Rattle.hub_shared.specs.Closing.{HasQuit}
+use Rattle.hub_shared.specs.Close.{HasQuit}
 use Rattle.hub_shared.proofs.close.gather_all.Given as goal
 
 abbrev pub invariant-loop-visitor : goal.invariant-loop-visitor

@@ -1,6 +1,6 @@
 use Rattle.std.proofs.Common.{◌++◌, ◌∷◌, [], List, ℕ, subst}
 use Rattle.std.specs.Prelude.{codes}
-use Rattle.flushed_writes.specs.Parts.{AppendsFront}
+use Rattle.counted_io.specs.Parts.{AppendsFront}
 use Rattle.std.specs.Io.KnownBytes.{Appends}
 use Rattle.hub_startup.proofs.Messages.{front-before, front-behind, front-of}
 use Rattle.hub_startup.proofs.fault.write_key.Goals as goal

@@ -1,6 +1,6 @@
 use Rattle.std.proofs.Common.{◌<◌, ◌∙◌, length, refl, take, arith}
 use Rattle.std.specs.Arc.{arc_value}
-use Rattle.flushed_writes.proofs.Failing.{last-after}
+use Rattle.counted_io.proofs.Failing.{last-after}
 use Rattle.hub_stdio.specs.Faults.{StopsBy}
 use Rattle.hub_stdio.proofs.Failing.{stop_after}
 use Rattle.hub_stdio.proofs.Heard.{nothing_short, heard_nothing, heard_to_end, heard_to_failure, heard_too_often, heard_more, heard_out, heard_stopped, heard_ready, read_some}

@@ -1,7 +1,7 @@
 use Rattle.std.proofs.Common.{◌≡◌, length}
 use Rattle.std.specs.Arc.{arc_value}
 use Rattle.adc_line.specs.Stream.{IsLine}
-use Rattle.flushed_writes.specs.Calls.{NoneFailed}
+use Rattle.counted_io.specs.Calls.{NoneFailed}
 use Rattle.hub_stdio.proofs.Heard.{IsHeard}
 use Rattle.hub_stdio.proofs.run.run_session.Given as goal
 

@@ -7,5 +7,5 @@ swap-requires g c =
     let h = c.requires in (
       h.here,
       omega arith,
-      gives_entry g.T.Recorded.by g.T.Recorded.legal g.T.Recorded.stands c.args.board.now.key g.B.Told.entry c.args.board.now.table_id.slots c.args.place.now.id c.args.place.now.me h.one.1 h.ready,
+      gives_entry g.T.Recorded.by g.T.Recorded.legal g.T.Recorded.stands c.args.board.now.key g.B.MadeEntry.entry c.args.board.now.table_id.slots c.args.place.now.id c.args.place.now.me h.one.1 h.ready,
     )

@@ -1,7 +1,7 @@
 use Rattle.std.proofs.Common.{rules, arith, ap, ◌∙◌}
-use Rattle.one_history.proofs.Seating.{pairs}
+use Rattle.one_history.proofs.SeatRules.{pairs}
 use Rattle.one_history.proofs.Moves.{shows}
-use Rattle.one_history.proofs.Meetings.{fair_of}
+use Rattle.one_history.proofs.Meets.{fair_of}
 use Rattle.one_history.proofs.meet.compare.Goals as goal
 
 pub join_seat-requires : goal.join_seat-requires

@@ -7,7 +7,7 @@ use Rattle.toml.specs.View.{items_view, view}
 use Rattle.toml.specs.declared.value.Value.{Value}
 use Rattle.settings_report.specs.Places.{after}
 use Rattle.settings_report.specs.Warned.{WarnsOfEntry, WarnsOfItems}
-use Rattle.settings_report.specs.declared.warnings.Warning.{Warning}
+use Rattle.settings_report.specs.declared.warnings.SettingsWarning.{SettingsWarning}
 use Rattle.settings_report.proofs.Menu.{warns-next}
 use Rattle.settings_report.proofs.warnings.warnings_of_items.Goals as goal
 
@@ -17,7 +17,7 @@ loop-before-preserved c =
     let found : option_map (λ value. view value.now) c.get.result ≡ get (codes "text") (view item) = search rules in
     warns-next c.args.items.now c.loop-before.before item c.loop-before.found.items c.push_warnings.new.found.items c.loop-before-test.true
     c.index-items-before.is c.loop-before.invariant
-    (subst (λ (value : Option Data). (own : List Warning) × (c.push_warnings.new.found.items ≡ c.loop-before.found.items ++ own)
+    (subst (λ (value : Option Data). (own : List SettingsWarning) × (c.push_warnings.new.found.items ≡ c.loop-before.found.items ++ own)
     × WarnsOfEntry (after c.loop-before.before) value own) found c.in_ok-push_warnings.ensures)
 
 pub returns : goal.returns

@@ -1,5 +1,5 @@
 use Rattle.std.proofs.Common.{rules}
-use Rattle.adc_sessions.specs.Accepting.{LeavesAfter}
+use Rattle.adc_sessions.specs.AcceptEnds.{LeavesAfter}
 use Rattle.adc_sessions.proofs.Counts.{PartsIn-came, PartsIn-failed, PartsIn-waited}
 use Rattle.adc_sessions.proofs.accept.Accept.turn.Goals as goal
 

@@ -1,5 +1,5 @@
 use Rattle.futures.specs.Task.{Keeps}
-use Rattle.adc_sessions.specs.Accepting.{AcceptsIn}
+use Rattle.adc_sessions.specs.AcceptEnds.{AcceptsIn}
 use Rattle.adc_sessions.proofs.accept.AcceptFuture.poll.Given as goal
 
 abbrev pub invariant-loop-turn : goal.invariant-loop-turn

@@ -1,6 +1,6 @@
 use Rattle.std.proofs.Common.{◌≡◌, [], rules, subst, List, ℕ, arith}
 use Rattle.std.proofs.lemmas.Bool.Decides.{nat_tests}
-use Rattle.hub_client.proofs.Addressing.{without_bytes}
+use Rattle.hub_client.proofs.Addresses.{without_bytes}
 use Rattle.hub_client.specs.Addresses.{IsSplit}
 use Rattle.hub_client.proofs.address.HubAddress.parse.Goals as goal
 

@@ -6,7 +6,7 @@ use Rattle.adc_line.specs.Lines.{Reading}
 use Rattle.hub_client.specs.Conversations.{HearsAnswer}
 use Rattle.hub_client.specs.Entries.{IsAnswer, IsBadStatus, is_quit_line, is_user_line}
 use Rattle.hub_client.specs.Talks.{gone_of, unheard, users_of}
-use Rattle.hub_client.proofs.Conversing.{all-more, fails-after, kept-more, waits-from, waits-more}
+use Rattle.hub_client.proofs.Conversations.{all-more, fails-after, kept-more, waits-from, waits-more}
 use Rattle.hub_client.proofs.client.Client.ask.Goals as goal
 
 pub lines-init : goal.lines-init

@@ -4,8 +4,8 @@ use Rattle.std.proofs.lemmas.Result.{err_from_is_err_and}
 use Rattle.adc_line.specs.Lines.{Reading}
 use Rattle.hub_client.specs.Conversations.{IsEcho}
 use Rattle.hub_client.specs.Entries.{IsBadStatus}
-use Rattle.hub_client.specs.Talks.{Hears, unheard}
-use Rattle.hub_client.proofs.Conversing.{all-more, fails-after, waits-from, waits-more}
+use Rattle.hub_client.specs.Talks.{HearsLines, unheard}
+use Rattle.hub_client.proofs.Conversations.{all-more, fails-after, waits-from, waits-more}
 use Rattle.hub_client.proofs.client.Client.chat.Goals as goal
 
 pub lines-init : goal.lines-init
@@ -31,7 +31,7 @@ lines-preserved g c =
     let then = c.hears_echo.new.self in
     let text = c.args.line.now.text in
     let heard = c.lines.invariant in
-    let next : (line : Reading) × Hears (unheard g.S.Read.remaining now) (unheard g.S.Read.remaining then) (line ∷ []) × IsEcho text line None = rw c.if-branch.false at c.in_ok-hears_echo.ensures.heard in (
+    let next : (line : Reading) × HearsLines (unheard g.S.Read.remaining now) (unheard g.S.Read.remaining then) (line ∷ []) × IsEcho text line None = rw c.if-branch.false at c.in_ok-hears_echo.ensures.heard in (
       heard.0 ++ next.0 ∷ [],
       waits-more g.S.Read.remaining g.S.Write.contents c.args.self.now text heard.0 (next.0 ∷ []) (unheard g.S.Read.remaining now) (unheard g.S.Read.remaining then) heard.1 next.1,
       all-more (λ line. IsEcho text line None) heard.0 next.0 heard.2 next.2,

@@ -1,7 +1,7 @@
 use Rattle.std.proofs.Common.{[], ◌∷◌, ◌∙◌, arith}
 use Rattle.std.proofs.lemmas.Result.{err_from_is_err_and}
-use Rattle.hub_client.specs.Talks.{unheard, Hears}
-use Rattle.hub_client.proofs.Hearing.{hears-then, none-then}
+use Rattle.hub_client.specs.Talks.{unheard, HearsLines}
+use Rattle.hub_client.proofs.Heard.{hears-then, none-then}
 use Rattle.hub_client.proofs.client.Client.hear.Goals as goal
 
 pub returns-in_err-line-clause-none : goal.returns-in_err-line-clause-none
@@ -12,13 +12,13 @@ returns-in_err-line-clause-none g c =
 pub returns-in-Some-clause-heard : goal.returns-in-Some-clause-heard
 returns-in-Some-clause-heard g c =
     let remaining = g.S.Read.remaining in
-    let line : Hears (unheard remaining c.turns.self) (unheard remaining c.hear_some.new.self) (c.in-Some.line ∷ []) = rw c.in-Some.is at c.in_ok-line.ensures.heard in
+    let line : HearsLines (unheard remaining c.turns.self) (unheard remaining c.hear_some.new.self) (c.in-Some.line ∷ []) = rw c.in-Some.is at c.in_ok-line.ensures.heard in
     hears-then (unheard remaining c.args.self.now) (unheard remaining c.turns.self) (unheard remaining c.hear_some.new.self) [] (c.in-Some.line ∷ []) c.turns.invariant.empty line
 
 pub turns-preserved : goal.turns-preserved
 turns-preserved g c =
     let remaining = g.S.Read.remaining in
-    let line : Hears (unheard remaining c.turns.self) (unheard remaining c.hear_some.new.self) [] = rw c.in_default.is at c.in_ok-line.ensures.heard in
+    let line : HearsLines (unheard remaining c.turns.self) (unheard remaining c.hear_some.new.self) [] = rw c.in_default.is at c.in_ok-line.ensures.heard in
     record {
       empty = hears-then (unheard remaining c.args.self.now) (unheard remaining c.turns.self) (unheard remaining c.hear_some.new.self) [] [] c.turns.invariant.empty line;
       users = c.hear_some.ensures.users ∙ c.turns.invariant.users;

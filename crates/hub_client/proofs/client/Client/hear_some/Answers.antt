@@ -4,9 +4,9 @@ use Rattle.std.proofs.lemmas.Bool.Decides.{nat_tests}
 use Rattle.std.proofs.lemmas.Result.{err_from_is_err_and}
 use Rattle.hub_client.specs.declared.fault.ClientFault.TheVariants.{Memory, NotAdc}
 use Rattle.adc_line.specs.Lines.{reading}
-use Rattle.flushed_writes.specs.Calls.{inner_of}
+use Rattle.counted_io.specs.Calls.{inner_of}
 use Rattle.hub_client.specs.Talks.{unheard}
-use Rattle.hub_client.proofs.Hearing.{hears-empty, hears-line, hears-same, junk-long, none-message}
+use Rattle.hub_client.proofs.Heard.{hears-empty, hears-line, hears-same, junk-long, none-message}
 use Rattle.hub_client.proofs.client.Client.hear_some.Goals as goal
 
 pub returns-in-TooLong-clause-none : goal.returns-in-TooLong-clause-none

@@ -7,9 +7,9 @@ use Rattle.adc_line.specs.Lines.{Reading}
 use Rattle.hub_client.specs.Conversations.{IsGiven, IsNoWelcome, IsPrelude, IsSid}
 use Rattle.hub_client.specs.Entries.{IsBadStatus}
 use Rattle.hub_client.specs.Sayings.{support_text}
-use Rattle.flushed_writes.specs.Calls.{inner_of}
+use Rattle.counted_io.specs.Calls.{inner_of}
 use Rattle.hub_client.specs.Talks.{unheard}
-use Rattle.hub_client.proofs.Conversing.{all-more, fails-after, given-anew, given-still, waits-from, waits-more}
+use Rattle.hub_client.proofs.Conversations.{all-more, fails-after, given-anew, given-still, waits-from, waits-more}
 use Rattle.hub_client.proofs.client.Client.hello.Goals as goal
 use Rattle.hub_client.proofs.client.Client.hello.Goals.{then-is_info-2, else-is_info-2}
 

@@ -9,13 +9,13 @@ use Rattle.hub_rules.specs.declared.sender.Sender.{Sender}
 use Rattle.hub_rules.specs.Senders.{new_sender}
 use Rattle.hub_core.specs.CoreState.{CoreState}
 use Rattle.hub_core.specs.Seats.{new_seat}
-use Rattle.hub_core.proofs.Standing.{full-moves, join-moves, joined_core, sids_in, spent-moves}
+use Rattle.hub_core.proofs.NextHistory.{full-moves, join-moves, joined_core, sids_in, spent-moves}
 use Rattle.std.proofs.Common.{rules, sym, subst}
 use Rattle.hub_core.specs.Numbers.{Ordered}
-use Rattle.hub_core.specs.Index.{AreIndexed, keys}
+use Rattle.hub_core.specs.Index.{AreIndexedBySid, keys}
 use Rattle.hub_core.proofs.Indexed.{indexed-push, is-new}
 use Rattle.hub_core.proofs.Numbers.{ordered-push}
-use Rattle.hub_core.specs.Waiting.{AreBeside, backlogs_of, is_here, no_backlog}
+use Rattle.hub_core.specs.Backlogs.{AreBeside, backlogs_of, is_here, no_backlog}
 use Rattle.hub_core.proofs.Beside.{backlogs-joined, beside-again, beside-joined, err-holds, even, ok-holds, rows-again}
 use Rattle.hub_core.proofs.Carried.{same-core}
 use Rattle.shared_log.specs.Tables.{Table, new_row}
@@ -58,7 +58,7 @@ invariant_of-self-then-is_err c =
       c.self.invariant.0,
       c.self.invariant.1,
       subst (Ordered c.self.inside.joins) (sym kept.0) c.self.invariant.2,
-      subst (λ ss. AreIndexed c.add-2.new.index (keys ss)) (sym kept.0) (subst (λ index. AreIndexed index (keys c.self.inside.seats.items)) (sym kept.1) c.self.invariant.3),
+      subst (λ ss. AreIndexedBySid c.add-2.new.index (keys ss)) (sym kept.0) (subst (λ index. AreIndexedBySid index (keys c.self.inside.seats.items)) (sym kept.1) c.self.invariant.3),
       c.self.invariant.4,
       subst (AreBeside c.remove.new.self) (sym kept.0)
           (beside-again c.self.inside.backlogs c.remove.new.self c.self.inside.seats.items
@@ -113,7 +113,7 @@ invariant_of-self-2 c =
       c.self.invariant.0,
       search rules,
       subst (Ordered (c.self.inside.joins + 1)) (sym added) (ordered-push c.self.inside.joins c.self.inside.seats.items c.new-seat.result is_number c.self.invariant.2),
-      subst (λ ss. AreIndexed c.add-2.new.index (keys ss)) (sym added)
+      subst (λ ss. AreIndexedBySid c.add-2.new.index (keys ss)) (sym added)
           (indexed-push c.self.inside.index c.add-2.new.index c.self.inside.seats.items c.new-seat.result c.new-seat.result.sender.sid c.new-seat.result.number refl refl
           (ok-holds c.add-2.result went c.add-2.ensures.index)
           (is-new c.new-seat.result.sender.sid c.self.inside.seats.items (λ there. c.next_free-sid.ensures.free (subst (λ ns. Contains ns c.next_free-sid.result) (sym taken) (subst (Contains (sids_in c.self.inside.seats.items)) is_sid there))))

@@ -8,7 +8,7 @@ use Rattle.hub_core.specs.Index.{keys}
 use Rattle.hub_core.specs.Seats.{changed_seat, seat_after_change_at}
 use Rattle.hub_core.specs.State.{carried_out}
 use Rattle.hub_core.specs.Told.{AreTold}
-use Rattle.hub_core.specs.Waiting.{AreBeside, backlogs_of, here_in, members_of}
+use Rattle.hub_core.specs.Backlogs.{AreBeside, backlogs_of, here_in, members_of}
 use Rattle.hub_core.proofs.Beside.{beside-again, beside-delivered, even, here-set, named-is}
 use Rattle.hub_core.proofs.Carried.{carried-as}
 use Rattle.hub_core.proofs.Indexed.{indexed-same, keys-changed, keys-named}

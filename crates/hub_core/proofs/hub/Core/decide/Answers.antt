@@ -1,6 +1,6 @@
 use Rattle.std.proofs.Common.{◌≡◌, ◌∙◌, sym, ap, subst}
 use Rattle.hub_rules.specs.Configured.{Configured}
-use Rattle.hub_rules.specs.Sights.{Sight}
+use Rattle.hub_rules.specs.Views.{HubView}
 use Rattle.hub_core.specs.CoreState.{CoreState}
 use Rattle.hub_core.specs.Decided.{Decided, sight_in}
 use Rattle.hub_core.specs.Seats.{in_seat}
@@ -15,7 +15,7 @@ returns c =
       seat = c.index.result.now;
       is_seat = seat-at c.args.number c.self.inside.seats.items c.args.place c.index.result.now at c.index.ensures
           ∙ ap (λ (s : CoreState). in_seat c.args.number (λ x. x) c.index.result.now s.seats) c.self.view_is;
-      decided = subst (λ (hub : Sight). Decided hub c.index.result.now c.args.line.now c.args.now c.in_ok-effect.effect)
+      decided = subst (λ (hub : HubView). Decided hub c.index.result.now c.args.line.now c.args.now c.in_ok-effect.effect)
           (ap (λ (s : Configured). record { setup = s; users = c.self.inside.commons.present.users; bans = c.self.inside.commons.bans; topic = c.self.inside.commons.topic }) c.deref.ensures
           ∙ ap sight_in c.self.view_is) c.in_ok-effect.ensures;
     }

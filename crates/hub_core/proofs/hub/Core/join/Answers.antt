@@ -3,7 +3,7 @@ use Rattle.hub_core.specs.declared.share.Touched.TheVariants.{Nobody}
 use Rattle.hub_core.specs.CoreState.{CoreState}
 use Rattle.hub_core.specs.Moves.{Moves}
 use Rattle.hub_core.proofs.Concerned.{join-touches}
-use Rattle.hub_core.proofs.Standing.{moves-noted}
+use Rattle.hub_core.proofs.NextHistory.{moves-noted}
 use Rattle.hub_core.proofs.hub.Core.join.Goals as goal
 use Rattle.hub_rules.specs.declared.history.Call.TheVariants.{Join}
 use Rattle.hub_rules.specs.declared.history.Reply.TheVariants.{Joined}

@@ -1,6 +1,6 @@
 use Rattle.std.proofs.Common.{ap}
 use Rattle.hub_core.specs.CoreState.{CoreState}
-use Rattle.hub_core.proofs.Standing.{joins-told}
+use Rattle.hub_core.proofs.NextHistory.{joins-told}
 use Rattle.hub_core.proofs.hub.Core.joins.Goals as goal
 
 pub returns : goal.returns

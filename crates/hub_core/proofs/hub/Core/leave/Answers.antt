@@ -4,10 +4,10 @@ use Rattle.std.specs.List.{remove}
 use Rattle.user_table.specs.Tables.{without_sid}
 use Rattle.hub_core.specs.CoreState.{CoreState}
 use Rattle.hub_core.specs.Index.{keys}
-use Rattle.hub_core.specs.Leaving.{left_core, others_of, told_of}
+use Rattle.hub_core.specs.Departures.{left_core, others_of, told_of}
 use Rattle.hub_core.specs.Phases.{stage_in}
 use Rattle.hub_core.specs.Seats.{phase_in, sid_in}
-use Rattle.hub_core.specs.Waiting.{AreBeside, backlogs_of, given_each}
+use Rattle.hub_core.specs.Backlogs.{AreBeside, backlogs_of, given_each}
 use Rattle.hub_core.proofs.Beside.{backlogs-told, beside-left, but-at, member-at, members-removed, others-at}
 use Rattle.hub_core.proofs.Carried.{same-core}
 use Rattle.hub_core.proofs.Indexed.{indexed-left, indexed-read, indexed-same}

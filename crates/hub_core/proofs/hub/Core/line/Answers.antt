@@ -3,10 +3,10 @@ use Rattle.hub_core.specs.CoreState.{CoreState}
 use Rattle.hub_core.specs.Decided.{IsHandled}
 use Rattle.hub_core.specs.Phases.{stage_in}
 use Rattle.hub_core.specs.Seats.{phase_in, sid_in}
-use Rattle.hub_core.specs.Touching.{NamesEffect}
+use Rattle.hub_core.specs.Touched.{NamesEffect}
 use Rattle.hub_rules.specs.Legal.{verdict_of}
 use Rattle.hub_core.proofs.Concerned.{line-touches}
-use Rattle.hub_core.proofs.Standing.{line-moves}
+use Rattle.hub_core.proofs.NextHistory.{line-moves}
 use Rattle.hub_core.proofs.hub.Core.line.Goals as goal
 
 pub returns : goal.returns

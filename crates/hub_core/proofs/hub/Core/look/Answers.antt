@@ -3,10 +3,10 @@ use Rattle.outboxes.specs.Backlogs.{Backlog}
 use Rattle.user_table.specs.declared.totals.Totals.{Totals}
 use Rattle.hub_core.specs.CoreState.{CoreState}
 use Rattle.hub_core.specs.Phases.{stage_in}
-use Rattle.hub_core.specs.Waiting.{backlog_in}
+use Rattle.hub_core.specs.Backlogs.{backlog_in}
 use Rattle.hub_core.proofs.Beside.{backlog-at, even}
 use Rattle.hub_core.proofs.Places.{at-core, phase-at}
-use Rattle.hub_core.proofs.Standing.{look-told}
+use Rattle.hub_core.proofs.NextHistory.{look-told}
 use Rattle.hub_core.proofs.hub.Core.look.Goals as goal
 
 pub returns : goal.returns

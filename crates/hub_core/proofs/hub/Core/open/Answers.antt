@@ -1,10 +1,10 @@
 use Rattle.std.proofs.Common.{◌∙◌, ap, refl}
 use Rattle.std.specs.Arc.{arc_value}
 use Rattle.hub_rules.specs.Configured.{Configured}
-use Rattle.hub_core.proofs.Standing.{open-stands-as}
+use Rattle.hub_core.proofs.NextHistory.{open-stands-as}
 use Rattle.std.proofs.Common.{arith, rules, sym, subst}
-use Rattle.hub_core.specs.Index.{AreIndexed, keys}
-use Rattle.hub_core.specs.Waiting.{backlogs_of, here_in, members_of}
+use Rattle.hub_core.specs.Index.{AreIndexedBySid, keys}
+use Rattle.hub_core.specs.Backlogs.{backlogs_of, here_in, members_of}
 use Rattle.hub_decisions.specs.Present.{AreFirst}
 use Rattle.hub_core.specs.Numbers.{Ordered, Rising, UpTo}
 use Rattle.shared_log.specs.Tables.{Table}
@@ -17,12 +17,12 @@ returns c hash =
     (c.in_ok-topic.ensures ∙ c.topic.ensures ∙ ap (λ (s : Configured). s.topic) c.deref-2.ensures) hash
 
 pub invariant_of-result : goal.invariant_of-result
-unfolding Rising UpTo AreIndexed
+unfolding Rising UpTo AreIndexedBySid
 invariant_of-result c = (
   search rules,
   omega arith,
   subst (Ordered 0) (sym c.in_ok-seats.ensures.items) (tt, tt),
-  subst (λ ss. AreIndexed c.new-3.result (keys ss)) (sym c.in_ok-seats.ensures.items) tt,
+  subst (λ ss. AreIndexedBySid c.new-3.result (keys ss)) (sym c.in_ok-seats.ensures.items) tt,
   subst (AreFirst (arc_value c.args.setup) c.new-4.result.users) (sym c.new-4.ensures.lines) refl,
   record {
     members = ap (λ (t : Table). members_of t.rows) c.in_ok-backlogs.ensures ∙ sym (ap here_in c.in_ok-seats.ensures.items);

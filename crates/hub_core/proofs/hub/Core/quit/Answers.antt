@@ -1,12 +1,12 @@
 use Rattle.std.proofs.Common.{◌∙◌, sym, ap, subst, ◌≤◌}
 use Rattle.hub_core.specs.declared.share.Touched.{Touched}
 use Rattle.hub_core.specs.CoreState.{CoreState, noted}
-use Rattle.hub_core.specs.Leaving.{left_core}
+use Rattle.hub_core.specs.Departures.{left_core}
 use Rattle.hub_core.specs.Phases.{stage_in}
-use Rattle.hub_core.specs.Touching.{names}
+use Rattle.hub_core.specs.Touched.{names}
 use Rattle.hub_core.proofs.Concerned.{quit-touches}
 use Rattle.hub_core.proofs.Places.{at-core, phase-at}
-use Rattle.hub_core.proofs.Standing.{quit-moves}
+use Rattle.hub_core.proofs.NextHistory.{quit-moves}
 use Rattle.hub_core.proofs.hub.Core.quit.Goals as goal
 use Rattle.hub_rules.specs.Configured.{most_users}
 use Rattle.hub_rules.specs.Effects.{is_present}

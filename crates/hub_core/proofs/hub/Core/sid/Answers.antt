@@ -1,7 +1,7 @@
 use Rattle.std.proofs.Common.{sym, ap}
 use Rattle.hub_core.specs.CoreState.{CoreState}
 use Rattle.hub_core.proofs.Places.{at-core, sid-at}
-use Rattle.hub_core.proofs.Standing.{sid-told}
+use Rattle.hub_core.proofs.NextHistory.{sid-told}
 use Rattle.hub_core.proofs.hub.Core.sid.Goals as goal
 
 pub returns : goal.returns

@@ -4,14 +4,14 @@ use Rattle.std.specs.List.{concat}
 use Rattle.outboxes.specs.Backlogs.{Backlog}
 use Rattle.hub_core.specs.declared.share.Touched.TheVariants.{Nobody}
 use Rattle.hub_core.specs.CoreState.{CoreState, noted}
-use Rattle.hub_core.specs.Leaving.{core_after_take}
+use Rattle.hub_core.specs.Departures.{core_after_take}
 use Rattle.hub_core.specs.Phases.{stage_in}
 use Rattle.hub_core.specs.Seats.{phase_in}
-use Rattle.hub_core.specs.Waiting.{backlog_in, backlogs_of, ends_by}
+use Rattle.hub_core.specs.Backlogs.{backlog_in, backlogs_of, ends_by}
 use Rattle.hub_core.proofs.Beside.{backlog-at, beside-taken, even, taken-at}
 use Rattle.hub_core.proofs.Concerned.{take-touches}
 use Rattle.hub_core.proofs.Places.{StandsFirst, found-alike, phase-at}
-use Rattle.hub_core.proofs.Standing.{take-moves}
+use Rattle.hub_core.proofs.NextHistory.{take-moves}
 use Rattle.hub_rules.specs.Effects.{is_over}
 use Rattle.shared_log.specs.Tables.{backlog_at}
 use Rattle.hub_core.proofs.hub.Core.take.Goals as goal

@@ -1,7 +1,7 @@
 use Rattle.std.proofs.Common.{◌∙◌, ap}
 use Rattle.user_table.specs.Tables.{totals_of}
 use Rattle.hub_core.specs.CoreState.{CoreState}
-use Rattle.hub_core.proofs.Standing.{totals-told}
+use Rattle.hub_core.proofs.NextHistory.{totals-told}
 use Rattle.hub_core.proofs.hub.Core.totals.Goals as goal
 
 pub returns : goal.returns

@@ -1,5 +1,5 @@
 use Rattle.std.proofs.Common.{Some, subst}
-use Rattle.hub_core.specs.Index.{IsSetAt}
+use Rattle.hub_core.specs.Index.{IsSetAtSid}
 use Rattle.hub_core.proofs.Indexed.{number-set}
 use Rattle.hub_core.proofs.sid_index.SidIndex.put.Goals as goal
 use Rattle.hub_core.proofs.sid_index.SidIndex.put.Goals.{in-Ok, in-Err}
@@ -9,7 +9,7 @@ returns-clause-put c =
     elim c.match-insert.branch [
       | in-Ok w ↦
           rw w.result-is
-          (subst (λ index. IsSetAt c.args.sid (Some c.args.number) index c.insert.new.self.entries) c.self.view_is
+          (subst (λ index. IsSetAtSid c.args.sid (Some c.args.number) index c.insert.new.self.entries) c.self.view_is
           (number-set c.args.sid c.self.inside.numbers c.insert.new.self (Some c.args.number) w.in-Ok.ensures.updates))
       | in-Err w ↦ rw w.result-is tt
     ]

@@ -1,7 +1,7 @@
 use Rattle.std.proofs.Common.{rules, subst, sym}
 use Rattle.std.proofs.lemmas.Fn.{filter_same}
 use Rattle.hub_decisions.specs.Present.{AreFirst}
-use Rattle.hub_decisions.proofs.Keeping.{first-left}
+use Rattle.hub_decisions.proofs.KeptLines.{first-left}
 use Rattle.hub_decisions.proofs.lines.PresentLines.remove.Goals as goal
 
 pub returns : goal.returns

@@ -1,6 +1,6 @@
 use Rattle.std.proofs.Common.{ap}
 use Rattle.hub_shared.specs.Callers.{VisitorState}
-use Rattle.hub_server.proofs.Visiting.{visited-left}
+use Rattle.hub_server.proofs.VisitCalls.{visited-left}
 use Rattle.hub_server.proofs.acceptor.Acceptor.hand_over.Goals as goal
 
 -- a connection that nobody could serve has quit at once

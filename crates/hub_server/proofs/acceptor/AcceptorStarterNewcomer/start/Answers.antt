@@ -1,8 +1,8 @@
 use Rattle.std.proofs.Common.{◌∙◌, Err, ap, refl}
 use Rattle.hub_listener.specs.Peers.{octets_of}
-use Rattle.hub_server.specs.Owing.{challenge_of}
-use Rattle.hub_server.proofs.Owing.{owes-of}
-use Rattle.hub_server.proofs.Refusing.{refused-for}
+use Rattle.hub_server.specs.Owed.{challenge_of}
+use Rattle.hub_server.proofs.Owed.{owes-of}
+use Rattle.hub_server.proofs.Refusals.{refused-for}
 use Rattle.hub_server.proofs.acceptor.AcceptorStarterNewcomer.start.Goals as goal
 
 pub invariant_of-accepted : goal.invariant_of-accepted
@@ -21,4 +21,4 @@ turn_away-requires-clause-refused g c free full =
     let newcomer = c.args.newcomer in
     let ticket = newcomer.arrived.ticket in
     refused-for (octets_of newcomer.arrived.address) (g.T.Ticket.peer ticket) newcomer.challenge (challenge_of (g.T.Ticket.terms ticket).seed.value (g.T.Ticket.number ticket))
-    free.visitor free.visitor newcomer.peer newcomer.challenged refl (c.join.ensures.turned_away free (c.in-Err.is ∙ ap Err full))
+    free.visitor free.visitor newcomer.peer newcomer.challenged refl (c.join.ensures.join_refused free (c.in-Err.is ∙ ap Err full))

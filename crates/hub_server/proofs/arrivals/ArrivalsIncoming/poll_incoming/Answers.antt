@@ -1,12 +1,12 @@
-use Rattle.hub_server.specs.Naming.{hub_in}
+use Rattle.hub_server.specs.NamedHub.{hub_in}
 use Rattle.std.proofs.Common.{◌∙◌, ap, ap₂, refl, sym, subst}
 use Rattle.rand_chacha.specs.ChaCha.{of_seed}
 use Rattle.hub_challenges.specs.Dealing.{after_dealt, dealt}
 use Rattle.hub_listener.specs.Rests.{socket_of}
-use Rattle.hub_server.specs.Owing.{challenge_of}
+use Rattle.hub_server.specs.Owed.{challenge_of}
 use Rattle.hub_server.specs.ServedAll.{Arrives}
 use Rattle.hub_server.specs.declared.terms.Terms.{Terms}
-use Rattle.hub_server.proofs.Owing.{dealt-more, owes-ticket}
+use Rattle.hub_server.proofs.Owed.{dealt-more, owes-ticket}
 use Rattle.hub_server.proofs.arrivals.ArrivalsIncoming.poll_incoming.Goals as goal
 
 -- who came has drawn the next challenge
@@ -38,6 +38,6 @@ invariant_of-newcomer g c =
       challenged = chosen ∙ ap₂ (λ n (t : Terms _ _). challenge_of t.seed.value n) (sym come.numbered) (sym come.promised);
       arrives = old.arrives (g.T.Ticket.peer it.ticket) c.next.result it.socket
           record { ticket = it.ticket; promised = come.promised; from = refl; dealt = chosen ∙ ap (λ n. challenge_of (g.I.HubPort.terms port).seed.value n) (sym come.numbered); fresh = come.fresh };
-      owes = owes-ticket g.H.SessionHash.digest_of g.C.Moments.tells _ g.B.OfHub.hub g.B.OfHub.tells g.T.Ticket.terms g.T.Ticket.number g.T.Ticket.peer g.T.Ticket.began
+      owes = owes-ticket g.H.SessionHash.digest_of g.C.Moments.may_read _ g.B.OfHub.hub g.B.OfHub.may_read g.T.Ticket.terms g.T.Ticket.number g.T.Ticket.peer g.T.Ticket.began
           (g.I.HubPort.terms port) (g.I.HubPort.accepted port) it c.next.result server.hub.now server.clock.now come server.here old.hub old.clock server.timely chosen;
     }

@@ -1,6 +1,6 @@
 use Rattle.std.proofs.Common.{ap}
 use Rattle.std.specs.Prelude.{is_some}
-use Rattle.hub_server.proofs.Visiting.{for-some, for-the-some}
+use Rattle.hub_server.proofs.VisitCalls.{for-some, for-the-some}
 use Rattle.hub_server.proofs.served_slot.ServedSlot.begin.Goals as goal
 
 pub invariant_of-self : goal.invariant_of-self

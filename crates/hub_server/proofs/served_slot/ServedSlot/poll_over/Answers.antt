@@ -1,5 +1,5 @@
 use Rattle.std.proofs.Common.{◌∙◌, sym}
-use Rattle.hub_server.proofs.Visiting.{for-some}
+use Rattle.hub_server.proofs.VisitCalls.{for-some}
 use Rattle.hub_server.proofs.served_slot.ServedSlot.poll_over.Goals as goal
 
 -- whatever comes out of the session later could have come out of it before

@@ -1,8 +1,8 @@
 use Rattle.std.proofs.Common.{◌≡◌, ◌+◌}
-use Rattle.adc_sessions.specs.Accepting.{incoming_of, left_of}
+use Rattle.adc_sessions.specs.AcceptEnds.{incoming_of, left_of}
 use Rattle.adc_sessions.specs.Arrivals.{streams_of}
 use Rattle.hub_listener.specs.Rests.{socket_of}
-use Rattle.hub_server.proofs.Stopping.{stops-after, stops-now}
+use Rattle.hub_server.proofs.Stop.{stops-after, stops-now}
 use Rattle.hub_server.proofs.task.AcceptTask.poll_over.Goals as goal
 
 pub invariant_of-self-2 : goal.invariant_of-self-2

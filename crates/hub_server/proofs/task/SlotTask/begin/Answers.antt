@@ -1,5 +1,5 @@
 use Rattle.std.proofs.Common.{◌∙◌, Some, sym, ap}
-use Rattle.hub_server.proofs.Visiting.{visited-left, visited-served}
+use Rattle.hub_server.proofs.VisitCalls.{visited-left, visited-served}
 use Rattle.hub_server.proofs.task.SlotTask.begin.Goals as goal
 
 -- the session serves the visit of its pass to the end, and by that what is owed to the connection

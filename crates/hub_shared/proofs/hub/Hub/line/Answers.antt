@@ -1,9 +1,9 @@
 use Rattle.std.proofs.Common.{sym, subst, ◌∷◌}
 use Rattle.hub_core.specs.Moves.{StandsAt, entry}
-use Rattle.hub_core.specs.Touching.{NamesConcerned}
+use Rattle.hub_core.specs.Touched.{NamesConcerned}
 use Rattle.hub_rules.specs.declared.history.Call.TheVariants.{Line}
 use Rattle.hub_rules.specs.declared.history.Reply.TheVariants.{Said}
-use Rattle.hub_rules.specs.Sights.{PreparedLine}
+use Rattle.hub_rules.specs.Views.{PreparedLine}
 use Rattle.hub_shared.proofs.Turns.{given-names, has-seat, line-names, line-stands, ready, takes}
 use Rattle.hub_shared.proofs.hub.Hub.line.Goals as goal
 

@@ -1,6 +1,6 @@
 use Rattle.std.proofs.Common.{◌++◌, length}
 use Rattle.std.specs.Arc.{arc_value}
-use Rattle.flushed_writes.specs.Calls.{NoneFailed}
+use Rattle.counted_io.specs.Calls.{NoneFailed}
 use Rattle.hub_stdio.proofs.Hearing.{HearsOn}
 use Rattle.hub_stdio.proofs.session.StreamSession.hear.Given as goal
 

@@ -1,7 +1,7 @@
 use Rattle.std.proofs.Common.{◌<◌, ◌∙◌, refl, subst, arith, List, ℕ}
 use Rattle.std.specs.Io.KnownBytes.{Appends}
-use Rattle.flushed_writes.specs.Parts.{AppendsFront}
-use Rattle.flushed_writes.proofs.Failing.{last-after}
+use Rattle.counted_io.specs.Parts.{AppendsFront}
+use Rattle.counted_io.proofs.Failing.{last-after}
 use Rattle.hub_stdio.specs.declared.fault.RunFault.TheVariants.{Memory}
 use Rattle.hub_stdio.proofs.Failing.{end_by}
 use Rattle.hub_stdio.proofs.Refusals.{at_refusal}

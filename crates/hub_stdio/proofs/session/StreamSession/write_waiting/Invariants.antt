@@ -1,5 +1,5 @@
 use Rattle.std.proofs.Common.{◌≡◌}
-use Rattle.flushed_writes.specs.Calls.{NoneFailed}
+use Rattle.counted_io.specs.Calls.{NoneFailed}
 use Rattle.hub_stdio.proofs.Takes.{TakesOn, first_waits}
 use Rattle.hub_stdio.proofs.session.StreamSession.write_waiting.Given as goal
 

@@ -1,5 +1,5 @@
 use Rattle.std.proofs.Common.{rules, arith}
-use Rattle.one_history.proofs.Seating.{admits}
+use Rattle.one_history.proofs.SeatRules.{admits}
 use Rattle.one_history.proofs.host.Host.admit.Goals as goal
 
 pub split_seat-place-requires : goal.split_seat-place-requires

@@ -1,5 +1,5 @@
 use Rattle.std.proofs.Common.{rules, arith}
-use Rattle.one_history.proofs.Seating.{gathers}
+use Rattle.one_history.proofs.SeatRules.{gathers}
 use Rattle.one_history.proofs.Seats.{gathered_count, idle}
 use Rattle.one_history.proofs.host.Host.gather.Goals as goal
 

@@ -1,6 +1,6 @@
 use Rattle.std.proofs.Common.{sym, ◌∙◌}
 use Rattle.std.specs.Slots.{slots_items}
-use Rattle.one_history.proofs.Endings.{ends_about, slot_of, settled}
+use Rattle.one_history.proofs.Ends.{ends_about, slot_of, settled}
 use Rattle.one_history.proofs.lock.Lock.end.Goals as goal
 
 pub unreachable-requires : goal.unreachable-requires

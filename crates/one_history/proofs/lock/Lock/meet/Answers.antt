@@ -1,9 +1,9 @@
 use Rattle.std.proofs.Common.{rules, arith, ap, ◌∙◌, ◌≡◌}
 use Rattle.one_history.specs.Plays.{paired, left_of}
 use Rattle.one_history.specs.Rule.{Fair}
-use Rattle.one_history.proofs.Seating.{parts}
+use Rattle.one_history.proofs.SeatRules.{parts}
 use Rattle.one_history.proofs.Seats.{idle, told_of}
-use Rattle.one_history.proofs.Meetings.{first_seat, begins_left, begins_right, entries_left, entries_right}
+use Rattle.one_history.proofs.Meets.{first_seat, begins_left, begins_right, entries_left, entries_right}
 use Rattle.one_history.proofs.lock.Lock.meet.Goals as goal
 use Rattle.one_history.proofs.lock.Lock.meet.Given.{Over}
 

@@ -1,13 +1,13 @@
 use Rattle.std.proofs.Common.{◌≡◌, ℕ, List, refl, sym, subst, arith, slice_get, Some, None, false}
-use Rattle.server_tasks.specs.declared.bells.Bell.{Bell}
+use Rattle.server_tasks.specs.declared.bells.BellState.{BellState}
 use Rattle.server_tasks.proofs.Indexes.{each_more}
 use Rattle.server_tasks.proofs.Silent.{IsSilent}
 use Rattle.server_tasks.proofs.bells.Bells.new.Goals as goal
 
 pub loop-slot-preserved : goal.loop-slot-preserved
 loop-slot-preserved c =
-    let Each : List Bell → Type 0 = λ bells. (slot : ℕ) (bell : Bell) → slice_get bells slot ≡ Some bell → IsSilent bell in
-    let first : Bell = record { heard = 0; is_called = false; waker = None; waits = false } in
+    let Each : List BellState → Type 0 = λ bells. (slot : ℕ) (bell : BellState) → slice_get bells slot ≡ Some bell → IsSilent bell in
+    let first : BellState = record { heard = 0; is_called = false; waker = None; waits = false } in
     subst Each (sym c.in_ok-push.ensures.items) (each_more IsSilent c.loop-slot.bells.items first c.loop-slot.invariant (refl, refl, refl))
 
 pub invariant_of-result : goal.invariant_of-result

@@ -2,7 +2,7 @@ use Rattle.std.proofs.Common.{◌≡◌, arith, length, map, Some, true, ap}
 use Rattle.std.specs.Prelude.{slice_get}
 use Rattle.std.proofs.lemmas.Grind.{common_steps}
 use Rattle.std.proofs.lemmas.List.Elements.{All-same}
-use Rattle.shared_log.specs.Cursors.{with_tail, IsWithin, is_settled}
+use Rattle.shared_log.specs.Cursors.{with_tail, IsInLog, is_settled}
 use Rattle.shared_log.proofs.Places.{All-at, length-at, with-at}
 use Rattle.shared_log.proofs.Tables.{rows-entered, settled-entered}
 use Rattle.shared_log.proofs.backlogs.Backlogs.enter.Goals as goal
@@ -13,7 +13,7 @@ invariant_of-self c =
     let cs = c.self.inside.cursors.items in
     let is = with-at c.self.inside.cursors (with_tail (Some c.len.result)) c.args.place c.deref_mut.result.now c.set_tail.new.cursors c.set_tail.ensures c.deref_mut.ensures.value c.deref_mut.ensures.len in
     record {
-      within = All-same (IsWithin (length log)) _ _ is (All-at (IsWithin (length log)) (with_tail (Some c.len.result)) c.args.place cs (λ x h. omega (arith, c.len.ensures.len)) c.self.invariant.within);
+      within = All-same (IsInLog (length log)) _ _ is (All-at (IsInLog (length log)) (with_tail (Some c.len.result)) c.args.place cs (λ x h. omega (arith, c.len.ensures.len)) c.self.invariant.within);
       room = omega (arith, ap length is, length-at (with_tail (Some c.len.result)) c.args.place cs, c.self.invariant.room);
     }
 

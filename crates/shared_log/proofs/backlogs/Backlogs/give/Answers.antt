@@ -2,7 +2,7 @@ use Rattle.std.proofs.Common.{◌≡◌, arith, length, map, Some, true, ap}
 use Rattle.std.specs.Prelude.{slice_get}
 use Rattle.std.proofs.lemmas.Grind.{common_steps}
 use Rattle.std.proofs.lemmas.List.Elements.{All-same}
-use Rattle.shared_log.specs.Cursors.{cursor_given, IsWithin, is_settled}
+use Rattle.shared_log.specs.Cursors.{cursor_given, IsInLog, is_settled}
 use Rattle.shared_log.proofs.Places.{All-at, length-at, with-at}
 use Rattle.shared_log.proofs.Tables.{own-kept, rows-given, settled-given}
 use Rattle.shared_log.proofs.backlogs.Backlogs.give.Goals as goal
@@ -13,7 +13,7 @@ invariant_of-self c =
     let cs = c.self.inside.cursors.items in
     let is = with-at c.self.inside.cursors (cursor_given c.args.batch) c.args.place c.deref_mut.result.now c.give_at.new.cursors c.give_at.ensures c.deref_mut.ensures.value c.deref_mut.ensures.len in
     record {
-      within = All-same (IsWithin (length log)) _ _ is (All-at (IsWithin (length log)) (cursor_given c.args.batch) c.args.place cs (λ x h. h) c.self.invariant.within);
+      within = All-same (IsInLog (length log)) _ _ is (All-at (IsInLog (length log)) (cursor_given c.args.batch) c.args.place cs (λ x h. h) c.self.invariant.within);
       room = omega (arith, ap length is, length-at (cursor_given c.args.batch) c.args.place cs, c.self.invariant.room);
     }
 

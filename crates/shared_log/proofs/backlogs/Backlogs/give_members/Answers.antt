@@ -1,6 +1,6 @@
 use Rattle.std.proofs.Common.{arith}
 use Rattle.std.proofs.lemmas.Grind.{common_steps}
-use Rattle.shared_log.specs.declared.entry.Entry.TheVariants.{Lines}
+use Rattle.shared_log.specs.declared.entry.LogEntry.TheVariants.{Lines}
 use Rattle.shared_log.proofs.Tables.{rows-told, settled-told}
 use Rattle.shared_log.proofs.backlogs.Backlogs.give_members.Goals as goal
 

@@ -2,8 +2,8 @@ use Rattle.std.proofs.Common.{◌<◌, ap, arith, length}
 use Rattle.std.specs.List.{All, remove}
 use Rattle.std.proofs.lemmas.Grind.{common_steps}
 use Rattle.std.proofs.lemmas.List.{length-map}
-use Rattle.shared_log.specs.declared.entry.Entry.TheVariants.{Quit}
-use Rattle.shared_log.specs.Cursors.{IsWithin, row_of}
+use Rattle.shared_log.specs.declared.entry.LogEntry.TheVariants.{Quit}
+use Rattle.shared_log.specs.Cursors.{IsInLog, row_of}
 use Rattle.shared_log.specs.Tables.{Table, new_row}
 use Rattle.shared_log.proofs.Places.{All-removed, map-remove, read-map}
 use Rattle.shared_log.proofs.Tables.{rows-told}
@@ -15,7 +15,7 @@ returns c =
     let log = c.self.inside.log.items in
     let cs = c.self.inside.cursors.items in
     let rows = map-remove (row_of log) c.args.place cs in
-    let within : All (IsWithin (length log)) (remove cs c.args.place) = All-removed (IsWithin (length log)) c.args.place cs c.self.invariant.within in
+    let within : All (IsInLog (length log)) (remove cs c.args.place) = All-removed (IsInLog (length log)) c.args.place cs c.self.invariant.within in
     let told = rows-told log (Quit c.args.sid) (remove cs c.args.place) within in
     let inside : c.args.place < length cs = omega (arith, ap (λ (t : Table). length t.rows) c.self.view_is, length-map cs (row_of log)) in
     let at = read-map (row_of log) c.args.place cs c.remove-cursor.result (new_row 0 0) c.remove-cursor.ensures.value inside in

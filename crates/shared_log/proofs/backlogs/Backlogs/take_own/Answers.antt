@@ -4,7 +4,7 @@ use Rattle.std.specs.Vec.{with_items}
 use Rattle.std.proofs.lemmas.Grind.{common_steps}
 use Rattle.std.proofs.lemmas.List.{with_items_is}
 use Rattle.std.proofs.lemmas.List.Elements.{All-same}
-use Rattle.shared_log.specs.Cursors.{cursor_taken, IsWithin, is_settled}
+use Rattle.shared_log.specs.Cursors.{cursor_taken, IsInLog, is_settled}
 use Rattle.shared_log.specs.Tables.{Table}
 use Rattle.shared_log.proofs.Places.{All-at, either-way, length-at, then-ok, with-at}
 use Rattle.shared_log.proofs.Tables.{own-waits, rows-taken, settled-taken}
@@ -20,13 +20,13 @@ invariant_of-self c =
     (λ is.
     let e = with-at v (cursor_taken c.args.count) c.args.place c.deref_mut.result.now ws is c.deref_mut.ensures.value c.deref_mut.ensures.len in
     record {
-      within = All-same (IsWithin (length log)) _ _ e (All-at (IsWithin (length log)) (cursor_taken c.args.count) c.args.place cs (λ x h. h) c.self.invariant.within);
+      within = All-same (IsInLog (length log)) _ _ e (All-at (IsInLog (length log)) (cursor_taken c.args.count) c.args.place cs (λ x h. h) c.self.invariant.within);
       room = omega (arith, ap length e, length-at (cursor_taken c.args.count) c.args.place cs, c.self.invariant.room);
     })
     (λ is.
     let e : (with_items v ws).items ≡ cs = with_items_is v ws (omega (arith, ap length is, c.deref_mut.ensures.len)) ∙ is ∙ c.deref_mut.ensures.value in
     record {
-      within = All-same (IsWithin (length log)) _ _ e c.self.invariant.within;
+      within = All-same (IsInLog (length log)) _ _ e c.self.invariant.within;
       room = omega (arith, ap length e, c.self.invariant.room);
     })
 

@@ -1,7 +1,7 @@
 use Rattle.std.proofs.Common.{◌≡◌, ℕ, ◌+◌, List, [], ◌∷◌, arith, subst, ⊎_elim}
 use Rattle.one_history.specs.Histories.{Begins, total}
 use Rattle.tests_hub.specs.declared.lock.counter.Line.{Line}
-use Rattle.one_history.proofs.Beginnings.{begins_last}
+use Rattle.one_history.proofs.Starts.{begins_last}
 use Rattle.tests_hub.proofs.lock.counter.add.Goals as goal
 
 abbrev IsRight : ℕ → List Line → Type 0

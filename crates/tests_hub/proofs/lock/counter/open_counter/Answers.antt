@@ -1,4 +1,4 @@
-use Rattle.one_history.proofs.Beginnings.{begins_none}
+use Rattle.one_history.proofs.Starts.{begins_none}
 use Rattle.tests_hub.proofs.lock.counter.open_counter.Goals as goal
 
 pub open-requires-clause-legal : goal.open-requires-clause-legal
