@@ -48,9 +48,9 @@ met-still (on_stream (wrote bytes)) met still = refl
 met-still (on_stream write_failed) met still = refl
 met-still (on_port call) met still = absurd still
 
-told-still : (event : Event) (reports : Option Taken) → IsStill event → told_by reports event ≡ reports
-told-still (on_stream call) reports still = refl
-told-still (on_port call) reports still = absurd still
+told-still : (event : Event) (told : Option Taken) → IsStill event → told_by told event ≡ told
+told-still (on_stream call) told still = refl
+told-still (on_port call) told still = absurd still
 
 fresh-still : (event : Event) (fresh : Bool) → IsStill event → fresh_by fresh event ≡ fresh
 fresh-still (on_stream call) fresh still = refl

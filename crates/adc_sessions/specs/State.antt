@@ -13,7 +13,7 @@ state_of live = record {
   unread = live.framer;
   pending = drop live.written live.output.items;
   met = live.has_met_end;
-  reports = live.taken;
+  told = live.taken;
   over = live.is_over;
   owes = live.owes_take;
 }
@@ -47,7 +47,7 @@ fresh stream port = record {
   unread = [];
   pending = [];
   met = false;
-  reports = None;
+  told = None;
   over = false;
   owes = true;
 }

@@ -80,7 +80,7 @@ pub owes-ticket : {H R S T : Type 0} (digest : H → List ℕ → List ℕ) (may
 owes-ticket digest may_read reports named moments terms_of number_of peer_of began terms number it challenge hub clock come is hubs clocks timely chosen =
     owes-service digest may_read reports named moments (terms_of it.ticket) (number_of it.ticket) (peer_of it.ticket) challenge it.socket (began it.ticket) hub is
     (ap hub_in come.promised ∙ hubs)
-    (λ moment reports. subst (λ c. ∥ may_read c moment ∥₁) (sym (ap (λ (t : Terms _ _). t.clock.value) come.promised ∙ clocks)) (timely moment reports))
+    (λ moment told. subst (λ c. ∥ may_read c moment ∥₁) (sym (ap (λ (t : Terms _ _). t.clock.value) come.promised ∙ clocks)) (timely moment told))
     (chosen ∙ ap₂ (λ (t : Terms _ _) n. challenge_of t.seed.value n) (sym come.promised) (sym come.numbered)) come.fresh
 
 -- one challenge more is dealt

@@ -136,21 +136,21 @@ module _ (setup : Configured) (hash : List ℕ → List ℕ) where
 
   take-ends : (f : Facts) (c d count : ℕ) (same : Bool) → (d == c) ≡ same → d ≤ f.joins → told_so same (take_reply count (f.about d)) ≡ true
       → IsSpent (record f { about = with_one d (with_lines_taken count) f.about }) c
-  take-ends f c d count true is old reports =
-      subst (IsSpent (record f { about = with_one d (with_lines_taken count) f.about })) (eqb-true d c is) (record { old = old; its = own-ends f d count reports })
-  take-ends f c d count false is old reports = absurd (false≢true reports)
+  take-ends f c d count true is old told =
+      subst (IsSpent (record f { about = with_one d (with_lines_taken count) f.about })) (eqb-true d c is) (record { old = old; its = own-ends f d count told })
+  take-ends f c d count false is old told = absurd (false≢true told)
 
   ends-now : (f : Facts) (caller c : ℕ) (call : Call) → Sound f → MayCall f caller call → is_ended_by c call (reply setup hash f caller call) ≡ true
       → IsSpent (after setup hash f caller call) c
   unfolding after reply
-  ends-now f caller c (Take d count) sound may reports = take-ends f c d count (d == c) refl (sound.counted d may.0) reports
-  ends-now f caller c (Join peer challenge now) sound may reports = absurd (false≢true reports)
-  ends-now f caller c (Line d bytes now) sound may reports = absurd (false≢true reports)
-  ends-now f caller c (Quit d) sound may reports = absurd (false≢true reports)
+  ends-now f caller c (Take d count) sound may told = take-ends f c d count (d == c) refl (sound.counted d may.0) told
+  ends-now f caller c (Join peer challenge now) sound may told = absurd (false≢true told)
+  ends-now f caller c (Line d bytes now) sound may told = absurd (false≢true told)
+  ends-now f caller c (Quit d) sound may told = absurd (false≢true told)
 
   last-ends : (e : Entry) (h : List Entry) (c : ℕ) → Legal setup hash (e ∷ h) → is_ended_by c e.call e.reply ≡ true → IsSpent (facts setup hash (e ∷ h)) c
   unfolding facts Legal
-  last-ends e h c legal reports = ends-now (facts setup hash h) e.caller c e.call (sound_of setup hash h) legal.1 (ap (is_ended_by c e.call) (sym legal.2) ∙ reports)
+  last-ends e h c legal told = ends-now (facts setup hash h) e.caller c e.call (sound_of setup hash h) legal.1 (ap (is_ended_by c e.call) (sym legal.2) ∙ told)
 
   spent-by : (e : Entry) (h : List Entry) (c : ℕ) → Legal setup hash (e ∷ h) → (has_ended_in c h ≡ true → IsSpent (facts setup hash h) c)
       → (now : Bool) → is_ended_by c e.call e.reply ≡ now → (now || has_ended_in c h) ≡ true → IsSpent (facts setup hash (e ∷ h)) c

@@ -334,11 +334,11 @@ module _ {S : Type 0} (reports : S → StreamCall → S → Type 0) (may_read : 
       let more = is.3.first_bytes in
       let given = delivered-by setup hash log legal p c (ap (has_joined c) are ∙ d.0) ∙ ap (bytes_delivered c) are ∙ d.1 in
       let whole = λ (wrote : wrote_all end ≡ true). sym (is.3.all_bytes wrote) ∙ sym given ∙ delivered_are_the_first setup hash log legal c in
-      let reports = λ (e : end ≡ ends.Ended). ended-by c p log (ap (has_ended_in c) are ∙ d.2 e) in
+      let told = λ (e : end ≡ ends.Ended). ended-by c p log (ap (has_ended_in c) are ∙ d.2 e) in
       record {
         first = (more.0 ++ concat (drop (count_taken setup hash log c) owed), first-of c events more.0 given more.1);
         whole = whole;
-        all = λ e. whole (ap wrote_all e) ∙ ap concat (all-taken setup hash log c legal (reports e));
+        all = λ e. whole (ap wrote_all e) ∙ ap concat (all-taken setup hash log c legal (told e));
       }
 
   pub all-paid : (v : AreVisits reports may_read arrives p (entries_of p log)) → All (IsFirstOfOwed setup hash log) v.visits

@@ -21,4 +21,4 @@ turn_away-requires-clause-refused g c free full =
     let newcomer = c.args.newcomer in
     let ticket = newcomer.arrived.ticket in
     refused-for (octets_of newcomer.arrived.address) (g.T.Ticket.peer ticket) newcomer.challenge (challenge_of (g.T.Ticket.terms ticket).seed.value (g.T.Ticket.number ticket))
-    free.visitor free.visitor newcomer.peer newcomer.challenged refl (c.join.ensures.join_refused free (c.in-Err.is ∙ ap Err full))
+    free.visitor free.visitor newcomer.peer newcomer.challenged refl (c.join.ensures.turned_away free (c.in-Err.is ∙ ap Err full))
