@@ -4,8 +4,8 @@ use Rattle.std.specs.Option.{option_map_or}
 use Rattle.adc_line.specs.Lines.{Reading}
 use Rattle.adc_line.specs.declared.header.Kind.{Kind}
 use Rattle.adc_line.specs.declared.header.Kind.TheVariants as kinds
-use Rattle.feature_route.specs.declared.audience.Audience.{Audience}
-use Rattle.feature_route.specs.declared.audience.Audience.TheVariants.{All, One, Two, Having, Nobody}
+use Rattle.feature_route.specs.declared.receivers.Audience.{Audience}
+use Rattle.feature_route.specs.declared.receivers.Audience.TheVariants.{All, One, Two, Having, Nobody}
 use Rattle.feature_route.specs.Wants.{wants_of}
 use Rattle.feature_route.specs.Matching.{meets, su_words}
 

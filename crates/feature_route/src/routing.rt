@@ -3,7 +3,7 @@ ghost use Rattle.std.specs.Option.{option_copied, option_map_or};
 ghost use Rattle.feature_route.specs.Wants.{wants_of};
 ghost use Rattle.feature_route.specs.Audiences.{audience, direct_audience, echo_audience};
 
-use crate::audience::Audience;
+use crate::receivers::Audience;
 use crate::want::Want;
 use adc_base32::Sid;
 use adc_line::{Kind, Line};

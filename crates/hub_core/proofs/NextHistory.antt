@@ -15,7 +15,7 @@ use Rattle.user_table.specs.Tables.{totals_of, without_sid}
 use Rattle.user_table.specs.declared.totals.Totals.{Totals}
 use Rattle.login_state.specs.declared.stage.Stage.{Stage}
 use Rattle.login_state.specs.declared.stage.Stage.TheVariants as stages
-use Rattle.hub_core.specs.declared.view.Look.{Look}
+use Rattle.hub_core.specs.declared.look.Look.{Look}
 use Rattle.hub_core.specs.Promises.{CountsJoins, LooksAt, SidOf, SumsUp}
 use Rattle.hub_core.specs.declared.seat.Phase.TheVariants as phases
 use Rattle.hub_core.specs.declared.seat.Seat.{Seat}

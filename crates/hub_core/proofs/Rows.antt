@@ -4,7 +4,7 @@ use Rattle.std.specs.Prelude.{◌==◌, ◌≢◌, cond, nat_le}
 use Rattle.std.proofs.lemmas.Bool.Decides.{nat_tests}
 use Rattle.std.proofs.lemmas.List.{at_drop_all, at_drop_more, length-drop, length-map}
 use Rattle.feature_route.specs.Audiences.{holds_words}
-use Rattle.feature_route.specs.declared.audience.Audience.TheVariants as audiences
+use Rattle.feature_route.specs.declared.receivers.Audience.TheVariants as audiences
 use Rattle.outboxes.specs.Backlogs.{Backlog}
 use Rattle.hub_core.specs.declared.delivery.Delivery.{Delivery}
 use Rattle.hub_core.specs.declared.delivery.Delivery.TheVariants.{All as ToAll, Each}

@@ -1,6 +1,6 @@
 -- Those for whom a message is are named by who it is for.
 use Rattle.feature_route.specs.Audiences.{holds_words}
-use Rattle.feature_route.specs.declared.audience.Audience.TheVariants as audiences
+use Rattle.feature_route.specs.declared.receivers.Audience.TheVariants as audiences
 use Rattle.std.proofs.Common.{ℕ}
 use Rattle.hub_core.specs.declared.share.Touched.TheVariants.{Nobody, One, Two}
 use Rattle.hub_core.specs.Touched.{NamesHearers}

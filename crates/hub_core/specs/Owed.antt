@@ -1,7 +1,7 @@
 -- The shares of an effect: only those that hear something have one, kept with the place of its seat.
 use Rattle.std.specs.Prelude.{◌≡◌, ◌≢◌, ◌<◌, ℕ, ◌+◌, false, List, [], ◌∷◌, ◌++◌, get_or, length, if◌then◌else◌}
 use Rattle.feature_route.specs.Audiences.{holds_words}
-use Rattle.feature_route.specs.declared.audience.Audience.{Audience}
+use Rattle.feature_route.specs.declared.receivers.Audience.{Audience}
 use Rattle.hub_core.specs.declared.seat.Seat.{Seat}
 use Rattle.hub_core.specs.declared.share.Share.{Share}
 use Rattle.hub_core.specs.Phases.{phase_hears}

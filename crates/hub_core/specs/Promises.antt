@@ -2,7 +2,7 @@
 use Rattle.std.specs.Prelude.{◌≡◌, ◌<◌, ℕ, List, ◌++◌, length, Result, Ok, Err}
 use Rattle.outboxes.specs.declared.taken.Taken.{Taken}
 use Rattle.user_table.specs.declared.totals.Totals.{Totals}
-use Rattle.hub_core.specs.declared.view.Look.{Look}
+use Rattle.hub_core.specs.declared.look.Look.{Look}
 use Rattle.hub_core.specs.declared.refused.JoinRefused.{JoinRefused}
 use Rattle.hub_core.specs.declared.refused.JoinRefused.TheVariants.{Memory, Full, JoinsSpent}
 use Rattle.hub_core.specs.CoreState.{CoreState}

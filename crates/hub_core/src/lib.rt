@@ -6,12 +6,12 @@ mod change;
 mod connection;
 mod delivery;
 mod hub;
+mod look;
 mod present;
 mod refused;
 mod seat;
 mod share;
 mod sid_index;
-mod view;
 
 pub use calls::{Answer, Ask, Asked, run_calls};
 pub use connection::Connection as Conn;
@@ -21,8 +21,8 @@ pub use hub_setup::{
     Account, MenuEntry, MenuItem, Options, PlainOptions, Prepared, Setup, SetupRefused, prepare,
 };
 pub use login_state::Stage;
+pub use look::Look;
 pub use outboxes::{TakeRefused, Taken};
 pub use refused::{JoinRefused, OpenRefused};
 pub use share::Touched;
 pub use user_table::Totals;
-pub use view::Look;

@@ -7,7 +7,7 @@ use Rattle.std.proofs.lemmas.List.{drop-append-le, drop_all, length-replicate, t
 use Rattle.std.proofs.lemmas.List.Folds.{sum_by-replicate}
 use Rattle.std.proofs.lemmas.List.Sums.{sum_by-append}
 use Rattle.feature_route.specs.Audiences.{holds_words}
-use Rattle.feature_route.specs.declared.audience.Audience.TheVariants as audiences
+use Rattle.feature_route.specs.declared.receivers.Audience.TheVariants as audiences
 use Rattle.inf_fields.specs.Field.{Field, field}
 use Rattle.login_state.specs.declared.stage.Stage.TheVariants as stages
 use Rattle.outboxes.specs.Backlogs.{fits, size_of}

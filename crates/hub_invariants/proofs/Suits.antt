@@ -8,7 +8,7 @@ use Rattle.adc_line.specs.Lines.{Reading}
 use Rattle.feature_route.specs.Audiences.{audience, by_kind, direct_audience, echo_audience, holds, holds_words}
 use Rattle.feature_route.specs.Wants.{wants_of}
 use Rattle.feature_route.specs.Matching.{feature_set}
-use Rattle.feature_route.specs.declared.audience.Audience.TheVariants as audiences
+use Rattle.feature_route.specs.declared.receivers.Audience.TheVariants as audiences
 use Rattle.feature_route.proofs.Parts.{meets-feature_set}
 use Rattle.inf_fields.specs.Cleaning.{clean}
 use Rattle.inf_fields.specs.Field.{Field, value_of}

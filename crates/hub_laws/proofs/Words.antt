@@ -102,7 +102,7 @@ pub use Rattle.user_table.specs.Listed.{Listed}
 pub use Rattle.user_table.specs.Tables.{amount, changed_key, has_cid, has_key, has_sid, user_by_key, with_update}
 pub use Rattle.adc_line.specs.Lines as lines
 pub use Rattle.adc_line.specs.declared.header.Kind.TheVariants as kinds
-pub use Rattle.feature_route.specs.declared.audience.Audience.TheVariants as audiences
+pub use Rattle.feature_route.specs.declared.receivers.Audience.TheVariants as audiences
 pub use Rattle.hub_rules.specs.declared.effect.HubChange.TheVariants as shared
 pub use Rattle.hub_rules.specs.declared.sender.SeatChange.TheVariants as seats
 pub use Rattle.hub_rules.specs.declared.effect.SenderChange.TheVariants as senders

@@ -6,8 +6,8 @@ use Rattle.adc_line.specs.Lines as lines
 use Rattle.adc_line.specs.Lines.{Reading}
 use Rattle.feature_route.specs.Audiences.{audience}
 use Rattle.feature_route.specs.Matching.{feature_set}
-use Rattle.feature_route.specs.declared.audience.Audience.{Audience}
-use Rattle.feature_route.specs.declared.audience.Audience.TheVariants as audiences
+use Rattle.feature_route.specs.declared.receivers.Audience.{Audience}
+use Rattle.feature_route.specs.declared.receivers.Audience.TheVariants as audiences
 use Rattle.inf_fields.specs.Cleaning.{clean}
 use Rattle.inf_fields.specs.Field.{Field, value_of}
 use Rattle.inf_fields.specs.FieldNames.{nick_name}

@@ -1,5 +1,5 @@
 use Rattle.std.proofs.Common.{sym, subst}
-use Rattle.feature_route.specs.declared.audience.Audience.{Audience}
+use Rattle.feature_route.specs.declared.receivers.Audience.{Audience}
 use Rattle.hub_core.specs.declared.share.Touched.TheVariants.{Nobody, One, Two}
 use Rattle.hub_core.specs.Touched.{NamesHearers}
 use Rattle.hub_core.proofs.Touched.{names-nobody, names-one, names-two}

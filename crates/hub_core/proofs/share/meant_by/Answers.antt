@@ -1,6 +1,6 @@
 use Rattle.std.proofs.Common.{◌∙◌, sym, ap, subst}
 use Rattle.std.proofs.lemmas.Bool.{eqb-true}
-use Rattle.feature_route.specs.declared.audience.Audience.TheVariants.{Two}
+use Rattle.feature_route.specs.declared.receivers.Audience.TheVariants.{Two}
 use Rattle.hub_core.specs.Owed.{IsOnlyFor}
 use Rattle.hub_core.proofs.Owed.{nobody-only, one-only, two-only}
 use Rattle.hub_core.proofs.share.meant_by.Goals as goal
