@@ -61,7 +61,7 @@ module _ {S P : Type 0} (reports : S → StreamCall → S → Type 0) (calls : P
   -- from a state on, an end is come to with this stream and this port, by at most so many calls
   abbrev pub FinishesIn : ℕ → State S P → End → S → P → Type 0
   FinishesIn most a end stream port =
-      (events : List Event) × (b : State S P) × Moves told calls a events b × EndsAs end events b × (b.stream ≡ stream) × (b.port ≡ port) × (length events ≤ most) × StopsAtFault events
+      (events : List Event) × (b : State S P) × Moves reports calls a events b × EndsAs end events b × (b.stream ≡ stream) × (b.port ≡ port) × (length events ≤ most) × StopsAtFault events
 
   -- what comes out of a session in this state: its end, the stream and what its port left
   abbrev pub Gives : {Left : Type 0} → (P → Left → Type 0) → State S P → End → S → Left → Type 0

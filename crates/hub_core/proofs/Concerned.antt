@@ -15,7 +15,7 @@ use Rattle.hub_core.specs.Decided.{Decided, sight_in}
 use Rattle.hub_core.specs.Phases.{stage_in}
 use Rattle.hub_core.specs.Seats.{in_seat, phase_in, seat_with, sid_in}
 use Rattle.hub_core.specs.State.{Stands}
-use Rattle.hub_core.specs.Touched.{LineTouches, NamesEffect, NamesOne, NamesOwed, Touches, falls, names}
+use Rattle.hub_core.specs.TouchedSids.{LineTouches, NamesEffect, NamesOne, NamesOwed, Touches, falls, names}
 use Rattle.hub_rules.specs.declared.effect.Change.{Change}
 use Rattle.hub_rules.specs.declared.effect.Change.TheVariants.{Hub, Nothing, Sender}
 use Rattle.hub_rules.specs.declared.effect.Effect.{Effect}

@@ -13,5 +13,5 @@ pub mod Settling
 pub mod SeatShares
 pub mod NextHistory
 pub mod Tests
-pub mod Touched
+pub mod TouchedSids
 pub mod Users

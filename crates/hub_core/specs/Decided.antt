@@ -11,7 +11,7 @@ use Rattle.hub_core.specs.CoreState.{CoreState, noted}
 use Rattle.hub_core.specs.Phases.{stage_in}
 use Rattle.hub_core.specs.Seats.{in_seat, sid_in}
 use Rattle.hub_core.specs.State.{carried_out}
-use Rattle.hub_core.specs.Touched.{NamesEffect}
+use Rattle.hub_core.specs.TouchedSids.{NamesEffect}
 use Rattle.hub_decisions.specs.Known.{IsKnown}
 use Rattle.hub_rules.specs.declared.effect.Effect.{Effect}
 use Rattle.hub_rules.specs.Effects.{line_effect}

@@ -13,5 +13,5 @@ pub mod Runs
 pub mod Seats
 pub mod State
 pub mod Told
-pub mod Touched
+pub mod TouchedSids
 pub mod Backlogs

@@ -4,7 +4,7 @@ ghost use Rattle.hub_rules.specs.declared.history.Call.TheVariants.{Join, Quit, 
 ghost use Rattle.hub_rules.specs.declared.history.Reply.TheVariants.{Left};
 ghost use Rattle.hub_core.specs.CoreState.{noted};
 ghost use Rattle.hub_core.specs.Moves.{Moves, LineMoves, StandsAt};
-ghost use Rattle.hub_core.specs.Touched.{LineTouches, Touches, TouchesNobody};
+ghost use Rattle.hub_core.specs.TouchedSids.{LineTouches, Touches, TouchesNobody};
 ghost use Rattle.hub_core.specs.Departures.{left_core};
 ghost use Rattle.hub_core.specs.Decided.{IsDecided, IsHandled};
 ghost use Rattle.hub_core.specs.Phases.{stage_in};

@@ -5,7 +5,7 @@ ghost use Rattle.hub_core.specs.Owed.{AreQuietBut, IsMeant, IsOnlyFor, share_at,
 ghost use Rattle.hub_core.specs.Phases.{is_among, phase_hears, stage_in};
 ghost use Rattle.hub_core.specs.Seats.{own_share, seat_share};
 ghost use Rattle.hub_core.specs.State.{IsPlace};
-ghost use Rattle.hub_core.specs.Touched.{NamesEffect, NamesHearers, NamesOthers, NamesOwed, falls, names};
+ghost use Rattle.hub_core.specs.TouchedSids.{NamesEffect, NamesHearers, NamesOthers, NamesOwed, falls, names};
 ghost use Rattle.hub_core.specs.declared.seat.Seat.{Seat};
 ghost use Rattle.hub_rules.specs.declared.effect.Change.TheVariants.{Sender};
 ghost use Rattle.hub_rules.specs.declared.effect.Hearers.TheVariants.{Those};

@@ -9,7 +9,7 @@ use Rattle.hub_core.specs.CoreState.{CoreState}
 use Rattle.hub_core.specs.Moves.{LineMoves, Moves, StandsAt, entry}
 use Rattle.hub_core.specs.Promises.{TakeMoves}
 use Rattle.hub_core.specs.State.{IsSeated, Stands, has_seat}
-use Rattle.hub_core.specs.Touched.{LineTouches, NamesConcerned, Touches}
+use Rattle.hub_core.specs.TouchedSids.{LineTouches, NamesConcerned, Touches}
 use Rattle.hub_core.proofs.OpenSeats.{seated-open}
 use Rattle.hub_rules.specs.declared.history.Call.{Call}
 use Rattle.hub_rules.specs.declared.history.Call.TheVariants.{Line, Take}

@@ -5,7 +5,7 @@ ghost use Rattle.hub_rules.specs.History.{view};
 ghost use Rattle.hub_rules.specs.Prepared.{prepared_line};
 ghost use Rattle.hub_shared.specs.Calls.{SaysLine, Saw, TakesLines, behind};
 ghost use Rattle.hub_core.specs.Moves.{StandsAt};
-ghost use Rattle.hub_core.specs.Touched.{NamesConcerned};
+ghost use Rattle.hub_core.specs.TouchedSids.{NamesConcerned};
 ghost use Rattle.hub_rules.specs.Legal.{Legal};
 ghost use Rattle.hub_shared.specs.Connections.{entries_of};
 ghost use Rattle.one_history.specs.States.{IsHolderAt};

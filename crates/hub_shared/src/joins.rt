@@ -2,7 +2,7 @@ ghost use Rattle.std.specs.Prelude.{◌≡◌, IfOk, IfErr};
 ghost use Rattle.hub_rules.specs.declared.history.Call.TheVariants.{Join, Quit};
 ghost use Rattle.hub_rules.specs.declared.history.Reply.TheVariants.{Joined, Left};
 ghost use Rattle.hub_core.specs.declared.share.Touched.TheVariants.{Nobody};
-ghost use Rattle.hub_core.specs.Touched.{NamesConcerned};
+ghost use Rattle.hub_core.specs.TouchedSids.{NamesConcerned};
 ghost use Rattle.hub_shared.specs.Calls.{Made, Refused};
 
 use crate::calls::{Pass, enter};

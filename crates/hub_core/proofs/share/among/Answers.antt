@@ -1,8 +1,8 @@
 use Rattle.std.proofs.Common.{sym, subst}
 use Rattle.feature_route.specs.declared.receivers.Audience.{Audience}
 use Rattle.hub_core.specs.declared.share.Touched.TheVariants.{Nobody, One, Two}
-use Rattle.hub_core.specs.Touched.{NamesHearers}
-use Rattle.hub_core.proofs.Touched.{names-nobody, names-one, names-two}
+use Rattle.hub_core.specs.TouchedSids.{NamesHearers}
+use Rattle.hub_core.proofs.TouchedSids.{names-nobody, names-one, names-two}
 use Rattle.hub_rules.specs.declared.effect.Hearers.TheVariants.{Those}
 use Rattle.hub_core.proofs.share.among.Goals as goal
 

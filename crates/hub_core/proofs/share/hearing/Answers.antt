@@ -1,5 +1,5 @@
 use Rattle.std.proofs.Common.{sym, subst}
-use Rattle.hub_core.specs.Touched.{NamesHearers}
+use Rattle.hub_core.specs.TouchedSids.{NamesHearers}
 use Rattle.hub_rules.specs.declared.effect.Hearers.{Hearers}
 use Rattle.hub_core.proofs.share.hearing.Goals as goal
 

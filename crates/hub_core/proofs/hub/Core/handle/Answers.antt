@@ -2,7 +2,7 @@ use Rattle.std.proofs.Common.{◌∙◌, sym, ap, subst, ◌≤◌}
 use Rattle.hub_core.specs.CoreState.{CoreState, noted}
 use Rattle.hub_core.specs.Seats.{sid_in}
 use Rattle.hub_core.specs.State.{IsPlace}
-use Rattle.hub_core.specs.Touched.{NamesEffect}
+use Rattle.hub_core.specs.TouchedSids.{NamesEffect}
 use Rattle.hub_core.proofs.Numbers.{place-carried}
 use Rattle.hub_core.proofs.Places.{sid-at, stands_first}
 use Rattle.hub_core.proofs.hub.Core.handle.Goals as goal

@@ -3,7 +3,7 @@ use Rattle.hub_core.specs.CoreState.{CoreState}
 use Rattle.hub_core.specs.Decided.{IsHandled}
 use Rattle.hub_core.specs.Phases.{stage_in}
 use Rattle.hub_core.specs.Seats.{phase_in, sid_in}
-use Rattle.hub_core.specs.Touched.{NamesEffect}
+use Rattle.hub_core.specs.TouchedSids.{NamesEffect}
 use Rattle.hub_rules.specs.Legal.{verdict_of}
 use Rattle.hub_core.proofs.Concerned.{line-touches}
 use Rattle.hub_core.proofs.NextHistory.{line-moves}

@@ -3,7 +3,7 @@ use Rattle.hub_core.specs.declared.share.Touched.{Touched}
 use Rattle.hub_core.specs.CoreState.{CoreState, noted}
 use Rattle.hub_core.specs.Departures.{left_core}
 use Rattle.hub_core.specs.Phases.{stage_in}
-use Rattle.hub_core.specs.Touched.{names}
+use Rattle.hub_core.specs.TouchedSids.{names}
 use Rattle.hub_core.proofs.Concerned.{quit-touches}
 use Rattle.hub_core.proofs.Places.{at-core, phase-at}
 use Rattle.hub_core.proofs.NextHistory.{quit-moves}

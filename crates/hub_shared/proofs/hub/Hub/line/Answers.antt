@@ -1,6 +1,6 @@
 use Rattle.std.proofs.Common.{sym, subst, ◌∷◌}
 use Rattle.hub_core.specs.Moves.{StandsAt, entry}
-use Rattle.hub_core.specs.Touched.{NamesConcerned}
+use Rattle.hub_core.specs.TouchedSids.{NamesConcerned}
 use Rattle.hub_rules.specs.declared.history.Call.TheVariants.{Line}
 use Rattle.hub_rules.specs.declared.history.Reply.TheVariants.{Said}
 use Rattle.hub_rules.specs.Views.{PreparedLine}

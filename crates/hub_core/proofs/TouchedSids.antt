@@ -3,7 +3,7 @@ use Rattle.feature_route.specs.Audiences.{holds_words}
 use Rattle.feature_route.specs.declared.receivers.Audience.TheVariants as audiences
 use Rattle.std.proofs.Common.{ℕ}
 use Rattle.hub_core.specs.declared.share.Touched.TheVariants.{Nobody, One, Two}
-use Rattle.hub_core.specs.Touched.{NamesHearers}
+use Rattle.hub_core.specs.TouchedSids.{NamesHearers}
 use Rattle.hub_rules.specs.declared.effect.Hearers.TheVariants.{Those}
 
 pub names-one : (one : ℕ) → NamesHearers (One one) (Those (audiences.One one))
