@@ -2,6 +2,7 @@
 use Rattle.std.specs.Prelude.{◌≡◌, ◌⊎◌, ⊤, ℕ, List, ◌++◌, codes, Option}
 use Rattle.std.specs.Fmt.{decimal}
 use Rattle.std.specs.Io.KnownBytes.{Appends}
+use Rattle.std.specs.declared.net.socket_addr.SocketAddrV4.{SocketAddrV4}
 use Rattle.adc_sessions.specs.Events.{StreamCall}
 use Rattle.server_tasks.specs.declared.state.ServerFault.{ServerFault}
 use Rattle.server_tasks.specs.declared.state.ServerFault.TheVariants as faults
@@ -49,13 +50,14 @@ Reports {W} contents output joins = (before : W) × Appends (contents before) (c
 -- what tickets say, what a stream tells of its calls, the terms of a listener and how many it accepted, the moments of a clock, and what a writer holds
 module _ {H C T S I W : Type 0} (terms_of : T → Terms H C) (number_of : T → ℕ) (peer_of : T → List ℕ) (began : T → S) (reports : S → StreamCall → S → Type 0)
     (port_terms : I → Terms H C) (accepted : I → ℕ) (may_read : C → ℕ → Type 0) (contents : W → Option (List ℕ)) where
-  -- a server of this setup, with this hash, clock and seed, has served as many connections as it was to accept, and this output reports its joins
-  pub record HasServed (setup : Configured) (digest : H → List ℕ → List ℕ) (hash : H) (clock : C) (seed : List ℕ) (stop_after : ℕ) (output : W) (joins : ℕ) : Type 0 where
+  -- a server of this setup, with this hash, clock and seed, which listened at this place, has served as many connections as it was to accept, and this output reports its joins
+  pub record HasServed (setup : Configured) (digest : H → List ℕ → List ℕ) (hash : H) (clock : C) (seed : List ℕ) (place : SocketAddrV4) (stop_after : ℕ) (output : W) (joins : ℕ) : Type 0 where
     pub terms : Terms H C
     pub by_setup : terms.setup.value ≡ setup
     pub by_hash : terms.hash.value ≡ hash
     pub by_clock : terms.clock.value ≡ clock
     pub by_seed : terms.seed.value ≡ seed
+    pub by_place : terms.place.value ≡ place
     pub visitors : List (VisitorState H)
     pub all : ServedAll terms_of number_of peer_of began reports (may_read clock) setup (digest hash) terms visitors joins
     pub stopped : ∥ HasStopped port_terms accepted terms stop_after ∥₁

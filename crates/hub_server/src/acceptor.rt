@@ -12,7 +12,7 @@ use crate::accepted::AcceptedConnection;
 use crate::cut_off::CutOff;
 use crate::free_slot::{FreeSlot, OfHub};
 use crate::newcomer::Newcomer;
-use crate::no_memory::NoMemory;
+use crate::no_memory;
 use crate::no_place::NoPlace;
 use crate::refusal::Refusal;
 use crate::server::Server;
@@ -20,7 +20,6 @@ use crate::slot::Slot;
 use crate::ticket::Ticket;
 use crate::told_full::say_full;
 use adc_sessions::{Peer, Starter, Stream};
-use hub_core::JoinRefused;
 use hub_listener::{Arrived, Moments, Socket};
 use hub_shared::Pass;
 use hub_warnings::{Cause, Warnings};
@@ -101,28 +100,17 @@ impl<
             Ok(free) => free,
             Err(no_slot) => return Err(NoPlace::NoSlot(no_slot)),
         };
-        let before = Snapshot::of(&visitor);
-        let moment = server.moment_of_call();
+        let moment = server.moment_of_call().into_seconds();
         let peer = address.ip().octets();
-        let alloc = server.rt.alloc();
-        match server.hub.join(
-            server.rt,
-            alloc,
-            visitor,
-            peer,
-            challenge,
-            moment.into_seconds(),
-        ) {
+        let (rt, alloc) = (server.rt, server.rt.alloc());
+        match no_memory::join(rt, server.hub, alloc, visitor, peer, challenge, moment) {
             Ok(pass) => Ok((pass, slot)),
-            Err((refused, visitor)) => {
+            Err((_, visitor, word)) => {
                 let free = FreeSlot::new(visitor, slot);
-                match refused {
-                    JoinRefused::Memory => {
-                        let why = NoMemory::of_join(server.hub, before, &free.visitor);
-                        Err(NoPlace::NoMemory(free, why))
-                    }
-                    JoinRefused::Full | JoinRefused::JoinsSpent => Err(NoPlace::HubFull(free)),
-                }
+                Err(match word {
+                    Some(word) => NoPlace::NoMemory(free, word),
+                    None => NoPlace::HubFull(free),
+                })
             }
         }
     }

@@ -56,7 +56,7 @@ where
         ⟦<TcpTicket<H, R> as Ticket<TcpStream, H, R>>⟧.peer ⟦<TcpTicket<H, R> as Ticket<TcpStream, H, R>>⟧.began ⟦<TcpStream as Stream>⟧.reports
         ⟦<TcpPort<H, R> as HubPort<TcpStream, TcpTicket<H, R>, H, R>>⟧.terms
         ⟦<TcpPort<H, R> as HubPort<TcpStream, TcpTicket<H, R>, H, R>>⟧.accepted ⟦<R as Moments>⟧.may_read W.contents settings.now.hub
-        H.digest_of (arc_value hash) rt.now seed settings.now.stop_after output.new joins }
+        H.digest_of (arc_value hash) rt.now seed settings.now.listen settings.now.stop_after output.new joins }
 {
     let address = settings.listen();
     serve_at::<TcpStream, TcpTicket<H, R>, TcpPort<H, R>, H, R, W, E>(
@@ -84,7 +84,7 @@ where
     E: Write + Send,
     ensures status { EndsServing E.contents errors.new result }
     ensures served { result ≡ 0 → (joins : ℕ) × HasServed T.terms T.number T.peer T.began ⟦<S as Stream>⟧.reports I.terms I.accepted ⟦<R as Moments>⟧.may_read
-        W.contents settings.now.hub H.digest_of (arc_value hash) rt.now seed settings.now.stop_after output.new joins }
+        W.contents settings.now.hub H.digest_of (arc_value hash) rt.now seed (I.place_of address) settings.now.stop_after output.new joins }
 {
     run_to_status::<S, T, I, H, R, W, E>(rt, settings, hash, seed, address, None, output, errors)
 }
@@ -112,7 +112,7 @@ where
         ⟦<TcpTicket<H, R> as Ticket<TcpStream, H, R>>⟧.peer ⟦<TcpTicket<H, R> as Ticket<TcpStream, H, R>>⟧.began ⟦<TcpStream as Stream>⟧.reports
         ⟦<TcpPort<H, R> as HubPort<TcpStream, TcpTicket<H, R>, H, R>>⟧.terms
         ⟦<TcpPort<H, R> as HubPort<TcpStream, TcpTicket<H, R>, H, R>>⟧.accepted ⟦<R as Moments>⟧.may_read W.contents settings.now.hub
-        H.digest_of (arc_value hash) rt.now seed settings.now.stop_after output.new joins }
+        H.digest_of (arc_value hash) rt.now seed settings.now.listen settings.now.stop_after output.new joins }
 {
     let address = settings.listen();
     let file = Some(settings_file);
@@ -142,7 +142,7 @@ where
     E: Write + Send,
     ensures status { EndsServing E.contents errors.new result }
     ensures served { result ≡ 0 → (joins : ℕ) × HasServed T.terms T.number T.peer T.began ⟦<S as Stream>⟧.reports I.terms I.accepted ⟦<R as Moments>⟧.may_read
-        W.contents settings.now.hub H.digest_of (arc_value hash) rt.now seed settings.now.stop_after output.new joins }
+        W.contents settings.now.hub H.digest_of (arc_value hash) rt.now seed (I.place_of address) settings.now.stop_after output.new joins }
 {
     let log = Logged::new(
         (),
@@ -183,7 +183,7 @@ where
     L: Log + Sync + Drop,
     ensures ending { IsServerEnding result }
     ensures served { result ≡ Served → (joins : ℕ) × HasServed T.terms T.number T.peer T.began ⟦<S as Stream>⟧.reports I.terms I.accepted ⟦<R as Moments>⟧.may_read
-        W.contents settings.now.hub H.digest_of hash.now rt.now seed settings.now.stop_after output.new joins }
+        W.contents settings.now.hub H.digest_of hash.now rt.now seed (I.place_of address) settings.now.stop_after output.new joins }
 {
     let warnings = Warnings::new(log);
     let served = run_and_report::<S, T, I, H, R, W, L>(
@@ -251,7 +251,7 @@ where
     W: Write,
     L: Log + Sync,
     ensures served { IfOk result (λ joins. HasServed T.terms T.number T.peer T.began ⟦<S as Stream>⟧.reports I.terms I.accepted ⟦<R as Moments>⟧.may_read
-        W.contents settings.now.hub H.digest_of hash.now rt.now seed settings.now.stop_after output.new joins) }
+        W.contents settings.now.hub H.digest_of hash.now rt.now seed (I.place_of address) settings.now.stop_after output.new joins) }
     ensures ending { IfErr result IsServerFault }
 {
     let served = serve_hub::<S, T, I, H, R, R, W, L>(

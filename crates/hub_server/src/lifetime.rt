@@ -65,7 +65,7 @@ where
     ensures all { IfOk result (λ it. ServedAll T.terms T.number T.peer T.began ⟦<S as Stream>⟧.reports (C.may_read clock.now)
         settings.now.hub (H.digest_of hash.now) it.terms it.visitors.value.items it.report.joins) }
     ensures terms { IfOk result (λ it. (it.terms.setup.value ≡ settings.now.hub) × (it.terms.hash.value ≡ hash.now)
-        × (it.terms.clock.value ≡ clock.now) × (it.terms.seed.value ≡ seed)) }
+        × (it.terms.clock.value ≡ clock.now) × (it.terms.seed.value ≡ seed) × (it.terms.place.value ≡ I.place_of address)) }
     ensures stopped { IfOk result (λ it. ∥ HasStopped I.terms I.accepted it.terms settings.now.stop_after ∥₁) }
     ensures nobody { IfOk result (λ it. it.report.present ≡ 0) }
     ensures ending { IfErr result IsServerFault }
@@ -85,6 +85,7 @@ where
         hash: Snapshot::of(hash),
         clock: Snapshot::of(clock),
         seed: Snapshot::of(&seed),
+        place: Snapshot::of(&I::place(&address)),
     };
     let visitors = run::<Brand, S, T, I, H, R, C, W, L>(
         &plan, &hub, &mut host, seed, &terms, address, output,
@@ -141,6 +142,7 @@ where
     requires timed { (moment : ℕ) → C.may_read plan.now.clock.now moment → ∥ B.may_read moment ∥₁ }
     requires timely { (moment : ℕ) → B.may_read moment → ∥ C.may_read plan.now.clock.now moment ∥₁ }
     requires terms { AreTerms hub.now plan.now.clock.now seed terms.now }
+    requires there { terms.now.place.value ≡ I.place_of address }
     requires arrives { (peer challenge : List ℕ) (stream : S)
         → Arrives T.terms T.number T.peer T.began terms.now peer challenge stream → ∥ B.arrives peer challenge stream ∥₁ }
     requires stops { HasStopped I.terms I.accepted terms.now plan.now.settings.now.stop_after → ∥ B.stops ∥₁ }
@@ -196,6 +198,7 @@ where
     requires timed { (moment : ℕ) → C.may_read plan.now.clock.now moment → ∥ B.may_read moment ∥₁ }
     requires timely { (moment : ℕ) → B.may_read moment → ∥ C.may_read plan.now.clock.now moment ∥₁ }
     requires terms { AreTerms hub.now plan.now.clock.now seed terms.now }
+    requires there { terms.now.place.value ≡ I.place_of address }
     requires arrives { (peer challenge : List ℕ) (stream : S)
         → Arrives T.terms T.number T.peer T.began terms.now peer challenge stream → ∥ B.arrives peer challenge stream ∥₁ }
     requires stops { HasStopped I.terms I.accepted terms.now plan.now.settings.now.stop_after → ∥ B.stops ∥₁ }

@@ -57,6 +57,7 @@ where
     W: Write,
     L: Log + Sync,
     requires terms { AreTerms server.now.hub.now server.now.clock.now seed terms.now }
+    requires there { terms.now.place.value ≡ I.place_of address }
     requires arrives { (peer challenge : List ℕ) (stream : S)
         → Arrives T.terms T.number T.peer T.began terms.now peer challenge stream → ∥ B.arrives peer challenge stream ∥₁ }
     requires stops { HasStopped I.terms I.accepted terms.now plan.now.settings.now.stop_after → ∥ B.stops ∥₁ }
@@ -103,6 +104,7 @@ where
     W: Write,
     L: Log + Sync,
     requires terms { AreTerms server.now.hub.now server.now.clock.now seed terms.now }
+    requires there { terms.now.place.value ≡ I.place_of address }
     requires arrives { (peer challenge : List ℕ) (stream : S)
         → Arrives T.terms T.number T.peer T.began terms.now peer challenge stream → ∥ B.arrives peer challenge stream ∥₁ }
     requires stops { HasStopped I.terms I.accepted terms.now plan.now.settings.now.stop_after → ∥ B.stops ∥₁ }
@@ -171,6 +173,7 @@ where
     R: Clock + Net,
     C: Moments,
     L: Log,
+    requires there { terms.now.place.value ≡ I.place_of address }
     ensures promised { IfOk result (λ it. I.terms it.listener ≡ terms.now) }
     ensures none { IfOk result (λ it. I.accepted it.listener ≡ 0) }
     ensures ending { IfErr result IsServerFault }

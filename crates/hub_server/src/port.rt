@@ -4,7 +4,7 @@ use adc_sessions::Stream;
 use hub_listener::{Listens, Moments};
 use session_hash::SessionHash;
 use std::io;
-use std::net::Net;
+use std::net::{Net, SocketAddrV4};
 use std::snapshot::Snapshot;
 use tokio::reactor::Handle;
 
@@ -38,14 +38,22 @@ pub trait BindPort<S: Stream, T: Ticket<S, H, C>, H: SessionHash, C: Moments>: H
     /// What says where it is to listen.
     type Address: Drop;
 
+    /// The place that this says.
+    ghost place_of: { Self.Address → SocketAddrV4 };
+
+    /// Gives the place that this says.
+    fn place(address: &Self::Address) -> SocketAddrV4
+        ensures { result ≡ place_of address.now };
+
     /// Makes one that listens there, whose connections are promised these terms. It fails where the system does not give the
-    /// address.
+    /// address. Condition: the terms name this place.
     fn bind<N: Net>(
         rt: &N,
         address: Self::Address,
         handle: &Handle,
         promise: Snapshot<Terms<H, C>>,
     ) -> io::Result<Self>
+        requires there { promise.value.place.value ≡ place_of address }
         ensures promised { IfOk result (λ port. Self.HubPort.terms port ≡ promise.value) }
         ensures none { IfOk result (λ port. Self.HubPort.accepted port ≡ 0) };
 }

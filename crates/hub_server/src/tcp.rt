@@ -60,12 +60,21 @@ impl<H: SessionHash, C: Moments> BindPort<TcpStream, TcpTicket<H, C>, H, C> for 
 
     type Address = SocketAddrV4;
 
+    ghost place_of = { λ address. address };
+
+    fn place(address: &SocketAddrV4) -> SocketAddrV4
+        ensures { result ≡ address.now }
+    {
+        *address
+    }
+
     fn bind<N: Net>(
         rt: &N,
         address: SocketAddrV4,
         handle: &Handle,
         promise: Snapshot<Terms<H, C>>,
     ) -> io::Result<TcpPort<H, C>>
+        requires there { promise.value.place.value ≡ address }
         ensures promised { IfOk result (λ port. port.terms.value ≡ promise.value) }
         ensures none { IfOk result (λ port. port.accepted ≡ 0) }
     {

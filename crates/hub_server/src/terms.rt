@@ -1,9 +1,10 @@
 use hub_core::Setup;
 use hub_shared::Host;
+use std::net::SocketAddrV4;
 use std::snapshot::Snapshot;
 
-/// What a server serves its connections by: its hub, which its host, its setup and its hash tell, the clock of its moments, and the
-/// seed of its challenges. It holds nothing: only proofs look at it.
+/// What a server serves its connections by: its hub, which its host, its setup and its hash tell, the clock of its moments, the
+/// seed of its challenges, and the place where it listens. It holds nothing: only proofs look at it.
 #[derive(Drop)]
 pub struct Terms<H, C> {
     pub host: Snapshot<Host<H>>,
@@ -11,4 +12,5 @@ pub struct Terms<H, C> {
     pub hash: Snapshot<H>,
     pub clock: Snapshot<C>,
     pub seed: Snapshot<[u8; 32]>,
+    pub place: Snapshot<SocketAddrV4>,
 }

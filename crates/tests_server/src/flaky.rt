@@ -37,12 +37,21 @@ impl<H: SessionHash, C: Moments> BindPort<TcpStream, TcpTicket<H, C>, H, C> for 
 
     type Address = SocketAddrV4;
 
+    ghost place_of = { λ address. address };
+
+    fn place(address: &SocketAddrV4) -> SocketAddrV4
+        ensures { result ≡ address.now }
+    {
+        *address
+    }
+
     fn bind<N: Net>(
         rt: &N,
         address: SocketAddrV4,
         handle: &Handle,
         promise: Snapshot<Terms<H, C>>,
     ) -> io::Result<FlakyPort<H, C>>
+        requires there { promise.value.place.value ≡ address }
         ensures promised { IfOk result (λ flaky. ⟦<TcpPort<H, C> as HubPort<TcpStream, TcpTicket<H, C>, H, C>>⟧.terms flaky.port ≡ promise.value) }
         ensures none { IfOk result (λ flaky. ⟦<TcpPort<H, C> as HubPort<TcpStream, TcpTicket<H, C>, H, C>>⟧.accepted flaky.port ≡ 0) }
     {

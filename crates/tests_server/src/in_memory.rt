@@ -7,7 +7,7 @@ pub(crate) mod wire;
 use crate::in_memory::desk::{Desk, EndedBy, EndedTicket, Gone};
 use crate::in_memory::port::{Door, Lobby, WireTicket};
 use crate::in_memory::promise::serve_paid;
-use crate::in_memory::wire::{Client, Cue, Wire};
+use crate::in_memory::wire::{Client, Cue, PORT, Wire};
 use crate::machine::*;
 use crate::run::settings;
 use crate::warnings::shape;
@@ -136,6 +136,7 @@ fn serve<R: ServerMachine>(rt: &R, talk: &[Transcript]) -> Result<Served, AllocE
         alloc: rt.alloc(),
         desk: &desk,
         clients: &clients,
+        place: SocketAddrV4::new(Ipv4Addr::LOCALHOST, PORT),
     };
     let status = serve_at_door(rt, &settings, hash, door, &mut output, &mut errors);
     let (gone, tickets) = desk.into_left();

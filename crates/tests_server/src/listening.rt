@@ -36,18 +36,29 @@ impl<R: Clock> HubPort<Stream, TcpTicket<First24, R>, First24, R> for ConnectedP
 impl<R: Clock> BindPort<Stream, TcpTicket<First24, R>, First24, R> for ConnectedPort<R> {
     ghost use Rattle.std.specs.Prelude.{◌≡◌, ℕ, IfOk};
 
-    type Address = TcpListener;
+    // The socket, and the place where it was to listen.
+    type Address = (TcpListener, SocketAddrV4);
+
+    ghost place_of = { λ address. address.1 };
+
+    fn place(address: &(TcpListener, SocketAddrV4)) -> SocketAddrV4
+        ensures { result ≡ address.now.1 }
+    {
+        address.1
+    }
 
     fn bind<N: Net>(
         _rt: &N,
-        address: TcpListener,
+        address: (TcpListener, SocketAddrV4),
         handle: &Handle,
         promise: Snapshot<Terms<First24, R>>,
     ) -> io::Result<ConnectedPort<R>>
+        requires there { promise.value.place.value ≡ address.1 }
         ensures promised { IfOk result (λ port. port.terms.value ≡ promise.value) }
         ensures none { IfOk result (λ port. ◌≡◌ {A = ℕ} 0 0) }
     {
-        let listener = tokio::net::TcpListener::from_std(address, handle)?;
+        let (socket, _place) = address;
+        let listener = tokio::net::TcpListener::from_std(socket, handle)?;
         Ok(PromisedNobody {
             listener,
             terms: promise,
@@ -135,7 +146,7 @@ fn in_trouble<R: ServerMachine + Net<Stream = TcpStream, Listener = TcpListener>
         (Trouble::Connected, local) => {
             let stream = TcpStream::connect(rt, local)?;
             let connected = TcpListener::from(OwnedFd::from(stream));
-            at::<R, ConnectedPort<R>>(rt, connected, false)
+            at::<R, ConnectedPort<R>>(rt, (connected, any), false)
         }
     }
 }

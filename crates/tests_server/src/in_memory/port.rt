@@ -2,7 +2,7 @@
 ghost use Rattle.std.specs.Prelude.{◌≡◌};
 
 use crate::in_memory::desk::{Desk, EndedBy};
-use crate::in_memory::wire::{Client, PORT, Wire, home_of};
+use crate::in_memory::wire::{Client, Wire, home_of};
 use crate::machine::*;
 use adc_sessions::End;
 use hub_listener::{Arrived, Listens, Socket};
@@ -18,6 +18,7 @@ pub(crate) struct Door<'a, R> {
     pub(crate) alloc: Global,
     pub(crate) desk: &'a Desk,
     pub(crate) clients: &'a [Client<'a>],
+    pub(crate) place: SocketAddrV4,
 }
 
 /// The listener of a door, which knows what its clients are promised and how many have come.
@@ -43,12 +44,21 @@ impl<'a, R: Clock + Sync> BindPort<Wire<'a, R>, WireTicket<'a, R>, First24, R> f
 
     type Address = Door<'a, R>;
 
+    ghost place_of = { λ door. door.place };
+
+    fn place(address: &Door<'a, R>) -> SocketAddrV4
+        ensures { result ≡ address.now.place }
+    {
+        address.place
+    }
+
     fn bind<N: Net>(
         _rt: &N,
         address: Door<'a, R>,
         _handle: &Handle,
         promise: Snapshot<Terms<First24, R>>,
     ) -> io::Result<Lobby<'a, R>>
+        requires there { promise.value.place.value ≡ address.place }
         ensures promised { IfOk result (λ lobby. lobby.terms.value ≡ promise.value) }
         ensures none { IfOk result (λ lobby. lobby.came ≡ 0) }
     {
@@ -103,7 +113,7 @@ impl<'a, R: Clock + Sync> Listens for Lobby<'a, R> {
     }
 
     fn address(&self) -> io::Result<SocketAddr> {
-        Ok(SocketAddr::V4(SocketAddrV4::new(Ipv4Addr::LOCALHOST, PORT)))
+        Ok(SocketAddr::V4(self.door.place))
     }
 
     ghost waits_nothing = { λ a. (refl, refl) };

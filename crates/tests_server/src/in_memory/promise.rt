@@ -31,7 +31,7 @@ where
     W: Write,
     E: Write + Send,
     ensures paid { result ≡ 0 → (joins : ℕ) × HasPaid T.terms T.number T.peer T.began ⟦<S as Stream>⟧.reports I.terms I.accepted ⟦<R as Moments>⟧.may_read
-        W.contents settings.now.hub ⟦<First24 as SessionHash>⟧.digest_of (arc_value hash) rt.now seed settings.now.stop_after output.new joins }
+        W.contents settings.now.hub ⟦<First24 as SessionHash>⟧.digest_of (arc_value hash) rt.now seed (I.place_of address) settings.now.stop_after output.new joins }
 {
     let status = serve_at::<S, T, I, First24, R, W, E>(
         rt, settings, hash, seed, address, output, errors,

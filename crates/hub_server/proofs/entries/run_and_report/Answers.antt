@@ -14,6 +14,7 @@ returns-clause-served g c =
       by_hash = it.ensures.terms.1;
       by_clock = it.ensures.terms.2;
       by_seed = it.ensures.terms.3;
+      by_place = it.ensures.terms.4;
       visitors = it.served.visitors.value.items;
       all = it.ensures.all;
       stopped = it.ensures.stopped;
