@@ -1,5 +1,5 @@
 pub mod KeptJoins
 pub mod Known
 pub mod Turns
-pub mod Joins
-pub mod Close
+pub mod JoinCounts
+pub mod Closed

@@ -1,7 +1,7 @@
 use Rattle.std.proofs.Common.{ap, subst, ◌++◌}
 use Rattle.one_history.specs.States.{callers_of}
 use Rattle.hub_shared.specs.Callers.{seat_of}
-use Rattle.hub_shared.proofs.Close.{SettlesAt, closes, nobody-left}
+use Rattle.hub_shared.proofs.Closed.{SettlesAt, closes, nobody-left}
 use Rattle.hub_shared.proofs.close.end.Goals as goal
 
 pub returns-clause-settled : goal.returns-clause-settled

@@ -1,7 +1,7 @@
 use Rattle.std.proofs.Common.{subst}
 use Rattle.hub_core.specs.Moves.{entry}
 use Rattle.hub_rules.specs.declared.history.Call.TheVariants.{Join}
-use Rattle.hub_shared.proofs.Joins.{join_answer, now-pass}
+use Rattle.hub_shared.proofs.JoinCounts.{join_answer, now-pass}
 use Rattle.hub_shared.proofs.Turns.{Gives, takes}
 use Rattle.hub_shared.proofs.hub.Hub.join.Goals as goal
 

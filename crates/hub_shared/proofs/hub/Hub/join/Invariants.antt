@@ -1,6 +1,6 @@
 use Rattle.hub_core.specs.Moves.{entry}
 use Rattle.hub_rules.specs.declared.history.Call.TheVariants.{Join}
-use Rattle.hub_shared.proofs.Joins.{join_answer}
+use Rattle.hub_shared.proofs.JoinCounts.{join_answer}
 use Rattle.hub_shared.proofs.hub.Hub.join.Given as goal
 
 abbrev pub ghosts-enter : goal.ghosts-enter
