@@ -9,9 +9,9 @@ pub invariant_of-result-in-Ok : goal.invariant_of-result-in-Ok
 invariant_of-result-in-Ok g c =
     let lock = c.self.inside.lock in
     let seat = c.into_idle-seat.result in
-    let taken = c.take-core.new.seat in
+    let taken = c.acquire-core.new.seat in
     let given = c.enter.new.seat in
-    let t = takes seat taken c.take-core.ensures.seat c.take-core.ensures.begins c.take-core.ensures.entries in
+    let t = takes seat taken c.acquire-core.ensures.seat c.acquire-core.ensures.begins c.acquire-core.ensures.entries in
     let joined = subst (λ answer. Gives (entry taken.number (Join c.args.peer c.args.challenge c.args.now) (join_answer answer)) taken given) c.in-Ok.is
     (record { seat = c.enter.ensures.seat; own = c.enter.ensures.own })
     in

@@ -6,6 +6,6 @@ look-look-requires g c =
     let lock = c.self.inside.lock in
     let seat = c.pass.inside.seat in
     record {
-      seated = has-seat lock.about.setup.value (g.H.SessionHash.digest_of lock.about.hash.value) c.take-core.new.seat.seen seat.mine c.take-core.result seat.number c.pass.inside.connection
-          c.take-core.ensures.stands c.take-core.ensures.entries c.pass.invariant.own;
+      seated = has-seat lock.about.setup.value (g.H.SessionHash.digest_of lock.about.hash.value) c.acquire-core.new.seat.seen seat.mine c.acquire-core.result seat.number c.pass.inside.connection
+          c.acquire-core.ensures.stands c.acquire-core.ensures.entries c.pass.invariant.own;
     }

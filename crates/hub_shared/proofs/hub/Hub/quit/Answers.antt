@@ -9,26 +9,26 @@ quit-requires g c =
     let lock = c.self.inside.lock in
     let parts = c.into_parts-seat in
     record {
-      seated = has-seat lock.about.setup.value (g.H.SessionHash.digest_of lock.about.hash.value) c.take-core.new.seat.seen parts.result.0.mine c.take-core.result parts.result.0.number parts.result.1
-          c.take-core.ensures.stands c.take-core.ensures.entries parts.ensures.pass.own;
+      seated = has-seat lock.about.setup.value (g.H.SessionHash.digest_of lock.about.hash.value) c.acquire-core.new.seat.seen parts.result.0.mine c.acquire-core.result parts.result.0.number parts.result.1
+          c.acquire-core.ensures.stands c.acquire-core.ensures.entries parts.ensures.pass.own;
     }
 
 pub enter-requires-clause-stands : goal.enter-requires-clause-stands
 enter-requires-clause-stands g c =
     let lock = c.self.inside.lock in
     let parts = c.into_parts-seat in
-    let taken = c.take-core.new.seat in
-    let t = takes parts.result.0 taken c.take-core.ensures.seat c.take-core.ensures.begins c.take-core.ensures.entries in
-    own-call lock.about.setup.value (g.H.SessionHash.digest_of lock.about.hash.value) taken.seen parts.result.0.mine c.take-core.result c.quit.new.self taken.number parts.result.1 (Quit parts.result.1) Left
-    c.take-core.ensures.stands t.own parts.ensures.pass.own (λ may. may) c.quit.ensures.moves
+    let taken = c.acquire-core.new.seat in
+    let t = takes parts.result.0 taken c.acquire-core.ensures.seat c.acquire-core.ensures.begins c.acquire-core.ensures.entries in
+    own-call lock.about.setup.value (g.H.SessionHash.digest_of lock.about.hash.value) taken.seen parts.result.0.mine c.acquire-core.result c.quit.new.self taken.number parts.result.1 (Quit parts.result.1) Left
+    c.acquire-core.ensures.stands t.own parts.ensures.pass.own (λ may. may) c.quit.ensures.moves
 
 pub returns-clause-touched : goal.returns-clause-touched
 returns-clause-touched g c =
     let lock = c.self.inside.lock in
     let parts = c.into_parts-seat in
-    let taken = c.take-core.new.seat in
-    let t = takes parts.result.0 taken c.take-core.ensures.seat c.take-core.ensures.begins c.take-core.ensures.entries in
+    let taken = c.acquire-core.new.seat in
+    let t = takes parts.result.0 taken c.acquire-core.ensures.seat c.acquire-core.ensures.begins c.acquire-core.ensures.entries in
     given-names g.H.SessionHash.digest_of lock c.args.self.now (entry taken.number (Quit parts.result.1) Left) taken c.enter.new.seat
     c.touched-touched.result c.quit.new.self.touched c.self.view_is c.enter.ensures.seat c.touched-touched.ensures
-    (own-names lock.about.setup.value (g.H.SessionHash.digest_of lock.about.hash.value) taken.seen parts.result.0.mine c.take-core.result c.quit.new.self taken.number parts.result.1 (Quit parts.result.1) Left
-    c.take-core.ensures.stands t.own parts.ensures.pass.own (λ may. may) c.quit.ensures.touched)
+    (own-names lock.about.setup.value (g.H.SessionHash.digest_of lock.about.hash.value) taken.seen parts.result.0.mine c.acquire-core.result c.quit.new.self taken.number parts.result.1 (Quit parts.result.1) Left
+    c.acquire-core.ensures.stands t.own parts.ensures.pass.own (λ may. may) c.quit.ensures.touched)

@@ -15,5 +15,5 @@ right_again start d h new old e s b = ⊎_elim (λ is. subst (IsRight start) is 
 
 pub enter-requires-clause-legal : goal.enter-requires-clause-legal
 enter-requires-clause-legal g c =
-    let taken = c.take-counter.ensures in
-    right_again c.args.lock.now.about record { caller = c.args.caller; amount = c.args.amount; reply = c.in-Some.reply } c.take-counter.new.seat.seen (omega (arith, c.in-Some.ensures.1, taken.stands)) taken.legal
+    let taken = c.acquire-counter.ensures in
+    right_again c.args.lock.now.about record { caller = c.args.caller; amount = c.args.amount; reply = c.in-Some.reply } c.acquire-counter.new.seat.seen (omega (arith, c.in-Some.ensures.1, taken.stands)) taken.legal
