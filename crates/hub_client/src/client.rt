@@ -309,7 +309,7 @@ fn is_info(line: &Line, command: [u8; 3]) -> bool
 }
 
 /// Tests whether a line tells of a user.
-#[tactic(auto, using(crate::proofs::Telling::tells_user))]
+#[tactic(auto, using(crate::proofs::LineTests::tells_user))]
 fn is_user(line: &Line) -> bool
     ensures yes { IsTrue result → IsUserLine line.now }
     ensures no { IsFalse result → IsUserLine line.now → ⊥ }
