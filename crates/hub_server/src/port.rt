@@ -34,6 +34,7 @@ pub trait HubPort<S: Stream, T: Ticket<S, H, C>, H: SessionHash, C: Moments>: Li
 /// A listening socket that can be bound.
 pub trait BindPort<S: Stream, T: Ticket<S, H, C>, H: SessionHash, C: Moments>: HubPort<S, T, H, C> {
     ghost use Rattle.std.specs.Prelude.{◌≡◌, IfOk};
+    ghost use Rattle.std.specs.declared.net.socket_addr.SocketAddrV4.{SocketAddrV4};
 
     /// What says where it is to listen.
     type Address: Drop;
