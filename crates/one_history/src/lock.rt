@@ -1,4 +1,4 @@
-ghost use Rattle.std.specs.Prelude.{◌≡◌, true, false, ◌∷◌, ◌<◌, [], length, MatchBool, Some};
+ghost use Rattle.std.specs.Prelude.{◌≡◌, true, false, ◌∷◌, ◌<◌, [], length, MatchBool, Some, IsSome};
 ghost use Rattle.one_history.specs.Histories.{Begins, entries};
 ghost use Rattle.one_history.specs.States.{IsIdleAt, IsHolderAt};
 ghost use Rattle.one_history.specs.Seats.{IsOne, IsIdle, IsReady, IsUnchanged};
@@ -51,7 +51,7 @@ impl<T: Recorded<E, A>, E, A> Lock<T, E, A> {
         value
     }
 
-    /// GiveStep the value back with one more entry, which is the caller's own. The history ends with it.
+    /// Gives the value back with one more entry, which is the caller's own. The history ends with it.
     /// The proof of a call picks the entry, at `Brand` for `B`.
     pub fn release_with<B: MadeEntry<E>>(&self, seat: &mut Seat<T, E, A>, value: T)
         requires holds { IsHolderAt self.now seat.old }
@@ -69,7 +69,7 @@ impl<T: Recorded<E, A>, E, A> Lock<T, E, A> {
         release_with::<B, T, E, A>(board, &mut seat.place);
     }
 
-    /// GiveStep the value back as it stood, with no entry.
+    /// Gives the value back as it stood, with no entry.
     pub fn release(&self, seat: &mut Seat<T, E, A>, value: T)
         requires holds { IsHolderAt self.now seat.old }
         requires stands { T.stands self.now.about value seat.old.seen }
@@ -186,7 +186,7 @@ fn claim<T: Recorded<E, A>, E, A>(board: &Board<T, E, A>, place: &mut LockSeat<T
     board.swap::<Takes>(place, 0, AWAITED) == FREE
 }
 
-// GiveStep the word and the slot back with an entry.
+// Gives the word and the slot back with an entry.
 pub(crate) fn release_with<B: MadeEntry<E>, T: Recorded<E, A>, E, A>(
     board: &Board<T, E, A>,
     place: &mut LockSeat<T, E, A>,
@@ -198,10 +198,10 @@ pub(crate) fn release_with<B: MadeEntry<E>, T: Recorded<E, A>, E, A>(
     ensures added { place.new.me ≡ with_entry B.entry place.old.me }
     ensures fair { (a : A) → place.old.me.0.about ≡ Some a → Fair T.by (T.legal a) place.new.me.0 }
 {
-    wake_after(board, board.swap::<GiveStep<B>>(place, 0, FREE));
+    let _ = wake_after(board, board.swap::<GiveStep<B>>(place, 0, FREE));
 }
 
-// GiveStep both back unchanged.
+// Gives both back unchanged.
 pub(crate) fn release<T: Recorded<E, A>, E, A>(
     board: &Board<T, E, A>,
     place: &mut LockSeat<T, E, A>,
@@ -212,14 +212,29 @@ pub(crate) fn release<T: Recorded<E, A>, E, A>(
     ensures same { (place.new.table_id ≡ place.old.table_id) × (place.new.id ≡ place.old.id) }
     ensures returned { place.new.me ≡ without_entry place.old.me }
 {
-    wake_after(board, board.swap::<PutsBack>(place, 0, FREE));
+    let _ = wake_after(board, board.swap::<PutsBack>(place, 0, FREE));
 }
 
-// Wakes one thread, where the word said that some sleep.
-fn wake_after<T: Recorded<E, A>, E, A>(board: &Board<T, E, A>, found: u64)
-    requires { IsOne board.now.table_id }
+// The word that a thread which slept was woken. Only `wake` makes it.
+#[derive(Drop)]
+struct OneWoken(());
+
+// Wakes one thread where the word said that some sleep, and tells so.
+fn wake_after<T: Recorded<E, A>, E, A>(board: &Board<T, E, A>, found: u64) -> Option<OneWoken>
+    requires one { IsOne board.now.table_id }
+    ensures woken { found ≡ 2 → IsSome result }
 {
     if found == AWAITED {
-        board.wake_one(0);
+        Some(wake(board))
+    } else {
+        None
     }
+}
+
+// Wakes one thread that sleeps until the word is free.
+fn wake<T: Recorded<E, A>, E, A>(board: &Board<T, E, A>) -> OneWoken
+    requires { IsOne board.now.table_id }
+{
+    board.wake_one(0);
+    OneWoken(())
 }
