@@ -192,12 +192,12 @@ impl<B: Names> MadeEntry<Entry> for Entered<B> {
 pub(crate) fn enter<B: Names, H: SessionHash, N>(
     lock: &HubLock<H>,
     seat: &mut HubSeat<H>,
-    core: Core,
+    core: Box<Core>,
     note: &N,
 )
     requires holds { IsHolderAt lock.now seat.old }
     requires mine { B.entry.caller ≡ seat.old.number }
-    requires stands { StandsAt lock.now.about.setup.value (H.digest_of lock.now.about.hash.value) (B.entry ∷ seat.old.seen) core }
+    requires stands { StandsAt lock.now.about.setup.value (H.digest_of lock.now.about.hash.value) (B.entry ∷ seat.old.seen) core.value }
     ensures seat { let seen = B.entry ∷ seat.old.seen in
         let mine = B.entry ∷ seat.old.mine in
         seat.new ≡ record seat.old { seen = seen; mine = mine; holds = false } }

@@ -12,7 +12,7 @@ pub struct HubKey<H> {
     pub hash: Snapshot<H>,
 }
 
-impl<H: SessionHash> Recorded<Entry, HubKey<H>> for Core {
+impl<H: SessionHash> Recorded<Entry, HubKey<H>> for Box<Core> {
     ghost use Rattle.hub_core.specs.Moves.{StandsAt};
     ghost use Rattle.hub_rules.specs.Legal.{Legal};
 
@@ -20,11 +20,11 @@ impl<H: SessionHash> Recorded<Entry, HubKey<H>> for Core {
 
     ghost legal = { λ about h. Legal about.setup.value (H.digest_of about.hash.value) h };
 
-    ghost stands = { λ about core h. StandsAt about.setup.value (H.digest_of about.hash.value) h core };
+    ghost stands = { λ about core h. StandsAt about.setup.value (H.digest_of about.hash.value) h core.value };
 }
 
-pub(crate) type HubLock<H> = Lock<Core, Entry, HubKey<H>>;
+pub(crate) type HubLock<H> = Lock<Box<Core>, Entry, HubKey<H>>;
 
-pub(crate) type HubSeat<H> = Seat<Core, Entry, HubKey<H>>;
+pub(crate) type HubSeat<H> = Seat<Box<Core>, Entry, HubKey<H>>;
 
-pub(crate) type HostSeat<H> = one_history::Host<Core, Entry, HubKey<H>>;
+pub(crate) type HostSeat<H> = one_history::Host<Box<Core>, Entry, HubKey<H>>;

@@ -29,7 +29,9 @@ impl<H: SessionHash> Hub<H> {
             setup: Snapshot::of(&setup),
             hash: Snapshot::of(hash),
         };
-        let core = Core::open(alloc, setup)?;
+        let Ok(core) = Box::new(alloc, Core::open(alloc, setup)?) else {
+            return Err(OpenRefused::Memory);
+        };
         match Lock::open(alloc, core, &about) {
             Ok((lock, seat)) => Ok((Hub { lock }, Host { seat })),
             Err(_) => Err(OpenRefused::Memory),

@@ -42,12 +42,12 @@ impl<H> Visitor<H> {
     }
 }
 
-impl<H> Seated<Core, Entry, HubKey<H>> for Visitor<H> {
+impl<H> Seated<Box<Core>, Entry, HubKey<H>> for Visitor<H> {
     ghost use Rattle.hub_shared.specs.Callers.{seat_of};
 
     ghost seat = { seat_of };
 
-    fn into_seat(self) -> Seat<Core, Entry, HubKey<H>> {
+    fn into_seat(self) -> Seat<Box<Core>, Entry, HubKey<H>> {
         let Visitor { seat, touched: _ } = self;
         seat
     }
