@@ -10,28 +10,38 @@ use std::random::RandomSource;
 use std::sync::Wait;
 use std::thread::Threads;
 use std::time::Clock;
-use tokio::runtime::Runtime;
+use tokio::runtime::{Handle, LocalRuntime, Runtime};
 use tokio::{reactor, time};
 
 /// The threads of a server, and what tells them that a socket is ready or that time has passed.
 pub struct Workers {
-    runtime: Runtime,
+    threading: Threading,
+}
+
+/// The runtime of one thread or of many. One thread needs no locks to wake its own tasks.
+enum Threading {
+    One(LocalRuntime),
+    Many(Runtime),
 }
 
 impl Drop for Workers {
     // By hand, so that who lets go of them has one call to prove, and not the drop of all that a runtime is made of.
     fn drop(self) {
-        let Workers { runtime } = self;
-        drop(runtime);
+        let Workers { threading } = self;
+        match threading {
+            Threading::One(runtime) => drop(runtime),
+            Threading::Many(runtime) => drop(runtime),
+        }
     }
 }
 
 impl Model for Workers {
     ghost use Rattle.std.specs.Prelude.{ℕ};
+    ghost use Rattle.hub_workers.specs.Counts.{count_of};
 
     ghost Value = { ℕ };
 
-    ghost view = { λ workers. workers.runtime.worker_threads };
+    ghost view = { λ workers. count_of workers.threading };
 }
 
 impl Workers {
@@ -44,19 +54,31 @@ impl Workers {
         requires some { 0 < threads }
         ensures threads { IfOk result (λ workers. workers ≡ threads) }
     {
+        if threads == 1 {
+            return Ok(Workers {
+                threading: Threading::One(LocalRuntime::new(rt)?),
+            });
+        }
         Ok(Workers {
-            runtime: Runtime::with_worker_threads(rt, threads)?,
+            threading: Threading::Many(Runtime::with_worker_threads(rt, threads)?),
         })
+    }
+
+    fn handle(&self) -> &Handle {
+        match &self.threading {
+            Threading::One(runtime) => runtime.handle(),
+            Threading::Many(runtime) => runtime.handle(),
+        }
     }
 
     /// Gives what sockets are made with.
     pub fn reactor(&self) -> &reactor::Handle {
-        self.runtime.handle().reactor()
+        self.handle().reactor()
     }
 
     /// Gives what timers are made with.
     pub fn time(&self) -> &time::Handle {
-        self.runtime.handle().time()
+        self.handle().time()
     }
 
     /// Runs each future that `futures` gives as a task, until that gives no more and each task is done. It fails where memory or
@@ -69,6 +91,9 @@ impl Workers {
         requires stream { S.can_poll futures }
         requires items { AllItems (S.yields futures) F.can_poll }
     {
-        self.runtime.run_all(rt, futures)
+        match &mut self.threading {
+            Threading::One(runtime) => runtime.run_all(rt, futures),
+            Threading::Many(runtime) => runtime.run_all(rt, futures),
+        }
     }
 }
