@@ -7,7 +7,7 @@ use Rattle.std.specs.Ordering.{nat_cmp, ordering_index}
 use Rattle.std.proofs.lemmas.Bool.{cases_lt, eqb-true, eq-eqb, false≢true}
 use Rattle.std.proofs.lemmas.Bool.Decides.{nat_tests}
 use Rattle.std.proofs.lemmas.Cmp.{ranked}
-use Rattle.std.proofs.lemmas.List.{length-map, map-append}
+use Rattle.std.proofs.lemmas.List.{get_or_default, length-map, map-append}
 use Rattle.std.proofs.lemmas.List.Quantifiers.{position-Some}
 use Rattle.std.proofs.lemmas.List.Sorted.{IsNonDecreasingBy-from_default}
 use Rattle.std.proofs.lemmas.List.Sums.{position_or_len_is}
@@ -143,6 +143,12 @@ module _ (c : ℕ) (seats : List Seat) where
     before-it : (i : ℕ) → i < length seats → (get_or seats i no_seat).number ≡ c → (k : ℕ) → k < i → has_it (get_or seats k no_seat) ≡ false
     before-it i within here k less =
         other (get_or seats k no_seat).number (λ same. let up = rising-at seats k i no_seat rising less within in omega (arith, up, here, same))
+
+    -- a seat with the number is the one
+    pub found-at : (i : ℕ) → i < length seats → (d : Seat) → (get_or seats i d).number ≡ c → position has_it seats ≡ Some i
+    found-at i within d here =
+        let same : (get_or seats i no_seat).number ≡ c = ap (λ (seat : Seat). seat.number) (get_or_default seats i no_seat d within) ∙ here in
+        position-is i within same (before-it i within same)
 
     -- a binary search by number ends at the seat, or says that there is none
     pub searched : (r : Result ℕ ℕ) → IsSearchInRange r (length seats) → IsBinarySearchResult (λ (seat : Seat). nat_cmp seat.number c) seats r

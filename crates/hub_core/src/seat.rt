@@ -1,4 +1,4 @@
-ghost use Rattle.std.specs.Prelude.{◌≡◌, ◌∷◌, [], Some, IfOk, ◌==◌, ◌++◌, map, position, OnOk, OnErr};
+ghost use Rattle.std.specs.Prelude.{◌≡◌, ◌∷◌, [], Some, IfSome, IfOk, ◌==◌, ◌++◌, map, position, OnOk, OnErr};
 ghost use Rattle.std.specs.Option.{unwrap_or, option_copied};
 ghost use Rattle.hub_core.specs.Decided.{expected_at, Decided, user_at};
 ghost use Rattle.hub_core.specs.Index.{IsSetAtSid};
@@ -188,6 +188,32 @@ pub(crate) fn place(seats: &[Seat], number: u64) -> usize
 
 /// Finds the place of a connection's seat, where it has one.
 pub(crate) fn find(seats: &[Seat], number: u64) -> Option<usize>
+    requires { Rising (numbers seats.now) }
+    ensures { result ≡ position (λ (seat : Seat). seat.number == number) seats.now }
+{
+    match guess(seats, number) {
+        Some(place) => Some(place),
+        None => search(seats, number),
+    }
+}
+
+/// Finds it where it is as long as nobody between it and the first has left: a search reads many seats, which lie far apart.
+fn guess(seats: &[Seat], number: u64) -> Option<usize>
+    requires { Rising (numbers seats.now) }
+    ensures { IfSome result (λ place. position (λ (seat : Seat). seat.number == number) seats.now ≡ Some place) }
+{
+    let first = seats.first()?;
+    let place = number.checked_sub(first.number)? as usize;
+    if place >= seats.len() {
+        return None;
+    }
+    if seats[place].number != number {
+        return None;
+    }
+    Some(place)
+}
+
+fn search(seats: &[Seat], number: u64) -> Option<usize>
     requires { Rising (numbers seats.now) }
     ensures { result ≡ position (λ (seat : Seat). seat.number == number) seats.now }
 {

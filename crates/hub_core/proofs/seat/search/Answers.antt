@@ -2,7 +2,7 @@ use Rattle.std.proofs.Common.{rules, sym, Ok, Err}
 use Rattle.std.proofs.lemmas.List.Sorted.{answers_always}
 use Rattle.hub_core.specs.declared.seat.Seat.{Seat}
 use Rattle.hub_core.proofs.Numbers.{searched}
-use Rattle.hub_core.proofs.seat.find.Goals as goal
+use Rattle.hub_core.proofs.seat.search.Goals as goal
 
 pub returns-in-Ok : goal.returns-in-Ok
 returns-in-Ok c =
