@@ -12,7 +12,7 @@ ghost use Rattle.hub_client.specs.Sayings.{support_text};
 ghost use Rattle.hub_client.specs.Talks.{FailsAt, HasFailed, HearsLines, HearsNone, ReadsNone, gone_of, said_by, turns_of, unheard, users_of};
 
 use crate::departures::{sent_away_by, sid_in};
-use crate::fault::{ClientFault, unanswered};
+use crate::fault::{ClientFault, read_on, unanswered};
 use crate::lines::{message_in, say};
 use crate::login::support_line;
 use crate::status::Status;
@@ -21,7 +21,7 @@ use adc_base32::{Sid, decode24};
 use adc_line::{Framer, Kind, Line, Next};
 use counted_io::Counting;
 use std::alloc::Global;
-use std::io::{self, Read, Write};
+use std::io::{Read, Write};
 
 /// A client's connection to a hub.
 #[derive(Drop)]
@@ -294,8 +294,7 @@ impl<S: Read + Write> Client<S> {
         match self.stream.read(&mut piece) {
             Ok(0) => Err(ClientFault::Closed),
             Ok(count) => Ok(self.framer.feed(&piece[..count])?),
-            Err(error) if error.kind() == io::ErrorKind::Interrupted => Ok(()),
-            Err(error) => Err(error.into()),
+            Err(error) => read_on(error),
         }
     }
 }

@@ -1,4 +1,4 @@
-ghost use Rattle.std.specs.Prelude.{◌≡◌, ◌≢◌, true};
+ghost use Rattle.std.specs.Prelude.{◌≡◌, ◌≢◌, true, IfErr, OnOk};
 ghost use Rattle.adc_line.specs.declared.fault.LineFault.TheVariants as lines;
 ghost use Rattle.std.specs.IoError.{error_kind};
 ghost use Rattle.hub_client.specs.Broken.{fault_by, fault_of_word};
@@ -8,7 +8,7 @@ ghost use Rattle.hub_client.specs.declared.fault.ClientFault.TheVariants.{Memory
 use crate::status::Status;
 use adc_line::{FrameFault, LineFault, UnescapeFault};
 use std::alloc::{AllocError, AllocFailed};
-use std::io;
+use std::io::{self, ErrorKind};
 use thiserror::Error;
 
 /// A reason why a conversation with a hub ended before its purpose was reached.
@@ -69,10 +69,21 @@ impl From<io::Error> for ClientFault {
 
     fn from(error: io::Error) -> ClientFault {
         match error.kind() {
-            io::ErrorKind::OutOfMemory => ClientFault::Memory,
-            io::ErrorKind::WouldBlock | io::ErrorKind::TimedOut => ClientFault::TimedOut,
+            ErrorKind::OutOfMemory => ClientFault::Memory,
+            ErrorKind::WouldBlock | ErrorKind::TimedOut => ClientFault::TimedOut,
             _ => ClientFault::Broken,
         }
+    }
+}
+
+/// Reads on after a read that was interrupted. Refused: the fault of any other that failed.
+pub(crate) fn read_on(error: io::Error) -> Result<(), ClientFault>
+    ensures goes_on { OnOk result (error_kind error ≡ ErrorKind.Interrupted) }
+    ensures fails { IfErr result (λ fault. fault ≡ fault_by (error_kind error)) }
+{
+    match error.kind() {
+        ErrorKind::Interrupted => Ok(()),
+        _ => Err(error.into()),
     }
 }
 

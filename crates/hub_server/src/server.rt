@@ -119,7 +119,7 @@ impl<
 
     /// Takes a slot back that has no connection any more.
     pub(crate) fn free(&self, free: FreeSlot<B, S, H>) {
-        self.shared.wakers.vacate(free.slot.number());
+        let _ = self.shared.wakers.vacate(free.slot.number());
         match self.keep(free) {
             None => {}
             // It does not come to this, since there is room for all.

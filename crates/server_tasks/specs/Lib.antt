@@ -15,4 +15,5 @@ pub mod Rung
 pub mod Senders
 pub mod Sights
 pub mod Start
+pub mod Ticks
 pub mod Turns

@@ -1,6 +1,7 @@
-ghost use Rattle.std.specs.Prelude.{◌≡◌, None, IfOk, IfErr};
+ghost use Rattle.std.specs.Prelude.{◌≡◌, true, Some, None, IfOk, IfErr};
 ghost use Rattle.futures.specs.Task.{IsArmed, Keeps};
 ghost use Rattle.futures.specs.Poll.{OnPending};
+ghost use Rattle.server_tasks.specs.declared.state.ServerFault.TheVariants.{Start};
 
 use crate::handoff::Handoff;
 use crate::held::TickerWoken;
@@ -68,10 +69,12 @@ impl Model for OneEnded {
     ghost view = { λ ended. ended.task };
 }
 
-/// What was seen of those who are served.
+/// What was seen of those who are served. A server whose tasks could not all be had serves nobody.
 #[derive(Clone, Copy)]
 pub(crate) struct ServedCount {
     is_over: bool,
+    fault: Option<ServerFault>,
+    ghost started: { fault ≡ Some Start → is_over ≡ true },
 }
 
 impl ServedCount {
@@ -173,7 +176,7 @@ impl<T, S> Shared<T, S> {
             Some(ServerFault::Start) => true,
             _ => self.handoff.is_over(rt),
         };
-        ServedCount { is_over }
+        ServedCount { is_over, fault }
     }
 
     /// Gives why no more connections came, where that was a fault, with the word of it.

@@ -1,15 +1,18 @@
-ghost use Rattle.std.specs.Prelude.{◌≡◌, ◌-◌, ◌/◌, min, max, true, false, None, IsSome};
+ghost use Rattle.std.specs.Prelude.{◌≡◌, ◌≤◌, ◌⊎◌, true, false, Some, None, IsSome};
+ghost use Rattle.std.specs.Option.{ForSome};
 ghost use Rattle.std.specs.Result.{ForOk};
 ghost use Rattle.std.specs.Duration.{as_nanos};
-ghost use Rattle.std.specs.Time.{instant_nanos};
 ghost use Rattle.futures.specs.Task.{IsArmed, Keeps};
 ghost use Rattle.futures.specs.Poll.{IfReady, OnPending};
 ghost use Rattle.server_tasks.specs.Cries.{once_more};
+ghost use Rattle.server_tasks.specs.Ticks.{IsOfFewTicks, ticks_between, ticks_of};
 
 use crate::clock::NoClock;
 use crate::cries::Cries;
 use crate::held::Lingered;
 use crate::shared::{ServedCount, Shared};
+use crate::slots::Receipt;
+use futures::spin::GaveUp;
 use futures::task::{Context, Poll};
 use std::sync::Wait;
 use std::time::{Clock, Duration, Instant};
@@ -31,8 +34,11 @@ pub struct Ticker<'a, T, S, R> {
     // The moment of the last tick.
     ticked: Option<Instant>,
     cries: Cries,
+    // The receipt of the last tick.
+    told: Option<Result<Receipt, GaveUp>>,
     // The word that all is over, once it is.
     over: Option<Over>,
+    ghost few: { ForSome told (λ told. ForOk told IsOfFewTicks) },
 }
 
 /// The word that all is over: nobody is served any more, and nobody lingers, as far as the clock tells.
@@ -52,9 +58,11 @@ impl<'a, T, S, R> Drop for Ticker<'a, T, S, R> {
             timer,
             ticked: _,
             cries: _,
+            told,
             over: _,
         } = self;
         drop(timer);
+        drop(told);
     }
 }
 
@@ -70,6 +78,7 @@ impl<'a, T, S: AsyncRead + AsyncWrite, R: Wait + Clock> Ticker<'a, T, S, R> {
             timer,
             ticked: None,
             cries: Cries::none(),
+            told: None,
             over: None,
         }
     }
@@ -130,7 +139,7 @@ impl<'a, T, S: AsyncRead + AsyncWrite, R: Wait + Clock> Ticker<'a, T, S, R> {
             Poll::Pending => Poll::Pending,
             Poll::Ready(_) => {
                 let due = self.due();
-                let _ = self.shared.wakers.tick_by(seconds(self.rt), due);
+                self.told = Some(self.shared.wakers.tick_by(seconds(self.rt), due));
                 self.set();
                 cx.yield_now()
             }
@@ -139,7 +148,10 @@ impl<'a, T, S: AsyncRead + AsyncWrite, R: Wait + Clock> Ticker<'a, T, S, R> {
 
     /// Counts the ticks that were due since the last one, which on a busy machine are more than one.
     fn due(&mut self) -> u64
-        ensures { self.new.cries ≡ self.old.cries }
+        ensures cries { self.new.cries ≡ self.old.cries }
+        ensures few { result ≤ 20 }
+        ensures since { (before now : Instant) → self.old.ticked ≡ Some before → self.new.ticked ≡ Some now
+            → (result ≡ 1) ⊎ (result ≡ ticks_between before now) }
     {
         let Ok(now) = Instant::now(self.rt) else {
             return 1;
@@ -162,8 +174,9 @@ impl<'a, T, S: AsyncRead + AsyncWrite, R: Wait + Clock> Ticker<'a, T, S, R> {
 
 /// Counts the ticks that are due now, where the last one was at that moment: one where there was none.
 fn due_since(before: Option<Instant>, now: Instant) -> u64
+    ensures few { result ≤ 20 }
     ensures first { before ≡ None → result ≡ 1 }
-    ensures later { (moment : Instant) → before ≡ Some moment → result ≡ max 1 (min 20 ((instant_nanos now - instant_nanos moment) / 1_000_000 / 5)) }
+    ensures later { (moment : Instant) → before ≡ Some moment → result ≡ ticks_between moment now }
 {
     match before {
         Some(moment) => ticks_in(now.saturating_duration_since(moment)),
@@ -173,7 +186,8 @@ fn due_since(before: Option<Instant>, now: Instant) -> u64
 
 /// Counts the ticks in so much time: one at least, and 20 at most.
 fn ticks_in(passed: Duration) -> u64
-    ensures { result ≡ max 1 (min 20 (as_nanos passed / 1_000_000 / 5)) }
+    ensures few { result ≤ 20 }
+    ensures ticks { result ≡ ticks_of (as_nanos passed) }
 {
     let ticks = passed.as_millis() / u128::from(TICK);
     if ticks > u128::from(MOST_DUE) {

@@ -84,12 +84,15 @@ impl Wakers {
         Ok(slots.name_by(slot, sid))
     }
 
-    /// Takes the slot from its session, which is over.
-    pub fn vacate(&self, slot: usize) {
-        let _ = self.clear(slot, false);
+    /// Takes the slot from its session, which is over, and gives the word of it.
+    pub fn vacate(&self, slot: usize) -> Result<Receipt, GaveUp>
+        ensures { IfOk result (λ receipt. receipt ≡ SlotEvent.Cleared slot false) }
+    {
+        let vacated = self.clear(slot, false);
         if self.behind.look().is_none() {
             self.look();
         }
+        vacated
     }
 
     /// Wakes the session with this identifier, which was given a line of so many bytes by the session of the slot `own` in this

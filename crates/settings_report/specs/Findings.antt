@@ -1,9 +1,10 @@
 -- Where a fault is, what stands there, and what of it may be shown.
-use Rattle.std.specs.Prelude.{◌≡◌, ℕ, List, codes, Option, Some, None, IsSome, ◌⊎◌}
+use Rattle.std.specs.Prelude.{◌≡◌, ℕ, List, codes, Option, Some, None, IsSome, ◌⊎◌, ⊤}
 use Rattle.std.specs.Option.{option_and_then, option_map}
 use Rattle.std.specs.Borrow.{Bor}
 use Rattle.toml.specs.Data.{Data, Items, Members, as_array, get, get_item, get_member, table}
 use Rattle.toml.specs.View.{view}
+use Rattle.hub_settings.specs.Unknown.{first_unknown}
 use Rattle.settings_report.specs.FaultWords.{IsConcealed}
 use Rattle.settings_report.specs.declared.entries.Flaw.{Flaw}
 use Rattle.settings_report.specs.declared.findings.Finding.{Finding}
@@ -41,6 +42,19 @@ IsFlawOf entry flaw = IsWhatStands (standing_in (text_of flaw.inner) entry) flaw
 
 abbrev pub IsFlawIn : Members → Flaw → Type 0
 IsFlawIn members flaw = IsFlawOf (table members) flaw
+
+-- no key was found that is none
+abbrev pub IsOfKnownKey : Found → Type 0
+IsOfKnownKey (found.Value value) = ⊤
+IsOfKnownKey (found.Secret value) = ⊤
+IsOfKnownKey found.Unknown = ⊥
+IsOfKnownKey found.Nothing = ⊤
+IsOfKnownKey found.Surplus = ⊤
+IsOfKnownKey (found.Twice value) = ⊤
+
+-- where a key was found that is none, it is the first that is none of these
+abbrev pub BlamesUnknown : List (List ℕ) → Members → Flaw → Type 0
+BlamesUnknown known members flaw = IsOfKnownKey flaw.found ⊎ (text_of flaw.inner ≡ first_unknown known members)
 
 -- what was found stands in this entry, which exists, or at a key of it
 abbrev pub IsFoundAt : Option Data → Finding → Type 0

@@ -1,5 +1,7 @@
 -- The texts of menu entries.
-use Rattle.std.specs.Prelude.{◌≡◌, ◌↔◌, ℕ, Bool, true, false, IsTrue, IsFalse, List, ◌∷◌, ◌++◌, codes}
+use Rattle.std.specs.Prelude.{◌≡◌, ◌↔◌, ℕ, Bool, true, false, IsTrue, IsFalse, List, ◌∷◌, ◌++◌, codes, Result, Ok, Err}
+use Rattle.adc_line.specs.Lines.{Reading}
+use Rattle.adc_line.specs.declared.fault.LineFault.{LineFault}
 use Rattle.adc_line.specs.declared.header.Kind.{Kind}
 use Rattle.adc_line.specs.declared.header.Kind.TheVariants as kinds
 use Rattle.settings_report.specs.Places.{EndsWithLineFeed}
@@ -26,6 +28,11 @@ goes_to_hub kinds.Hub = true
 goes_to_hub kinds.Client = false
 goes_to_hub kinds.Info = false
 goes_to_hub kinds.Udp = false
+
+-- a client sends this message to a hub
+abbrev pub is_sent : Result Reading LineFault → Bool
+is_sent (Ok line) = goes_to_hub line.kind
+is_sent (Err fault) = false
 
 -- a flaw in words
 abbrev pub flaw_words : TextFlaw → List ℕ

@@ -3,13 +3,13 @@ ghost use Rattle.std.specs.Option.{option_and_then, option_map};
 ghost use Rattle.toml.specs.Data.{as_str, get, get_member};
 ghost use Rattle.toml.specs.View.{array_view, items_view, table_view, view};
 ghost use Rattle.hub_settings.specs.Kinds.{Accounts, kind_seen};
-ghost use Rattle.hub_settings.specs.Lists.{context_from, item_in, text_at};
+ghost use Rattle.hub_settings.specs.Lists.{account_keys, command_keys, context_from, item_in, text_at};
 ghost use Rattle.hub_settings.specs.Settings.{kind_of};
 ghost use Rattle.hub_settings.specs.Unknown.{first_unknown, is_among};
 ghost use Rattle.hub_settings.specs.Values.{not_empty, truth_of};
 ghost use Rattle.settings_report.specs.Allowances.{IsAllowedAt};
 ghost use Rattle.settings_report.specs.FaultWords.{IsConcealed};
-ghost use Rattle.settings_report.specs.Findings.{ConcealsAccount, FindingHidesPasswords, IsFlawIn, IsFlawOf, IsWhatStands, text_of};
+ghost use Rattle.settings_report.specs.Findings.{BlamesUnknown, ConcealsAccount, FindingHidesPasswords, IsFlawIn, IsFlawOf, IsOfKnownKey, IsWhatStands, text_of};
 ghost use Rattle.settings_report.specs.Findings.{IsFoundAmong, IsFoundIn, IsFoundInList};
 
 use crate::allowed::{self, Allowed, allowed_at};
@@ -227,6 +227,7 @@ fn account_flaw(alloc: Global, item: &Value) -> Result<Option<Flaw<'_>>, AllocEr
 fn flaw_in_account(alloc: Global, table: &Table) -> Result<Option<Flaw<'_>>, AllocError>
     ensures stands { IfOk result (λ found. IfSome found (IsFlawIn (table_view table.entry.now))) }
     ensures hides { IfOk result (λ found. IfSome found (λ flaw. ConcealsAccount (text_of flaw.inner) flaw.found)) }
+    ensures unknown { IfOk result (λ found. IfSome found (BlamesUnknown account_keys (table_view table.entry.now))) }
 {
     if let Some(key) = unknown_key(table, &["nick", "password", "operator"]) {
         return Ok(Some(Flaw::at(key, Found::Unknown, allowed::ACCOUNT_KEYS)));
@@ -247,6 +248,7 @@ fn password_flaw(table: &Table) -> Option<Found<'_>>
     ensures none { (result ≡ None) ↔ IsSome (option_and_then not_empty (text_at (codes "password") (table_view table.entry.now))) }
     ensures stands { IfSome result (IsWhatStands (get_member (codes "password") (table_view table.entry.now))) }
     ensures hidden { IfSome result IsConcealed }
+    ensures known { IfSome result IsOfKnownKey }
 {
     match value_at(table, "password") {
         None => Some(Found::Nothing),
@@ -268,6 +270,7 @@ fn truth_flaw<'a>(table: &'a Table, key: &'a str) -> Option<Flaw<'a>>
     ensures none { (result ≡ None) ↔ IsSome (truth_of (get_member key.entry.now (table_view table.entry.now))) }
     ensures key { IfSome result (λ flaw. text_of flaw.inner ≡ Some key.entry.now) }
     ensures stands { IfSome result (λ flaw. IsWhatStands (get_member key.entry.now (table_view table.entry.now)) flaw.found) }
+    ensures known { IfSome result (λ flaw. IsOfKnownKey flaw.found) }
 {
     match value_at(table, key) {
         Some(value) if !value.is_bool() => {
@@ -304,7 +307,8 @@ fn command_flaw(item: &Value) -> Option<Flaw<'_>>
 }
 
 fn flaw_in_command(table: &Table) -> Option<Flaw<'_>>
-    ensures { IfSome result (IsFlawIn (table_view table.entry.now)) }
+    ensures stands { IfSome result (IsFlawIn (table_view table.entry.now)) }
+    ensures unknown { IfSome result (BlamesUnknown command_keys (table_view table.entry.now)) }
 {
     if let Some(key) = unknown_key(table, &["name", "context", "text", "separator"]) {
         return Some(Flaw::at(key, Found::Unknown, allowed::COMMAND_KEYS));
@@ -324,6 +328,7 @@ fn flaw_in_command(table: &Table) -> Option<Flaw<'_>>
 fn name_flaw(table: &Table) -> Option<Found<'_>>
     ensures none { (result ≡ None) ↔ IsSome (option_and_then not_empty (text_at (codes "name") (table_view table.entry.now))) }
     ensures stands { IfSome result (IsWhatStands (get_member (codes "name") (table_view table.entry.now))) }
+    ensures known { IfSome result IsOfKnownKey }
 {
     match value_at(table, "name") {
         None => Some(Found::Nothing),
@@ -335,6 +340,7 @@ fn name_flaw(table: &Table) -> Option<Found<'_>>
 fn context_flaw(table: &Table) -> Option<Found<'_>>
     ensures none { (result ≡ None) ↔ IsSome (context_from (get_member (codes "context") (table_view table.entry.now))) }
     ensures stands { IfSome result (IsWhatStands (get_member (codes "context") (table_view table.entry.now))) }
+    ensures known { IfSome result IsOfKnownKey }
 {
     let Some(value) = value_at(table, "context") else {
         return Some(Found::Nothing);
@@ -351,6 +357,7 @@ fn content_flaw(table: &Table) -> Option<Flaw<'_>>
         → ((result ≡ None) ↔ IsSome (item_in (table_view table.entry.now))) }
     ensures key { IfSome result (λ flaw. text_of flaw.inner ≡ Some (codes "text")) }
     ensures stands { IfSome result (λ flaw. IsWhatStands (get_member (codes "text") (table_view table.entry.now)) flaw.found) }
+    ensures known { IfSome result (λ flaw. IsOfKnownKey flaw.found) }
 {
     let is_separator = match value_at(table, "separator") {
         Some(value) => value.as_bool().unwrap_or(false),

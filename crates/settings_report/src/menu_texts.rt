@@ -1,5 +1,6 @@
 ghost use Rattle.std.specs.Prelude.{◌≡◌, ◌↔◌, IfOk, IsTrue};
-ghost use Rattle.settings_report.specs.MenuTexts.{HasCarriageReturn, TellsFlaw, flaw_words, goes_to_hub};
+ghost use Rattle.adc_line.specs.Lines.{reading};
+ghost use Rattle.settings_report.specs.MenuTexts.{HasCarriageReturn, TellsFlaw, flaw_words, goes_to_hub, is_sent};
 ghost use Rattle.settings_report.specs.Places.{EndsWithLineFeed};
 
 use adc_line::{Kind, Line, LineFault};
@@ -68,7 +69,14 @@ fn has_other_lines(alloc: Global, text: &str) -> Result<bool, AllocError> {
 
 fn is_message(alloc: Global, line: &str) -> Result<bool, AllocError> {
     let filled = filled(alloc, line)?;
-    match Line::parse(alloc, filled.as_bytes()) {
+    is_sent(alloc, filled.as_bytes())
+}
+
+/// Tests whether bytes are a message that a client may send.
+fn is_sent(alloc: Global, bytes: &[u8]) -> Result<bool, AllocError>
+    ensures { IfOk result (λ told. told ≡ is_sent (reading bytes.now)) }
+{
+    match Line::parse(alloc, bytes) {
         Ok(message) => Ok(is_from_client(message.kind())),
         Err(LineFault::Memory) => Err(AllocError),
         Err(_) => Ok(false),

@@ -102,7 +102,7 @@ fn those_are_woken_whom_a_call_concerned(rt: HostRuntime) {
 #[test]
 fn who_left_is_not_woken_alone(rt: HostRuntime) {
     let waiters = Waiters::new(&rt);
-    waiters.wakers.vacate(2);
+    let _ = waiters.wakers.vacate(2);
     waiters.all_wait(&rt);
     let _ = waiters.wakers.wake_one(sid(&rt, 3), 0, LINE, SECOND);
     waiters.are_woken(&rt, [false; COUNT]);
@@ -284,7 +284,7 @@ fn long_lines_on_the_way_count(rt: HostRuntime) {
     assert!(&rt; third.may_hand(10_000));
     // The second has gone.
     assert!(&rt; !first.may_hand(100_000));
-    waiters.wakers.vacate(1);
+    let _ = waiters.wakers.vacate(1);
     assert!(&rt; first.may_hand(100_000));
 }
 
@@ -308,7 +308,7 @@ fn who_gives_much_to_one_gives_way_and_nobody_else(rt: HostRuntime) {
     // By lines: 513 and some more, whose bytes and 64 for each are little.
     assert!(&rt; refused_at > 512 && refused_at < 530, "{refused_at}");
     assert!(&rt; other.may_hand(1_000));
-    waiters.wakers.vacate(2);
+    let _ = waiters.wakers.vacate(2);
     assert!(&rt; bell.may_hand(1_000));
 }
 
@@ -317,7 +317,7 @@ fn nobody_gives_way_to_a_free_slot(rt: HostRuntime) {
     let waiters = Waiters::new(&rt);
     let mut bell = SlotBell::new(&waiters.wakers, 0);
     gives(&rt, &waiters, 0, LITTLE + 1);
-    waiters.wakers.vacate(2);
+    let _ = waiters.wakers.vacate(2);
     says(&waiters, FAR_BEHIND.lines);
     for slot in [0, 1, 3] {
         takes_all(&waiters, slot);

@@ -6,7 +6,7 @@ use Rattle.settings_report.specs.declared.entries.Flaw.{Flaw}
 use Rattle.settings_report.proofs.Unknown.{unknown_stands}
 use Rattle.settings_report.proofs.entries.flaw_in_command.Goals as goal
 
-pub returns-in-Some : goal.returns-in-Some
-returns-in-Some c =
+pub returns-in-Some-clause-stands : goal.returns-in-Some-clause-stands
+returns-in-Some-clause-stands c =
     subst (λ (flaw : Flaw). IsFlawIn (table_view c.args.table.now) flaw) (sym c.at.ensures)
     (unknown_stands command_keys (table_view c.args.table.now) c.in-Some.key.now (sym c.in-Some.ensures))
