@@ -1,6 +1,6 @@
 //! The descriptors that the system lets the program have.
 
-ghost use Rattle.std.specs.Prelude.{◌≡◌, ◌+◌};
+ghost use Rattle.std.specs.Prelude.{◌≡◌, ◌≢◌, ◌+◌, pos, Some, None};
 
 use libc::types::rlimit;
 
@@ -21,7 +21,16 @@ pub fn descriptor_limit() -> Option<u64> {
         rlim_cur: 0,
         rlim_max: 0,
     };
-    match libc::getrlimit(libc::RLIMIT_NOFILE, &mut limit) {
+    let status = libc::getrlimit(libc::RLIMIT_NOFILE, &mut limit);
+    allowed_by(status, limit)
+}
+
+/// Gives the number that the system allows, by its answer: the limit that holds now, and not what it may be raised to.
+fn allowed_by(status: i32, limit: rlimit) -> Option<u64>
+    ensures allowed { status ≡ pos 0 → result ≡ Some limit.rlim_cur }
+    ensures unknown { status ≢ pos 0 → result ≡ None }
+{
+    match status {
         0 => Some(limit.rlim_cur),
         _ => None,
     }
