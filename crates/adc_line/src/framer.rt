@@ -66,6 +66,13 @@ impl Framer {
         }
     }
 
+    /// Gives the number of bytes that were fed and did not come out, with the line feeds among them.
+    pub fn unread(&self) -> usize
+        ensures { result ≡ length self.now }
+    {
+        self.buffer.len() - self.start
+    }
+
     /// Takes the next piece of the stream. After `Memory` it is as before.
     pub fn feed(&mut self, piece: &[u8]) -> Result<(), FrameFault>
         ensures ok { OnOk result (self.new ≡ self.old ++ piece.now) }

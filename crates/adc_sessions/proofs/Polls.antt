@@ -8,7 +8,7 @@ use Rattle.adc_sessions.specs.declared.ending.End.{End}
 use Rattle.adc_sessions.specs.declared.running.Turn.{Turn}
 use Rattle.adc_sessions.specs.declared.running.Turn.TheVariants.{Again, Rest, Over}
 use Rattle.adc_sessions.specs.Events.{StreamCall, PortCall, Event, wrote, handed, took, refused, on_stream, on_port, Runs, owes_by, fresh_by, after, GoesFirst, HearsNothing, IsFailedCall, HasNoFault, StopsAtFault, TakesFirst}
-use Rattle.adc_sessions.specs.Acts.{BellCall, SessionAct, did, on_bell, events_in, events_of, rung_after, may_after, reads_after, untold_after, full_after, TellsBell, IsReadAct}
+use Rattle.adc_sessions.specs.Acts.{BellCall, SessionAct, did, on_bell, events_in, events_of, rung_after, may_after, reads_after, untold_after, full_after, TellsBell, IsReadAct, AsksWith}
 use Rattle.adc_sessions.specs.Machine.{State, Step, Moves, EndsAs, FinishesIn}
 use Rattle.adc_sessions.specs.Polls.{Polled, most_kept, MayTakeAgain, WantsTake, Acts, ActsBy, ReadsNoMore, Rests, PollEnds, Turned, PausesIn}
 use Rattle.adc_sessions.proofs.Steps.{Runs-append, EndsWith-append, EndsAs-append, HasNoFault-append, StopsAtFault-append}
@@ -56,6 +56,7 @@ module _ {S P B : Type 0} (reports : S → StreamCall → S → Type 0) (calls :
     waits_for_bell = waits;
     asks_first = λ is. absurd is;
     tells_bell = none;
+    asks_with = tt {0};
   }
 
   -- a call by which something is read
@@ -85,6 +86,7 @@ module _ {S P B : Type 0} (reports : S → StreamCall → S → Type 0) (calls :
     waits_for_bell = λ was. cc;
     asks_first = λ is. free;
     tells_bell = none;
+    asks_with = tt {0};
   }
 
   pub did_take_more : (a b : Polled S P B) (count : ℕ) (bytes : List ℕ) (taken : Taken) → Step reports calls a.state (on_port (took count bytes taken)) b.state → b.bell ≡ a.bell → b.fresh ≡ false
@@ -106,6 +108,7 @@ module _ {S P B : Type 0} (reports : S → StreamCall → S → Type 0) (calls :
     waits_for_bell = λ was. tt {0};
     asks_first = λ is. absurd is;
     tells_bell = none;
+    asks_with = tt {0};
   }
 
   pub did_get_refused : (a b : Polled S P B) → Step reports calls a.state (on_port refused) b.state → b.bell ≡ a.bell → b.fresh ≡ false → b.rung ≡ a.rung → b.may_hand ≡ a.may_hand → b.reads_next ≡ a.reads_next
@@ -126,11 +129,13 @@ module _ {S P B : Type 0} (reports : S → StreamCall → S → Type 0) (calls :
     waits_for_bell = λ was. tt {0};
     asks_first = λ is. absurd is;
     tells_bell = none;
+    asks_with = tt {0};
   }
 
   pub did_on_bell : (a b : Polled S P B) (call : BellCall) → hears a.bell call b.bell → b.state ≡ a.state → b.fresh ≡ a.fresh → b.rung ≡ rung_after a.rung (on_bell call) → b.may_hand ≡ may_after a.may_hand (on_bell call)
-      → b.reads_next ≡ a.reads_next → b.untold ≡ untold_after a.untold (on_bell call) → b.full ≡ full_after a.full (on_bell call) → TellsBell a.untold a.full (on_bell call) → Acts reports calls hears a (on_bell call) b
-  did_on_bell a b call answered state fresh rung may reads untold full tells = record {
+      → b.reads_next ≡ a.reads_next → b.untold ≡ untold_after a.untold (on_bell call) → b.full ≡ full_after a.full (on_bell call) → TellsBell a.untold a.full (on_bell call) → AsksWith (length a.state.unread) (on_bell call)
+      → Acts reports calls hears a (on_bell call) b
+  did_on_bell a b call answered state fresh rung may reads untold full tells asks = record {
     acted = (answered, state);
     fresh_kept = fresh;
     rung_kept = rung;
@@ -146,6 +151,7 @@ module _ {S P B : Type 0} (reports : S → StreamCall → S → Type 0) (calls :
     waits_for_bell = λ was. tt {0};
     asks_first = λ is. absurd is;
     tells_bell = tells;
+    asks_with = asks;
   }
 
   pub no_call : (a : Polled S P B) → ActsBy reports calls hears 0 a a

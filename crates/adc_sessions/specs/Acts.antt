@@ -84,6 +84,13 @@ TellsBell untold full (on_bell (heard now)) = untold ≡ 0
 TellsBell untold full (on_bell (asked bytes says)) = untold ≡ 0
 TellsBell untold full (on_bell (noted bytes was_full)) = (bytes ≡ untold) × (was_full ≡ full)
 
+-- the bell is asked with this number of bytes, if it is asked
+abbrev pub AsksWith : ℕ → SessionAct → Type 0
+AsksWith unread (did event) = ⊤
+AsksWith unread (on_bell (heard now)) = ⊤
+AsksWith unread (on_bell (asked bytes says)) = bytes ≡ unread
+AsksWith unread (on_bell (noted bytes was_full)) = ⊤
+
 abbrev pub IsTake : SessionAct → Type 0
 IsTake (did (on_stream call)) = ⊥
 IsTake (did (on_port (handed line verdict))) = ⊥

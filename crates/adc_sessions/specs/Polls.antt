@@ -7,7 +7,7 @@ use Rattle.adc_sessions.specs.declared.ending.End.{End}
 use Rattle.adc_sessions.specs.declared.running.Turn.{Turn}
 use Rattle.adc_sessions.specs.declared.running.Turn.TheVariants.{Again, Rest, Over}
 use Rattle.adc_sessions.specs.Events.{StreamCall, PortCall, read, wrote, on_stream, Runs, IsCaughtUp, HasNoFault, StopsAtFault, EndsWith, TakesFirst}
-use Rattle.adc_sessions.specs.Acts.{BellCall, SessionAct, did, on_bell, events_of, fresh_after, rung_after, may_after, reads_after, untold_after, full_after, TellsBell, IsTake, IsHandOver, IsReadAct, MayBegin, TellsNothing}
+use Rattle.adc_sessions.specs.Acts.{BellCall, SessionAct, did, on_bell, events_of, fresh_after, rung_after, may_after, reads_after, untold_after, full_after, TellsBell, IsTake, IsHandOver, IsReadAct, MayBegin, TellsNothing, AsksWith}
 use Rattle.adc_sessions.specs.Machine.{State, Step, LastTook, EndsAs}
 
 -- what the session holds, and its bell; whether the port was not called yet in this poll; whether the bell had been rung when it was last heard in
@@ -87,6 +87,8 @@ module _ {S P B : Type 0} (reports : S → StreamCall → S → Type 0) (calls :
     pub asks_first : IsHandOver act → a.may_hand ≡ Some true
     -- the bell is told of each write, before anything else is done
     pub tells_bell : TellsBell a.untold a.full act
+    -- the bell is asked with the number of all bytes that were read and not handed over
+    pub asks_with : AsksWith (length a.state.unread) act
 
   -- exactly so many calls of the stream and the port
   abbrev pub ActsBy : ℕ → Polled S P B → Polled S P B → Type 0

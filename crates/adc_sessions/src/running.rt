@@ -66,8 +66,6 @@ pub(crate) struct Live<S, P, B> {
     may_hand: Option<bool>,
     // A line feed was read since the framer last had no whole line.
     may_have_line: bool,
-    // The number of bytes that were read and not handed over.
-    unread_bytes: usize,
     // The stream would take nothing when it was last written.
     is_full: bool,
     ghost in_range: { written ≤ length output.items },
@@ -110,7 +108,6 @@ impl<S: AsyncRead + AsyncWrite, P: Port, B: Bell> Live<S, P, B> {
             rung: None,
             may_hand: None,
             may_have_line: false,
-            unread_bytes: 0,
             is_full: false,
         }
     }
@@ -205,7 +202,7 @@ impl<S: AsyncRead + AsyncWrite, P: Port, B: Bell> Live<S, P, B> {
         if !self.may_have_line {
             return false;
         }
-        let may_hand = self.bell.may_hand(self.unread_bytes);
+        let may_hand = self.bell.may_hand(self.framer.unread());
         self.may_hand = Some(may_hand);
         !may_hand
     }
@@ -262,8 +259,6 @@ impl<S: AsyncRead + AsyncWrite, P: Port, B: Bell> Live<S, P, B> {
     {
         self.owes_take = true;
         self.may_hand = None;
-        let handed = self.line.len().saturating_add(1);
-        self.unread_bytes = self.unread_bytes.saturating_sub(handed);
         match self.port.line(self.alloc, &self.line) {
             Ok(Verdict::Kept) => Turn::Again,
             Ok(Verdict::Ended) => {

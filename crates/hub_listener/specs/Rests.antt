@@ -1,10 +1,11 @@
 -- When a listener rests, and until when.
-use Rattle.std.specs.Prelude.{◌≡◌, ◌≢◌, ◌+◌, Bool, true, false, Option, Some, None, MatchOption}
+use Rattle.std.specs.Prelude.{◌≡◌, ◌≢◌, ◌+◌, ◌⊎◌, Bool, true, false, Option, Some, None, IsSome, MatchOption}
 use Rattle.std.specs.IoError.{error_kind, raw_os_error}
 use Rattle.std.specs.Time.{instant_nanos, FitsClock}
 use Rattle.std.specs.declared.time.Instant.{Instant}
 use Rattle.std.specs.declared.io.Error.{Error}
 use Rattle.std.specs.declared.io.ErrorKind.TheVariants.{OutOfMemory}
+use Rattle.futures.specs.declared.task.context.Context.{Context}
 use Rattle.server_tasks.specs.Faults.{error_by}
 use Rattle.server_tasks.specs.declared.accept_error.AcceptError.{AcceptError}
 use Rattle.server_tasks.specs.declared.accept_error.AcceptError.TheVariants as faults
@@ -51,3 +52,7 @@ module _ {R L I : Type 0} where
   GoesOn ticks before faults.Room result after = Rests ticks before result after
   GoesOn ticks before faults.Gone result after = (result ≡ true) × (after ≡ before)
   GoesOn ticks before faults.Listener result after = (result ≡ false) × (after ≡ before)
+
+  -- who waits for a connection is woken by a call for help: it has left its waker for one, unless it rests or is polled again at once
+  abbrev pub MayBeCalled : Context → Listener R L I → Type 0
+  MayBeCalled cx listener = (rests listener ≡ true) ⊎ ((cx.is_woken ≡ true) ⊎ IsSome listener.offer)

@@ -1,4 +1,7 @@
-use crate::options::{SocketOption, set_option};
+ghost use Rattle.hub_listener.specs.Options.{Sets};
+ghost use Rattle.hub_listener.specs.declared.options.SocketOption.TheVariants.{SendBuffer, KeepAlive, KeepAliveIdle, KeepAliveInterval, KeepAliveCount, UserTimeout};
+
+use crate::options::{OptionCall, SocketOption, set_option};
 use std::io;
 use std::net::{Net, SocketAddr, SocketAddrV4};
 use std::os::fd::{AsRawFd, RawFd};
@@ -24,16 +27,37 @@ const GIVES_UP: u32 = 120_000;
 /// Listens at this address. It fails where the system does not give the address.
 pub fn listen<R: Net>(rt: &R, address: SocketAddrV4, handle: &Handle) -> io::Result<TcpListener> {
     let socket = mio::net::TcpListener::bind(rt, SocketAddr::V4(address))?;
-    set_options(socket.as_raw_fd());
+    let _ = set_options(socket.as_raw_fd());
     TcpListener::from_std(socket.into(), handle)
 }
 
+/// What the system was asked of a socket that listens.
+#[derive(Clone, Copy)]
+struct ListeningOptions {
+    buffer: OptionCall,
+    asks: OptionCall,
+    asks_after: OptionCall,
+    asks_every: OptionCall,
+    asks_at_most: OptionCall,
+    gives_up: OptionCall,
+}
+
 /// Sets the options of a socket that listens, from which accepted ones have them. Where the system refuses one they have the system's own.
-fn set_options(descriptor: RawFd) {
-    set_option(descriptor, SocketOption::SendBuffer, SEND_BUFFER);
-    set_option(descriptor, SocketOption::KeepAlive, 1);
-    set_option(descriptor, SocketOption::KeepAliveIdle, ASKS_AFTER);
-    set_option(descriptor, SocketOption::KeepAliveInterval, ASKS_EVERY);
-    set_option(descriptor, SocketOption::KeepAliveCount, ASKS);
-    set_option(descriptor, SocketOption::UserTimeout, GIVES_UP);
+/// A peer that is silent for a minute is asked whether it is there, and one that takes or answers nothing is given up after two.
+fn set_options(descriptor: RawFd) -> ListeningOptions
+    ensures buffer { Sets result.buffer descriptor SendBuffer 131_072 }
+    ensures asks { Sets result.asks descriptor KeepAlive 1 }
+    ensures asks_after { Sets result.asks_after descriptor KeepAliveIdle 60 }
+    ensures asks_every { Sets result.asks_every descriptor KeepAliveInterval 10 }
+    ensures asks_at_most { Sets result.asks_at_most descriptor KeepAliveCount 3 }
+    ensures gives_up { Sets result.gives_up descriptor UserTimeout 120_000 }
+{
+    ListeningOptions {
+        buffer: set_option(descriptor, SocketOption::SendBuffer, SEND_BUFFER),
+        asks: set_option(descriptor, SocketOption::KeepAlive, 1),
+        asks_after: set_option(descriptor, SocketOption::KeepAliveIdle, ASKS_AFTER),
+        asks_every: set_option(descriptor, SocketOption::KeepAliveInterval, ASKS_EVERY),
+        asks_at_most: set_option(descriptor, SocketOption::KeepAliveCount, ASKS),
+        gives_up: set_option(descriptor, SocketOption::UserTimeout, GIVES_UP),
+    }
 }

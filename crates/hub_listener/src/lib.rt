@@ -2,6 +2,8 @@
 #![tactic(auto)]
 
 mod bind;
+mod help;
+mod limits;
 mod listener;
 mod listens;
 mod moments;
@@ -12,6 +14,7 @@ mod start_lines;
 mod ticks;
 
 pub use bind::listen;
+pub use limits::DescriptorLimits;
 pub use listener::Listener;
 pub use listens::{Arrived, Listens};
 pub use moments::{CallMoment, Moments, moment};

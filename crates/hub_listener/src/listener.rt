@@ -2,8 +2,9 @@ ghost use Rattle.std.specs.Prelude.{◌≡◌, true, false, IfErr, IfOk, IsOk, O
 ghost use Rattle.futures.specs.Task.{IsArmed, Keeps};
 ghost use Rattle.futures.specs.Poll.{IfReady, OnPending};
 ghost use Rattle.hub_listener.specs.Arrivals.{OnNobody};
-ghost use Rattle.hub_listener.specs.Rests.{EndOfRest, HasBegun, IsAcceptFault, rests, socket_of, Rests, GoesOn};
+ghost use Rattle.hub_listener.specs.Rests.{EndOfRest, HasBegun, IsAcceptFault, rests, socket_of, Rests, GoesOn, MayBeCalled};
 
+use crate::help::HelpOffer;
 use crate::listens::{Arrived, Listens};
 use crate::rest::{Rest, RoomLook};
 use crate::ticks::Ticks;
@@ -31,6 +32,8 @@ pub struct Listener<'a, R, L, I> {
     warnings: &'a Warnings<L>,
     timer: Sleep,
     rest: Rest,
+    // What the last poll offered to those who may call for help.
+    offer: Option<HelpOffer>,
 }
 
 impl<'a, R, L, I: Drop> Drop for Listener<'a, R, L, I> {
@@ -42,10 +45,12 @@ impl<'a, R, L, I: Drop> Drop for Listener<'a, R, L, I> {
             warnings: _,
             timer,
             rest,
+            offer,
         } = self;
         drop(socket);
         drop(timer);
         drop(rest);
+        drop(offer);
     }
 }
 
@@ -68,6 +73,7 @@ impl<'a, R: Wait + WallClock + Ticks, L: Log, I> Listener<'a, R, L, I> {
             warnings,
             timer,
             rest: Rest::Never,
+            offer: None,
         }
     }
 
@@ -153,9 +159,11 @@ impl<R: Wait + WallClock + Ticks, L: Log, I: Listens> Listener<'_, R, L, I> {
         ensures came { IfReady result (λ r. IfOk r (λ it. I.comes (socket_of self.old) it (socket_of self.new))) }
         ensures waited { OnNobody result (I.waits (socket_of self.old) (socket_of self.new)) }
         ensures begun { HasBegun self.old → HasBegun self.new }
+        ensures helps { OnPending result (MayBeCalled cx.new self.new) }
         ensures registered { OnPending result (IsArmed cx.new) }
         ensures kept { Keeps cx.old cx.new }
     {
+        self.offer = None;
         for attempt in 0..ATTEMPTS {
             if self.end_rest(cx).is_err() {
                 return Poll::Pending;
@@ -168,7 +176,7 @@ impl<R: Wait + WallClock + Ticks, L: Log, I: Listens> Listener<'_, R, L, I> {
                     }
                 }
                 Poll::Pending => {
-                    self.wakers.wait_to_help(cx);
+                    self.offer = Some(HelpOffer::make(self.wakers, cx));
                     return Poll::Pending;
                 }
             }

@@ -1,4 +1,6 @@
 //! Options of sockets that the standard library does not set.
+ghost use Rattle.hub_listener.specs.Options.{Sets};
+
 use libc::net;
 use std::os::fd::RawFd;
 
@@ -19,8 +21,19 @@ pub(crate) enum SocketOption {
     UserTimeout,
 }
 
-/// Sets an option of the socket with this descriptor, and answers whether the system took the value.
-pub(crate) fn set_option(descriptor: RawFd, option: SocketOption, value: u32) -> bool {
+/// The word that the system was asked to set an option of a socket, and whether it took the value. Only the call that asked gives it.
+#[derive(Clone, Copy)]
+pub(crate) struct OptionCall {
+    descriptor: RawFd,
+    option: SocketOption,
+    value: u32,
+    is_taken: bool,
+}
+
+/// Sets an option of the socket with this descriptor, and gives the word of it.
+pub(crate) fn set_option(descriptor: RawFd, option: SocketOption, value: u32) -> OptionCall
+    ensures { Sets result descriptor option value }
+{
     let mut bytes = [0; 16];
     bytes[..4].copy_from_slice(&value.to_ne_bytes());
     // Each call names its option, so that the check can tell that the contract takes it.
@@ -50,5 +63,10 @@ pub(crate) fn set_option(descriptor: RawFd, option: SocketOption, value: u32) ->
             )
         },
     };
-    status == 0
+    OptionCall {
+        descriptor,
+        option,
+        value,
+        is_taken: status == 0,
+    }
 }

@@ -1,13 +1,14 @@
 // What is said when a server begins to listen.
-ghost use Rattle.std.specs.Prelude.{◌≡◌, ◌↔◌, ◌+◌, IsSome, Some, IfSome};
+ghost use Rattle.std.specs.Prelude.{◌≡◌, ◌↔◌, ◌+◌, ℕ, Option, IsSome, Some, IfSome};
 ghost use Rattle.log.specs.declared.level.Level.TheVariants.{Warn, Info};
 ghost use Rattle.hub_warnings.specs.Clocks.{IsToldBy};
 ghost use Rattle.hub_warnings.specs.Logged.{said_level, said_line};
 ghost use Rattle.hub_listener.specs.Descriptors.{AreFew, few_text};
 
+use crate::limits::DescriptorLimits;
 use hub_warnings::{Moment, Said, Start, WallClock, say};
 use log::{Level, Log};
-use server_tasks::{descriptor_limit, descriptors_needed};
+use server_tasks::descriptors_needed;
 use std::fmt;
 use std::fmt::{Display, Formatter};
 use std::net::SocketAddr;
@@ -42,18 +43,19 @@ impl Display for FewDescriptors {
 }
 
 /// Warns, on this log, where the system allows fewer descriptors than a server needs for so many users. Returns what was said.
-pub fn warn_of_descriptors<C: WallClock, L: Log>(
-    clock: &C,
+pub fn warn_of_descriptors<R: WallClock + DescriptorLimits, L: Log>(
+    rt: &R,
     log: &L,
     users: u32,
 ) -> Option<Said<FewDescriptors>>
+    ensures said { (allowed : Option ℕ) × R.allows rt.now allowed × (IsSome result ↔ AreFew users allowed) }
     ensures level { IfSome result (λ said. said_level said ≡ Warn) }
-    ensures moment { IfSome result (λ said. IsToldBy C.reads clock.now (said_line said).moment) }
+    ensures moment { IfSome result (λ said. IsToldBy R.reads rt.now (said_line said).moment) }
     ensures users { IfSome result (λ said. (said_line said).users ≡ users) }
     ensures needed { IfSome result (λ said. (said_line said).needed ≡ users + 32) }
     ensures few { IfSome result (λ said. AreFew users (Some (said_line said).allowed)) }
 {
-    warn_of_few(clock, log, users, descriptor_limit())
+    warn_of_few(rt, log, users, rt.allowed_descriptors())
 }
 
 /// Warns, on this log, where these are fewer descriptors than a server needs for so many users. Returns what was said.
@@ -86,23 +88,24 @@ fn warn_of_few<C: WallClock, L: Log>(
 
 /// Says on this log that a server of the settings with this path, for so many users, begins to listen at this address, and how many
 /// descriptors it needs and may have. Returns what was said.
-pub fn say_start<'a, C: WallClock, L: Log>(
-    clock: &C,
+pub fn say_start<'a, R: WallClock + DescriptorLimits, L: Log>(
+    rt: &R,
     log: &L,
     settings: &'a str,
     address: SocketAddr,
     users: u32,
 ) -> Said<Start<'a>>
     ensures level { said_level result ≡ Info }
-    ensures moment { IsToldBy C.reads clock.now (said_line result).moment }
+    ensures moment { IsToldBy R.reads rt.now (said_line result).moment }
     ensures settings { (said_line result).settings.now ≡ settings.now }
     ensures address { (said_line result).address ≡ address }
     ensures needed { (said_line result).needed ≡ users + 32 }
+    ensures allowed { R.allows rt.now (said_line result).allowed }
 {
     say(
         log,
         Level::Info,
-        start_line(clock, settings, address, users, descriptor_limit()),
+        start_line(rt, settings, address, users, rt.allowed_descriptors()),
     )
 }
 

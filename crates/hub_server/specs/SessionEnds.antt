@@ -36,6 +36,10 @@ cause_by ends.WriteFailed = Some causes.WriteFailed
 cause_by ends.TooLong = Some causes.TooLong
 cause_by ends.Memory = Some causes.OutOfMemory
 
+-- this was warned of: the address from which a connection comes, and the cause
+abbrev pub IsWarningOf : SocketAddrV4 → Cause → Said Warning → Type 0
+IsWarningOf peer cause said = ((said_line said).peer ≡ Some peer) × ((said_line said).cause ≡ cause)
+
 -- this was warned of a session's end: the address from which its connection comes, and the cause; nothing where it ended as it should
 abbrev pub IsWarnedOf : End → SocketAddrV4 → Option (Said Warning) → Type 0
 IsWarnedOf end peer said =

@@ -1,11 +1,13 @@
-ghost use Rattle.std.specs.Prelude.{◌≡◌, Some, IfOk, Err};
+ghost use Rattle.std.specs.Prelude.{◌≡◌, Some, IfOk, Err, IsSomeAnd};
 ghost use Rattle.server_tasks.specs.declared.places.PlacesDeed.TheVariants.{Put};
 ghost use Rattle.hub_listener.specs.Peers.{octets_of};
 ghost use Rattle.hub_server.specs.NamedHub.{home_in};
 ghost use Rattle.hub_server.specs.Owed.{challenge_of};
 ghost use Rattle.hub_server.specs.Peers.{HasComeFrom};
 ghost use Rattle.hub_server.specs.JoinRefusals.{WasRefused};
-ghost use Rattle.hub_server.specs.declared.no_place.NoPlace.TheVariants.{HubFull};
+ghost use Rattle.hub_server.specs.SessionEnds.{IsWarningOf};
+ghost use Rattle.hub_server.specs.declared.no_place.NoPlace.TheVariants.{HubFull, NoMemory};
+ghost use Rattle.hub_warnings.specs.declared.cause.Cause.TheVariants.{Refused};
 ghost use Rattle.hub_server.specs.Visits.{HasEntered};
 
 use crate::accepted::AcceptedConnection;
@@ -22,7 +24,7 @@ use crate::told_full::say_full;
 use adc_sessions::{Peer, Starter, Stream};
 use hub_listener::{Arrived, Moments, Socket};
 use hub_shared::Pass;
-use hub_warnings::{Cause, Warnings};
+use hub_warnings::{Cause, Said, Warning, Warnings};
 use log::Log;
 use server_tasks::PlacesWord;
 use session_hash::SessionHash;
@@ -141,11 +143,13 @@ impl<
         word
     }
 
-    /// Ends a connection for which there is no place: it is told so, or let go where memory was refused.
-    fn turn_away(&self, why: NoPlace<B, S, H>, arrived: Arrived<S, T>)
+    /// Ends a connection for which there is no place: it is told so, or let go where memory was refused. Returns what was warned
+    /// of it.
+    fn turn_away(&self, why: NoPlace<B, S, H>, arrived: Arrived<S, T>) -> Option<Said<Warning>>
         requires began { T.began arrived.ticket ≡ arrived.socket }
         requires refused { (free : _) → why ≡ HubFull free
             → WasRefused (T.peer arrived.ticket) (challenge_of (T.terms arrived.ticket).seed.value (T.number arrived.ticket)) free.visitor }
+        ensures warned { (free word : _) → why ≡ NoMemory free word → IsSomeAnd result (IsWarningOf arrived.address Refused) }
     {
         let server = self.server;
         let Arrived {
@@ -153,24 +157,27 @@ impl<
             mut socket,
             address,
         } = arrived;
-        match why {
+        let said = match why {
             NoPlace::NoMemory(free, no_memory) => {
                 server.free(free);
                 ticket.lost(socket, no_memory);
-                self.warnings.warn(server.rt, Some(address), Cause::Refused);
+                Some(self.warnings.warn(server.rt, Some(address), Cause::Refused))
             }
             NoPlace::HubFull(free) => {
                 let why = Refusal::HubFull(Snapshot::of(&free.visitor));
                 server.free(free);
                 let told = say_full(&mut socket);
                 server.linger(ticket.refused(socket, why, told));
+                None
             }
             NoPlace::NoSlot(no_slot) => {
                 let told = say_full(&mut socket);
                 server.linger(ticket.refused(socket, Refusal::NoSlot(no_slot), told));
+                None
             }
-        }
+        };
         server.shared.wakers.make_room();
+        said
     }
 }
 
@@ -220,7 +227,9 @@ impl<
                 };
                 let _ = self.hand_over(accepted);
             }
-            Err(why) => self.turn_away(why, arrived),
+            Err(why) => {
+                let _ = self.turn_away(why, arrived);
+            }
         }
     }
 }

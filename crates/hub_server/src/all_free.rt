@@ -3,21 +3,21 @@ ghost use Rattle.server_tasks.specs.declared.places.PlacesDeed.TheVariants.{Empt
 ghost use Rattle.hub_server.specs.NamedHub.{home_in};
 ghost use Rattle.hub_server.specs.Visits.{HasVisited};
 
-use crate::free_slot::{FreeSlot, OfHub};
+use crate::free_slot::{FreeSlot, OfHub, VacantSlot};
 use adc_sessions::Stream;
 use hub_shared::Visitor;
 use server_tasks::PlacesWord;
 
 /// The slots that are free once their server is over: they end, and their visitors are left.
 pub(crate) struct AllFree<B: OfHub<H, S>, S: Stream, H> {
-    free: Vec<FreeSlot<B, S, H>>,
+    free: Vec<VacantSlot<B, S, H>>,
     word: PlacesWord,
     ghost emptied: { word ≡ Emptied },
 }
 
 impl<B: OfHub<H, S>, S: Stream, H> AllFree<B, S, H> {
     /// Makes these of a server of which nothing is left.
-    pub(crate) fn new(free: Vec<FreeSlot<B, S, H>>, word: PlacesWord) -> AllFree<B, S, H>
+    pub(crate) fn new(free: Vec<VacantSlot<B, S, H>>, word: PlacesWord) -> AllFree<B, S, H>
         requires emptied { word ≡ Emptied }
     {
         AllFree { free, word }
@@ -30,12 +30,12 @@ impl<B: OfHub<H, S>, S: Stream, H> AllFree<B, S, H> {
         ensures fewer { IfSome result (λ _. length self.new.free.items + 1 ≡ length self.old.free.items) }
     {
         match self.free.pop() {
-            Some(free) => {
+            Some(vacant) => {
                 let FreeSlot {
                     visitor,
                     slot,
                     of: _,
-                } = free;
+                } = vacant.into_free();
                 slot.end(&self.word);
                 Some(visitor)
             }
@@ -47,14 +47,12 @@ impl<B: OfHub<H, S>, S: Stream, H> AllFree<B, S, H> {
 impl<B: OfHub<H, S>, S: Stream, H> Drop for AllFree<B, S, H> {
     fn drop(self) {
         let AllFree { mut free, word } = self;
-        while let Some(
-            FreeSlot {
+        while let Some(vacant) = free.pop() {
+            let FreeSlot {
                 visitor,
                 slot,
                 of: _,
-            },
-        ) = free.pop()
-        {
+            } = vacant.into_free();
             drop(visitor);
             slot.end(&word);
         }

@@ -1,10 +1,13 @@
-ghost use Rattle.std.specs.Prelude.{◌≡◌, Some};
+ghost use Rattle.std.specs.Prelude.{◌≡◌, Some, false, IfOk};
 ghost use Rattle.hub_server.specs.NamedHub.{home_in};
 ghost use Rattle.hub_server.specs.Visits.{HasVisited};
+ghost use Rattle.server_tasks.specs.declared.slots.SlotEvent.TheVariants.{Cleared};
 
 use crate::slot::Slot;
 use adc_sessions::Stream;
+use futures::spin::GaveUp;
 use hub_shared::Visitor;
+use server_tasks::Receipt;
 use session_hash::SessionHash;
 use std::marker::{Brand, PhantomData};
 use tokio::io::{AsyncRead, AsyncWrite};
@@ -62,6 +65,32 @@ impl<B: OfHub<H, S>, S: AsyncRead + AsyncWrite, H> FreeSlot<B, S, H> {
             slot,
             of: PhantomData,
         }
+    }
+}
+
+/// A free slot that waits for its next connection, and the word that it was taken from the session before.
+pub(crate) struct VacantSlot<B: OfHub<H, S>, S: Stream, H> {
+    free: FreeSlot<B, S, H>,
+    vacated: Result<Receipt, GaveUp>,
+    ghost taken: { ∥ IfOk vacated (λ deed. deed ≡ Cleared free.slot false) ∥₁ },
+}
+
+impl<B: OfHub<H, S>, S: Stream, H> VacantSlot<B, S, H> {
+    /// Makes it of a slot that was taken from its session, as this word says.
+    pub(crate) fn new(
+        free: FreeSlot<B, S, H>,
+        vacated: Result<Receipt, GaveUp>,
+    ) -> VacantSlot<B, S, H>
+        requires taken { IfOk vacated (λ deed. deed ≡ Cleared free.slot false) }
+    {
+        VacantSlot { free, vacated }
+    }
+
+    /// Gives the slot to a connection.
+    pub(crate) fn into_free(self) -> FreeSlot<B, S, H> {
+        let VacantSlot { free, vacated } = self;
+        drop(vacated);
+        free
     }
 }
 

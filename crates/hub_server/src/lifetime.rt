@@ -1,4 +1,4 @@
-ghost use Rattle.std.specs.Prelude.{◌≡◌, ◌≤◌, [], Some, ℕ, List, IfOk, IfErr, OnOk};
+ghost use Rattle.std.specs.Prelude.{◌≡◌, ◌≤◌, ◌+◌, [], Some, ℕ, List, IfOk, IfErr, OnOk};
 ghost use Rattle.std.specs.List.{All};
 ghost use Rattle.one_history.specs.States.{Home};
 ghost use Rattle.hub_shared.specs.declared.hub_key.HubKey.{HubKey};
@@ -166,6 +166,7 @@ where
 
 /// Gives the number of slots: one more joins where the hub is full, to be told so.
 pub(crate) fn slot_count(settings: &Settings) -> usize
+    ensures each { result ≡ settings.now.hub.plain.max_users + 1 }
     ensures few { result ≤ 65536 }
 {
     settings.setup().max_users() as usize + 1

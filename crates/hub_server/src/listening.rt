@@ -149,7 +149,7 @@ where
     ensures ending { IfErr result IsServerFault }
 {
     match workers.run_all(server.rt, tasks) {
-        Ok(()) => {
+        Ok(_ended) => {
             let (asked, fault) = server.shared.fault();
             ending_by(fault)?;
             Ok(asked)

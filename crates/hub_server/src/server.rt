@@ -4,7 +4,7 @@ ghost use Rattle.hub_server.specs.ServerEnd.{IsServerFault};
 use crate::accepted::AcceptedConnection;
 use crate::all_free::AllFree;
 use crate::cut_off::CutOff;
-use crate::free_slot::{FreeSlot, OfHub, Stop};
+use crate::free_slot::{FreeSlot, OfHub, Stop, VacantSlot};
 use crate::slot::Slot;
 use crate::ticket::Ticket;
 use adc_sessions::Stream;
@@ -37,7 +37,7 @@ pub struct Server<
     pub(crate) setup: &'a Setup,
     pub(crate) shared: Shared<AcceptedConnection<B, S, T, H, C>, S>,
     // Those without a connection. There is room for all, so that coming back takes no memory.
-    free: Mutex<Vec<FreeSlot<B, S, H>>>,
+    free: Mutex<Vec<VacantSlot<B, S, H>>>,
     // The word that as many connections came as were to be accepted, once that is so.
     stop: Mutex<Option<Stop<B, S, H>>>,
     pub(crate) ghost set: { hub.now.setup ≡ setup.now },
@@ -119,17 +119,16 @@ impl<
 
     /// Takes a slot back that has no connection any more.
     pub(crate) fn free(&self, free: FreeSlot<B, S, H>) {
-        let _ = self.shared.wakers.vacate(free.slot.number());
-        match self.keep(free) {
+        let vacated = self.shared.wakers.vacate(free.slot.number());
+        match self.keep(VacantSlot::new(free, vacated)) {
             None => {}
             // It does not come to this, since there is room for all.
-            Some(
-                FreeSlot {
+            Some(vacant) => {
+                let FreeSlot {
                     visitor,
                     slot,
                     of: _,
-                },
-            ) => {
+                } = vacant.into_free();
                 drop(visitor);
                 slot.give_up(self.shared.close(self.rt, Some(ServerFault::Start)));
             }
@@ -137,8 +136,8 @@ impl<
     }
 
     /// Keeps a slot that is free, or gives it back where there is no room.
-    fn keep(&self, free: FreeSlot<B, S, H>) -> Option<FreeSlot<B, S, H>> {
-        match self.free.lock(self.rt).push(free) {
+    fn keep(&self, vacant: VacantSlot<B, S, H>) -> Option<VacantSlot<B, S, H>> {
+        match self.free.lock(self.rt).push(vacant) {
             Ok(()) => None,
             Err(refused) => Some(refused.value),
         }
@@ -232,12 +231,12 @@ impl NoSlot {
 
 /// Takes the last of these slots, or the word that there is none.
 fn last_of<B: OfHub<H, S>, S: AsyncRead + AsyncWrite, H>(
-    free: &mut Vec<FreeSlot<B, S, H>>,
+    free: &mut Vec<VacantSlot<B, S, H>>,
 ) -> Result<FreeSlot<B, S, H>, NoSlot>
     ensures none { IfErr result (λ _. free.old.items ≡ []) }
 {
     match free.pop() {
-        Some(slot) => Ok(slot),
+        Some(vacant) => Ok(vacant.into_free()),
         None => Err(NoSlot(())),
     }
 }

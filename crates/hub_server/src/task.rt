@@ -24,7 +24,7 @@ use futures::task::{Context, Poll};
 use hub_listener::{Moments, Socket};
 use hub_warnings::{Cause, Said, Warning, Warnings};
 use log::Log;
-use server_tasks::{OneEnded, PlacesWord, ServerFault, Ticker};
+use server_tasks::{OneEnded, Opened, PlacesWord, ServerFault, Ticker};
 use session_hash::SessionHash;
 use std::alloc::AllocGlobal;
 use std::net::SocketAddrV4;
@@ -74,7 +74,8 @@ pub(crate) struct AcceptTask<
 > {
     accept: Accepts<'a, B, S, T, H, R, C, L, I>,
     server: &'a Server<'a, B, S, T, H, R, C>,
-    is_open: bool,
+    // The word that the server is open, once it is.
+    opened: Option<Opened>,
     ghost stops: { StopsWhen B.stops I.terms I.accepted (socket_of (incoming_of accept).listener) (left_of accept) },
 }
 
@@ -93,7 +94,7 @@ impl<
         let AcceptTask {
             accept,
             server: _,
-            is_open: _,
+            opened: _,
         } = self;
         drop(accept);
     }
@@ -147,7 +148,7 @@ impl<
         AcceptTask {
             accept,
             server,
-            is_open: false,
+            opened: None,
         }
     }
 
@@ -156,13 +157,23 @@ impl<
         ensures registered { OnPending result (IsArmed cx.new) }
         ensures kept { Keeps cx.old cx.new }
     {
-        if !self.is_open {
-            match self.server.shared.poll_open(cx) {
+        let opened = match self.opened {
+            Some(opened) => opened,
+            None => match self.server.shared.poll_open(cx) {
                 Poll::Pending => return Poll::Pending,
-                Poll::Ready(false) => return Poll::Ready(()),
-                Poll::Ready(true) => self.is_open = true,
-            }
-        }
+                Poll::Ready(None) => return Poll::Ready(()),
+                Poll::Ready(Some(opened)) => opened,
+            },
+        };
+        self.opened = Some(opened);
+        self.accept_in(opened, cx)
+    }
+
+    /// Accepts connections in a server that is open.
+    fn accept_in(&mut self, _opened: Opened, cx: &mut Context<'_>) -> Poll<()>
+        ensures registered { OnPending result (IsArmed cx.new) }
+        ensures kept { Keeps cx.old cx.new }
+    {
         match self.accept.poll(cx) {
             Poll::Pending => Poll::Pending,
             Poll::Ready(AcceptEnd::Stopped) => {

@@ -105,7 +105,7 @@ impl<H: SessionHash> Hub<H> {
             }
             Err(refused) => {
                 pass.touched = Touched::Nobody;
-                self.lock.release(&mut pass.seat, core);
+                let _ = self.lock.release(&mut pass.seat, core);
                 Err(refused)
             }
         }
@@ -143,7 +143,7 @@ impl<H: SessionHash> Hub<H> {
             }
             Err(refused) => {
                 pass.touched = Touched::Nobody;
-                self.lock.release(&mut pass.seat, core);
+                let _ = self.lock.release(&mut pass.seat, core);
                 Err(refused)
             }
         }
@@ -160,7 +160,7 @@ impl<H: SessionHash> Hub<H> {
         let core = self.lock.acquire(rt, &mut pass.seat);
         let look = core.look(pass.connection);
         pass.touched = Touched::Nobody;
-        self.lock.release(&mut pass.seat, core);
+        let _ = self.lock.release(&mut pass.seat, core);
         look
     }
 }
@@ -205,5 +205,5 @@ pub(crate) fn enter<B: Names, H: SessionHash, N>(
     ensures own { entries_of seat.new.number seat.new.seen ≡ seat.new.mine }
 {
     let _ = note;
-    lock.release_with::<Entered<B>>(seat, core);
+    let _ = lock.release_with::<Entered<B>>(seat, core);
 }

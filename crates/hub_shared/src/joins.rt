@@ -41,7 +41,7 @@ impl<H: SessionHash> Hub<H> {
         // A join concerns nobody.
         let touched = Touched::Nobody;
         if let Err(JoinRefused::Memory) = answer {
-            self.lock.release(&mut seat, core);
+            let _ = self.lock.release(&mut seat, core);
             return Err((JoinRefused::Memory, Visitor { seat, touched }));
         }
         let note = (peer, challenge, now, answer);

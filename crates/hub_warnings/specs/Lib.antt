@@ -1,5 +1,6 @@
 pub mod Clocks
 pub mod Logged
+pub mod Outcomes
 pub mod Queued
 pub mod Texts
 pub mod Waiting

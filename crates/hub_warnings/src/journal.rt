@@ -14,13 +14,13 @@ use std::sync::{Mutex, Wait};
 /// Writes the message of each record as a line to `W`, under a lock, so that lines of threads do not mix. For the journal of
 /// systemd a line begins with its priority, as `<4>`. A write that fails is dropped, and a line that stopped part way is
 /// ended before the next.
-pub struct Journal<R: Wait, W> {
+pub struct Journal<R, W> {
     rt: R,
     has_priorities: bool,
     out: Mutex<Out<W>>,
 }
 
-impl<R: Wait + Drop, W: Drop> Drop for Journal<R, W> {
+impl<R: Drop, W: Drop> Drop for Journal<R, W> {
     fn drop(self) {
         let Journal {
             rt,
@@ -51,6 +51,13 @@ impl<R: Wait, W: Write> Journal<R, W> {
             out: Mutex::new(Out::new(writer)),
         }
     }
+
+    // Each of its lines has a priority, or none has.
+    fn note(&self, word: LineWord)
+        requires { word.has_priority ≡ is_prioritised self.now }
+    {
+        let LineWord { has_priority: _ } = word;
+    }
 }
 
 impl<W: Write> Out<W> {
@@ -65,18 +72,32 @@ impl<W: Write> Out<W> {
     }
 
     // A line that was written whole stands behind the end of the one that was torn.
-    fn line<D: Display, K, S>(&mut self, has_priorities: bool, entry: &Record<'_, D, K, S>)
+    fn line<D: Display, K, S>(
+        &mut self,
+        has_priorities: bool,
+        entry: &Record<'_, D, K, S>,
+    ) -> LineWord
+        ensures word { result.has_priority ≡ has_priorities }
         ensures whole { self.new.is_torn ≡ false → IfSome (D.output (record_args entry.now)) (λ words.
             Appends (W.contents self.old.writer) (W.contents self.new.writer)
             (journal_line self.old.is_torn (priority_if has_priorities (level_of entry.now)) words)) }
     {
+        let word = LineWord {
+            has_priority: has_priorities,
+        };
         if self.is_torn && self.writer.write_all(b"\n").is_err() {
-            return;
+            return word;
         }
         let priority = priority(has_priorities, entry.level());
         let text = entry.args();
         self.is_torn = writeln!(self.writer, "{priority}{text}").is_err();
+        word
     }
+}
+
+// The word that a writer was given a line, with its priority or without. Nobody may drop it, and only the journal takes it.
+struct LineWord {
+    has_priority: bool,
 }
 
 /// Gives what stands before a line of this level, where priorities are asked for: as in syslog (RFC 5424, section 6.2.1).
@@ -105,7 +126,8 @@ impl<R: Wait, W: Write> Log for Journal<R, W> {
     }
 
     fn log<D: Display, K: Source, S: Spans>(&self, record: &Record<'_, D, K, S>) {
-        self.out.lock(&self.rt).line(self.has_priorities, record);
+        let word = self.out.lock(&self.rt).line(self.has_priorities, record);
+        self.note(word);
     }
 
     fn flush(&self) {

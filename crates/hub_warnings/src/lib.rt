@@ -7,6 +7,7 @@ mod clock;
 mod journal;
 mod lines;
 mod moment;
+mod outcome;
 mod queued;
 mod queued_line;
 mod said;

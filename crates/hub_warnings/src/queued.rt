@@ -1,7 +1,9 @@
 //! A queue of lines to a writer that may wait for long, such as a terminal that is stopped.
-ghost use Rattle.std.specs.Prelude.{◌≡◌, ◌≢◌, ◌∷◌, [], length, take, true, false, Ok, IsOk, IsNone, IsTrue, ◌↔◌, IfOk, OnOk};
+ghost use Rattle.std.specs.Prelude.{◌≡◌, ◌≢◌, ◌∷◌, [], length, take, true, false, None, Ok, IsOk, IsNone, IsSomeAnd, IsTrue, ◌↔◌, IfOk, OnOk};
 ghost use Rattle.std.specs.Io.{WritesAtMost};
 ghost use Rattle.std.specs.Io.KnownBytes.{Appends};
+ghost use Rattle.std.specs.Duration.{as_nanos};
+ghost use Rattle.hub_warnings.specs.Outcomes.{IsAccounted};
 ghost use Rattle.hub_warnings.specs.Queued.{open_after, dropped_line, TellsDropped, AppendsAll, AppendsLine, is_line};
 ghost use Rattle.hub_warnings.specs.Waiting.{open_bytes, is_part_lost, Holds, is_for_journal};
 
@@ -9,6 +11,7 @@ use crate::clock::WallClock;
 use crate::journal::priority;
 use crate::lines::Dropped;
 use crate::moment::Moment;
+use crate::outcome::{Counted, Outcome, Sent};
 use crate::queued_line::{Ended, OpenLine, QueuedLine};
 use crossbeam_channel::{Receiver, Sender, bounded};
 use log::Level;
@@ -81,25 +84,27 @@ pub fn queue<R: Wait + Drop>(
 }
 
 impl<R: Wait + Drop> QueueWriter<R> {
-    /// Takes the next byte of what is written. A line that it ends goes into the queue.
-    fn put(&mut self, byte: u8)
+    /// Takes the next byte of what is written. A line that it ends goes into the queue, or is counted. Returns what became of it.
+    fn put(&mut self, byte: u8) -> Option<Outcome>
+        ensures goes_on { byte ≢ 10 → IsNone result }
+        ensures ends { byte ≡ 10 → IsSomeAnd result IsAccounted }
         ensures lost { is_part_lost self.old ≡ true → byte ≢ 10 → is_part_lost self.new ≡ true }
         ensures bytes { Holds self.new (open_after (open_bytes self.old) (byte ∷ [])) }
     {
-        if let Some(ended) = self.line.take(self.alloc, byte)
-            && !self.is_queued(ended)
-        {
-            self.dropped.fetch_add(1, Ordering::SeqCst);
+        let ended = self.line.take(self.alloc, byte)?;
+        match self.send(ended) {
+            Some(sent) => Some(Outcome::Sent(sent)),
+            None => Some(Outcome::Dropped(Counted::add(&self.dropped, 1))),
         }
     }
 
-    /// Puts a line into the queue, and answers whether it was whole and there was room.
-    fn is_queued(&self, ended: Ended) -> bool
-        ensures { ended ≡ Ended.Lost → result ≡ false }
+    /// Puts a line into the queue, and gives the word of that if it was whole and there was room.
+    fn send(&self, ended: Ended) -> Option<Sent>
+        ensures { ended ≡ Ended.Lost → result ≡ None }
     {
         match ended {
-            Ended::Whole(line) => self.lines.try_send(&self.rt, line).is_ok(),
-            Ended::Lost => false,
+            Ended::Whole(line) => Sent::by(self.lines.try_send(&self.rt, line)),
+            Ended::Lost => None,
         }
     }
 }
@@ -111,7 +116,7 @@ impl<R: Wait + Drop> Write for QueueWriter<R> {
         ensures line { Holds self.new (open_after (open_bytes self.old) buf.now) }
     {
         for byte in buf {
-            self.put(*byte);
+            let _ = self.put(*byte);
         }
         Ok(buf.len())
     }
@@ -197,8 +202,12 @@ fn write_dropped<W: Write>(writer: &mut W, has_priorities: bool, dropped: Droppe
 }
 
 impl QueueEnd {
-    /// Waits until all is written, once the writer is gone, but not for a second.
-    pub fn wait<R: Wait + Clock>(self, rt: &R) {
-        let _ = self.done.recv_timeout(rt, Duration::from_millis(END));
+    /// Waits until all is written, once the writer is gone, but not for a second. Returns for how long it may have waited.
+    pub fn wait<R: Wait + Clock>(self, rt: &R) -> Duration
+        ensures { as_nanos result ≡ 900_000_000 }
+    {
+        let limit = Duration::from_millis(END);
+        let _ = self.done.recv_timeout(rt, limit);
+        limit
     }
 }

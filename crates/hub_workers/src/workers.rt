@@ -1,6 +1,7 @@
 ghost use Rattle.std.specs.Prelude.{◌≡◌, ◌<◌, IfOk};
 ghost use Rattle.futures.specs.Runs.{AllItems};
 
+use crate::ended::TasksEnded;
 use futures::{Future, Stream};
 use std::alloc::AllocGlobal;
 use std::io;
@@ -81,9 +82,9 @@ impl Workers {
         self.handle().time()
     }
 
-    /// Runs each future that `futures` gives as a task, until that gives no more and each task is done. It fails where memory or
-    /// threads are wanting; then the tasks so far still run to their end.
-    pub fn run_all<R, S, F>(&mut self, rt: &R, futures: S) -> io::Result<()>
+    /// Runs each future that `futures` gives as a task, until that gives no more and each task is done, and gives the word of that. It
+    /// fails where memory or threads are wanting; then the tasks so far still run to their end.
+    pub fn run_all<R, S, F>(&mut self, rt: &R, futures: S) -> io::Result<TasksEnded>
     where
         R: Wait + Threads + Clock + RandomSource + AllocGlobal + Sync,
         S: Stream<Item = F>,
@@ -92,8 +93,8 @@ impl Workers {
         requires items { AllItems (S.yields futures) F.can_poll }
     {
         match &mut self.threading {
-            Threading::One(runtime) => runtime.run_all(rt, futures),
-            Threading::Many(runtime) => runtime.run_all(rt, futures),
+            Threading::One(runtime) => TasksEnded::by(runtime.run_all(rt, futures)),
+            Threading::Many(runtime) => TasksEnded::by(runtime.run_all(rt, futures)),
         }
     }
 }

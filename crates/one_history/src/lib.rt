@@ -6,13 +6,16 @@ mod host;
 mod lock;
 mod meet;
 mod open;
+mod released;
 mod rule;
 mod seat;
 mod steps;
 mod view;
+mod word_taken;
 
 pub use close::NotAlone;
 pub use host::Host;
 pub use lock::Lock;
+pub use released::Released;
 pub use rule::{MadeEntry, Recorded};
 pub use seat::{Seat, Seated};

@@ -1,14 +1,16 @@
-ghost use Rattle.std.specs.Prelude.{◌≡◌, true, false, ◌∷◌, ◌<◌, [], length, MatchBool, Some, IsSome};
+ghost use Rattle.std.specs.Prelude.{◌≡◌, true, false, ◌∷◌, ◌<◌, [], length, MatchBool, OnOk, OnErr, Some};
 ghost use Rattle.one_history.specs.Histories.{Begins, entries};
 ghost use Rattle.one_history.specs.States.{IsIdleAt, IsHolderAt};
 ghost use Rattle.one_history.specs.Seats.{IsOne, IsIdle, IsReady, IsUnchanged};
 ghost use Rattle.one_history.specs.Rule.{Fair};
 ghost use Rattle.one_history.specs.Plays.{Seizes, with_entry, without_entry};
 
+use crate::released::{Released, wake_after};
 use crate::rule::{MadeEntry, OneHistory, Recorded};
 use crate::seat::Seat;
 use crate::steps::{GiveStep, PutsBack, Takes};
 use crate::view::SeatView;
+use crate::word_taken::WordTaken;
 use atomic_table::{Shared, Table};
 use std::alloc::Global;
 use std::hint::spin_loop;
@@ -51,9 +53,9 @@ impl<T: Recorded<E, A>, E, A> Lock<T, E, A> {
         value
     }
 
-    /// Gives the value back with one more entry, which is the caller's own. The history ends with it.
-    /// The proof of a call picks the entry, at `Brand` for `B`.
-    pub fn release_with<B: MadeEntry<E>>(&self, seat: &mut Seat<T, E, A>, value: T)
+    /// Gives the value back with one more entry, which is the caller's own, and gives the word that who slept was woken. The
+    /// history ends with the entry. The proof of a call picks it, at `Brand` for `B`.
+    pub fn release_with<B: MadeEntry<E>>(&self, seat: &mut Seat<T, E, A>, value: T) -> Released
         requires holds { IsHolderAt self.now seat.old }
         requires mine { T.by B.entry ≡ seat.old.number }
         requires legal { T.legal self.now.about (B.entry ∷ seat.old.seen) }
@@ -66,11 +68,11 @@ impl<T: Recorded<E, A>, E, A> Lock<T, E, A> {
         let board = &self.table.shared;
         let before = board.exchange(&mut seat.place, 0, Some(value));
         let None = before else { unreachable!() };
-        release_with::<B, T, E, A>(board, &mut seat.place);
+        release_with::<B, T, E, A>(board, &mut seat.place)
     }
 
-    /// Gives the value back as it stood, with no entry.
-    pub fn release(&self, seat: &mut Seat<T, E, A>, value: T)
+    /// Gives the value back as it stood, with no entry, and gives the word that who slept was woken.
+    pub fn release(&self, seat: &mut Seat<T, E, A>, value: T) -> Released
         requires holds { IsHolderAt self.now seat.old }
         requires stands { T.stands self.now.about value seat.old.seen }
         ensures { seat.new ≡ record seat.old { holds = false } }
@@ -78,7 +80,7 @@ impl<T: Recorded<E, A>, E, A> Lock<T, E, A> {
         let board = &self.table.shared;
         let before = board.exchange(&mut seat.place, 0, Some(value));
         let None = before else { unreachable!() };
-        release(board, &mut seat.place);
+        release(board, &mut seat.place)
     }
 
     pub(crate) fn into_table(self) -> Table<Option<T>, SeatView<E, A>, A, OneHistory, Global>
@@ -107,7 +109,7 @@ pub(crate) const FREE: u64 = 0;
 
 const TAKEN: u64 = 1;
 
-const AWAITED: u64 = 2;
+pub(crate) const AWAITED: u64 = 2;
 
 // The looks of a thread at the word before it sleeps. Most holders are done sooner than a sleep
 // and a wake take.
@@ -130,10 +132,10 @@ pub(crate) fn seize<T: Recorded<E, A>, E, A, R: Wait>(
         return;
     }
     for _ in rt.forever() {
-        if claim(board, place) {
-            return;
+        match claim(board, place) {
+            Ok(()) => return,
+            Err(taken) => taken.sleep(rt, board),
         }
-        board.park(rt, 0, AWAITED as u32);
     }
     unreachable!()
 }
@@ -173,24 +175,31 @@ fn attempt<T: Recorded<E, A>, E, A>(board: &Board<T, E, A>, place: &mut LockSeat
     board.compare_exchange::<Takes>(place, 0, FREE, TAKEN) == FREE
 }
 
-// Takes the word if it is free. Where it is taken, whoever gives it back is told that somebody waits.
-fn claim<T: Recorded<E, A>, E, A>(board: &Board<T, E, A>, place: &mut LockSeat<T, E, A>) -> bool
+// Takes the word if it is free. Where it is taken, whoever gives it back is told that somebody sleeps, as the caller has to.
+fn claim<T: Recorded<E, A>, E, A>(
+    board: &Board<T, E, A>,
+    place: &mut LockSeat<T, E, A>,
+) -> Result<(), WordTaken>
     requires one { IsOne board.now.table_id }
     requires here { place.old.table_id ≡ board.now.table_id }
     requires idle { IsIdle place.old.me }
     requires caller { 0 < length place.old.me.0.claims }
     ensures same { (place.new.table_id ≡ place.old.table_id) × (place.new.id ≡ place.old.id) }
-    ensures seized { let seized = Seizes T.by T.legal T.stands place.old.me place.new.me in
-        MatchBool result seized (place.new.me ≡ place.old.me) }
+    ensures seized { OnOk result (Seizes T.by T.legal T.stands place.old.me place.new.me) }
+    ensures kept { OnErr result (place.new.me ≡ place.old.me) }
 {
-    board.swap::<Takes>(place, 0, AWAITED) == FREE
+    if board.swap::<Takes>(place, 0, AWAITED) == FREE {
+        Ok(())
+    } else {
+        Err(WordTaken::new())
+    }
 }
 
 // Gives the word and the slot back with an entry.
 pub(crate) fn release_with<B: MadeEntry<E>, T: Recorded<E, A>, E, A>(
     board: &Board<T, E, A>,
     place: &mut LockSeat<T, E, A>,
-)
+) -> Released
     requires one { IsOne board.now.table_id }
     requires here { place.old.table_id ≡ board.now.table_id }
     requires ready { IsReady T.by T.legal T.stands B.entry place.old.me }
@@ -198,43 +207,19 @@ pub(crate) fn release_with<B: MadeEntry<E>, T: Recorded<E, A>, E, A>(
     ensures added { place.new.me ≡ with_entry B.entry place.old.me }
     ensures fair { (a : A) → place.old.me.0.about ≡ Some a → Fair T.by (T.legal a) place.new.me.0 }
 {
-    let _ = wake_after(board, board.swap::<GiveStep<B>>(place, 0, FREE));
+    wake_after(board, board.swap::<GiveStep<B>>(place, 0, FREE))
 }
 
 // Gives both back unchanged.
 pub(crate) fn release<T: Recorded<E, A>, E, A>(
     board: &Board<T, E, A>,
     place: &mut LockSeat<T, E, A>,
-)
+) -> Released
     requires one { IsOne board.now.table_id }
     requires here { place.old.table_id ≡ board.now.table_id }
     requires ready { IsUnchanged T.stands place.old.me }
     ensures same { (place.new.table_id ≡ place.old.table_id) × (place.new.id ≡ place.old.id) }
     ensures returned { place.new.me ≡ without_entry place.old.me }
 {
-    let _ = wake_after(board, board.swap::<PutsBack>(place, 0, FREE));
-}
-
-// The word that a thread which slept was woken. Only `wake` makes it.
-#[derive(Drop)]
-struct OneWoken(());
-
-// Wakes one thread where the word said that some sleep, and tells so.
-fn wake_after<T: Recorded<E, A>, E, A>(board: &Board<T, E, A>, found: u64) -> Option<OneWoken>
-    requires one { IsOne board.now.table_id }
-    ensures woken { found ≡ 2 → IsSome result }
-{
-    if found == AWAITED {
-        Some(wake(board))
-    } else {
-        None
-    }
-}
-
-// Wakes one thread that sleeps until the word is free.
-fn wake<T: Recorded<E, A>, E, A>(board: &Board<T, E, A>) -> OneWoken
-    requires { IsOne board.now.table_id }
-{
-    board.wake_one(0);
-    OneWoken(())
+    wake_after(board, board.swap::<PutsBack>(place, 0, FREE))
 }

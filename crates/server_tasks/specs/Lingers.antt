@@ -23,6 +23,12 @@ next_by Pending left = Rest
 next_by (Ready (Err fault)) left = Over
 next_by (Ready (Ok count)) left = if count == 0 then Over else if nat_le count left then Again (left - count) else Over
 
+-- after this the socket is held no longer
+abbrev pub is_over : NextStep → Bool
+is_over Over = true
+is_over Rest = false
+is_over (Again left) = false
+
 -- the moment at which the socket of this place is closed at last
 abbrev pub until_at : {S : Type 0} → List (Option (LingeringSocket S)) → ℕ → Option Instant
 until_at places place = option_and_then (λ held. option_map (λ socket. socket.until) held) (slice_get places place)

@@ -4,6 +4,7 @@ ghost use Rattle.server_tasks.specs.Amounts.{no_line};
 ghost use Rattle.server_tasks.specs.Backlogs.{with_line, with_take, with_read, ticked, is_waited_for, is_reading, is_behind, what_waits, full_credit};
 
 use crate::amount::Amount;
+use crate::wakers::Broadcasts;
 
 /// What waits beyond which a client is far behind: half of the lines, or of the bytes, that its outbox holds.
 pub const FAR_BEHIND: Amount = Amount {
@@ -53,10 +54,10 @@ impl Backlog {
     }
 
     /// Makes the backlog of a client that has just come. It counts as one that reads, since nothing is known of it yet.
-    pub fn of_newcomer(said: Amount) -> Backlog
-        ensures { result ≡ record { waiting = no_line; said = said; given = no_line; waited_for = 0; credit = full_credit } }
+    pub fn of_newcomer(said: Broadcasts) -> Backlog
+        ensures { result ≡ record { waiting = no_line; said = said.amount; given = no_line; waited_for = 0; credit = full_credit } }
     {
-        let mut backlog = Backlog::new(said);
+        let mut backlog = Backlog::new(said.amount());
         backlog.credit = MOST_CREDIT;
         backlog
     }

@@ -52,6 +52,6 @@ pub use shared::{Closed, OneEnded, Shared};
 pub use sight::{NEARLY_FULL, Sight};
 pub use slots::{Receipt, SlotEvent};
 pub use startup::Startup;
-pub use state::{ServerFault, Told, Word};
+pub use state::{Opened, ServerFault, Told, Word};
 pub use ticker::Ticker;
-pub use wakers::Wakers;
+pub use wakers::{Broadcasts, Wakers};

@@ -2,7 +2,7 @@ ghost use Rattle.std.specs.Prelude.{◌≡◌, None, IfOk, IfErr};
 ghost use Rattle.futures.specs.Task.{IsArmed, Keeps};
 ghost use Rattle.futures.specs.Poll.{OnPending};
 
-use crate::state::{LifecycleState, ServerFault, Told, Word};
+use crate::state::{LifecycleState, Opened, ServerFault, Told, Word};
 use futures::spin::{GaveUp, lock, lock_or_give_up};
 use futures::task::{Context, Poll, Source};
 use std::sync::Mutex;
@@ -53,8 +53,8 @@ impl Lifecycle {
         }
     }
 
-    /// Waits until it is open or closed, and answers whether it is open.
-    pub(crate) fn poll_open(&self, cx: &mut Context<'_>) -> Poll<bool>
+    /// Waits until it is open or closed, and gives the word that it is open, where it is.
+    pub(crate) fn poll_open(&self, cx: &mut Context<'_>) -> Poll<Option<Opened>>
         ensures registered { OnPending result (IsArmed cx.new) }
         ensures kept { Keeps cx.old cx.new }
     {

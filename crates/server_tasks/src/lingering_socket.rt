@@ -1,6 +1,6 @@
-ghost use Rattle.std.specs.Prelude.{◌≡◌, ◌≤◌, true, false};
+ghost use Rattle.std.specs.Prelude.{◌≡◌, ◌≤◌, ℕ, true, false};
 ghost use Rattle.futures.specs.Task.{Keeps};
-ghost use Rattle.server_tasks.specs.Lingers.{is_past, is_due, next_by};
+ghost use Rattle.server_tasks.specs.Lingers.{is_past, is_due, is_over, next_by};
 
 use futures::task::{Context, Poll};
 use std::io;
@@ -25,6 +25,8 @@ pub(crate) struct LingeringSocket<S> {
     until: Instant,
     left: usize,
     is_shut: bool,
+    // The client has ended, or sent more than is dropped.
+    is_over: bool,
 }
 
 impl<S> LingeringSocket<S> {
@@ -46,7 +48,7 @@ impl<S> LingeringSocket<S> {
 impl<S: AsyncRead + AsyncWrite> LingeringSocket<S> {
     /// Holds a socket until the later moment at most, or at the end until the sooner one.
     pub(crate) fn new(stream: S, soon: Instant, until: Instant) -> LingeringSocket<S>
-        ensures { result ≡ record { stream = stream; soon = soon; until = until; left = 1_048_576; is_shut = false } }
+        ensures { result ≡ record { stream = stream; soon = soon; until = until; left = 1_048_576; is_shut = false; is_over = false } }
     {
         LingeringSocket {
             stream,
@@ -54,6 +56,7 @@ impl<S: AsyncRead + AsyncWrite> LingeringSocket<S> {
             until,
             left: MOST_BYTES,
             is_shut: false,
+            is_over: false,
         }
     }
 
@@ -63,6 +66,7 @@ impl<S: AsyncRead + AsyncWrite> LingeringSocket<S> {
         ensures soon { self.new.soon ≡ self.old.soon }
         ensures until { self.new.until ≡ self.old.until }
         ensures left { self.new.left ≡ self.old.left }
+        ensures over { self.new.is_over ≡ self.old.is_over }
         ensures kept { Keeps cx.old cx.new }
     {
         if !self.is_shut {
@@ -72,22 +76,35 @@ impl<S: AsyncRead + AsyncWrite> LingeringSocket<S> {
         }
     }
 
+    /// Reads once, and tells what follows.
+    fn read(&mut self, cx: &mut Context<'_>, bytes: &mut [u8]) -> NextStep
+        ensures over { self.new.is_over ≡ is_over result }
+        ensures again { (left : ℕ) → result ≡ NextStep.Again left → left ≤ self.old.left }
+        ensures rest { self.new ≡ record self.old { stream = self.new.stream; is_over = self.new.is_over } }
+        ensures kept { Keeps cx.old cx.new }
+    {
+        let next = next_of(&self.stream.poll_read(cx, bytes), self.left);
+        self.is_over = next.is_over();
+        next
+    }
+
     /// Ends what is sent, then reads and drops. Answers whether it is to be held on.
     pub(crate) fn lingers(&mut self, cx: &mut Context<'_>, now: Instant, is_end: bool) -> bool
         ensures due { is_due self.old.soon self.old.until now is_end ≡ true → result ≡ false }
+        ensures over { self.new.is_over ≡ true → result ≡ false }
         ensures soon { self.new.soon ≡ self.old.soon }
         ensures until { self.new.until ≡ self.old.until }
         ensures left { self.new.left ≤ self.old.left }
         ensures shut { result ≡ true → self.new.is_shut ≡ true }
         ensures kept { Keeps cx.old cx.new }
     {
-        if is_due(self.soon, self.until, now, is_end) {
+        if self.is_over || is_due(self.soon, self.until, now, is_end) {
             return false;
         }
         self.shut(cx);
         let mut bytes = [0; ROOM];
         for read in 0..READS {
-            match next_of(&self.stream.poll_read(cx, &mut bytes), self.left) {
+            match self.read(cx, &mut bytes) {
                 NextStep::Again(left) => self.left = left,
                 NextStep::Rest => return true,
                 NextStep::Over => return false,
@@ -106,6 +123,18 @@ pub(crate) enum NextStep {
     Rest,
     /// There may be more, of which so many bytes are dropped at most.
     Again(usize),
+}
+
+impl NextStep {
+    /// Answers whether the socket is held no longer.
+    fn is_over(&self) -> bool
+        ensures { result ≡ is_over self.now }
+    {
+        match self {
+            NextStep::Over => true,
+            NextStep::Rest | NextStep::Again(_) => false,
+        }
+    }
 }
 
 /// Tells what follows a read, where so many bytes are dropped at most.

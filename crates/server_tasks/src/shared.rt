@@ -10,7 +10,7 @@ use crate::lifecycle::Lifecycle;
 use crate::lingering::Lingering;
 use crate::places::{PlacesDeed, PlacesWord};
 use crate::slots::Receipt;
-use crate::state::{ServerFault, Told, Word};
+use crate::state::{Opened, ServerFault, Told, Word};
 use crate::wakers::Wakers;
 use futures::spin::GaveUp;
 use futures::task::{Context, Poll};
@@ -147,8 +147,8 @@ impl<T, S> Shared<T, S> {
         })
     }
 
-    /// Waits until the server is open or closed, and answers whether it is open.
-    pub fn poll_open(&self, cx: &mut Context<'_>) -> Poll<bool>
+    /// Waits until the server is open or closed, and gives the word that it is open, where it is.
+    pub fn poll_open(&self, cx: &mut Context<'_>) -> Poll<Option<Opened>>
         ensures registered { OnPending result (IsArmed cx.new) }
         ensures kept { Keeps cx.old cx.new }
     {

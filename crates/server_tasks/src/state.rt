@@ -1,6 +1,6 @@
 ghost use Rattle.std.specs.Prelude.{◌≡◌, ◌⊎◌, true, false, None, IsSomeAnd};
 ghost use Rattle.futures.specs.Task.{IsArmed, Keeps, Wakes};
-ghost use Rattle.server_tasks.specs.Life.{opened, closed, opening};
+ghost use Rattle.server_tasks.specs.Life.{opened, closed, opening, answer_of};
 ghost use Rattle.futures.specs.Poll.{OnPending};
 
 use futures::task::{Context, Poll, Source, Waker};
@@ -51,6 +51,10 @@ impl Model for Word {
     ghost view = { λ word. word.told };
 }
 
+/// The word that a server is open: all of its tasks came to be. Only its state gives it, under its lock.
+#[derive(Clone, Copy)]
+pub struct Opened(());
+
 impl LifecycleState {
     pub(crate) fn new() -> LifecycleState
         ensures { result ≡ record { is_open = false; is_closed = false; fault = None; waker = None } }
@@ -97,19 +101,23 @@ impl LifecycleState {
         }
     }
 
-    /// Waits until it is open or closed, and answers whether it is open.
-    pub(crate) fn poll_open(&mut self, cx: &mut Context<'_>, source: &Source) -> Poll<bool>
-        ensures answered { result ≡ opening self.old }
+    /// Waits until it is open or closed, and gives the word that it is open, where it is.
+    pub(crate) fn poll_open(
+        &mut self,
+        cx: &mut Context<'_>,
+        source: &Source,
+    ) -> Poll<Option<Opened>>
+        ensures answered { answer_of result ≡ opening self.old }
         ensures rests { OnPending result ((cx.new.lacks_waker ≡ true) ⊎ IsSomeAnd self.new.waker (λ waker. Wakes waker cx.old)) }
         ensures registered { OnPending result (IsArmed cx.new) }
         ensures kept { Keeps cx.old cx.new }
         ensures life { self.new ≡ record self.old { waker = self.new.waker } }
     {
         if self.is_closed {
-            return Poll::Ready(false);
+            return Poll::Ready(None);
         }
         if self.is_open {
-            return Poll::Ready(true);
+            return Poll::Ready(Some(Opened(())));
         }
         cx.register(source, &mut self.waker)
     }

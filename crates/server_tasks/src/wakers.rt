@@ -34,6 +34,21 @@ pub struct Wakers {
     behind: Behind,
 }
 
+/// What was said to everybody until some moment. Only the wakers tell it.
+#[derive(Clone, Copy)]
+pub struct Broadcasts {
+    amount: Amount,
+}
+
+impl Broadcasts {
+    /// Gives the lines, and their bytes.
+    pub fn amount(self) -> Amount
+        ensures { result ≡ self.amount }
+    {
+        self.amount
+    }
+}
+
 impl Wakers {
     /// Makes the wakers of `count` slots. Refused only where memory runs out.
     pub fn new(alloc: Global, count: usize) -> Result<Wakers, AllocError>
@@ -101,7 +116,8 @@ impl Wakers {
         ensures { IfOk result (λ receipt. receipt ≡ SlotEvent.WokeOne sid own bytes second) }
     {
         let mut slots = lock_or_give_up(&self.slots)?;
-        let (receipt, is_behind) = slots.wake_one(sid, own, bytes, second, self.broadcasts());
+        let said = self.broadcasts().amount();
+        let (receipt, is_behind) = slots.wake_one(sid, own, bytes, second, said);
         if is_behind {
             self.behind.note(true);
         }
@@ -173,20 +189,22 @@ impl Wakers {
     }
 
     /// Gives what was said to everybody so far.
-    pub fn broadcasts(&self) -> Amount {
-        Amount {
-            lines: self.said.load(Ordering::SeqCst),
-            bytes: self.said_bytes.load(Ordering::SeqCst),
+    pub fn broadcasts(&self) -> Broadcasts {
+        Broadcasts {
+            amount: Amount {
+                lines: self.said.load(Ordering::SeqCst),
+                bytes: self.said_bytes.load(Ordering::SeqCst),
+            },
         }
     }
 
     /// Counts what was taken for the session of this slot, after which more may be left or none is. Before the hub was asked for
     /// it, `said` had been said to everybody; what was said since may be left. Where that is much, the session is woken to take
     /// again.
-    pub fn note_taken(&self, slot: usize, said: Amount, taken: Amount, has_more: bool) {
+    pub fn note_taken(&self, slot: usize, said: Broadcasts, taken: Amount, has_more: bool) {
         if let Some(mut slots) = lock(&self.slots) {
-            slots.note_taken(slot, said, taken, has_more);
-            if !has_more && slots.is_slot_behind(slot, self.broadcasts()) {
+            slots.note_taken(slot, said.amount(), taken, has_more);
+            if !has_more && slots.is_slot_behind(slot, self.broadcasts().amount()) {
                 slots.wake_slot(slot);
             }
         }
@@ -232,7 +250,8 @@ impl Wakers {
         }
         match lock_or_give_up(&self.slots) {
             Ok(mut slots) => {
-                let (receipt, may_send) = slots.may_send(slot, bytes, self.broadcasts(), throttle);
+                let said = self.broadcasts().amount();
+                let (receipt, may_send) = slots.may_send(slot, bytes, said, throttle);
                 self.behind.note(slots.is_behind());
                 (Permission::Asked(receipt), may_send)
             }
@@ -262,7 +281,7 @@ impl Wakers {
     /// Looks who is behind, and wakes those who gave way where nobody is.
     fn look(&self) {
         if let Some(mut slots) = lock(&self.slots) {
-            let is_behind = slots.look_and_let_go(self.broadcasts());
+            let is_behind = slots.look_and_let_go(self.broadcasts().amount());
             self.behind.note(is_behind);
         }
     }
@@ -278,7 +297,7 @@ impl Wakers {
         ensures { IfOk result (λ receipt. receipt ≡ SlotEvent.Ticked second due) }
     {
         let mut slots = lock_or_give_up(&self.slots)?;
-        let (receipt, is_behind) = slots.pass_tick(self.broadcasts(), second, due);
+        let (receipt, is_behind) = slots.pass_tick(self.broadcasts().amount(), second, due);
         self.behind.note(is_behind);
         Ok(receipt)
     }

@@ -83,7 +83,6 @@ impl<S: AsyncRead + AsyncWrite, P: Port, B: Bell> Live<S, P, B> {
                 Turn::Again
             }
             Poll::Ready(Ok(count)) => {
-                self.unread_bytes = self.unread_bytes.saturating_add(count);
                 self.may_have_line = memchr(b'\n', &self.input[..count]).is_some();
                 match self.framer.feed(&self.input[..count]) {
                     Ok(()) => {

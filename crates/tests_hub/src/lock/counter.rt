@@ -92,7 +92,7 @@ pub fn add<R: Wait>(
             Some(reply)
         }
         None => {
-            lock.release(seat, counter);
+            let _ = lock.release(seat, counter);
             None
         }
     }
@@ -114,5 +114,5 @@ fn enter<B: MadeEntry<Line>>(
         let mine = B.entry ∷ seat.old.mine in
         seat.new ≡ record seat.old { seen = seen; mine = mine; holds = false } }
 {
-    lock.release_with::<B>(seat, counter);
+    let _ = lock.release_with::<B>(seat, counter);
 }

@@ -71,7 +71,7 @@ pub fn hold<R: Wait + Clock>(rt: &R, lock: &Counters, seat: CountersSeat) -> Cou
     let mut seat = seat;
     let counter = lock.acquire(rt, &mut seat);
     thread::sleep(rt, Duration::from_millis(HELD));
-    lock.release(&mut seat, counter);
+    let _ = lock.release(&mut seat, counter);
     seat
 }
 

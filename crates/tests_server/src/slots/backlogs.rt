@@ -1,6 +1,8 @@
 // Tests of how far behind a client is, and whether it reads.
-use server_tasks::{Amount, Backlog, FAR_BEHIND, MOST_CREDIT, NEARLY_FULL, PACE, PATIENCE, Sight};
-use std::process::Abort;
+use crate::machine::*;
+use server_tasks::{
+    Amount, Backlog, FAR_BEHIND, MOST_CREDIT, NEARLY_FULL, PACE, PATIENCE, Sight, Wakers,
+};
 
 /// The number of bytes of each line here.
 const LINE: u64 = 60;
@@ -119,7 +121,8 @@ fn who_reads_is_waited_for_at_its_pace(rt: HostRuntime) {
     backlog.count_written(1_000_000);
     assert!(&rt; waited_for(&backlog, far) == 1_200 && MOST_CREDIT == 1_200 * PACE);
     // Who has just come is waited for as one that reads.
-    let newcomer = Backlog::of_newcomer(Amount::NONE);
+    let wakers = again!(&rt; Wakers::new(rt.alloc(), 1));
+    let newcomer = Backlog::of_newcomer(wakers.broadcasts());
     assert!(&rt; newcomer.reads() && waited_for(&newcomer, far) == 1_200);
     // Ticks that come late count as so many.
     let mut late = backlog;

@@ -35,7 +35,7 @@ returns-in-Ready-Ok-clause-turned g c =
     (did_on_stream _ _ _ before left _
     (did_write _ _ _ _ bytes (rw c.in-Ready-Ok.field-0-is at c.in-Ready-Ok.ensures.bytes) refl refl (written_front c.args.self.now.output.items c.deref.result.now c.args.self.now.written c.in-Ready-Ok.count c.deref.ensures.value)
     refl refl refl refl) refl refl refl refl refl refl (not_full c.args.self.now.is_full bytes (omega (arith, so_many, some))) (λ was. tt {0}) (λ was. tt {0}) (λ is. absurd is) refl) (λ fault. fault))
-    (bell_call _ _ _ left _ _ (did_on_bell _ _ _ left _ _ c.wrote.ensures refl refl refl refl refl refl refl (omega (arith, so_many), refl)))
+    (bell_call _ _ _ left _ _ (did_on_bell _ _ _ left _ _ c.wrote.ensures refl refl refl refl refl refl refl (omega (arith, so_many), refl) (tt {0})))
 
 pub returns-in-Ready-Err-clause-turned : goal.returns-in-Ready-Err-clause-turned
 returns-in-Ready-Err-clause-turned g c =

@@ -3,10 +3,10 @@ use Rattle.adc_sessions.specs.AcceptEnds.{incoming_of, left_of}
 use Rattle.adc_sessions.specs.Arrivals.{streams_of}
 use Rattle.hub_listener.specs.Rests.{socket_of}
 use Rattle.hub_server.proofs.Stop.{stops-after, stops-now}
-use Rattle.hub_server.proofs.task.AcceptTask.poll_over.Goals as goal
+use Rattle.hub_server.proofs.task.AcceptTask.accept_in.Goals as goal
 
-pub invariant_of-self-2 : goal.invariant_of-self-2
-invariant_of-self-2 g c = record {
+pub invariant_of-self : goal.invariant_of-self
+invariant_of-self g c = record {
   stops = stops-after g.B.OfHub.stops g.I.HubPort.terms g.I.HubPort.accepted (λ a. socket_of a.listener)
       (λ a arrival b. (g.I.HubPort.terms (socket_of b.listener) ≡ g.I.HubPort.terms (socket_of a.listener))
       × (g.I.HubPort.accepted (socket_of b.listener) ≡ g.I.HubPort.accepted (socket_of a.listener) + streams_of arrival))
