@@ -789,7 +789,13 @@ def has_journal_lines(port):
     return line.startswith(b"<6>") and b" serves hub.toml at 127.0.0.1:%d," % port in line
 
 
-def facts_of_start(port, began):
+def has_plain_lines():
+    """Whether none of the hub's lines begins with a priority."""
+    with open("warned", "rb") as file:
+        return not any(line.startswith(b"<") for line in file)
+
+
+def facts_of_start(port, began, journal):
     """What the hub makes of its seed, its clock, its environment and the addresses of clients: a name and whether it is right."""
     (ana, of_ana), (bob, of_bob) = enter_from(port, "127.0.0.2", 600_000), enter_from(port, "127.0.0.3", 600_001)
     heard = ana.hear(b"BINF " + bob.sid)
@@ -797,27 +803,65 @@ def facts_of_start(port, began):
     up = up_of(port)
     yield "opening", up <= time.monotonic() - began + 1
     yield "seed", operator(port).challenge == FOURTH_CHALLENGE
-    yield "journal", has_journal_lines(port)
+    yield "journal", has_journal_lines(port) if journal else has_plain_lines()
     time.sleep(1.1)
     yield "clock", up_of(port) > up
 
 
-def given_at_start(table, threads):
+def given_at_start(table, threads, journal):
     """Whether the hub goes by its seed file, its hash, its clock and its environment."""
-    name = "its seed, clock, journal and addresses"
+    name = "its seed, clock, journal and addresses" if journal else "its seed, clock and addresses without a journal"
     if not table.wants(name) or table.options.against:
         return
     began = time.monotonic()
     with open("seed.bin", "wb") as file:
         file.write(SEED)
     settings(threads, 64, 'seed_file = "seed.bin"\n' + OPERATOR)
-    hub = start(table.options, journal=True)
+    hub = start(table.options, journal=journal)
     try:
         if not hub.listens():
             raise Gone("it does not listen")
-        wrong = [fact for fact, is_right in facts_of_start(hub.port, began) if not is_right]
+        wrong = [fact for fact, is_right in facts_of_start(hub.port, began, journal) if not is_right]
         cells = ["yes" if hub.status() is None else "no", f"wrong: {', '.join(wrong) or 'nothing'}", "", "", "", f"{hub.megabytes() or 0:.1f}"]
         table.row(name, threads, began, cells, not wrong and serves(hub.port))
+    except (OSError, Gone) as error:
+        table.row(f"{name}: {error}", threads, began, ["no"] * 6, False)
+    finally:
+        hub.stop()
+
+
+# A system acknowledges data after 40 milliseconds where it has nothing to send itself.
+TRIES, LONGEST = 11, 0.02
+
+
+def wait_of_second_line(ana, bob, number):
+    """The seconds between two lines that ana says one after the other, as bob hears them, whose system acknowledges none at once."""
+    bob.socket.setsockopt(socket.IPPROTO_TCP, socket.TCP_QUICKACK, 0)
+    texts = [b"BMSG %s %d.%d" % (ana.sid, number, place) for place in range(2)]
+    for text in texts:
+        ana.say(text + b"\n")
+        ana.hear(text)
+    bob.hear(texts[0])
+    first = time.monotonic()
+    bob.hear(texts[1])
+    return time.monotonic() - first
+
+
+def lines_one_by_one(table, threads):
+    """Whether a line waits until its receiver has acknowledged the one before."""
+    name = "a line after another is sent at once"
+    if not table.wants(name) or table.options.against:
+        return
+    began = time.monotonic()
+    settings(threads)
+    hub = start(table.options)
+    try:
+        if not hub.listens():
+            raise Gone("it does not listen")
+        ana, bob = [Client(hub.port).log_in(800_000 + number) for number in range(2)]
+        waits = sorted(wait_of_second_line(ana, bob, number) for number in range(TRIES))
+        cells = ["yes" if hub.status() is None else "no", "", "", "", f"{waits[TRIES // 2] * 1000:.1f}", f"{hub.megabytes() or 0:.1f}"]
+        table.row(name, threads, began, cells, waits[TRIES // 2] < LONGEST and serves(hub.port))
     except (OSError, Gone) as error:
         table.row(f"{name}: {error}", threads, began, ["no"] * 6, False)
     finally:
@@ -885,8 +929,10 @@ def main():
     play(table, "many who come and go", comers, 2)
     play(table, "logins with long identifiers", long_logins, 2)
     last_lines(table, 2)
-    given_at_start(table, 2)
+    given_at_start(table, 2, True)
+    given_at_start(table, 2, False)
     room_for_output(table, 2)
+    lines_one_by_one(table, 2)
     floods.floods(table)
     stuck.stuck(table)
     starts(table, 2)
