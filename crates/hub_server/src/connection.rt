@@ -1,11 +1,11 @@
-ghost use Rattle.std.specs.Prelude.{◌≡◌, true, false, None, IfOk, IfErr, OnErr, IsSomeAnd};
+ghost use Rattle.std.specs.Prelude.{◌≡◌, ◌≤◌, ◌++◌, true, false, None, IfOk, IfErr, OnOk, OnErr, IsSomeAnd};
 ghost use Rattle.server_tasks.specs.declared.slots.SlotEvent.TheVariants.{Cleared, Named};
 ghost use Rattle.hub_core.specs.declared.share.Touched.TheVariants.{One};
 ghost use Rattle.hub_rules.specs.Prepared.{prepared_line};
 ghost use Rattle.hub_server.specs.PortCalls.{Leaves};
 ghost use Rattle.hub_server.specs.ServedByHub.{ServesByHub};
 ghost use Rattle.hub_server.specs.Wakes.{AreWokenOrOwed, HasRung};
-ghost use Rattle.hub_shared.specs.Calls.{SaysLine, Saw};
+ghost use Rattle.hub_shared.specs.Calls.{SaysLine, Saw, TakesLines, behind};
 
 use crate::free_slot::OfHub;
 use crate::left_slot::LeftSlot;
@@ -21,7 +21,7 @@ use futures::spin::GaveUp;
 use hub_core::{LineRefused, Prepared, Setup, TakeRefused, Taken, Touched, Verdict, prepare};
 use hub_listener::{CallMoment, Moments};
 use hub_shared::{Hub, Pass};
-use server_tasks::{Amount, Receipt};
+use server_tasks::{Amount, Broadcasts, Receipt};
 use session_hash::SessionHash;
 use std::alloc::{AllocGlobal, Global};
 use std::sync::Wait;
@@ -209,6 +209,44 @@ fn say<H: SessionHash, R: Wait>(
     })
 }
 
+/// Takes lines for the pass of this slot, once so much had been said to everybody: what others say while the hub is asked may not be
+/// among what it gives.
+fn take_after<
+    B: OfHub<H, S>,
+    S: AsyncRead + AsyncWrite,
+    T: Ticket<S, H, C>,
+    H: SessionHash,
+    R: Wait,
+    C: Moments,
+>(
+    server: &Server<'_, B, S, T, H, R, C>,
+    said: Broadcasts,
+    slot: usize,
+    pass: &mut Pass<H>,
+    count: usize,
+    out: &mut Vec<u8>,
+) -> Result<Taken, TakeRefused>
+    requires here { pass.old.home ≡ server.now.hub.now.home }
+    requires some { 1 ≤ count }
+    requires few { count ≤ 256 }
+    ensures same { pass.new ≡ record pass.old { caller = pass.new.caller; touched = pass.new.touched } }
+    ensures made { IfOk result (λ taken. TakesLines server.now.hub.now.setup (H.digest_of server.now.hub.now.hash) pass.old count out.old.items out.new.items taken pass.new.caller) }
+    ensures appended { OnOk result (out.new.items ≡ out.old.items ++ behind out.old.items out.new.items) }
+    ensures refused { OnErr result (Saw server.now.hub.now.setup (H.digest_of server.now.hub.now.hash) pass.old.caller pass.new.caller) }
+    ensures unchanged { OnErr result (out.new.items ≡ out.old.items) }
+{
+    let before = out.len();
+    let taken = server.hub.take(server.rt, pass, count, out)?;
+    let has_more = taken.lines >= count as u64;
+    let amount = Amount {
+        lines: taken.lines,
+        bytes: out.len().saturating_sub(before) as u64,
+    };
+    let wakers = &server.shared.wakers;
+    wakers.note_taken(slot, said, amount, has_more);
+    Ok(taken)
+}
+
 /// Makes a line ready for the hub with this setup and this hash, and for who was challenged by this.
 #[tactic(auto, unfolding(hub_rules::specs::Prepared::prepared_line))]
 fn prepare_line<H: SessionHash>(
@@ -273,18 +311,8 @@ impl<
     fn take(&mut self, count: usize, out: &mut Vec<u8>) -> Result<Taken, TakeRefused> {
         self.wake_owed();
         let server = self.server;
-        // What others say while the hub is asked may not be among what it gives.
         let said = server.shared.wakers.broadcasts();
-        let before = out.len();
-        let taken = server.hub.take(server.rt, &mut self.pass, count, out)?;
-        let has_more = taken.lines >= count as u64;
-        let amount = Amount {
-            lines: taken.lines,
-            bytes: out.len().saturating_sub(before) as u64,
-        };
-        let wakers = &server.shared.wakers;
-        wakers.note_taken(self.slot, said, amount, has_more);
-        Ok(taken)
+        take_after(server, said, self.slot, &mut self.pass, count, out)
     }
 
     fn quit(mut self) -> LeftSlot<H> {
