@@ -9,8 +9,7 @@ ghost use Rattle.hub_settings.specs.Unknown.{first_unknown, is_among};
 ghost use Rattle.hub_settings.specs.Values.{not_empty, truth_of};
 ghost use Rattle.settings_report.specs.Allowances.{IsAllowedAt};
 ghost use Rattle.settings_report.specs.FaultWords.{IsConcealed};
-ghost use Rattle.settings_report.specs.Findings.{BlamesUnknown, ConcealsAccount, FindingHidesPasswords, IsFlawIn, IsFlawOf, IsOfKnownKey, IsWhatStands, text_of};
-ghost use Rattle.settings_report.specs.Findings.{IsFoundAmong, IsFoundIn, IsFoundInList};
+ghost use Rattle.settings_report.specs.Findings.{BlamesUnknown, ConcealsAccount, FindingHidesPasswords, IsFlawIn, IsFlawOf, IsOfKnownKey, IsWhatStands, text_of, IsFoundAmong, IsFoundIn, IsFoundInList};
 
 use crate::allowed::{self, Allowed, allowed_at};
 use crate::findings::{Finding, Found, value_at};

@@ -32,4 +32,6 @@ mod settings_files;
 #[cfg(test)]
 mod setups;
 #[cfg(test)]
+mod steps;
+#[cfg(test)]
 mod users;
