@@ -831,7 +831,7 @@ def given_at_start(table, threads, journal):
 
 
 # A system acknowledges data after 40 milliseconds where it has nothing to send itself.
-TRIES, LONGEST = 11, 0.02
+TRIES, AT_ONCE = 11, 0.02
 
 
 def wait_of_second_line(ana, bob, number):
@@ -861,7 +861,7 @@ def lines_one_by_one(table, threads):
         ana, bob = [Client(hub.port).log_in(800_000 + number) for number in range(2)]
         waits = sorted(wait_of_second_line(ana, bob, number) for number in range(TRIES))
         cells = ["yes" if hub.status() is None else "no", "", "", "", f"{waits[TRIES // 2] * 1000:.1f}", f"{hub.megabytes() or 0:.1f}"]
-        table.row(name, threads, began, cells, waits[TRIES // 2] < LONGEST and serves(hub.port))
+        table.row(name, threads, began, cells, waits[TRIES // 2] < AT_ONCE and serves(hub.port))
     except (OSError, Gone) as error:
         table.row(f"{name}: {error}", threads, began, ["no"] * 6, False)
     finally:
