@@ -56,7 +56,7 @@ IsJunk (Some bytes) = IsNextTooLong bytes ⊎ IsNoMessage bytes
 
 -- how often the client may still read on or take a line out
 abbrev pub turns_of : {S : Type 0} → Client S → ℕ
-turns_of client = client.turns
+turns_of client = client.turns.left
 
 abbrev pub IsSpent : {S : Type 0} → Client S → Type 0
 IsSpent client = turns_of client ≡ 0

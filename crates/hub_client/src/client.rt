@@ -16,6 +16,7 @@ use crate::fault::{ClientFault, read_on, unanswered};
 use crate::lines::{message_in, say};
 use crate::login::support_line;
 use crate::status::Status;
+use crate::turns::Turns;
 use crate::user::Who;
 use adc_base32::{Sid, decode24};
 use adc_line::{Framer, Kind, Line, Next};
@@ -28,8 +29,7 @@ use std::io::{Read, Write};
 pub struct Client<S> {
     alloc: Global,
     stream: Counting<S>,
-    // How often it may still read on or take a line out.
-    turns: u64,
+    turns: Turns,
     framer: Framer,
     users: Vec<Line>,
     gone: Vec<Line>,
@@ -65,7 +65,7 @@ impl<S: Read + Write> Client<S> {
         Client {
             alloc,
             stream: Counting::new(stream),
-            turns: u64::MAX,
+            turns: Turns::all(),
             framer: Framer::new(alloc),
             users: Vec::new(alloc),
             gone: Vec::new(alloc),
@@ -85,7 +85,7 @@ impl<S: Read + Write> Client<S> {
             &support_line(self.alloc, pinger)?,
         )?;
         let mut sid = None;
-        'lines: while self.turns > 0 {
+        'lines: while self.turns.are_left() {
             let line = self.hear_well()?;
             if is_info(&line, *b"INF") {
                 let Some(sid) = sid else {
@@ -108,7 +108,7 @@ impl<S: Read + Write> Client<S> {
         ensures gone { gone_of self.new ≡ gone_of self.old }
     {
         say(self.alloc, &mut self.stream, login)?;
-        'lines: while self.turns > 0 {
+        'lines: while self.turns.are_left() {
             if let Some(entry) = self.next_entry(sid)? {
                 return Ok(entry);
             }
@@ -150,7 +150,7 @@ impl<S: Read + Write> Client<S> {
             → Fails S.remaining S.contents (λ heard. IsAnswer heard None) (λ _ last. IsBadStatus last) self.old self.new line.now.text fault) }
     {
         say(self.alloc, &mut self.stream, line)?;
-        'lines: while self.turns > 0 {
+        'lines: while self.turns.are_left() {
             if let Some(status) = self.next_answer()? {
                 return Ok(status);
             }
@@ -203,7 +203,7 @@ impl<S: Read + Write> Client<S> {
         ensures gone { gone_of self.new ≡ gone_of self.old }
     {
         say(self.alloc, &mut self.stream, line)?;
-        'lines: while self.turns > 0 {
+        'lines: while self.turns.are_left() {
             if self.hears_echo(line)? {
                 return Ok(());
             }
@@ -254,8 +254,8 @@ impl<S: Read + Write> Client<S> {
         ensures gone { gone_of self.new ≡ gone_of self.old }
         ensures fewer { OnOk result (turns_of self.new < turns_of self.old) }
     {
-        'turns: while self.turns > 0 {
-            self.turns -= 1;
+        'turns: while self.turns.are_left() {
+            self.turns.take();
             if let Some(line) = self.hear_some()? {
                 return Ok(line);
             }

@@ -14,6 +14,7 @@ mod operator_line;
 mod request;
 mod role;
 mod status;
+mod turns;
 mod user;
 
 pub use address::{AddressFault, HubAddress};

@@ -1,4 +1,4 @@
-use server_tasks::descriptor_limit;
+use system_answers::{SystemAnswer, descriptor_limit};
 
 /// What knows how many descriptors the system lets the program have.
 pub trait DescriptorLimits {
@@ -8,8 +8,8 @@ pub trait DescriptorLimits {
     ghost allows: { Self → Option ℕ → Type 0 };
 
     /// Gives the number of descriptors that there may be, where the system says so.
-    fn allowed_descriptors(&self) -> Option<u64>
-        ensures told { allows self.now result };
+    fn allowed_descriptors(&self) -> SystemAnswer<Option<u64>>
+        ensures told { allows self.now result.given };
 }
 
 impl<R> DescriptorLimits for R {
@@ -18,7 +18,7 @@ impl<R> DescriptorLimits for R {
     // No contract says what the system answers, so any answer may be its.
     ghost allows = { λ _ _. ⊤ };
 
-    fn allowed_descriptors(&self) -> Option<u64> {
+    fn allowed_descriptors(&self) -> SystemAnswer<Option<u64>> {
         descriptor_limit()
     }
 }

@@ -107,7 +107,7 @@ impl<'a, R: Wait + WallClock + Ticks, L: Log, I> Listener<'a, R, L, I> {
         ensures begun { HasBegun self.old → HasBegun self.new }
         ensures socket { socket_of self.new ≡ socket_of self.old }
     {
-        let Some(until) = end_of_rest(self.rt.instant()) else {
+        let Some(until) = end_of_rest(self.rt.instant().into_inner()) else {
             return false;
         };
         self.wakers.rest();

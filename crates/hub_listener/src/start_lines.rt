@@ -55,7 +55,7 @@ pub fn warn_of_descriptors<R: WallClock + DescriptorLimits, L: Log>(
     ensures needed { IfSome result (λ said. (said_line said).needed ≡ users + 32) }
     ensures few { IfSome result (λ said. AreFew users (Some (said_line said).allowed)) }
 {
-    warn_of_few(rt, log, users, rt.allowed_descriptors())
+    warn_of_few(rt, log, users, rt.allowed_descriptors().into_inner())
 }
 
 /// Warns, on this log, where these are fewer descriptors than a server needs for so many users. Returns what was said.
@@ -102,10 +102,11 @@ pub fn say_start<'a, R: WallClock + DescriptorLimits, L: Log>(
     ensures needed { (said_line result).needed ≡ users + 32 }
     ensures allowed { R.allows rt.now (said_line result).allowed }
 {
+    let allowed = rt.allowed_descriptors().into_inner();
     say(
         log,
         Level::Info,
-        start_line(rt, settings, address, users, rt.allowed_descriptors()),
+        start_line(rt, settings, address, users, allowed),
     )
 }
 

@@ -1,4 +1,5 @@
 use std::time::{Clock, Instant};
+use system_answers::SystemAnswer;
 
 /// A clock that measures how long something takes.
 pub trait Ticks {
@@ -8,9 +9,9 @@ pub trait Ticks {
     /// The readings that it may give: a time, or none.
     ghost ticks: { Self → Option Instant → Type 0 };
 
-    /// Reads the time. Returns `None` if the clock cannot be read.
-    fn instant(&self) -> Option<Instant>
-        ensures read { ticks self.now result };
+    /// Reads the time. There is none if the clock cannot be read.
+    fn instant(&self) -> SystemAnswer<Option<Instant>>
+        ensures read { ticks self.now result.given };
 }
 
 impl<R: Clock> Ticks for R {
@@ -20,7 +21,7 @@ impl<R: Clock> Ticks for R {
     // The contract of a clock says only that a time which it gives is in its range.
     ghost ticks = { λ _ reading. IfSome reading (λ time. FitsClock (instant_nanos time)) };
 
-    fn instant(&self) -> Option<Instant> {
-        Instant::now(self).ok()
+    fn instant(&self) -> SystemAnswer<Option<Instant>> {
+        system_answers::instant(self)
     }
 }

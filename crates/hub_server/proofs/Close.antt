@@ -1,14 +1,15 @@
 -- Once all visitors are back, what holds of the hub's history holds of the settings' hub.
-use Rattle.hub_server.specs.NamedHub.{hub_in}
+use Rattle.hub_connections.specs.NamedHub.{hub_in}
 use Rattle.std.proofs.Common.{◌≡◌, ℕ, List, sym, subst}
 use Rattle.std.specs.List.{All}
 use Rattle.adc_sessions.specs.Events.{StreamCall}
 use Rattle.hub_rules.specs.Configured.{Configured}
 use Rattle.hub_shared.specs.Callers.{HubState, VisitorState}
 use Rattle.hub_shared.specs.Close.{Settled}
-use Rattle.hub_server.specs.ServedAll.{Arrives, ServedAll}
-use Rattle.hub_server.specs.Visits.{HasVisited}
-use Rattle.hub_server.specs.declared.terms.Terms.{Terms}
+use Rattle.hub_connections.specs.Arrivals.{Arrives}
+use Rattle.hub_server.specs.ServedAll.{ServedAll}
+use Rattle.hub_connections.specs.Visits.{HasVisited}
+use Rattle.hub_connections.specs.declared.terms.Terms.{Terms}
 
 -- the same setup and the same hash
 settled-of : {X H : Type 0} (digest : X → List ℕ → List ℕ) (setup setup' : Configured) (hash hash' : X) → setup ≡ setup' → hash ≡ hash' → (visitors : List (VisitorState H)) (joins : ℕ)

@@ -1,15 +1,2 @@
-pub mod Answers
-pub mod Arrivals
-pub mod SessionEnds
-pub mod NamedHub
-pub mod Owed
-pub mod Peers
-pub mod PortCalls
-pub mod Refusals
-pub mod ServerEnd
 pub mod ServedAll
-pub mod ServedByHub
-pub mod Stop
-pub mod JoinRefusals
-pub mod Visits
-pub mod Wakes
+pub mod ServerEnd

@@ -1,35 +1,19 @@
 -- The end of a server: its status, what it says, and what it reports where it has served all.
-use Rattle.std.specs.Prelude.{◌≡◌, ◌⊎◌, ⊤, ℕ, List, ◌++◌, codes, Option}
+use Rattle.std.specs.Prelude.{◌≡◌, ◌⊎◌, ℕ, List, ◌++◌, codes, Option}
 use Rattle.std.specs.Fmt.{decimal}
 use Rattle.std.specs.Io.KnownBytes.{Appends}
 use Rattle.std.specs.declared.net.socket_addr.SocketAddrV4.{SocketAddrV4}
 use Rattle.adc_sessions.specs.Events.{StreamCall}
-use Rattle.server_tasks.specs.declared.state.ServerFault.{ServerFault}
-use Rattle.server_tasks.specs.declared.state.ServerFault.TheVariants as faults
 use Rattle.counted_io.specs.Parts.{AppendsFront}
+use Rattle.hub_connections.specs.Faults.{IsServerFault}
 use Rattle.hub_endings.specs.Endings.{status_of, message_of}
 use Rattle.hub_endings.specs.declared.ending.Ending.{Ending}
 use Rattle.hub_endings.specs.declared.ending.Ending.TheVariants as endings
 use Rattle.hub_rules.specs.Configured.{Configured}
 use Rattle.hub_server.specs.ServedAll.{ServedAll}
-use Rattle.hub_server.specs.Stop.{HasStopped}
-use Rattle.hub_server.specs.declared.terms.Terms.{Terms}
+use Rattle.hub_connections.specs.Stop.{HasStopped}
+use Rattle.hub_connections.specs.declared.terms.Terms.{Terms}
 use Rattle.hub_shared.specs.Callers.{VisitorState}
-
--- how a server ends before all were served: it could not listen or accept, memory or threads were wanting, the output failed
-abbrev pub IsServerFault : Ending → Type 0
-IsServerFault endings.Served = ⊥
-IsServerFault endings.Usage = ⊥
-IsServerFault endings.Tables = ⊥
-IsServerFault endings.Address = ⊤
-IsServerFault endings.Memory = ⊤
-IsServerFault endings.Transfer = ⊤
-
--- by what it ends where its tasks met this fault
-abbrev pub ending_by : ServerFault → Ending
-ending_by faults.Accepting = endings.Address
-ending_by faults.Output = endings.Transfer
-ending_by faults.Start = endings.Memory
 
 abbrev pub IsServerEnding : Ending → Type 0
 IsServerEnding ending = (ending ≡ endings.Served) ⊎ IsServerFault ending

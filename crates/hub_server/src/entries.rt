@@ -2,13 +2,12 @@ ghost use Rattle.std.specs.Prelude.{◌≡◌, ℕ, IfOk, IfErr, OnOk};
 ghost use Rattle.std.specs.Arc.{arc_value};
 ghost use Rattle.std.specs.Io.KnownBytes.{Appends, Keeps};
 ghost use Rattle.hub_endings.specs.declared.ending.Ending.TheVariants.{Served};
-ghost use Rattle.hub_server.specs.ServerEnd.{EndsServing, HasServed, IsServerEnding, IsServerFault, report_line};
+ghost use Rattle.hub_connections.specs.Faults.{IsServerFault};
+ghost use Rattle.hub_server.specs.ServerEnd.{EndsServing, HasServed, IsServerEnding, report_line};
 
 use crate::lifetime::serve_hub;
-use crate::port::{BindPort, HubPort};
-use crate::tcp::{TcpPort, TcpTicket};
-use crate::ticket::Ticket;
 use adc_sessions::Stream;
+use hub_connections::{BindPort, HubPort, TcpPort, TcpTicket, Ticket};
 use hub_endings::Ending;
 use hub_listener::{Moments, Socket, moment};
 use hub_settings::Settings;

@@ -1,22 +1,18 @@
-ghost use Rattle.std.specs.Prelude.{◌≡◌, ◌≤◌, ◌+◌, [], Some, ℕ, List, IfOk, IfErr, OnOk};
+ghost use Rattle.std.specs.Prelude.{◌≡◌, Some, ℕ, List, IfOk, IfErr, OnOk};
 ghost use Rattle.std.specs.List.{All};
-ghost use Rattle.one_history.specs.States.{Home};
-ghost use Rattle.hub_shared.specs.declared.hub_key.HubKey.{HubKey};
-ghost use Rattle.hub_server.specs.NamedHub.{home_in, hub_in};
-ghost use Rattle.hub_server.specs.ServerEnd.{IsServerFault};
-ghost use Rattle.hub_server.specs.ServedAll.{Arrives, ServedAll};
-ghost use Rattle.hub_server.specs.Stop.{AreTerms, HasStopped};
-ghost use Rattle.hub_server.specs.Visits.{HasVisited};
+ghost use Rattle.hub_connections.specs.Arrivals.{Arrives};
+ghost use Rattle.hub_connections.specs.Faults.{IsServerFault};
+ghost use Rattle.hub_connections.specs.NamedHub.{hub_in};
+ghost use Rattle.hub_connections.specs.Stop.{AreTerms, HasStopped};
+ghost use Rattle.hub_connections.specs.Visits.{HasVisited};
+ghost use Rattle.hub_server.specs.ServedAll.{ServedAll};
 
-use crate::all_free::AllFree;
-use crate::free_slot::{OfHub, Stop};
-use crate::listening::run_on_threads;
-use crate::port::BindPort;
 use crate::served::ServedVisits;
-use crate::server::Server;
-use crate::terms::Terms;
-use crate::ticket::Ticket;
+use crate::threads::run_on_threads;
 use adc_sessions::Stream;
+use hub_connections::{
+    AllFree, BindPort, OfHub, Plan, Server, Stop, Terms, Ticket, leave, open, slot_count,
+};
 use hub_endings::Ending;
 use hub_listener::{Moments, Socket};
 use hub_settings::Settings;
@@ -24,7 +20,7 @@ use hub_shared::{Host, Hub, Visitor};
 use hub_warnings::Warnings;
 use log::Log;
 use session_hash::SessionHash;
-use std::alloc::{AllocGlobal, Global};
+use std::alloc::AllocGlobal;
 use std::io::Write;
 use std::marker::Brand;
 use std::net::Net;
@@ -41,7 +37,7 @@ use tokio::io::{AsyncRead, AsyncWrite};
 /// While it runs, each connection that the listener accepts ends by one call of its ticket, and what the server owes it is that
 /// call's condition. At the end all calls of the hub stand in one legal history of a hub for one thread, and nobody is present
 /// in it. The calls of each visitor in it are visits of connections that came, one after another and in their order
-/// (`specs/ServedAll`, `specs/Visits` and `specs/Owing` have all that is promised).
+/// (`specs/ServedAll`, and `specs/Visits` and `specs/Owed` of `hub_connections`, have all that is promised).
 pub fn serve_hub<S, T, I, H, R, C, W, L>(
     rt: &R,
     clock: &C,
@@ -93,31 +89,6 @@ where
     close::<S, T, H, R, C, L>(&plan, hub, host, visitors, terms)
 }
 
-/// What a server has from its start to its end.
-#[derive(Drop)]
-pub(crate) struct Plan<'a, H, R, C, L> {
-    pub(crate) rt: &'a R,
-    clock: &'a C,
-    pub(crate) settings: &'a Settings,
-    hash: &'a H,
-    /// The path of the settings' file, where the journal is to have it.
-    pub(crate) settings_file: Option<&'a str>,
-    pub(crate) warnings: &'a Warnings<L>,
-}
-
-/// Opens the hub of these settings, and gives who admits visitors to it.
-fn open<H: SessionHash, R: AllocGlobal, C, L>(
-    plan: &Plan<'_, H, R, C, L>,
-) -> Result<(Hub<H>, Host<H>), Ending>
-    ensures set { IfOk result (λ r. r.0.setup ≡ plan.now.settings.now.hub) }
-    ensures hashed { IfOk result (λ r. r.0.hash ≡ plan.now.hash.now) }
-    ensures host { IfOk result (λ r. r.1 ≡ record { home = r.0.home; admitted = 0 }) }
-    ensures ending { IfErr result IsServerFault }
-{
-    let setup = plan.settings.setup().clone().map_err(|_| Ending::Memory)?;
-    Hub::open(plan.rt.alloc(), setup, plan.hash).map_err(|_| Ending::Memory)
-}
-
 /// Runs the server, and gives all visitors of the hub back, or those that are left where memory ran out.
 fn run<'a, B, S, T, I, H, R, C, W, L>(
     plan: &Plan<'a, H, R, C, L>,
@@ -162,14 +133,6 @@ where
         plan, hub, host, seed, terms, address, output,
     )?;
     Ok(leave(free, visitors))
-}
-
-/// Gives the number of slots: one more joins where the hub is full, to be told so.
-pub(crate) fn slot_count(settings: &Settings) -> usize
-    ensures each { result ≡ settings.now.hub.plain.max_users + 1 }
-    ensures few { result ≤ 65536 }
-{
-    settings.setup().max_users() as usize + 1
 }
 
 /// All slots of a server that has stopped, and the word that it has.
@@ -223,22 +186,6 @@ where
         output,
     );
     server.into_free_after(served)
-}
-
-/// Gives the visitors of these slots, as many as there is room for.
-fn leave<B: OfHub<H, S>, S: AsyncRead + AsyncWrite, H>(
-    free: AllFree<B, S, H>,
-    visitors: Vec<Visitor<H>>,
-) -> Vec<Visitor<H>>
-    requires none { visitors.items ≡ [] }
-    ensures here { (home : Home (HubKey H)) → home_in B.hub ≡ Some home → All (λ v. v.home ≡ home) result.items }
-    ensures visits { All (λ v. HasVisited ⟦<S as Stream>⟧.reports B.may_read B.arrives v) result.items }
-{
-    let (mut free, mut visitors) = (free, visitors);
-    while let Some(visitor) = free.next() {
-        let _ = visitors.push(visitor);
-    }
-    visitors
 }
 
 /// Closes the hub of these settings and this hash for which the visitors are back, and gives its report.

@@ -1,4 +1,4 @@
-use crate::terms::Terms;
+use hub_connections::Terms;
 use hub_shared::{Report, Visitor};
 use session_hash::SessionHash;
 use std::snapshot::Snapshot;

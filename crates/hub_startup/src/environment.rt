@@ -1,30 +1,32 @@
 //! The variables of the environment.
-ghost use Rattle.std.specs.Prelude.{codes};
+ghost use Rattle.std.specs.Prelude.{ℕ, Result, codes};
+ghost use Rattle.std.specs.declared.env.FillError.{FillError};
 ghost use Rattle.hub_startup.specs.Variables.{TellsWhetherSet};
 
 use std::env::{Env, FillError};
+use system_answers::SystemAnswer;
 
 /// What knows the variables of the environment.
 pub trait Variables {
-    ghost use Rattle.std.specs.Prelude.{ℕ, List, Bool};
+    ghost use Rattle.std.specs.Prelude.{ℕ, List, Result};
+    ghost use Rattle.std.specs.declared.env.FillError.{FillError};
 
-    /// The answers that it may give to whether the variable of this name is set.
-    ghost knows: { Self → List ℕ → Bool → Type 0 };
+    /// The answers that it may give to what the variable of this name is: its length in bytes, or why it has none.
+    ghost knows: { Self → List ℕ → Result ℕ FillError → Type 0 };
 
-    /// Answers whether the variable of this name is set.
-    fn has_variable(&self, name: &str) -> bool
-        ensures known { knows self.now name.now result };
+    /// Asks for the variable of this name.
+    fn variable(&self, name: &str) -> SystemAnswer<Result<usize, FillError>>
+        ensures known { knows self.now name.now result.given };
 }
 
 impl<R: Env> Variables for R {
     ghost use Rattle.std.specs.Prelude.{⊤};
 
-    // The contract of an environment says nothing of what it holds, so either answer may be its.
+    // The contract of an environment says nothing of what it holds, so any answer may be its.
     ghost knows = { λ _ _ _. ⊤ };
 
-    fn has_variable(&self, name: &str) -> bool {
-        let mut value = [0; 64];
-        is_set(self.var(name, &mut value))
+    fn variable(&self, name: &str) -> SystemAnswer<Result<usize, FillError>> {
+        system_answers::variable(self, name)
     }
 }
 
@@ -40,7 +42,7 @@ fn is_set(answer: Result<usize, FillError>) -> bool
 
 /// Answers whether standard error is the journal, as systemd says by a variable of the environment.
 pub fn has_journal<R: Variables>(rt: &R) -> bool
-    ensures { R.knows rt.now (codes "JOURNAL_STREAM") result }
+    ensures { (answer : Result ℕ FillError) × R.knows rt.now (codes "JOURNAL_STREAM") answer × TellsWhetherSet answer result }
 {
-    rt.has_variable("JOURNAL_STREAM")
+    is_set(rt.variable("JOURNAL_STREAM").into_inner())
 }

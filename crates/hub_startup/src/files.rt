@@ -18,7 +18,7 @@ pub fn settings_in<R: Moments + AllocGlobal + Opens>(
     ensures { (opening : ℕ) × R.may_read rt.now opening × StartsAt R.opens R.Opened.remaining rt.now path.now opening result }
 {
     let opening = rt.moment_of_call().into_seconds();
-    match rt.open_at(path) {
+    match rt.open_at(path).into_inner() {
         Ok(file) => settings_from(rt.alloc(), file, opening),
         Err(error) => Err(StartFault::of_file(&error, "file")),
     }
@@ -29,7 +29,7 @@ pub fn seed_in<R: Opens>(rt: &R, path: &str) -> Result<[u8; 32], StartFault>
     ensures seed { IfOk result (λ seed. HasAt R.opens R.Opened.remaining rt.now path.now (λ left. IsSeed left seed)) }
     ensures faults { IfErr result (IsFileFault (codes "seed_file")) }
 {
-    let read = match rt.open_at(path) {
+    let read = match rt.open_at(path).into_inner() {
         Ok(file) => {
             let mut file = file;
             seed_from(&mut file)
@@ -47,7 +47,7 @@ pub fn tables_in<R: AllocGlobal + Opens>(rt: &R, path: &str) -> Result<TableTige
     ensures tables { IfOk result (λ tables. HasAt R.opens R.Opened.remaining rt.now path.now (λ left. AreTables left tables)) }
     ensures faults { IfErr result IsTablesFault }
 {
-    match rt.open_at(path) {
+    match rt.open_at(path).into_inner() {
         Ok(file) => tables_from(rt.alloc(), file),
         Err(error) => Err(StartFault::of_tables(&error)),
     }

@@ -1,6 +1,7 @@
 //! The files that a program opens by their paths.
-use std::fs::{self, Files};
+use std::fs::Files;
 use std::io::{self, Read};
+use system_answers::{SystemAnswer, opened};
 
 /// What opens files, to be read.
 pub trait Opens {
@@ -13,8 +14,8 @@ pub trait Opens {
     ghost opens: { Self → List ℕ → Self.Opened → Type 0 };
 
     /// Opens the file at this path. It fails where the system does not open it.
-    fn open_at(&self, path: &str) -> io::Result<Self::Opened>
-        ensures opened { IfOk result (opens self.now path.now) };
+    fn open_at(&self, path: &str) -> SystemAnswer<io::Result<Self::Opened>>
+        ensures opened { IfOk result.given (opens self.now path.now) };
 }
 
 impl<R: Files> Opens for R {
@@ -25,7 +26,7 @@ impl<R: Files> Opens for R {
     // The contract of files says nothing of what stands at a path, so any file may.
     ghost opens = { λ _ _ _. ⊤ };
 
-    fn open_at(&self, path: &str) -> io::Result<R::File> {
-        fs::open(self, path)
+    fn open_at(&self, path: &str) -> SystemAnswer<io::Result<R::File>> {
+        opened(self, path)
     }
 }

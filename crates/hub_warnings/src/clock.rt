@@ -2,6 +2,7 @@
 ghost use Rattle.hub_warnings.specs.Clocks.{ReadsSeconds};
 
 use std::time::{Clock, Duration};
+use system_answers::SystemAnswer;
 
 /// A clock of the time of day.
 pub trait WallClock {
@@ -11,9 +12,9 @@ pub trait WallClock {
     /// The readings that it may give: the time since 1970, or none.
     ghost reads: { Self → Option Duration → Type 0 };
 
-    /// Reads the time since 1970. Returns `None` if the clock cannot be read.
-    fn time_since_1970(&self) -> Option<Duration>
-        ensures read { reads self.now result };
+    /// Reads the time since 1970. There is none if the clock cannot be read.
+    fn time_since_1970(&self) -> SystemAnswer<Option<Duration>>
+        ensures read { reads self.now result.given };
 }
 
 impl<R: Clock> WallClock for R {
@@ -22,8 +23,8 @@ impl<R: Clock> WallClock for R {
     // The contract of a clock says nothing of what it gives, so any reading may be one of it.
     ghost reads = { λ _ _. ⊤ };
 
-    fn time_since_1970(&self) -> Option<Duration> {
-        self.since_1970().ok()
+    fn time_since_1970(&self) -> SystemAnswer<Option<Duration>> {
+        system_answers::time_since_1970(self)
     }
 }
 
@@ -31,7 +32,7 @@ impl<R: Clock> WallClock for R {
 pub fn seconds_since_1970<C: WallClock>(clock: &C) -> u64
     ensures { ReadsSeconds C.reads clock.now result }
 {
-    match clock.time_since_1970() {
+    match clock.time_since_1970().into_inner() {
         Some(time) => time.as_secs(),
         None => 0,
     }

@@ -20,6 +20,7 @@ use std::io::{self, Write};
 use std::sync::atomic::{AtomicU64, Ordering};
 use std::sync::{Arc, Wait};
 use std::time::{Clock, Duration};
+use system_answers::{WriteFailed, write_line};
 
 /// The number of lines that wait at most.
 pub const MOST_LINES: usize = 256;
@@ -131,9 +132,9 @@ impl<R: Wait + Drop> Write for QueueWriter<R> {
 }
 
 impl QueuedLines {
-    /// Writes each line, until the other end is gone. Where lines were dropped, one says how many, once there is room again. Returns
-    /// the first error of a write, which changes nothing.
-    pub fn write<R: Wait + WallClock, W: Write>(self, rt: &R, writer: &mut W) -> Option<io::Error>
+    /// Writes each line, until the other end is gone. Where lines were dropped, one says how many, once there is room again. A write
+    /// that fails changes nothing, and is told at the end.
+    pub fn write<R: Wait + WallClock, W: Write>(self, rt: &R, writer: &mut W) -> Option<WriteFailed>
         ensures { IsNone result → AppendsAll R.reads rt.now (is_for_journal self) (W.contents writer.old) (W.contents writer.new) }
     {
         let mut since = 0;
@@ -152,7 +153,7 @@ impl QueuedLines {
         writer: &mut W,
         line: &QueuedLine,
         since: &mut usize,
-    ) -> io::Result<()>
+    ) -> Result<(), WriteFailed>
         ensures written { OnOk result (AppendsLine (is_for_journal self.now) line.now.bytes.items (W.contents writer.old) (W.contents writer.new)) }
         ensures whole { IsTrue (is_line line.now.bytes.items) }
     {
@@ -165,12 +166,16 @@ impl QueuedLines {
         let told = self.tell_dropped(clock, writer);
         match written {
             Ok(()) => told,
-            Err(error) => Err(error),
+            Err(failed) => Err(failed),
         }
     }
 
     /// Says how many lines were dropped since it last did.
-    fn tell_dropped<C: WallClock, W: Write>(&self, clock: &C, writer: &mut W) -> io::Result<()>
+    fn tell_dropped<C: WallClock, W: Write>(
+        &self,
+        clock: &C,
+        writer: &mut W,
+    ) -> Result<(), WriteFailed>
         ensures { OnOk result (TellsDropped C.reads clock.now (is_for_journal self.now) (W.contents writer.old) (W.contents writer.new)) }
     {
         let count = self.dropped.swap(0, Ordering::SeqCst);
@@ -180,25 +185,29 @@ impl QueuedLines {
     }
 }
 
-/// Gives the first error of two.
-fn first_fault(fault: Option<io::Error>, written: io::Result<()>) -> Option<io::Error>
+/// Gives the first fault of two.
+fn first_fault(fault: Option<WriteFailed>, written: Result<(), WriteFailed>) -> Option<WriteFailed>
     ensures { IsNone result ↔ IsNone fault × IsOk written }
 {
     match fault {
-        Some(error) => Some(error),
+        Some(failed) => Some(failed),
         None => written.err(),
     }
 }
 
 /// Writes a line about those that were dropped, where any was.
-fn write_dropped<W: Write>(writer: &mut W, has_priorities: bool, dropped: Dropped) -> io::Result<()>
+fn write_dropped<W: Write>(
+    writer: &mut W,
+    has_priorities: bool,
+    dropped: Dropped,
+) -> Result<(), WriteFailed>
     ensures { OnOk result (Appends (W.contents writer.old) (W.contents writer.new) (dropped_line has_priorities dropped)) }
 {
     if dropped.count == 0 {
         return Ok(());
     }
     let priority = priority(has_priorities, Level::Warn);
-    writeln!(writer, "{priority}{dropped}")
+    write_line(writer, priority, &dropped)
 }
 
 impl QueueEnd {

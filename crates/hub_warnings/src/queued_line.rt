@@ -4,7 +4,8 @@ ghost use Rattle.std.specs.Io.KnownBytes.{Appends};
 ghost use Rattle.hub_warnings.specs.Queued.{is_line, IsOpen, open_after};
 
 use std::alloc::Global;
-use std::io::{self, Write};
+use std::io::Write;
+use system_answers::{WriteFailed, write_bytes};
 
 /// A line with its line feed.
 #[derive(Drop)]
@@ -15,11 +16,11 @@ pub(crate) struct QueuedLine {
 
 impl QueuedLine {
     /// Writes it. It fails where a write does.
-    pub(crate) fn write<W: Write>(&self, writer: &mut W) -> io::Result<()>
+    pub(crate) fn write<W: Write>(&self, writer: &mut W) -> Result<(), WriteFailed>
         ensures bytes { OnOk result (Appends (W.contents writer.old) (W.contents writer.new) self.now.bytes.items) }
         ensures whole { IsTrue (is_line self.now.bytes.items) }
     {
-        writer.write_all(&self.bytes)
+        write_bytes(writer, &self.bytes)
     }
 }
 

@@ -27,10 +27,11 @@ use Rattle.hub_invariants.proofs.Sound.{or-true}
 use Rattle.hub_laws.specs.Delivery.{bytes_of_take, bytes_taken, bytes_delivered}
 use Rattle.hub_laws.proofs.Delivery.{delivered_are_the_first}
 use Rattle.hub_shared.specs.Connections.{entries_of}
-use Rattle.hub_server.specs.Answers.{AreAnswered}
-use Rattle.hub_server.specs.ServedAll.{Arrives, ServedAll}
-use Rattle.hub_server.specs.Visits.{Visit, join_refused, joined_only, served, calls_within, calls_of, IsVisit, AreVisits, HasVisited}
-use Rattle.hub_server.specs.declared.terms.Terms.{Terms}
+use Rattle.hub_connections.specs.Answers.{AreAnswered}
+use Rattle.hub_connections.specs.Arrivals.{Arrives}
+use Rattle.hub_server.specs.ServedAll.{ServedAll}
+use Rattle.hub_connections.specs.Visits.{Visit, join_refused, joined_only, served, calls_within, calls_of, IsVisit, AreVisits, HasVisited}
+use Rattle.hub_connections.specs.declared.terms.Terms.{Terms}
 use Rattle.hub_shared.specs.Callers.{VisitorState}
 use Rattle.server_laws.specs.Written.{IsFirstOfOwed, HasBeenPaid, EachWroteTheFirst, WrittenIsOwed}
 use Rattle.server_laws.proofs.Ended.{told_so, is_ended_by, has_ended_in, ended-by, all-taken}

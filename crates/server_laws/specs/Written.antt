@@ -9,9 +9,10 @@ use Rattle.hub_rules.specs.declared.history.Entry.{Entry}
 use Rattle.hub_rules.specs.Configured.{Configured}
 use Rattle.hub_rules.specs.History.{lines_owed, count_taken}
 use Rattle.hub_rules.specs.Legal.{Legal}
-use Rattle.hub_server.specs.ServedAll.{Arrives, ServedAll}
-use Rattle.hub_server.specs.Visits.{Visit, join_refused, joined_only, served, AreVisits}
-use Rattle.hub_server.specs.declared.terms.Terms.{Terms}
+use Rattle.hub_connections.specs.Arrivals.{Arrives}
+use Rattle.hub_server.specs.ServedAll.{ServedAll}
+use Rattle.hub_connections.specs.Visits.{Visit, join_refused, joined_only, served, AreVisits}
+use Rattle.hub_connections.specs.declared.terms.Terms.{Terms}
 use Rattle.hub_shared.specs.Callers.{VisitorState}
 use Rattle.hub_shared.specs.Connections.{entries_of}
 

@@ -1,13 +1,13 @@
 //! The laws of the server: what holds of whoever was served, in the history of a server that has closed its hub.
 #![tactic(auto)]
 
-ghost use Rattle.hub_server.specs.ServedAll.{Arrives};
-ghost use Rattle.hub_server.specs.declared.terms.Terms.{Terms};
+ghost use Rattle.hub_connections.specs.Arrivals.{Arrives};
+ghost use Rattle.hub_connections.specs.declared.terms.Terms.{Terms};
 ghost use Rattle.server_laws.specs.Written.{EachWroteTheFirst, WrittenIsOwed};
 
 use adc_sessions::Stream;
+use hub_connections::Ticket;
 use hub_listener::Moments;
-use hub_server::Ticket;
 use session_hash::SessionHash;
 
 /// Says what was written to the connections of a server that has closed its hub: to each that was served, the first of what the rules

@@ -4,7 +4,7 @@ ghost use Rattle.server_tasks.specs.Amounts.{no_line};
 ghost use Rattle.server_tasks.specs.Backlogs.{with_line, with_take, with_read, ticked, is_waited_for, is_reading, is_behind, what_waits, full_credit};
 
 use crate::amount::Amount;
-use crate::wakers::Broadcasts;
+use crate::broadcasts::Broadcasts;
 
 /// What waits beyond which a client is far behind: half of the lines, or of the bytes, that its outbox holds.
 pub const FAR_BEHIND: Amount = Amount {

@@ -89,6 +89,8 @@ pub enum SlotEvent {
     Ticked(u64, u64),
     /// The next of those were woken for whom everybody was woken: some are left, or none are.
     Cried(bool),
+    /// So much was said to everybody before the session of the slot took so much, after which more may be left, or none is.
+    Took(usize, Amount, Amount, bool),
 }
 
 /// The word of what was done to the slots. Only they give it, under their lock, as they do it. Contracts see the deed.

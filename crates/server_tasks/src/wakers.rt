@@ -2,9 +2,12 @@ ghost use Rattle.std.specs.Prelude.{◌≡◌, ◌&&◌, true, false, nat_lt, Is
 ghost use Rattle.futures.specs.Task.{IsArmed, Keeps};
 ghost use Rattle.server_tasks.specs.GivingWay.{IsAnswered};
 
+mod taking;
+
 use crate::amount::Amount;
 use crate::backlog::Backlog;
 use crate::behind::Behind;
+use crate::broadcasts::Broadcasts;
 use crate::permission::Permission;
 use crate::sender::{BURST, BURST_BYTES, SHORT, Throttle};
 use crate::slots::{Receipt, SlotEvent, Slots};
@@ -32,21 +35,6 @@ pub struct Wakers {
     said: AtomicU64,
     said_bytes: AtomicU64,
     behind: Behind,
-}
-
-/// What was said to everybody until some moment. Only the wakers tell it.
-#[derive(Clone, Copy)]
-pub struct Broadcasts {
-    amount: Amount,
-}
-
-impl Broadcasts {
-    /// Gives the lines, and their bytes.
-    pub fn amount(self) -> Amount
-        ensures { result ≡ self.amount }
-    {
-        self.amount
-    }
 }
 
 impl Wakers {
@@ -195,21 +183,6 @@ impl Wakers {
                 lines: self.said.load(Ordering::SeqCst),
                 bytes: self.said_bytes.load(Ordering::SeqCst),
             },
-        }
-    }
-
-    /// Counts what was taken for the session of this slot, after which more may be left or none is. Before the hub was asked for
-    /// it, `said` had been said to everybody; what was said since may be left. Where that is much, the session is woken to take
-    /// again.
-    pub fn note_taken(&self, slot: usize, said: Broadcasts, taken: Amount, has_more: bool) {
-        if let Some(mut slots) = lock(&self.slots) {
-            slots.note_taken(slot, said.amount(), taken, has_more);
-            if !has_more && slots.is_slot_behind(slot, self.broadcasts().amount()) {
-                slots.wake_slot(slot);
-            }
-        }
-        if self.behind.look().is_none() {
-            self.look();
         }
     }
 

@@ -5,8 +5,8 @@ use Rattle.std.specs.declared.net.socket_addr.SocketAddrV4.{SocketAddrV4}
 use Rattle.adc_sessions.specs.Events.{StreamCall}
 use Rattle.hub_rules.specs.Configured.{Configured}
 use Rattle.hub_server.specs.ServerEnd.{HasServed}
-use Rattle.hub_server.specs.ServedAll.{Arrives}
-use Rattle.hub_server.specs.declared.terms.Terms.{Terms}
+use Rattle.hub_connections.specs.Arrivals.{Arrives}
+use Rattle.hub_connections.specs.declared.terms.Terms.{Terms}
 use Rattle.server_laws.specs.Written.{HasBeenPaid}
 
 -- what tickets say, what a stream tells of its calls, the terms of a listener and how many it accepted, the moments of a clock, and what a writer holds

@@ -1,7 +1,7 @@
 // A listener that accepts nobody at first, as where connections are gone and descriptors are wanting.
 use crate::machine::*;
+use hub_connections::{BindPort, HubPort, TcpPort, TcpTicket, Terms};
 use hub_listener::{Listens, Moments};
-use hub_server::{BindPort, HubPort, TcpPort, TcpTicket, Terms};
 use session_hash::SessionHash;
 use std::snapshot::Snapshot;
 use tokio::net::TcpStream;

@@ -2,8 +2,9 @@
 use crate::machine::*;
 use crate::program::asking::output_of;
 use crate::run::settings;
+use hub_connections::{BindPort, HubPort, TcpPort, TcpTicket, Terms};
 use hub_listener::Listens;
-use hub_server::{BindPort, HubPort, TcpPort, TcpTicket, Terms, serve_at};
+use hub_server::serve_at;
 use std::net::{TcpListener, TcpStream};
 use std::os::fd::OwnedFd;
 use std::snapshot::Snapshot;

@@ -1,14 +1,14 @@
 // A session over memory, with a connection of the server.
 ghost use Rattle.std.specs.Prelude.{◌≡◌, Some, ℕ, ⊤};
-ghost use Rattle.hub_server.specs.NamedHub.{home_in};
+ghost use Rattle.hub_connections.specs.NamedHub.{home_in};
 
 use crate::sessions::hold;
 use adc_sessions::End;
 use futures::task::{Context, Poll};
 use futures::test::MockTask;
+use hub_connections::{Connection, OfHub, Server, TcpTicket, Ticket};
 use hub_core::{Options, Setup};
 use hub_listener::Moments;
-use hub_server::{Connection, OfHub, Server, TcpTicket, Ticket};
 use hub_shared::{Host, Hub, Pass};
 use session_hash::First24;
 use std::alloc::{AllocError, AllocGlobal};

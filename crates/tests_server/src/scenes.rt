@@ -6,8 +6,8 @@ use crate::gate::GateHash;
 use crate::machine::*;
 use crate::run::{Ran, Way, runs};
 use crate::warnings::shape;
-use server_tasks::descriptor_limit;
 use std::net::{TcpListener, TcpStream};
+use system_answers::descriptor_limit;
 use tests_support::steps_of;
 
 /// Ana connects, is greeted and logs in.
@@ -234,7 +234,7 @@ TIME 127.0.0.1:PORT a session ended by TooLong\n";
 
 #[test]
 fn a_journal_has_priorities_and_a_start_and_an_end(rt: HostRuntime) {
-    let allowed = descriptor_limit().expect(&rt, "a limit");
+    let allowed = descriptor_limit().into_inner().expect(&rt, "a limit");
     let said = again!(&rt; format!(in rt.alloc();
         "<6>TIME adc_hub 1.0 serves /etc/adc-hub/hub.toml at 127.0.0.1:PORT, descriptors: 36 needed, {allowed} allowed\n\
 <4>TIME 127.0.0.1:PORT a session ended by TooLong\n\

@@ -1,6 +1,7 @@
-//! What senders ask of the slots.
+//! What sessions ask of the slots.
 ghost use Rattle.std.specs.Prelude.{◌≡◌, ◌&&◌, true, false, None, Some, nat_lt, slice_get};
 ghost use Rattle.server_tasks.specs.Becomes.{OneBecomes};
+ghost use Rattle.server_tasks.specs.Clients.{took};
 ghost use Rattle.server_tasks.specs.GivingWay.{line_over};
 ghost use Rattle.server_tasks.specs.Named.{SameIndex};
 
@@ -42,6 +43,25 @@ impl Slots {
         self.end_line(slot);
         Receipt {
             deed: SlotEvent::LineEnded(slot),
+        }
+    }
+
+    /// Counts what was taken for the session of this slot, as `note_taken` does, and gives the word of it.
+    pub(crate) fn note_taken_by(
+        &mut self,
+        slot: usize,
+        said: Amount,
+        taken: Amount,
+        has_more: bool,
+    ) -> Receipt
+        ensures word { result ≡ SlotEvent.Took slot said taken has_more }
+        ensures taken { OneBecomes (took said taken has_more) slot self.old.slots.items self.new.slots.items }
+        ensures bells { self.new.bells ≡ self.old.bells }
+        ensures index { SameIndex self.old self.new }
+    {
+        self.note_taken(slot, said, taken, has_more);
+        Receipt {
+            deed: SlotEvent::Took(slot, said, taken, has_more),
         }
     }
 

@@ -1,6 +1,6 @@
 // A client over memory, whose connection's calls are recorded.
 ghost use Rattle.std.specs.Prelude.{◌≡◌, Some, ⊤};
-ghost use Rattle.hub_server.specs.NamedHub.{home_in};
+ghost use Rattle.hub_connections.specs.NamedHub.{home_in};
 
 use crate::histories::clock::StillClock;
 use crate::histories::record::Desk;
@@ -8,8 +8,8 @@ use crate::machine::*;
 use crate::sessions::begin;
 use adc_sessions::{Port, Session};
 use history_check::{WrittenCall, WrittenReply};
+use hub_connections::{Connection, OfHub, Server, SlotBell, Ticket};
 use hub_core::{JoinRefused, LineRefused, TakeRefused, Taken, Verdict};
-use hub_server::{Connection, OfHub, Server, SlotBell, Ticket};
 use hub_shared::{Hub, Visitor};
 use std::marker::PhantomData;
 use std::thread::yield_now;

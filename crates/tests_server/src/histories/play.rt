@@ -1,6 +1,6 @@
 // Conversations as text, and how they are played.
 ghost use Rattle.std.specs.Prelude.{◌≡◌, Some, ℕ};
-ghost use Rattle.hub_server.specs.NamedHub.{home_in};
+ghost use Rattle.hub_connections.specs.NamedHub.{home_in};
 
 use crate::histories::client::{Guest, StillServer, Talk, joins};
 use crate::histories::clock::StillClock;
@@ -8,9 +8,9 @@ use crate::histories::polls::{are_over, go_round, goes_to_end};
 use crate::histories::record::Desk;
 use crate::machine::*;
 use history_check::WrittenEntry;
+use hub_connections::{OfHub, Server, TcpTicket, Ticket};
 use hub_core::Setup;
 use hub_listener::Moments;
-use hub_server::{OfHub, Server, TcpTicket, Ticket};
 use hub_shared::{Host, Hub};
 use std::marker::Brand;
 use std::thread::{Threads, for_each_mut};

@@ -5,8 +5,8 @@ use crate::in_memory::desk::{Desk, EndedBy};
 use crate::in_memory::wire::{Client, Wire, home_of};
 use crate::machine::*;
 use adc_sessions::End;
+use hub_connections::{BindPort, CutOff, HubPort, NoMemory, Refusal, Terms, Ticket, ToldFull};
 use hub_listener::{Arrived, Listens, Socket};
-use hub_server::{BindPort, CutOff, HubPort, NoMemory, Refusal, Terms, Ticket, ToldFull};
 use server_tasks::LeavingSocket;
 use std::snapshot::Snapshot;
 use tokio::reactor::Handle;
@@ -73,7 +73,7 @@ impl<'a, R: Clock + Sync> BindPort<Wire<'a, R>, WireTicket<'a, R>, First24, R> f
 impl<'a, R: Clock + Sync> Listens for Lobby<'a, R> {
     ghost use Rattle.std.specs.Prelude.{◌≡◌, ◌+◌};
     ghost use Rattle.std.proofs.Common.{◌∙◌, ap, refl};
-    ghost use Rattle.hub_server.specs.Arrivals.{HasCome};
+    ghost use Rattle.hub_connections.specs.Arrivals.{HasCome};
 
     type Socket = Wire<'a, R>;
 
@@ -154,8 +154,8 @@ impl<'a, R: Clock> WireTicket<'a, R> {
 impl<'a, R: Clock> Ticket<Wire<'a, R>, First24, R> for WireTicket<'a, R> {
     ghost use Rattle.std.specs.Prelude.{IsSome};
     ghost use Rattle.hub_listener.specs.Peers.{octets_of};
-    ghost use Rattle.hub_server.specs.Owed.{WritesFull, challenge_of};
-    ghost use Rattle.hub_server.specs.JoinRefusals.{IsRefusal};
+    ghost use Rattle.hub_connections.specs.Owed.{WritesFull, challenge_of};
+    ghost use Rattle.hub_connections.specs.JoinRefusals.{IsRefusal};
 
     ghost terms = { λ ticket. ticket.terms.value.value };
 

@@ -5,8 +5,9 @@ ghost use Rattle.tests_server.specs.Paid.{HasPaid};
 
 use crate::machine::*;
 use adc_sessions::Stream;
+use hub_connections::{BindPort, Ticket};
 use hub_listener::{Moments, Socket};
-use hub_server::{BindPort, Ticket, serve_at};
+use hub_server::serve_at;
 use hub_settings::Settings;
 use server_laws::written_laws;
 use session_hash::SessionHash;

@@ -233,6 +233,10 @@ impl<R: Clock> AsyncWrite for Wire<'_, R> {
 impl<R: Clock> Socket for Wire<'_, R> {
     ghost use Rattle.std.specs.Prelude.{◌≡◌, ◌++◌, [], take, IfOk, IfErr};
 
+    type Tried = io::Result<usize>;
+
+    ghost outcome_of = { λ tried. tried };
+
     ghost tries = { λ a bytes r b. IfOk r (λ count. (b.sent.items ≡ a.sent.items ++ take count bytes) × (b.rest.now ≡ a.rest.now))
         × IfErr r (λ _. (b.sent.items ≡ a.sent.items ++ []) × (b.rest.now ≡ a.rest.now)) };
 
@@ -245,5 +249,9 @@ impl<R: Clock> Socket for Wire<'_, R> {
     fn try_write(&mut self, bytes: &[u8]) -> io::Result<usize> {
         self.sent.extend_from_slice(bytes)?;
         Ok(bytes.len())
+    }
+
+    fn outcome(tried: io::Result<usize>) -> io::Result<usize> {
+        tried
     }
 }

@@ -1,9 +1,10 @@
 // Tests of what is warned of, and what a failed call of the listener means.
 use adc_sessions::End;
-use hub_server::cause_of;
+use hub_connections::cause_of;
 use hub_warnings::Cause;
-use server_tasks::{AcceptError, accept_error_of, descriptor_limit, descriptors_needed};
+use server_tasks::{AcceptError, accept_error_of, descriptors_needed};
 use std::io;
+use system_answers::descriptor_limit;
 
 #[test]
 fn each_end_by_a_fault_has_its_cause(rt: HostRuntime) {
@@ -43,5 +44,9 @@ fn want_of_room_is_no_fault_of_the_listener(rt: HostRuntime) {
 fn descriptors_are_counted(rt: HostRuntime) {
     assert!(&rt; descriptors_needed(900) == 932);
     // Those of the standard streams are there at least.
-    assert!(&rt; descriptor_limit().is_some_and(|count| count >= 3));
+    assert!(&rt;
+        descriptor_limit()
+            .into_inner()
+            .is_some_and(|count| count >= 3)
+    );
 }

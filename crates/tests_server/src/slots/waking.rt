@@ -2,7 +2,7 @@
 use crate::machine::*;
 use adc_base32::Sid;
 use adc_sessions::Bell;
-use hub_server::SlotBell;
+use hub_connections::SlotBell;
 use server_tasks::{Amount, BURST, FAR_BEHIND, LITTLE, PATIENCE, Wakers};
 
 /// The number of sessions.
@@ -135,13 +135,13 @@ fn says(waiters: &Waiters, count: u64) {
 /// Takes all that waits for the session of this slot.
 fn takes_all(waiters: &Waiters, slot: usize) {
     let wakers = &waiters.wakers;
-    wakers.note_taken(slot, wakers.broadcasts(), Amount::of_line(LINE), false);
+    let _ = wakers.note_taken(slot, wakers.broadcasts(), Amount::of_line(LINE), false);
 }
 
 /// Takes one line of all that wait, so that as much waits as before once another is said.
 fn moves(waiters: &Waiters, slot: usize) {
     let wakers = &waiters.wakers;
-    wakers.note_taken(slot, wakers.broadcasts(), Amount::of_line(LINE), true);
+    let _ = wakers.note_taken(slot, wakers.broadcasts(), Amount::of_line(LINE), true);
 }
 
 /// Lets the session of this slot give so many bytes, of which all have heard.
@@ -334,9 +334,9 @@ fn who_may_have_missed_much_takes_again(rt: HostRuntime) {
     let (lines, bytes) = (3, 3 * LINE);
     let three = Amount { lines, bytes };
     says(&waiters, FAR_BEHIND.lines);
-    waiters.wakers.note_taken(1, said, three, false);
+    let _ = waiters.wakers.note_taken(1, said, three, false);
     waiters.are_woken(&rt, [false; COUNT]);
     says(&waiters, 1);
-    waiters.wakers.note_taken(1, said, three, false);
+    let _ = waiters.wakers.note_taken(1, said, three, false);
     waiters.are_woken(&rt, [false, true, false, false]);
 }

@@ -1,5 +1,5 @@
 use Rattle.std.proofs.Common.{ap}
-use Rattle.hub_server.specs.NamedHub.{home_in}
+use Rattle.hub_connections.specs.NamedHub.{home_in}
 use Rattle.hub_server.proofs.lifetime.run.Goals as goal
 
 -- all that came back are of the hub that is named

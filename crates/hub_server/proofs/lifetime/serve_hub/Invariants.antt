@@ -1,6 +1,6 @@
 use Rattle.std.proofs.Common.{Some}
-use Rattle.hub_server.specs.ServedAll.{Arrives}
-use Rattle.hub_server.specs.Stop.{HasStopped}
+use Rattle.hub_connections.specs.Arrivals.{Arrives}
+use Rattle.hub_connections.specs.Stop.{HasStopped}
 use Rattle.hub_server.proofs.lifetime.serve_hub.Given as goal
 
 abbrev pub ghosts-run : goal.ghosts-run

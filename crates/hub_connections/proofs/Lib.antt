@@ -1,0 +1,5 @@
+mod PassSessions
+mod VisitCalls
+mod Refusals
+mod StopAfter
+mod Owed

@@ -1,0 +1,14 @@
+pub mod Answers
+pub mod Arrivals
+pub mod Faults
+pub mod SessionEnds
+pub mod NamedHub
+pub mod Owed
+pub mod Peers
+pub mod PortCalls
+pub mod Refusals
+pub mod ServedByHub
+pub mod Stop
+pub mod JoinRefusals
+pub mod Visits
+pub mod Wakes

@@ -1,0 +1,51 @@
+//! The connections of a server: its slots and tasks, which share one hub, and what each connection that came is owed.
+#![tactic(auto)]
+
+mod accepted;
+mod acceptor;
+mod all_free;
+mod arrivals;
+mod connection;
+mod cut_off;
+mod free_slot;
+mod guest;
+mod left_slot;
+mod listening;
+mod newcomer;
+mod no_memory;
+mod no_place;
+mod plan;
+mod port;
+mod refusal;
+mod served_slot;
+mod server;
+mod slot;
+mod slot_bell;
+mod task;
+mod tasks;
+mod tcp;
+mod terms;
+mod ticket;
+mod told_full;
+mod waking;
+
+pub use all_free::{AllFree, leave};
+pub use connection::{Connection, HubSession, serve_connection};
+pub use cut_off::CutOff;
+pub use free_slot::{FreeSlot, OfHub, Stop};
+pub use left_slot::LeftSlot;
+pub use listening::make_tasks;
+pub use no_memory::NoMemory;
+pub use plan::{Plan, open, slot_count};
+pub use port::{BindPort, HubPort};
+pub use refusal::Refusal;
+pub use server::{NoFault, NoSlot, Server};
+pub use slot::Slot;
+pub use slot_bell::SlotBell;
+pub use task::{Task, cause_of};
+pub use tasks::Tasks;
+pub use tcp::{PromisedPort, TcpPort, TcpTicket};
+pub use terms::Terms;
+pub use ticket::Ticket;
+pub use told_full::ToldFull;
+pub use waking::Woken;
