@@ -5,7 +5,7 @@ use Rattle.adc_sessions.specs.Acts.{BellCall, heard, asked, noted}
 use Rattle.adc_sessions.specs.Events.{PortCall, handed, took, refused}
 use Rattle.server_tasks.specs.declared.amount.Amount.{Amount}
 use Rattle.server_tasks.specs.declared.slots.SlotEvent.{SlotEvent}
-use Rattle.server_tasks.specs.declared.slots.SlotEvent.TheVariants.{WokeOne, WokeEverybody, Looked}
+use Rattle.server_tasks.specs.declared.slots.SlotEvent.TheVariants.{WokeOne, WokeEverybody, Looked, Wrote}
 use Rattle.server_tasks.specs.GivingWay.{IsAnswered}
 use Rattle.server_tasks.specs.declared.permission.Permission.{Permission}
 use Rattle.hub_core.specs.declared.share.Touched.{Touched}
@@ -49,8 +49,10 @@ Wakes (handed line verdict) touched slot before after it rung = AreWokenOrOwed t
 Wakes (took count bytes taken) touched slot before after it rung = (after ≡ false) × OwesOn before after slot rung
 Wakes refused touched slot before after it rung = OwesOn before after slot rung
 
--- What the bell of this slot has of a call: the receipt of having looked whether this slot was woken, or the permission that this slot was given.
-abbrev pub HearsBy : BellCall → ℕ → Option (Result SlotEvent GaveUp) → Option Permission → Type 0
-HearsBy (heard was) slot looked permission = IsSomeAnd looked (λ receipt. Receives receipt (λ deed. deed ≡ Looked slot was))
-HearsBy (asked bytes may) slot looked permission = IsSomeAnd permission (λ given. (on_the_way : Bool) × IsAnswered given slot bytes on_the_way may)
-HearsBy (noted bytes was_full) slot looked permission = ⊤
+-- What the bell of this slot has of a call: the receipt of having looked whether this slot was woken, the permission that this slot was given, or the
+-- receipt of having counted what a socket took that had been full.
+abbrev pub HearsBy : BellCall → ℕ → Option (Result SlotEvent GaveUp) → Option Permission → Option (Result SlotEvent GaveUp) → Type 0
+HearsBy (heard was) slot looked permission written = IsSomeAnd looked (λ receipt. Receives receipt (λ deed. deed ≡ Looked slot was))
+HearsBy (asked bytes may) slot looked permission written = IsSomeAnd permission (λ given. (on_the_way : Bool) × IsAnswered given slot bytes on_the_way may)
+HearsBy (noted bytes was_full) slot looked permission written =
+    was_full ≡ true → IsSomeAnd written (λ receipt. Receives receipt (λ deed. deed ≡ Wrote slot bytes))

@@ -1,4 +1,4 @@
-ghost use Rattle.std.specs.Prelude.{◌≡◌, ◌+◌, [], Some, IfSome, length};
+ghost use Rattle.std.specs.Prelude.{◌≡◌, ◌≤◌, ◌+◌, [], Some, IfSome, MatchOption, vec_len, vec_capacity};
 ghost use Rattle.std.specs.List.{All};
 ghost use Rattle.one_history.specs.States.{Home};
 ghost use Rattle.hub_shared.specs.declared.hub_key.HubKey.{HubKey};
@@ -31,7 +31,7 @@ impl<B: OfHub<H, S>, S: Stream, H> AllFree<B, S, H> {
     pub(crate) fn next(&mut self) -> Option<Visitor<H>>
         ensures here { IfSome result (λ visitor. home_in B.hub ≡ Some visitor.home) }
         ensures visits { IfSome result (λ visitor. HasVisited ⟦<S as Stream>⟧.reports B.may_read B.arrives visitor) }
-        ensures fewer { IfSome result (λ _. length self.new.free.items + 1 ≡ length self.old.free.items) }
+        ensures fewer { MatchOption result (vec_len self.old.free ≡ 0) (λ _. vec_len self.new.free + 1 ≡ vec_len self.old.free) }
     {
         match self.free.pop() {
             Some(vacant) => {
@@ -73,6 +73,7 @@ pub fn leave<B: OfHub<H, S>, S: AsyncRead + AsyncWrite, H>(
     requires none { visitors.items ≡ [] }
     ensures here { (home : Home (HubKey H)) → home_in B.hub ≡ Some home → All (λ v. v.home ≡ home) result.items }
     ensures visits { All (λ v. HasVisited ⟦<S as Stream>⟧.reports B.may_read B.arrives v) result.items }
+    ensures all { vec_len free.free + vec_len visitors ≤ vec_capacity visitors → vec_len result ≡ vec_len free.free + vec_len visitors }
 {
     let (mut free, mut visitors) = (free, visitors);
     while let Some(visitor) = free.next() {

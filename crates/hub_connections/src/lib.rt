@@ -34,7 +34,7 @@ pub use connection::{Connection, HubSession, serve_connection};
 pub use cut_off::CutOff;
 pub use free_slot::{FreeSlot, OfHub, Stop};
 pub use left_slot::LeftSlot;
-pub use listening::make_tasks;
+pub use listening::{Started, make_tasks};
 pub use no_memory::NoMemory;
 pub use plan::{Plan, open, slot_count};
 pub use port::{BindPort, HubPort};

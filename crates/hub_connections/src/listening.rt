@@ -1,5 +1,6 @@
-ghost use Rattle.std.specs.Prelude.{◌≡◌, ◌≢◌, ℕ, List, Some, None, Err, IfOk, IfErr, OnOk};
+ghost use Rattle.std.specs.Prelude.{◌≡◌, ◌≢◌, ℕ, List, Some, None, Err, IfSome, IsSomeAnd, IfOk, IfErr, OnOk};
 ghost use Rattle.std.specs.IoError.{error_kind};
+ghost use Rattle.hub_warnings.specs.Logged.{said_line};
 ghost use Rattle.server_tasks.specs.declared.state.ServerFault.{ServerFault};
 ghost use Rattle.hub_connections.specs.Faults.{IsServerFault, ending_by};
 ghost use Rattle.hub_connections.specs.Arrivals.{Arrives};
@@ -19,7 +20,7 @@ use adc_sessions::Accept;
 use hub_endings::Ending;
 use hub_listener::{Listener, Moments, Socket, say_start, warn_of_descriptors};
 use hub_settings::Settings;
-use hub_warnings::Warnings;
+use hub_warnings::{Said, Start, Warnings};
 use hub_workers::Workers;
 use log::Log;
 use server_tasks::{ServerFault, Startup, Ticker};
@@ -32,12 +33,19 @@ use std::sync::Wait;
 use std::time::{Clock, Duration};
 use tokio::time::{self, Sleep};
 
+/// What the journal was told as a server began to listen, where it is to have it.
+pub type Started<'p> = Option<Said<Start<'p>>>;
+
+/// All tasks of a server, and what the journal was told at its start.
+type Made<'a, 'p, B, S, T, H, R, C, L, I, W> = (Tasks<'a, B, S, T, H, R, C, L, I, W>, Started<'p>);
+
 /// Listens at this address, and makes all tasks of the server, with timers and a socket of these workers. The task that accepts
-/// connections deals them the challenges of this seed, in their order, and stops once as many came as the settings say.
+/// connections deals them the challenges of this seed, in their order, and stops once as many came as the settings say. Where the
+/// plan has the path of the settings' file, the journal was told it.
 ///
 /// The server's end is `Address` where the address cannot be had, and `Memory` where memory runs out.
-pub fn make_tasks<'a, B, S, T, I, H, R, C, W, L>(
-    plan: &Plan<'_, H, R, C, L>,
+pub fn make_tasks<'a, 'p, B, S, T, I, H, R, C, W, L>(
+    plan: &Plan<'_, 'p, H, R, C, L>,
     workers: &Workers,
     server: &'a Server<'a, B, S, T, H, R, C>,
     warnings: &'a Warnings<L>,
@@ -45,7 +53,7 @@ pub fn make_tasks<'a, B, S, T, I, H, R, C, W, L>(
     seed: [u8; 32],
     terms: &Terms<H, C>,
     output: &'a mut W,
-) -> Result<Tasks<'a, B, S, T, H, R, C, L, I, W>, Ending>
+) -> Result<Made<'a, 'p, B, S, T, H, R, C, L, I, W>, Ending>
 where
     B: OfHub<H, S>,
     S: Socket,
@@ -61,12 +69,14 @@ where
     requires arrives { (peer challenge : List ℕ) (stream : S)
         → Arrives T.terms T.number T.peer T.began terms.now peer challenge stream → ∥ B.arrives peer challenge stream ∥₁ }
     requires stops { HasStopped I.terms I.accepted terms.now plan.now.settings.now.stop_after → ∥ B.stops ∥₁ }
+    ensures told { IfOk result (λ made. IfSome plan.now.settings_file (λ path. IsSomeAnd made.1 (λ said. (said_line said).settings.now ≡ path.now))) }
     ensures ending { IfErr result IsServerFault }
 {
     let Listening {
         listener,
         address,
         timers,
+        started,
     } = listen::<S, T, I, H, R, C, L>(plan, workers, address, terms)?;
     let Timers { accepting, ticking } = timers;
     let settings = plan.settings;
@@ -74,16 +84,17 @@ where
     let startup = Startup::new(&server.shared, server.rt, output, address);
     let ticker = Ticker::new(&server.shared, server.rt, ticking);
     let count = slot_count(settings);
-    Ok(Tasks::new(ticker, count, accept, startup, server, warnings))
+    let tasks = Tasks::new(ticker, count, accept, startup, server, warnings);
+    Ok((tasks, started))
 }
 
 /// Makes the timers of the tasks, listens at this address, and says so to the journal, where it is to have it.
-fn listen<S, T, I, H, R, C, L>(
-    plan: &Plan<'_, H, R, C, L>,
+fn listen<'p, S, T, I, H, R, C, L>(
+    plan: &Plan<'_, 'p, H, R, C, L>,
     workers: &Workers,
     address: I::Address,
     terms: &Terms<H, C>,
-) -> Result<Listening<I>, Ending>
+) -> Result<Listening<'p, I>, Ending>
 where
     S: Socket,
     T: Ticket<S, H, C>,
@@ -95,6 +106,7 @@ where
     requires there { terms.now.place.value ≡ I.place_of address }
     ensures promised { IfOk result (λ it. I.terms it.listener ≡ terms.now) }
     ensures none { IfOk result (λ it. I.accepted it.listener ≡ 0) }
+    ensures told { IfOk result (λ it. IfSome plan.now.settings_file (λ path. IsSomeAnd it.started (λ said. (said_line said).settings.now ≡ path.now))) }
     ensures ending { IfErr result IsServerFault }
 {
     let timers = make_timers(plan.rt, workers.time())?;
@@ -102,28 +114,31 @@ where
     warn_of_descriptors(plan.rt, &plan.warnings.log, users);
     let listener = match I::bind(plan.rt, address, workers.reactor(), Snapshot::of(terms)) {
         Ok(listener) => listener,
-        Err(error) => return Err(ending_of(&error)),
+        Err(failed) => return Err(ending_of(&failed.into_inner())),
     };
     let address = match listener.address() {
         Ok(address) => address,
         Err(error) => return Err(ending_of(&error)),
     };
-    if let Some(settings_file) = plan.settings_file {
-        say_start(plan.rt, &plan.warnings.log, settings_file, address, users);
-    }
+    let started = match plan.settings_file {
+        Some(path) => Some(say_start(plan.rt, &plan.warnings.log, path, address, users)),
+        None => None,
+    };
     Ok(Listening {
         listener,
         address,
         timers,
+        started,
     })
 }
 
-/// A listener, the address at which it listens, and the timers of the tasks.
+/// A listener, the address at which it listens, the timers of the tasks, and what the journal was told.
 #[derive(Drop)]
-struct Listening<I> {
+struct Listening<'p, I> {
     listener: I,
     address: SocketAddr,
     timers: Timers,
+    started: Started<'p>,
 }
 
 /// The timers of the tasks, which are not set yet.

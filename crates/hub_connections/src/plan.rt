@@ -10,19 +10,19 @@ use std::alloc::AllocGlobal;
 
 /// What a server has from its start to its end.
 #[derive(Drop)]
-pub struct Plan<'a, H, R, C, L> {
+pub struct Plan<'a, 'p, H, R, C, L> {
     pub rt: &'a R,
     pub clock: &'a C,
     pub settings: &'a Settings,
     pub hash: &'a H,
     /// The path of the settings' file, where the journal is to have it.
-    pub settings_file: Option<&'a str>,
+    pub settings_file: Option<&'p str>,
     pub warnings: &'a Warnings<L>,
 }
 
 /// Opens the hub of these settings, and gives who admits visitors to it. Refused only where memory runs out.
 pub fn open<H: SessionHash, R: AllocGlobal, C, L>(
-    plan: &Plan<'_, H, R, C, L>,
+    plan: &Plan<'_, '_, H, R, C, L>,
 ) -> Result<(Hub<H>, Host<H>), Ending>
     ensures set { IfOk result (λ r. r.0.setup ≡ plan.now.settings.now.hub) }
     ensures hashed { IfOk result (λ r. r.0.hash ≡ plan.now.hash.now) }

@@ -3,9 +3,9 @@ use crate::ticket::Ticket;
 use adc_sessions::Stream;
 use hub_listener::{Listens, Moments};
 use session_hash::SessionHash;
-use std::io;
 use std::net::{Net, SocketAddrV4};
 use std::snapshot::Snapshot;
+use system_answers::ListenFailed;
 use tokio::reactor::Handle;
 
 /// A listening socket that knows the terms of its server, and how many connections it has accepted.
@@ -53,7 +53,7 @@ pub trait BindPort<S: Stream, T: Ticket<S, H, C>, H: SessionHash, C: Moments>: H
         address: Self::Address,
         handle: &Handle,
         promise: Snapshot<Terms<H, C>>,
-    ) -> io::Result<Self>
+    ) -> Result<Self, ListenFailed>
         requires there { promise.value.place.value ≡ place_of address }
         ensures promised { IfOk result (λ port. Self.HubPort.terms port ≡ promise.value) }
         ensures none { IfOk result (λ port. Self.HubPort.accepted port ≡ 0) };

@@ -1,4 +1,4 @@
-ghost use Rattle.std.specs.Prelude.{◌≡◌, ◌≤◌, [], Some, None, ℕ, IfOk, IfErr};
+ghost use Rattle.std.specs.Prelude.{◌≡◌, ◌≤◌, [], Some, None, ℕ, IfOk, IfErr, OnOk, IsOk};
 ghost use Rattle.server_tasks.specs.declared.state.Told.TheVariants.{Asked};
 ghost use Rattle.hub_connections.specs.Faults.{IsServerFault};
 
@@ -76,6 +76,7 @@ impl<
         requires timely { (moment : ℕ) → B.may_read moment → ∥ C.may_read clock.now moment ∥₁ }
         ensures hub { IfOk result (λ server. server.hub ≡ hub.entry) }
         ensures clock { IfOk result (λ server. server.clock ≡ clock.entry) }
+        ensures slots { IfOk result (λ server. server.shared.wakers.count ≡ count) }
     {
         let free = Vec::with_capacity(alloc, count)?;
         let shared = match Shared::new(alloc, count) {
@@ -188,6 +189,7 @@ impl<
     ) -> Result<(AllFree<B, S, H>, Stop<B, S, H>), Ending>
         requires asked { IfOk served (λ asked. IfOk asked (λ word. word ≡ Asked None)) }
         requires ending { IfErr served IsServerFault }
+        ensures served { OnOk result (IsOk served) }
         ensures ending { IfErr result IsServerFault }
     {
         let (free, stop) = self.into_parts();

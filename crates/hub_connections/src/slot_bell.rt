@@ -11,9 +11,10 @@ pub struct SlotBell<'a> {
     wakers: &'a Wakers,
     slot: usize,
     throttle: Throttle,
-    // The receipt of the last look, and the last permission to hand over a line.
+    // The receipt of the last look, the last permission to hand over a line, and the receipt of what was written last.
     looked: Option<Result<Receipt, GaveUp>>,
     permission: Option<Permission>,
+    written: Option<Result<Receipt, GaveUp>>,
 }
 
 impl<'a> SlotBell<'a> {
@@ -27,6 +28,7 @@ impl<'a> SlotBell<'a> {
             throttle: Throttle::new(),
             looked: None,
             permission: None,
+            written: None,
         }
     }
 }
@@ -36,7 +38,7 @@ impl Bell for SlotBell<'_> {
     ghost use Rattle.hub_connections.specs.Wakes.{HearsBy};
 
     // It is always that of the same slot, and has asked about that slot.
-    ghost hears = { λ a call b. (b.slot ≡ a.slot) × HearsBy call b.slot b.looked b.permission };
+    ghost hears = { λ a call b. (b.slot ≡ a.slot) × HearsBy call b.slot b.looked b.permission b.written };
 
     fn ring(&self) {
         let _ = self.wakers.wake_slot(self.slot);
@@ -59,7 +61,7 @@ impl Bell for SlotBell<'_> {
 
     fn wrote(&mut self, bytes: usize, was_full: bool) {
         if was_full {
-            self.wakers.count_written(self.slot, bytes as u64);
+            self.written = Some(self.wakers.count_written(self.slot, bytes as u64));
         }
     }
 }

@@ -15,6 +15,7 @@ use session_hash::SessionHash;
 use std::io;
 use std::net::{Net, SocketAddr, SocketAddrV4};
 use std::snapshot::Snapshot;
+use system_answers::ListenFailed;
 use tokio::io::AsyncWrite;
 use tokio::net::{TcpListener, TcpStream};
 use tokio::reactor::Handle;
@@ -73,7 +74,7 @@ impl<H: SessionHash, C: Moments> BindPort<TcpStream, TcpTicket<H, C>, H, C> for 
         address: SocketAddrV4,
         handle: &Handle,
         promise: Snapshot<Terms<H, C>>,
-    ) -> io::Result<TcpPort<H, C>>
+    ) -> Result<TcpPort<H, C>, ListenFailed>
         requires there { promise.value.place.value ≡ address }
         ensures promised { IfOk result (λ port. port.terms.value ≡ promise.value) }
         ensures none { IfOk result (λ port. port.accepted ≡ 0) }

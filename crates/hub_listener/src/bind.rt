@@ -2,9 +2,9 @@ ghost use Rattle.hub_listener.specs.Options.{Sets};
 ghost use Rattle.hub_listener.specs.declared.options.SocketOption.TheVariants.{SendBuffer, KeepAlive, KeepAliveIdle, KeepAliveInterval, KeepAliveCount, UserTimeout};
 
 use crate::options::{OptionCall, SocketOption, set_option};
-use std::io;
-use std::net::{Net, SocketAddr, SocketAddrV4};
+use std::net::{Net, SocketAddrV4};
 use std::os::fd::{AsRawFd, RawFd};
+use system_answers::{ListenFailed, bound, registered};
 use tokio::net::TcpListener;
 use tokio::reactor::Handle;
 
@@ -25,10 +25,14 @@ const ASKS: u32 = 3;
 const GIVES_UP: u32 = 120_000;
 
 /// Listens at this address. It fails where the system does not give the address.
-pub fn listen<R: Net>(rt: &R, address: SocketAddrV4, handle: &Handle) -> io::Result<TcpListener> {
-    let socket = mio::net::TcpListener::bind(rt, SocketAddr::V4(address))?;
+pub fn listen<R: Net>(
+    rt: &R,
+    address: SocketAddrV4,
+    handle: &Handle,
+) -> Result<TcpListener, ListenFailed> {
+    let socket = bound(rt, address)?;
     let _ = set_options(socket.as_raw_fd());
-    TcpListener::from_std(socket.into(), handle)
+    registered(socket, handle)
 }
 
 /// What the system was asked of a socket that listens.

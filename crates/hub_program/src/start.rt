@@ -112,7 +112,8 @@ where
     ensures served { result ≡ 0 → (joins : ℕ) × Reports W.contents output.new joins }
 {
     if has_journal(rt) {
-        serve_for_journal(rt, settings, path, hash, seed, output, errors)
+        let (status, _said) = serve_for_journal(rt, settings, path, hash, seed, output, errors);
+        status
     } else {
         serve_on(rt, settings, hash, seed, output, errors)
     }

@@ -1,13 +1,14 @@
-ghost use Rattle.std.specs.Prelude.{◌≡◌, ℕ, IfOk, IfErr, OnOk};
+ghost use Rattle.std.specs.Prelude.{◌≡◌, ℕ, IfSome, IsSomeAnd, IfOk, IfErr, OnOk};
 ghost use Rattle.std.specs.Arc.{arc_value};
 ghost use Rattle.std.specs.Io.KnownBytes.{Appends, Keeps};
 ghost use Rattle.hub_endings.specs.declared.ending.Ending.TheVariants.{Served};
 ghost use Rattle.hub_connections.specs.Faults.{IsServerFault};
+ghost use Rattle.hub_warnings.specs.Logged.{said_line};
 ghost use Rattle.hub_server.specs.ServerEnd.{EndsServing, HasServed, IsServerEnding, report_line};
 
 use crate::lifetime::serve_hub;
 use adc_sessions::Stream;
-use hub_connections::{BindPort, HubPort, TcpPort, TcpTicket, Ticket};
+use hub_connections::{BindPort, HubPort, Started, TcpPort, TcpTicket, Ticket};
 use hub_endings::Ending;
 use hub_listener::{Moments, Socket, moment};
 use hub_settings::Settings;
@@ -85,33 +86,38 @@ where
     ensures served { result ≡ 0 → (joins : ℕ) × HasServed T.terms T.number T.peer T.began ⟦<S as Stream>⟧.reports I.terms I.accepted ⟦<R as Moments>⟧.may_read
         W.contents settings.now.hub H.digest_of (arc_value hash) rt.now seed (I.place_of address) settings.now.stop_after output.new joins }
 {
-    run_to_status::<S, T, I, H, R, W, E>(rt, settings, hash, seed, address, None, output, errors)
+    let (status, _started) = run_to_status::<S, T, I, H, R, W, E>(
+        rt, settings, hash, seed, address, None, output, errors,
+    );
+    status
 }
 
 /// Serves as [`serve_on`] does, where `errors` is the journal of systemd. Each warning begins with its priority there, as
 /// `<4>`. A line at the start has the version, the path of the settings' file, the address, and how many descriptors are
-/// needed and allowed; one at the end says why the server ended, and how many joins were accepted.
-pub fn serve_for_journal<H, R, W, E>(
+/// needed and allowed; one at the end says why the server ended, and how many joins were accepted. Beside the status it gives what
+/// was said at the start: with status 0 something was, with that path.
+pub fn serve_for_journal<'p, H, R, W, E>(
     rt: &R,
     settings: &Settings,
-    settings_file: &str,
+    settings_file: &'p str,
     hash: Arc<H>,
     seed: [u8; 32],
     output: &mut W,
     errors: &mut E,
-) -> u8
+) -> (u8, Started<'p>)
 where
     H: SessionHash + Send + Sync + Drop,
     R: Wait + Threads + Clock + Net + RandomSource + AllocGlobal + Sync,
     W: Write,
     E: Write + Send,
-    ensures status { EndsServing E.contents errors.new result }
-    ensures served { result ≡ 0 → (joins : ℕ) × HasServed
+    ensures status { EndsServing E.contents errors.new result.0 }
+    ensures served { result.0 ≡ 0 → (joins : ℕ) × HasServed
         ⟦<TcpTicket<H, R> as Ticket<TcpStream, H, R>>⟧.terms ⟦<TcpTicket<H, R> as Ticket<TcpStream, H, R>>⟧.number
         ⟦<TcpTicket<H, R> as Ticket<TcpStream, H, R>>⟧.peer ⟦<TcpTicket<H, R> as Ticket<TcpStream, H, R>>⟧.began ⟦<TcpStream as Stream>⟧.reports
         ⟦<TcpPort<H, R> as HubPort<TcpStream, TcpTicket<H, R>, H, R>>⟧.terms
         ⟦<TcpPort<H, R> as HubPort<TcpStream, TcpTicket<H, R>, H, R>>⟧.accepted ⟦<R as Moments>⟧.may_read W.contents settings.now.hub
         H.digest_of (arc_value hash) rt.now seed settings.now.listen settings.now.stop_after output.new joins }
+    ensures told { result.0 ≡ 0 → IsSomeAnd result.1 (λ said. (said_line said).settings.now ≡ settings_file.now) }
 {
     let address = settings.listen();
     let file = Some(settings_file);
@@ -121,16 +127,16 @@ where
 }
 
 /// Serves, for the journal where there is a path of the settings' file, which it names.
-fn run_to_status<S, T, I, H, R, W, E>(
+fn run_to_status<'p, S, T, I, H, R, W, E>(
     rt: &R,
     settings: &Settings,
     hash: Arc<H>,
     seed: [u8; 32],
     address: I::Address,
-    settings_file: Option<&str>,
+    settings_file: Option<&'p str>,
     output: &mut W,
     errors: &mut E,
-) -> u8
+) -> (u8, Started<'p>)
 where
     S: Socket + Send,
     T: Ticket<S, H, R> + Send,
@@ -139,16 +145,17 @@ where
     R: Wait + Threads + Clock + Net + RandomSource + AllocGlobal + Sync,
     W: Write,
     E: Write + Send,
-    ensures status { EndsServing E.contents errors.new result }
-    ensures served { result ≡ 0 → (joins : ℕ) × HasServed T.terms T.number T.peer T.began ⟦<S as Stream>⟧.reports I.terms I.accepted ⟦<R as Moments>⟧.may_read
+    ensures status { EndsServing E.contents errors.new result.0 }
+    ensures served { result.0 ≡ 0 → (joins : ℕ) × HasServed T.terms T.number T.peer T.began ⟦<S as Stream>⟧.reports I.terms I.accepted ⟦<R as Moments>⟧.may_read
         W.contents settings.now.hub H.digest_of (arc_value hash) rt.now seed (I.place_of address) settings.now.stop_after output.new joins }
+    ensures told { result.0 ≡ 0 → IfSome settings_file.entry (λ path. IsSomeAnd result.1 (λ said. (said_line said).settings.now ≡ path.now)) }
 {
     let log = Logged::new(
         (),
         Level::Info,
         Journal::new(rt, settings_file.is_some(), &mut *errors),
     );
-    let ending = run_and_log_end::<S, T, I, H, R, W, _>(
+    let (ending, started) = run_and_log_end::<S, T, I, H, R, W, _>(
         rt,
         settings,
         &*hash,
@@ -158,20 +165,20 @@ where
         output,
         log,
     );
-    ending.tell(errors)
+    (ending.tell(errors), started)
 }
 
 /// Serves with this log, and says there at the end, for the journal, why it ended.
-fn run_and_log_end<S, T, I, H, R, W, L>(
+fn run_and_log_end<'p, S, T, I, H, R, W, L>(
     rt: &R,
     settings: &Settings,
     hash: &H,
     seed: [u8; 32],
     address: I::Address,
-    settings_file: Option<&str>,
+    settings_file: Option<&'p str>,
     output: &mut W,
     log: L,
-) -> Ending
+) -> (Ending, Started<'p>)
 where
     S: Socket + Send,
     T: Ticket<S, H, R> + Send,
@@ -180,9 +187,10 @@ where
     R: Wait + Threads + Clock + Net + RandomSource + AllocGlobal + Sync,
     W: Write,
     L: Log + Sync + Drop,
-    ensures ending { IsServerEnding result }
-    ensures served { result ≡ Served → (joins : ℕ) × HasServed T.terms T.number T.peer T.began ⟦<S as Stream>⟧.reports I.terms I.accepted ⟦<R as Moments>⟧.may_read
+    ensures ending { IsServerEnding result.0 }
+    ensures served { result.0 ≡ Served → (joins : ℕ) × HasServed T.terms T.number T.peer T.began ⟦<S as Stream>⟧.reports I.terms I.accepted ⟦<R as Moments>⟧.may_read
         W.contents settings.now.hub H.digest_of hash.now rt.now seed (I.place_of address) settings.now.stop_after output.new joins }
+    ensures told { result.0 ≡ Served → IfSome settings_file.entry (λ path. IsSomeAnd result.1 (λ said. (said_line said).settings.now ≡ path.now)) }
 {
     let warnings = Warnings::new(log);
     let served = run_and_report::<S, T, I, H, R, W, L>(
@@ -200,15 +208,15 @@ where
     }
     drop(warnings);
     match served {
-        Ok(_) => Ending::Served,
-        Err(ending) => ending,
+        Ok((_, started)) => (Ending::Served, started),
+        Err(ending) => (ending, None),
     }
 }
 
 /// Says why a server ended, and how many joins were accepted, for who reads the journal.
-fn say_end<R: Clock, L: Log>(rt: &R, log: &L, served: &Result<u64, Ending>) {
+fn say_end<R: Clock, L: Log>(rt: &R, log: &L, served: &Result<(u64, Started<'_>), Ending>) {
     let (ending, joins) = match served {
-        Ok(joins) => (Ending::Served, Some(*joins)),
+        Ok((joins, _)) => (Ending::Served, Some(*joins)),
         Err(ending) => (*ending, None),
     };
     let end = EndLine {
@@ -230,17 +238,17 @@ fn reason_of(ending: Ending) -> &'static str {
     }
 }
 
-/// Serves, says the report, and gives the number of joins that were accepted.
-fn run_and_report<S, T, I, H, R, W, L>(
+/// Serves, says the report, and gives the number of joins that were accepted, and what the journal was told at the start.
+fn run_and_report<'p, S, T, I, H, R, W, L>(
     rt: &R,
     settings: &Settings,
     hash: &H,
     seed: [u8; 32],
     address: I::Address,
-    settings_file: Option<&str>,
+    settings_file: Option<&'p str>,
     output: &mut W,
     warnings: &Warnings<L>,
-) -> Result<u64, Ending>
+) -> Result<(u64, Started<'p>), Ending>
 where
     S: Socket + Send,
     T: Ticket<S, H, R> + Send,
@@ -249,8 +257,9 @@ where
     R: Wait + Threads + Clock + Net + RandomSource + AllocGlobal + Sync,
     W: Write,
     L: Log + Sync,
-    ensures served { IfOk result (λ joins. HasServed T.terms T.number T.peer T.began ⟦<S as Stream>⟧.reports I.terms I.accepted ⟦<R as Moments>⟧.may_read
-        W.contents settings.now.hub H.digest_of hash.now rt.now seed (I.place_of address) settings.now.stop_after output.new joins) }
+    ensures served { IfOk result (λ it. HasServed T.terms T.number T.peer T.began ⟦<S as Stream>⟧.reports I.terms I.accepted ⟦<R as Moments>⟧.may_read
+        W.contents settings.now.hub H.digest_of hash.now rt.now seed (I.place_of address) settings.now.stop_after output.new it.0) }
+    ensures told { IfOk result (λ it. IfSome settings_file.entry (λ path. IsSomeAnd it.1 (λ said. (said_line said).settings.now ≡ path.now))) }
     ensures ending { IfErr result IsServerFault }
 {
     let served = serve_hub::<S, T, I, H, R, R, W, L>(
@@ -265,7 +274,7 @@ where
         warnings,
     )?;
     say_report(&served.report, output)?;
-    Ok(served.report.joins)
+    Ok((served.report.joins, served.started))
 }
 
 fn say_report<W: Write>(report: &Report, output: &mut W) -> Result<(), Ending>

@@ -91,6 +91,8 @@ pub enum SlotEvent {
     Cried(bool),
     /// So much was said to everybody before the session of the slot took so much, after which more may be left, or none is.
     Took(usize, Amount, Amount, bool),
+    /// The socket of the slot, which had been full, took so many bytes.
+    Wrote(usize, u64),
 }
 
 /// The word of what was done to the slots. Only they give it, under their lock, as they do it. Contracts see the deed.

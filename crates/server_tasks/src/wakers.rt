@@ -186,10 +186,13 @@ impl Wakers {
         }
     }
 
-    /// Counts bytes that the socket of this slot took, which had been full.
-    pub fn count_written(&self, slot: usize, bytes: u64) {
-        if let Some(mut slots) = lock(&self.slots) {
-            slots.count_written(slot, bytes);
+    /// Counts bytes that the socket of this slot took, which had been full, and gives the word of it.
+    pub fn count_written(&self, slot: usize, bytes: u64) -> Result<Receipt, GaveUp>
+        ensures { IfOk result (λ receipt. receipt ≡ SlotEvent.Wrote slot bytes) }
+    {
+        match lock_or_give_up(&self.slots) {
+            Ok(mut slots) => Ok(slots.count_written_by(slot, bytes)),
+            Err(given_up) => Err(given_up),
         }
     }
 

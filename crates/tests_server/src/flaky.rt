@@ -4,6 +4,7 @@ use hub_connections::{BindPort, HubPort, TcpPort, TcpTicket, Terms};
 use hub_listener::{Listens, Moments};
 use session_hash::SessionHash;
 use std::snapshot::Snapshot;
+use system_answers::ListenFailed;
 use tokio::net::TcpStream;
 use tokio::reactor::Handle;
 
@@ -50,7 +51,7 @@ impl<H: SessionHash, C: Moments> BindPort<TcpStream, TcpTicket<H, C>, H, C> for 
         address: SocketAddrV4,
         handle: &Handle,
         promise: Snapshot<Terms<H, C>>,
-    ) -> io::Result<FlakyPort<H, C>>
+    ) -> Result<FlakyPort<H, C>, ListenFailed>
         requires there { promise.value.place.value ≡ address }
         ensures promised { IfOk result (λ flaky. ⟦<TcpPort<H, C> as HubPort<TcpStream, TcpTicket<H, C>, H, C>>⟧.terms flaky.port ≡ promise.value) }
         ensures none { IfOk result (λ flaky. ⟦<TcpPort<H, C> as HubPort<TcpStream, TcpTicket<H, C>, H, C>>⟧.accepted flaky.port ≡ 0) }

@@ -8,6 +8,7 @@ use hub_server::serve_at;
 use std::net::{TcpListener, TcpStream};
 use std::os::fd::OwnedFd;
 use std::snapshot::Snapshot;
+use system_answers::{ListenFailed, registered};
 use tests_support::Output;
 use tokio::net::TcpStream as Stream;
 use tokio::reactor::Handle;
@@ -53,13 +54,13 @@ impl<R: Clock> BindPort<Stream, TcpTicket<First24, R>, First24, R> for Connected
         address: (TcpListener, SocketAddrV4),
         handle: &Handle,
         promise: Snapshot<Terms<First24, R>>,
-    ) -> io::Result<ConnectedPort<R>>
+    ) -> Result<ConnectedPort<R>, ListenFailed>
         requires there { promise.value.place.value ≡ address.1 }
         ensures promised { IfOk result (λ port. port.terms.value ≡ promise.value) }
         ensures none { IfOk result (λ port. ◌≡◌ {A = ℕ} 0 0) }
     {
         let (socket, _place) = address;
-        let listener = tokio::net::TcpListener::from_std(socket, handle)?;
+        let listener = registered(socket, handle)?;
         Ok(PromisedNobody {
             listener,
             terms: promise,

@@ -206,7 +206,7 @@ fn attempt<R: ServerMachine + Net<Stream = TcpStream, Listener = TcpListener>>(
                 let status = match way {
                     Way::AsSet => serve_on(rt, settings, served, SEED, output, errors),
                     Way::Journal => {
-                        serve_for_journal(rt, settings, path, served, SEED, output, errors)
+                        serve_for_journal(rt, settings, path, served, SEED, output, errors).0
                     }
                     Way::Flaky => serve_flaky(rt, settings, served, output, errors),
                 };

@@ -1,7 +1,7 @@
 //! What sessions ask of the slots.
 ghost use Rattle.std.specs.Prelude.{◌≡◌, ◌&&◌, true, false, None, Some, nat_lt, slice_get};
 ghost use Rattle.server_tasks.specs.Becomes.{OneBecomes};
-ghost use Rattle.server_tasks.specs.Clients.{took};
+ghost use Rattle.server_tasks.specs.Clients.{took, wrote};
 ghost use Rattle.server_tasks.specs.GivingWay.{line_over};
 ghost use Rattle.server_tasks.specs.Named.{SameIndex};
 
@@ -43,6 +43,19 @@ impl Slots {
         self.end_line(slot);
         Receipt {
             deed: SlotEvent::LineEnded(slot),
+        }
+    }
+
+    /// Counts bytes that the socket of this slot took, which had been full, and gives the word of it.
+    pub(crate) fn count_written_by(&mut self, slot: usize, bytes: u64) -> Receipt
+        ensures word { result ≡ SlotEvent.Wrote slot bytes }
+        ensures written { OneBecomes (wrote bytes) slot self.old.slots.items self.new.slots.items }
+        ensures bells { self.new.bells ≡ self.old.bells }
+        ensures index { SameIndex self.old self.new }
+    {
+        self.count_written(slot, bytes);
+        Receipt {
+            deed: SlotEvent::Wrote(slot, bytes),
         }
     }
 

@@ -9,6 +9,7 @@ use hub_connections::{BindPort, CutOff, HubPort, NoMemory, Refusal, Terms, Ticke
 use hub_listener::{Arrived, Listens, Socket};
 use server_tasks::LeavingSocket;
 use std::snapshot::Snapshot;
+use system_answers::ListenFailed;
 use tokio::reactor::Handle;
 
 /// Where these clients come in.
@@ -57,7 +58,7 @@ impl<'a, R: Clock + Sync> BindPort<Wire<'a, R>, WireTicket<'a, R>, First24, R> f
         address: Door<'a, R>,
         _handle: &Handle,
         promise: Snapshot<Terms<First24, R>>,
-    ) -> io::Result<Lobby<'a, R>>
+    ) -> Result<Lobby<'a, R>, ListenFailed>
         requires there { promise.value.place.value ≡ address.place }
         ensures promised { IfOk result (λ lobby. lobby.terms.value ≡ promise.value) }
         ensures none { IfOk result (λ lobby. lobby.came ≡ 0) }

@@ -224,7 +224,7 @@ fn who_gives_much_waits_for_who_reads(rt: HostRuntime) {
     for _tick in 0..10 * PATIENCE {
         assert!(&rt; !bell.may_hand(60));
         // 20 KB a second, and no take.
-        waiters.wakers.count_written(1, 100);
+        let _ = waiters.wakers.count_written(1, 100);
         waiters.wakers.tick(SECOND, 1);
     }
     // Once it reads no more, it is waited for no longer than it has earned.
